@@ -1,0 +1,12 @@
+//! What each row of a schema's tables says.
+
+use crate::kind::TypeRef;
+use crate::name::Name;
+
+/// `sequence<ELEMENT> NAME;`
+#[derive(Debug, Drop)]
+pub struct SeqDecl {
+    /// The type id, as `::M::Q`.
+    pub id: Name,
+    pub element: TypeRef,
+}

@@ -1,0 +1,13 @@
+//! What a type is.
+
+/// A type of Slice: a built-in one, or a place in a table of the schema, counted from 0.
+#[derive(Clone, Copy, Debug, PartialEq, Eq)]
+pub enum TypeRef {
+    Bool,
+    Byte,
+    Short,
+    Int,
+    Long,
+    Text,
+    Seq(u32),
+}

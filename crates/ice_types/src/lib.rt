@@ -1,0 +1,14 @@
+//! Plain data of Slice: names, lists, types and the schema that tells which types there are.
+#![tactic(auto)]
+
+mod declarations;
+mod kind;
+mod list;
+mod name;
+mod schema;
+
+pub use declarations::SeqDecl;
+pub use kind::TypeRef;
+pub use list::{Bytes, List};
+pub use name::Name;
+pub use schema::{MOST_DEPTH, MOST_ROWS, Schema};
