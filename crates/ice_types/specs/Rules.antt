@@ -5,6 +5,7 @@ use Rattle.ice_types.specs.Tables.{Tables, is_within, IsTypeId}
 
 pub record IsSchema (t : Tables) : Type 0 where
   pub room : length t.seqs < 100000000
+  pub ids : (at : ℕ) (q : SeqDecl) → slice_get t.seqs at ≡ Some q → IsTypeId q.id
   -- two rows have two ids
   pub apart : (at other : ℕ) (p q : SeqDecl) → slice_get t.seqs at ≡ Some p → slice_get t.seqs other ≡ Some q → p.id ≡ q.id → at ≡ other
   -- each row's type nests at most a hundred deep

@@ -1,5 +1,5 @@
 -- What a schema tells: which types there are, by place, and what they are called.
-use Rattle.std.specs.Prelude.{ℕ, zero, suc, ◌≡◌, ◌≢◌, ◌<◌, Bool, true, false, IsTrue, List, [], ◌∷◌, ◌++◌, length, Option, None, Some, slice_get, codes}
+use Rattle.std.specs.Prelude.{ℕ, zero, suc, ◌≡◌, ◌≢◌, Bool, true, false, List, [], ◌∷◌, ◌++◌, Some, take, slice_get, codes}
 use Rattle.std.specs.Option.{option_map_or}
 use Rattle.ice_types.specs.declared.kind.TypeRef.{TypeRef}
 use Rattle.ice_types.specs.declared.kind.TypeRef.TheVariants as kinds
@@ -24,15 +24,19 @@ is_within t (suc levels) kinds.Short = true
 is_within t (suc levels) kinds.Int = true
 is_within t (suc levels) kinds.Long = true
 is_within t (suc levels) kinds.Text = true
-is_within t (suc levels) (kinds.Seq at) = option_map_or false (λ q. is_within t levels q.element) (slice_get t.seqs at)
+is_within t (suc levels) (kinds.Seq at) = option_map_or (λ q. is_within t levels q.element) (slice_get t.seqs at) false
 
--- a type id: `::`, and more
+-- a type id begins with `::`
 abbrev pub IsTypeId : List ℕ → Type 0
-IsTypeId id = (more : List ℕ) × (id ≡ codes "::" ++ more)
+IsTypeId id = take 2 id ≡ codes "::"
 
 -- no sequence has the id
 abbrev pub LacksId : List SeqDecl → List ℕ → Type 0
 LacksId seqs id = (at : ℕ) (q : SeqDecl) → slice_get seqs at ≡ Some q → q.id ≢ id
+
+-- the sequence at this place has the id
+abbrev pub HasId : List SeqDecl → List ℕ → ℕ → Type 0
+HasId seqs id at = (q : SeqDecl) × (slice_get seqs at ≡ Some q) × (q.id ≡ id)
 
 -- The type that a text names: a built-in type's word, or a type id.
 abbrev pub Names : Tables → List ℕ → TypeRef → Type 0
@@ -42,4 +46,4 @@ Names t text kinds.Short = text ≡ codes "short"
 Names t text kinds.Int = text ≡ codes "int"
 Names t text kinds.Long = text ≡ codes "long"
 Names t text kinds.Text = text ≡ codes "string"
-Names t text (kinds.Seq at) = (q : SeqDecl) × (slice_get t.seqs at ≡ Some q) × (q.id ≡ text)
+Names t text (kinds.Seq at) = HasId t.seqs text at

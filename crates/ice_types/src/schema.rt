@@ -1,7 +1,7 @@
 //! The types of a Slice text by place, under the rules that every schema keeps.
 
 ghost use Rattle.std.specs.Prelude.{◌≡◌, ◌+◌, ◌<◌, MatchOption, IfOk, IfSome, OnErr, length, IsTrue};
-ghost use Rattle.ice_types.specs.Tables.{Tables, no_types, with_seq, is_within, IsTypeId, LacksId, Names};
+ghost use Rattle.ice_types.specs.Tables.{Tables, no_types, with_seq, is_within, IsTypeId, LacksId, HasId, Names};
 ghost use Rattle.ice_types.specs.declared.kind.TypeRef.{TypeRef};
 
 use crate::declarations::SeqDecl;
@@ -70,6 +70,7 @@ impl Schema {
         ensures named { MatchOption result ((kind : TypeRef) → ¬ Names self.now text.now kind) (Names self.now text.now) }
         ensures only { IfSome result (λ kind. (other : TypeRef) → Names self.now text.now other → other ≡ kind) }
     {
+        let seqs = self.seqs.as_slice();
         match text {
             "bool" => Some(TypeRef::Bool),
             "byte" => Some(TypeRef::Byte),
@@ -77,18 +78,20 @@ impl Schema {
             "int" => Some(TypeRef::Int),
             "long" => Some(TypeRef::Long),
             "string" => Some(TypeRef::Text),
-            _ => self.seq_named(text).map(TypeRef::Seq),
+            _ => seq_named(seqs, text).map(TypeRef::Seq),
         }
     }
+}
 
-    fn seq_named(&self, id: &str) -> Option<u32>
-        ensures { MatchOption result (LacksId self.now.seqs id.now) (λ at. Names self.now id.now (TypeRef.Seq at)) }
-    {
-        for (at, seq) in self.seqs.as_slice().iter().enumerate() {
-            if seq.id.as_str() == id {
-                return Some(at as u32);
-            }
+/// The place of the sequence with this type id.
+fn seq_named(seqs: &[SeqDecl], id: &str) -> Option<u32>
+    requires { length seqs.now < MOST_ROWS }
+    ensures { MatchOption result (LacksId seqs.now id.now) (λ at. HasId seqs.now id.now at) }
+{
+    for (at, seq) in seqs.iter().enumerate() {
+        if seq.id.as_str() == id {
+            return Some(at as u32);
         }
-        None
     }
+    None
 }

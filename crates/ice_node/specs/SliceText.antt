@@ -1,0 +1,69 @@
+-- The Slice texts of this stage, and the schema that each of them means:
+--
+--   file     = "module" name "{" { sequence } "}" ";"
+--   sequence = "sequence" "<" built-in ">" name ";"
+--
+-- Blanks alone stand between tokens. No two sequences have names that are equal without regard to case.
+use Rattle.std.specs.Prelude.{ℕ, ◌≡◌, ◌≢◌, ◌≤◌, Bool, true, false, IsTrue, ◌&&◌, List, [], ◌∷◌, ◌++◌, length, All, Contains, codes, if◌then◌else◌}
+use Rattle.std.specs.Char.{is_ascii_alphanumeric, is_ascii_alphabetic, is_ascii_whitespace}
+use Rattle.std.specs.Str.{str_to_ascii_lowercase}
+use Rattle.ice_types.specs.Tables.{Tables, Names, no_types}
+use Rattle.ice_types.specs.declared.declarations.SeqDecl.{SeqDecl}
+
+abbrev pub Token : Type 0
+Token = List ℕ
+
+-- the text goes on with a letter or digit
+abbrev pub goes_on : List ℕ → Bool
+goes_on [] = false
+goes_on (byte ∷ bytes) = is_ascii_alphanumeric byte
+
+-- the byte at the front of the first token
+abbrev pub joined : ℕ → List Token → List Token
+joined byte [] = (byte ∷ []) ∷ []
+joined byte (token ∷ tokens) = (byte ∷ token) ∷ tokens
+
+-- Letters and digits that stand together are one token. Blanks part tokens. Each other byte is a token.
+abbrev pub tokens : List ℕ → List Token
+tokens [] = []
+tokens (byte ∷ bytes) =
+    if is_ascii_whitespace byte then tokens bytes
+    else (if is_ascii_alphanumeric byte && goes_on bytes then joined byte (tokens bytes) else (byte ∷ []) ∷ tokens bytes)
+
+abbrev pub keywords : List Token
+keywords = codes "bool" ∷ codes "byte" ∷ codes "class" ∷ codes "const" ∷ codes "dictionary" ∷ codes "double" ∷ codes "enum" ∷ codes "exception"
+    ∷ codes "extends" ∷ codes "false" ∷ codes "float" ∷ codes "idempotent" ∷ codes "implements" ∷ codes "int" ∷ codes "interface" ∷ codes "local"
+    ∷ codes "LocalObject" ∷ codes "long" ∷ codes "module" ∷ codes "Object" ∷ codes "optional" ∷ codes "out" ∷ codes "sequence" ∷ codes "short"
+    ∷ codes "string" ∷ codes "struct" ∷ codes "throws" ∷ codes "true" ∷ codes "Value" ∷ codes "void" ∷ []
+
+-- letters and digits, of which the first is a letter; no keyword
+pub record IsName (name : Token) : Type 0 where
+  pub begins : (first : ℕ) × (others : List ℕ) × (name ≡ first ∷ others) × IsTrue (is_ascii_alphabetic first)
+  pub each : All (λ byte. IsTrue (is_ascii_alphanumeric byte)) name
+  pub free : Contains keywords name → ⊥
+
+-- none of the names is equal to this one without regard to case
+abbrev pub IsFree : List Token → Token → Type 0
+IsFree names name = All (λ other. str_to_ascii_lowercase other ≢ str_to_ascii_lowercase name) names
+
+abbrev pub type_id : Token → Token → List ℕ
+type_id module_name name = codes "::" ++ (module_name ++ (codes "::" ++ name))
+
+-- sequence = "sequence" "<" built-in ">" name ";"
+abbrev pub IsSequence : Token → List Token → Token → SeqDecl → List Token → Type 0
+IsSequence module_name text name seq after = (kind : Token)
+    × (text ≡ codes "sequence" ∷ codes "<" ∷ kind ∷ codes ">" ∷ name ∷ codes ";" ∷ after)
+    × Names no_types kind seq.element × IsName name × (seq.id ≡ type_id module_name name)
+
+-- { sequence }, behind sequences of these names
+abbrev pub AreSequences : Token → List Token → List Token → List SeqDecl → List Token → Type 0
+AreSequences module_name names text [] after = text ≡ after
+AreSequences module_name names text (seq ∷ seqs) after = (name : Token) × (mid : List Token)
+    × IsSequence module_name text name seq mid × IsFree names name × AreSequences module_name (name ∷ names) mid seqs after
+
+-- file = "module" name "{" { sequence } "}" ";"
+abbrev pub Means : List ℕ → Tables → Type 0
+Means text schema = (module_name : Token) × (body : List Token)
+    × (length text ≤ 1000000)
+    × (tokens text ≡ codes "module" ∷ module_name ∷ codes "{" ∷ body) × IsName module_name
+    × AreSequences module_name [] body schema.seqs (codes "}" ∷ codes ";" ∷ [])

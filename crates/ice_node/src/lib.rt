@@ -1,0 +1,2 @@
+//! The words of the command line, and what the program does for them.
+#![tactic(auto)]
