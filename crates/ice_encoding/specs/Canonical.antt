@@ -1,0 +1,34 @@
+-- The canonical bytes of a value.
+use Rattle.std.specs.Prelude.{ℕ, ◌<◌, ◌^◌, List, [], ◌∷◌, ◌++◌, length}
+use Rattle.std.specs.Int.{w16, w32, w64}
+use Rattle.ice_prims.specs.Bytes.{bool_bytes, signed_bytes, size_bytes, text_bytes}
+use Rattle.ice_encoding.specs.Tree.{Tree, boolean, byte, short, int, long, text, sequence, Trees, none, tree, tree_count}
+
+abbrev mutual
+  pub canonical : Tree → List ℕ
+  canonical (boolean b) = bool_bytes b
+  canonical (byte n) = n ∷ []
+  canonical (short z) = signed_bytes w16 z
+  canonical (int z) = signed_bytes w32 z
+  canonical (long z) = signed_bytes w64 z
+  canonical (text s) = text_bytes s
+  canonical (sequence items) = size_bytes (tree_count items) ++ canonical_each items
+
+  pub canonical_each : Trees → List ℕ
+  canonical_each none = []
+  canonical_each (tree v vs) = canonical v ++ canonical_each vs
+
+-- each size in the value is below the greatest int
+abbrev mutual
+  pub HasSizes : Tree → Type 0
+  HasSizes (boolean b) = Unit {0}
+  HasSizes (byte n) = Unit {0}
+  HasSizes (short z) = Unit {0}
+  HasSizes (int z) = Unit {0}
+  HasSizes (long z) = Unit {0}
+  HasSizes (text s) = length s < 2 ^ 31
+  HasSizes (sequence items) = (tree_count items < 2 ^ 31) × EachHasSizes items
+
+  pub EachHasSizes : Trees → Type 0
+  EachHasSizes none = Unit {0}
+  EachHasSizes (tree v vs) = HasSizes v × EachHasSizes vs

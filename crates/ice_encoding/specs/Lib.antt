@@ -1,0 +1,6 @@
+pub mod Tree
+pub mod Port
+pub mod Spelling
+pub mod Reading
+pub mod Canonical
+pub mod Encapsulation
