@@ -1,0 +1,4 @@
+pub mod Values
+pub mod Once
+pub mod Plain
+pub mod Encapsulations

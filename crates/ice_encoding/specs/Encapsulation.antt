@@ -10,16 +10,14 @@ use Rattle.ice_prims.specs.Rest.{Rest, fault, ◌>>=◌, bytes_at, bound_at}
 use Rattle.ice_prims.specs.Number.{SpellsSigned, signed_at}
 use Rattle.ice_prims.specs.Bytes.{signed_bytes}
 use Rattle.ice_encoding.specs.Tree.{Tree}
-use Rattle.ice_encoding.specs.Port.{no_references}
-use Rattle.ice_encoding.specs.Spelling.{SpellsValue}
-use Rattle.ice_encoding.specs.Reading.{value_at}
+use Rattle.ice_encoding.specs.Value.{SpellsPlainValue, plain_value_at}
 use Rattle.ice_encoding.specs.Canonical.{canonical}
 
 -- the bytes are one encapsulation, of at most 1,048,576 bytes, that holds the value alone
 abbrev pub SpellsEncapsulation : Tables → TypeRef → List ℕ → Tree → Type 0
 SpellsEncapsulation t kind bytes v = (size content : List ℕ)
     × (bytes ≡ size ++ 1 ∷ 1 ∷ content) × SpellsSigned w32 size (pos (length bytes)) × (length bytes ≤ 1048576)
-    × SpellsValue no_references t 100 kind content v tt tt
+    × SpellsPlainValue t kind content v
 
 abbrev pub encapsulation_bytes : Tree → List ℕ
 encapsulation_bytes v = signed_bytes w32 (pos (length (canonical v) + 6)) ++ 1 ∷ 1 ∷ canonical v
@@ -50,6 +48,6 @@ encapsulation_at t kind r = do
   n ← bounded size.0 r
   bound ← bound_at (n - 4) size.1
   content ← version_at bound.0
-  v ← value_at no_references t 100 kind tt content
-  inside ← ended v.2.bytes v.2.place v.0
+  v ← plain_value_at t kind content
+  inside ← ended v.1.bytes v.1.place v.0
   ended bound.1.bytes bound.1.place inside

@@ -2,5 +2,6 @@ pub mod Tree
 pub mod Port
 pub mod Spelling
 pub mod Reading
+pub mod Value
 pub mod Canonical
 pub mod Encapsulation

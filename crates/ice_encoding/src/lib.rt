@@ -2,3 +2,10 @@
 //! bytes of a value. The definitions stand in `specs/`; the functions here have no bodies, and each
 //! has a law of the definitions as its contract.
 #![tactic(auto)]
+
+mod laws;
+
+pub use laws::{
+    encapsulations_apart, encapsulations_found, encapsulations_once, encapsulations_only,
+    values_apart, values_found, values_have_sizes, values_once, values_only,
+};

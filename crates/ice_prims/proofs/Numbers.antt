@@ -8,8 +8,9 @@ use Rattle.std.proofs.lemmas.List.{length-drop}
 use Rattle.ice_prims.specs.declared.fault.Kind.TheVariants.{BadSize, BadText}
 use Rattle.ice_prims.specs.Rest.{Rest, ◌>>=◌, Took, bytes_at}
 use Rattle.ice_prims.specs.Rest.{IsBytes}
+use Rattle.ice_prims.specs.Laws.{FoundPart, OnlyPart}
 use Rattle.ice_prims.specs.Number.{SpellsBool, SpellsByte, SpellsSigned, SpellsSize, SpellsText, byte_at, bool_of, bool_at, signed_at, long_size, long_at, size_at, text_at}
-use Rattle.ice_prims.proofs.Parts.{bind_ok, guard_ok, ok_is, chosen, Took-then, between, Took-fits, bytes_found, bytes_only, FoundPart, OnlyPart}
+use Rattle.ice_prims.proofs.Parts.{bind_ok, guard_ok, ok_is, chosen, Took-then, between, Took-fits, bytes_found, bytes_only}
 
 one_of : (l : List ℕ) → length l ≡ 1 → l ≡ get_or l 0 0 ∷ []
 one_of [] e = absurd (omega (arith, e))

@@ -1,0 +1,123 @@
+-- The laws of values: each way of joining keeps them.
+use Rattle.std.proofs.Common.{◌≡◌, ℕ, ℤ, zero, suc, ◌+◌, List, [], ◌++◌, length, take, Option, Some, None, Result, Ok, refl, sym, ap, subst, ◌∙◌, arith}
+use Rattle.std.specs.Prelude.{slice_get}
+use Rattle.std.specs.Int.{Width, w16, w32, w64}
+use Rattle.std.proofs.lemmas.List.{take_at}
+use Rattle.ice_types.specs.declared.kind.TypeRef.{TypeRef}
+use Rattle.ice_types.specs.declared.kind.TypeRef.TheVariants as kinds
+use Rattle.ice_types.specs.Tables.{Tables}
+use Rattle.ice_prims.specs.declared.fault.Fault.{Fault}
+use Rattle.ice_prims.specs.Rest.{Rest, ◌>>=◌, Took}
+use Rattle.ice_prims.specs.Number.{SpellsBool, SpellsByte, SpellsSigned, SpellsText, bool_at, byte_at, signed_at, size_at, text_at}
+use Rattle.ice_prims.specs.Laws.{FoundPart, OnlyPart}
+use Rattle.ice_prims.proofs.Parts.{then_ok, ok_is, Took-none, Took-none-is, Took-then, between, Took-fits}
+use Rattle.ice_prims.proofs.Numbers.{bool_found, bool_only, byte_found, byte_only, signed_found, signed_only, size_found, size_only, text_found, text_only}
+use Rattle.ice_encoding.specs.Tree.{Tree, boolean, byte, short, int, long, text, sequence, tree}
+use Rattle.ice_encoding.specs.Port.{One, Spelled, Found, Only, Port, IsLawful, no_references}
+use Rattle.ice_encoding.specs.Reading.{each_at, plain, made, sized, listed, value_at}
+use Rattle.ice_encoding.specs.Spelling.{Plain, Made, Sized, Each, SpellsValue}
+
+-- a reading and what it is to spell, and both laws
+pub record Lawful {S A : Type 0} (read : One S A) (Spells : Spelled S A) : Type 0 where
+  pub found : Found read Spells
+  pub only : Only read Spells
+
+pub record LawfulPart {A : Type 0} (read : Rest → Result (A × Rest) Fault) (Spells : List ℕ → A → Type 0) : Type 0 where
+  pub found : FoundPart read Spells
+  pub only : OnlyPart read Spells
+
+abbrev answer : {A : Type 0} → A → Result A Fault
+answer x = Ok x
+
+one_answer : {A : Type 0} (r : Result A Fault) (x y : A) → r ≡ Ok x → r ≡ Ok y → x ≡ y
+one_answer r x y p q = ok_is x y (sym p ∙ q)
+
+-- from what was found at some bytes, and what the last step answers
+lands : {S A : Type 0} (Spells : Spelled S A) (s : S) (r : Rest) (x y : A × S × Rest) (bytes : List ℕ) → Took r bytes x.2 → Spells bytes x.0 s x.1 → answer x ≡ answer y → (bytes : List ℕ) × Took r bytes y.2 × Spells bytes y.0 s y.1
+lands {S} {A} Spells s r x y bytes took h e = subst (λ (z : A × S × Rest). (bytes : List ℕ) × Took r bytes z.2 × Spells bytes z.0 s z.1) (ok_is x y e) (bytes, took, h)
+
+plain_lawful : {S A : Type 0} (read : Rest → Result (A × Rest) Fault) (Spells : List ℕ → A → Type 0) → LawfulPart read Spells → Lawful {S = S} (plain read) (Plain Spells)
+plain_lawful {S} read Spells one = record {
+  found = λ s r x fits e. then_ok (read r) (λ x. Ok (x.0, s, x.1)) x e λ a a_is last.
+      let f = one.found r a fits a_is in lands {S = S} (Plain Spells) s r _ x f.0 f.1 (f.2, refl) last;
+  only = λ s to r after bytes v k h. rw (one.only r after bytes v k h.0, h.1) refl;
+}
+
+made_lawful : {S A : Type 0} (make : A → Tree) (read : One S A) (Spells : Spelled S A) → Lawful read Spells → Lawful (made make read) (Made make Spells)
+made_lawful make read Spells one = record {
+  found = λ s r x fits e. then_ok (read s r) (λ x. Ok (make x.0, x.1, x.2)) x e λ a a_is last.
+      let f = one.found s r a fits a_is in lands (Made make Spells) s r _ x f.0 f.1 (a.0, refl, f.2) last;
+  only = λ s to r after bytes v k h. rw (one.only s to r after bytes h.0 k h.2, h.1) refl;
+}
+
+sized_lawful : {S A : Type 0} (read : ℕ → One S A) (Spells : ℕ → Spelled S A) → ((n : ℕ) → Lawful (read n) (Spells n)) → Lawful (sized read) (Sized Spells)
+sized_lawful read Spells one = record {
+  found = λ s r x fits e. then_ok (size_at r) (λ n. read n.0 s n.1) x e λ n n_is last.
+      let size = size_found r n fits n_is in
+      let f = (one n.0).found s n.1 x ((Took-fits r n.1 size.0 fits size.1).1) last in
+      (size.0 ++ f.0, Took-then r n.1 x.2 size.0 f.0 size.1 f.1, (n.0, size.0, f.0, refl, size.2, f.2));
+  only = λ s to r after bytes v k h.
+      let m = between r after h.1 h.2 (rw (← h.3) k) in
+      rw (size_only r m.0 h.1 h.0 m.1 h.4, (one h.0).only s to m.0 after h.2 v m.2 h.5) refl;
+}
+
+listed_lawful : {S A B : Type 0} (o : Option A) (read : A → One S B) (Spells : A → Spelled S B) → ((a : A) → Lawful (read a) (Spells a)) → Lawful (λ s r. listed o r.place (λ a. read a s r)) (λ bytes v from to. (a : A) × (o ≡ Some a) × Spells a bytes v from to)
+listed_lawful None read Spells one = record { found = λ s r x fits e. absurd cc; only = λ s to r after bytes v k h. absurd cc }
+listed_lawful (Some a) read Spells one = record {
+  found = λ s r x fits e. let f = (one a).found s r x fits e in (f.0, f.1, (a, refl, f.2));
+  only = λ s to r after bytes v k h. let a_is : h.0 ≡ a = cc in (one a).only s to r after bytes v k (rw (← a_is) h.2);
+}
+
+each_lawful : {S : Type 0} (read : One S Tree) (Spells : Spelled S Tree) → Lawful read Spells → (n : ℕ) → Lawful (each_at read n) (Each Spells n)
+each_lawful {S} read Spells one zero = record {
+  found = λ s r x fits e. lands (Each Spells 0) s r _ x [] (Took-none r) (refl, refl, refl) e;
+  only = λ s to r after bytes v k h. rw (Took-none-is r after (rw (← h.0) k), h.1, h.2) refl;
+}
+each_lawful {S} read Spells one (suc n) = record {
+  found = λ s r x fits e.
+      then_ok (read s r) (λ first. each_at read n first.1 first.2 >>= λ others. Ok (tree first.0 others.0, others.1, others.2)) x e λ first first_is later.
+      then_ok (each_at read n first.1 first.2) (λ others. Ok (tree first.0 others.0, others.1, others.2)) x later λ others others_is last.
+      let f = one.found s r first fits first_is in
+      let g = (each_lawful read Spells one n).found first.1 first.2 others ((Took-fits r first.2 f.0 fits f.1).1) others_is in
+      lands (Each Spells (suc n)) s r _ x (f.0 ++ g.0) (Took-then r first.2 others.2 f.0 g.0 f.1 g.1) (first.0, others.0, f.0, g.0, first.1, refl, refl, f.2, g.2) last;
+  only = λ s to r after bytes v k h.
+      let m = between r after h.2 h.3 (rw (← h.6) k) in
+      rw (one.only s h.4 r m.0 h.2 h.0 m.1 h.7, (each_lawful read Spells one n).only h.4 to m.0 after h.3 h.1 m.2 h.8, h.5) refl;
+}
+
+signed_lawful : {S : Type 0} (make : ℤ → Tree) (w : Width) → Lawful {S = S} (made make (plain (signed_at w))) (Made make (Plain (SpellsSigned w)))
+signed_lawful make w = made_lawful make (plain (signed_at w)) (Plain (SpellsSigned w)) (plain_lawful (signed_at w) (SpellsSigned w) (record { found = signed_found w; only = signed_only w }))
+
+bool_lawful : LawfulPart bool_at SpellsBool
+bool_lawful = record { found = bool_found; only = bool_only }
+
+byte_lawful : LawfulPart byte_at SpellsByte
+byte_lawful = record { found = byte_found; only = byte_only }
+
+text_lawful : LawfulPart text_at SpellsText
+text_lawful = record { found = text_found; only = text_only }
+
+module _ {S : Type 0} (port : Port S) (lawful : IsLawful port) (t : Tables) where
+  pub value_lawful : (levels : ℕ) (kind : TypeRef) → Lawful (value_at port t levels kind) (SpellsValue port t levels kind)
+  value_lawful zero kind = record { found = λ s r x fits e. absurd cc; only = λ s to r after bytes v k h. absurd h }
+  value_lawful (suc n) kinds.Bool = made_lawful boolean (plain bool_at) (Plain SpellsBool) (plain_lawful bool_at SpellsBool bool_lawful)
+  value_lawful (suc n) kinds.Byte = made_lawful byte (plain byte_at) (Plain SpellsByte) (plain_lawful byte_at SpellsByte byte_lawful)
+  value_lawful (suc n) kinds.Short = signed_lawful short w16
+  value_lawful (suc n) kinds.Int = signed_lawful int w32
+  value_lawful (suc n) kinds.Long = signed_lawful long w64
+  value_lawful (suc n) kinds.Text = made_lawful text (plain text_at) (Plain SpellsText) (plain_lawful text_at SpellsText text_lawful)
+  value_lawful (suc n) (kinds.Seq at) = listed_lawful (slice_get t.seqs at) _ _ λ q. made_lawful sequence _ _ (sized_lawful _ _ (each_lawful _ _ (value_lawful n q.element)))
+
+  -- No spelling begins another: bytes begin with one spelling at most.
+  pub value_apart : (levels : ℕ) (kind : TypeRef) (a b x y : List ℕ) (v w : Tree) (s to end : S) → SpellsValue port t levels kind a v s to → SpellsValue port t levels kind b w s end → a ++ x ≡ b ++ y → (a ≡ b) × (v ≡ w) × (to ≡ end)
+  value_apart levels kind a b x y v w s to end h g e =
+      let only = (value_lawful levels kind).only in
+      let p = only s to (record { place = 0; bytes = a ++ x }) (record { place = 0 + length a; bytes = x }) a v (record { parts = refl; moved = refl }) h in
+      let q = only s end (record { place = 0; bytes = b ++ y }) (record { place = 0 + length b; bytes = y }) b w (record { parts = refl; moved = refl }) g in
+      let one : (v, to, record { place = 0 + length a; bytes = x }) ≡ (w, end, record { place = 0 + length b; bytes = y })
+      = one_answer {A = Tree × S × Rest} (value_at port t levels kind s (record { place = 0; bytes = a ++ x })) _ _ p (rw e q) in
+      let long : 0 + length a ≡ 0 + length b = ap (λ (z : Tree × S × Rest). z.2.place) one in
+      (sym (take_at a x (length a) refl) ∙ ap (take (length a)) e ∙ take_at b y (length a) (omega (arith, long)), ap (λ (z : Tree × S × Rest). z.0) one, ap (λ (z : Tree × S × Rest). z.1) one)
+
+pub none_lawful : IsLawful no_references
+none_lawful = record { found = λ at s r x fits e. absurd cc; only = λ at s to r after bytes v k h. absurd h }

@@ -1,0 +1,63 @@
+//! What the definitions promise of each other, one law a function.
+
+ghost use Rattle.std.specs.Prelude.{◌≡◌, ◌++◌, ℕ, List, Ok};
+ghost use Rattle.ice_types.specs.Tables.{Tables};
+ghost use Rattle.ice_types.specs.declared.kind.TypeRef.{TypeRef};
+ghost use Rattle.ice_prims.specs.Rest.{IsBytes, whole};
+ghost use Rattle.ice_prims.specs.Laws.{FoundPart, OnlyPart};
+ghost use Rattle.ice_encoding.specs.Tree.{Tree};
+ghost use Rattle.ice_encoding.specs.Value.{SpellsPlainValue, plain_value_at};
+ghost use Rattle.ice_encoding.specs.Canonical.{canonical, HasSizes};
+ghost use Rattle.ice_encoding.specs.Encapsulation.{SpellsEncapsulation, encapsulation_at, encapsulation_bytes};
+
+/// What is read is spelled by the bytes that were taken, none less and none more.
+pub fn values_found()
+    ensures { (t : Tables) (kind : TypeRef) → FoundPart (plain_value_at t kind) (SpellsPlainValue t kind) }
+{}
+
+/// What is spelled is read, whatever follows it.
+pub fn values_only()
+    ensures { (t : Tables) (kind : TypeRef) → OnlyPart (plain_value_at t kind) (SpellsPlainValue t kind) }
+{}
+
+/// No spelling begins another: bytes begin with one value at most.
+pub fn values_apart()
+    ensures { (t : Tables) (kind : TypeRef) (a b x y : List ℕ) (v w : Tree)
+        → SpellsPlainValue t kind a v → SpellsPlainValue t kind b w → a ++ x ≡ b ++ y → (a ≡ b) × (v ≡ w) }
+{}
+
+/// A value has one spelling: its canonical bytes.
+pub fn values_once()
+    ensures { (t : Tables) (kind : TypeRef) (bytes : List ℕ) (v : Tree)
+        → IsBytes bytes → SpellsPlainValue t kind bytes v → bytes ≡ canonical v }
+{}
+
+/// Each size of a value that bytes spell is below the greatest int.
+pub fn values_have_sizes()
+    ensures { (t : Tables) (kind : TypeRef) (bytes : List ℕ) (v : Tree) → SpellsPlainValue t kind bytes v → HasSizes v }
+{}
+
+/// A value is read from an input exactly where the whole input is an encapsulation of it; so every
+/// other input has a first fault.
+pub fn encapsulations_found()
+    ensures { (t : Tables) (kind : TypeRef) (bytes : List ℕ) (v : Tree)
+        → IsBytes bytes → encapsulation_at t kind (whole bytes) ≡ Ok v → SpellsEncapsulation t kind bytes v }
+{}
+
+/// The other half: an encapsulation is read.
+pub fn encapsulations_only()
+    ensures { (t : Tables) (kind : TypeRef) (bytes : List ℕ) (v : Tree)
+        → SpellsEncapsulation t kind bytes v → encapsulation_at t kind (whole bytes) ≡ Ok v }
+{}
+
+/// An encapsulation holds one value.
+pub fn encapsulations_apart()
+    ensures { (t : Tables) (kind : TypeRef) (bytes : List ℕ) (v w : Tree)
+        → SpellsEncapsulation t kind bytes v → SpellsEncapsulation t kind bytes w → v ≡ w }
+{}
+
+/// An encapsulation of a value is the canonical one, so what was relayed comes out unchanged.
+pub fn encapsulations_once()
+    ensures { (t : Tables) (kind : TypeRef) (bytes : List ℕ) (v : Tree)
+        → IsBytes bytes → SpellsEncapsulation t kind bytes v → bytes ≡ encapsulation_bytes v }
+{}
