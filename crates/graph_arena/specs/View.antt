@@ -1,0 +1,25 @@
+-- A value without where it lies in memory.
+use Rattle.std.specs.Prelude.{List, [], ◌∷◌, map}
+use Rattle.ice_encoding.specs.Tree.{Tree, boolean, byte, short, int, long, text, sequence, Trees, none, tree}
+use Rattle.graph_arena.specs.declared.value.Value.{Value, fold-Value}
+use Rattle.graph_arena.specs.declared.value.Value.TheOpen.{Value-F}
+
+abbrev pub trees_of : List Tree → Trees
+trees_of [] = none
+trees_of (v ∷ vs) = tree v (trees_of vs)
+
+-- one level, whose parts are seen as trees already
+abbrev pub view_step : Value-F Tree → Tree
+view_step (Value-F.Bool b) = boolean b
+view_step (Value-F.Byte n) = byte n
+view_step (Value-F.Short z) = short z
+view_step (Value-F.Int z) = int z
+view_step (Value-F.Long z) = long z
+view_step (Value-F.Text s) = text s
+view_step (Value-F.Seq items) = sequence (trees_of items)
+
+abbrev pub view : Value → Tree
+view = fold-Value Tree view_step
+
+abbrev pub view_all : List Value → Trees
+view_all values = trees_of (map view values)

@@ -1,0 +1,16 @@
+//! A value of any type.
+
+use ice_types::{List, Name};
+
+/// A value, by the form that its type gives it. It holds no name of its type.
+#[derive(Debug, Drop)]
+pub enum Value {
+    Bool(bool),
+    Byte(u8),
+    Short(i16),
+    Int(i32),
+    Long(i64),
+    Text(Name),
+    /// The items of a sequence, in order.
+    Seq(List<Value>),
+}
