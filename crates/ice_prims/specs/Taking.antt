@@ -20,7 +20,12 @@ abbrev pub Fails : {Y : Type 0} → ReadFault → Result Y Fault → Type 0
 Fails faults.Memory read = Unit {0}
 Fails (faults.Broken fault) read = read ≡ Err fault
 
--- a call that may want memory
-abbrev pub Gives : {X Y : Type 0} → (X → Y) → Result X ReadFault → Result Y Fault → Type 0
-Gives view (Ok x) read = read ≡ Ok (view x)
-Gives view (Err e) read = Fails e read
+-- A call that goes on behind what it took, or wants memory. A refusal changes nothing.
+abbrev pub TakesUnlessMemory : {X Y : Type 0} → (X → Y) → Result X ReadFault → Rest → Rest → Result (Y × Rest) Fault → Type 0
+TakesUnlessMemory view (Ok x) old new read = read ≡ Ok (view x, new)
+TakesUnlessMemory view (Err e) old new read = Fails e read × (new ≡ old)
+
+-- a call that looks at a whole input, or wants memory
+abbrev pub GivesUnlessMemory : {X Y : Type 0} → (X → Y) → Result X ReadFault → Result Y Fault → Type 0
+GivesUnlessMemory view (Ok x) read = read ≡ Ok (view x)
+GivesUnlessMemory view (Err e) read = Fails e read

@@ -45,6 +45,17 @@ impl<'a> Cursor<'a> {
         }
     }
 
+    /// A second cursor at the same place, over the same bytes.
+    pub fn fork(&self) -> Cursor<'a>
+        ensures { result ≡ self.now }
+    {
+        Cursor {
+            bytes: self.bytes,
+            at: self.at,
+            base: self.base,
+        }
+    }
+
     /// The place of the first byte that is left, in bytes from the first byte of the input.
     pub fn place(&self) -> u64
         ensures { result ≡ self.now.place }

@@ -1,0 +1,60 @@
+-- Reading values one after the other, as a loop does.
+use Rattle.std.proofs.Common.{◌≡◌, ℕ, suc, ◌-◌, ◌+◌, ◌≤◌, ◌<◌, List, [], ◌∷◌, ◌++◌, Result, Ok, Err, refl, sym, ap, ◌∙◌, arith}
+use Rattle.ice_prims.specs.declared.fault.Fault.{Fault}
+use Rattle.ice_prims.specs.declared.fault.ReadFault.{ReadFault}
+use Rattle.ice_prims.specs.declared.fault.ReadFault.TheVariants as faults
+use Rattle.ice_prims.specs.Rest.{Rest, ◌>>=◌}
+use Rattle.ice_prims.specs.Taking.{Fails}
+use Rattle.ice_encoding.specs.Port.{One}
+use Rattle.ice_encoding.specs.Reading.{each_at}
+use Rattle.ice_encoding.specs.Tree.{Tree, Trees, none, tree}
+use Rattle.graph_arena.specs.View.{trees_of}
+
+abbrev pub join : Trees → Trees → Trees
+join none others = others
+join (tree t ts) others = tree t (join ts others)
+
+join-none : (ts : Trees) → join ts none ≡ ts
+join-none none = refl
+join-none (tree t ts) = ap (tree t) (join-none ts)
+
+join-tree : (ts : Trees) (t : Tree) (others : Trees) → join ts (tree t others) ≡ join (join ts (tree t none)) others
+join-tree none t others = refl
+join-tree (tree x ts) t others = ap (tree x) (join-tree ts t others)
+
+pub trees-push : (ts : List Tree) (t : Tree) → trees_of (ts ++ t ∷ []) ≡ join (trees_of ts) (tree t none)
+trees-push [] t = refl
+trees-push (x ∷ ts) t = ap (tree x) (trees-push ts t)
+
+-- what was read before, and what is still read
+abbrev pub with_front : {S : Type 0} → Trees → Result (Trees × S × Rest) Fault → Result (Trees × S × Rest) Fault
+with_front front read = read >>= λ x. Ok (join front x.0, x.1, x.2)
+
+abbrev answer : {S : Type 0} → Trees × S × Rest → Result (Trees × S × Rest) Fault
+answer y = Ok y
+
+regroup : {S : Type 0} (front : Trees) (t : Tree) (read : Result (Trees × S × Rest) Fault) → with_front front (read >>= λ x. Ok (tree t x.0, x.1, x.2)) ≡ with_front (join front (tree t none)) read
+regroup {S} front t (Ok x) = ap (λ (ts : Trees). answer {S = S} (ts, x.1, x.2)) (join-tree front t x.0)
+regroup front t (Err f) = refl
+
+module _ {S : Type 0} (one : One S Tree) where
+  pub goes_on : (front : Trees) (count i : ℕ) (s mid : S) (r after : Rest) (t : Tree) (total : Result (Trees × S × Rest) Fault) → i < count → one s r ≡ Ok (t, mid, after)
+      → with_front front (each_at one (count - i) s r) ≡ total → with_front (join front (tree t none)) (each_at one (count - (i + 1)) mid after) ≡ total
+  goes_on front count i s mid r after t total lt h so_far =
+      let k : count - i ≡ suc (count - (i + 1)) = omega arith in
+      let first : with_front front (each_at one (count - i) s r) ≡ with_front (join front (tree t none)) (each_at one (count - (i + 1)) mid after) = rw (k, h) (regroup front t (each_at one (count - (i + 1)) mid after)) in
+      sym first ∙ so_far
+
+  pub ends : (e : ReadFault) (front : Trees) (count i : ℕ) (s : S) (r : Rest) (total : Result (Trees × S × Rest) Fault) → i < count → Fails e (one s r)
+      → with_front front (each_at one (count - i) s r) ≡ total → Fails e total
+  ends faults.Memory front count i s r total lt h so_far = tt
+  ends (faults.Broken f) front count i s r total lt h so_far =
+      let k : count - i ≡ suc (count - (i + 1)) = omega arith in
+      let first : with_front front (each_at one (count - i) s r) ≡ Err f = rw (k, h) refl in
+      sym so_far ∙ first
+
+  pub is_done : (front : Trees) (count i : ℕ) (s : S) (r : Rest) (total : Result (Trees × S × Rest) Fault) → count ≤ i → with_front front (each_at one (count - i) s r) ≡ total → total ≡ Ok (front, s, r)
+  is_done front count i s r total le so_far =
+      let k : count - i ≡ 0 = omega arith in
+      let first : with_front front (each_at one (count - i) s r) ≡ Ok (front, s, r) = rw (k, join-none front) refl in
+      sym so_far ∙ first

@@ -1,0 +1,21 @@
+use Rattle.std.proofs.Common.{◌≡◌, ◌+◌, ◌-◌, ◌*◌}
+use Rattle.ice_encoding.specs.Port.{no_references}
+use Rattle.ice_encoding.specs.Reading.{value_at, each_at}
+use Rattle.graph_arena.specs.View.{view_all}
+use Rattle.ice_values.proofs.Loop.{with_front}
+use Rattle.ice_values.proofs.read.+values.Given as goal
+
+abbrev pub decreases-read_each : goal.decreases-read_each
+decreases-read_each l = 3 * l.levels + 1
+
+abbrev pub decreases-read_level : goal.decreases-read_level
+decreases-read_level l = 3 * l.levels
+
+abbrev pub decreases-read_parts : goal.decreases-read_parts
+decreases-read_parts l = 3 * l.levels + 2
+
+-- what was read before and what is still read are what is read in all
+abbrev pub invariant-read_each-loop : goal.invariant-read_each-loop
+invariant-read_each-loop l =
+    with_front (view_all l.items) (each_at (value_at no_references l.schema l.levels l.kind) (l.count - l.counter) tt l.cursor)
+    ≡ each_at (value_at no_references l.schema l.levels l.kind) l.count tt l.fn.cursor

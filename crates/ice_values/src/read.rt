@@ -1,0 +1,119 @@
+//! A value of a type from bytes.
+
+ghost use Rattle.std.specs.Prelude.{◌≡◌};
+ghost use Rattle.ice_prims.specs.Taking.{TakesUnlessMemory};
+ghost use Rattle.ice_encoding.specs.Port.{no_references};
+ghost use Rattle.ice_encoding.specs.Reading.{value_at, value_step, each_at};
+ghost use Rattle.ice_encoding.specs.Value.{plain_value_at};
+ghost use Rattle.graph_arena.specs.View.{view, view_all};
+ghost use Rattle.ice_values.specs.Reads.{Reads, ReadsPlain};
+
+use graph_arena::Value;
+use ice_prims::{Cursor, Kind, ReadFault};
+use ice_types::{List, MOST_DEPTH, Name, Schema, TypeRef};
+use std::alloc::Global;
+
+/// The value of the type at the front, with the first fault from the left. A refusal leaves the
+/// cursor as it was. Memory is taken for what is read, never for what a size merely claims.
+/// (Ice manual, "Data Encoding".)
+pub fn read_value<'a>(
+    alloc: Global,
+    schema: &Schema,
+    kind: TypeRef,
+    cursor: &mut Cursor<'a>,
+) -> Result<Value, ReadFault>
+    ensures { TakesUnlessMemory view result cursor.old cursor.new (plain_value_at schema.now kind cursor.old) }
+{
+    let mut ahead = cursor.fork();
+    match read_plain(alloc, schema, kind, &mut ahead) {
+        Ok(value) => {
+            *cursor = ahead;
+            Ok(value)
+        }
+        Err(fault) => Err(fault),
+    }
+}
+
+/// The same, but a refusal leaves the cursor somewhere on the way.
+fn read_plain(
+    alloc: Global,
+    schema: &Schema,
+    kind: TypeRef,
+    cursor: &mut Cursor<'_>,
+) -> Result<Value, ReadFault>
+    ensures { ReadsPlain view result cursor.new (plain_value_at schema.now kind cursor.old) }
+{
+    read_level(alloc, schema, MOST_DEPTH, kind, cursor)
+}
+
+/// The value of a type that nests at most so deep.
+#[cycle(values)]
+fn read_level(
+    alloc: Global,
+    schema: &Schema,
+    levels: u32,
+    kind: TypeRef,
+    cursor: &mut Cursor<'_>,
+) -> Result<Value, ReadFault>
+    ensures { Reads view result cursor.new (value_at no_references schema.now levels kind tt cursor.old) }
+{
+    if levels == 0 {
+        return Err(ReadFault::Broken(cursor.fault(Kind::LeftOver)));
+    }
+    read_parts(alloc, schema, levels - 1, kind, cursor)
+}
+
+/// The value of a type whose parts nest at most so deep.
+#[cycle(values)]
+fn read_parts(
+    alloc: Global,
+    schema: &Schema,
+    levels: u32,
+    kind: TypeRef,
+    cursor: &mut Cursor<'_>,
+) -> Result<Value, ReadFault>
+    ensures { Reads view result cursor.new (value_step no_references schema.now (value_at no_references schema.now levels) kind tt cursor.old) }
+{
+    match kind {
+        TypeRef::Bool => Ok(Value::Bool(cursor.take_bool()?)),
+        TypeRef::Byte => Ok(Value::Byte(cursor.take_byte()?)),
+        TypeRef::Short => Ok(Value::Short(cursor.take_short()?)),
+        TypeRef::Int => Ok(Value::Int(cursor.take_int()?)),
+        TypeRef::Long => Ok(Value::Long(cursor.take_long()?)),
+        TypeRef::Text => Ok(Value::Text(Name::of(alloc, cursor.take_str()?)?)),
+        TypeRef::Seq(at) => match schema.seqs().get(at as usize) {
+            Some(decl) => {
+                let count = cursor.take_size()?;
+                Ok(Value::Seq(read_each(
+                    alloc,
+                    schema,
+                    levels,
+                    decl.element,
+                    count,
+                    cursor,
+                )?))
+            }
+            None => Err(ReadFault::Broken(cursor.fault(Kind::LeftOver))),
+        },
+    }
+}
+
+/// So many values of one type, one after the other.
+#[cycle(values)]
+fn read_each(
+    alloc: Global,
+    schema: &Schema,
+    levels: u32,
+    kind: TypeRef,
+    count: u32,
+    cursor: &mut Cursor<'_>,
+) -> Result<List<Value>, ReadFault>
+    ensures { Reads view_all result cursor.new (each_at (value_at no_references schema.now levels kind) count tt cursor.old) }
+{
+    let mut items = List::new(alloc);
+    for _ in 0..count {
+        let item = read_level(alloc, schema, levels, kind, cursor)?;
+        items.push(item)?;
+    }
+    Ok(items)
+}

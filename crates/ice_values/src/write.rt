@@ -1,0 +1,60 @@
+//! The canonical bytes of a value.
+
+ghost use Rattle.std.specs.Prelude.{◌≡◌, ◌++◌, OnOk, OnErr};
+ghost use Rattle.ice_prims.specs.Bytes.{Grows};
+ghost use Rattle.ice_encoding.specs.Canonical.{canonical, canonical_each, HasSizes, EachHasSizes};
+ghost use Rattle.graph_arena.specs.View.{view, view_all};
+
+use graph_arena::Value;
+use ice_prims::{put_bool, put_byte, put_int, put_long, put_short, put_size, put_str};
+use std::alloc::AllocError;
+
+/// Puts the value's canonical bytes at the end of the output. Want of memory leaves the output as it was.
+/// (Ice manual, "Data Encoding".)
+pub fn write_value(value: &Value, out: &mut Vec<u8>) -> Result<(), AllocError>
+    requires { HasSizes (view value.now) }
+    ensures ok { OnOk result (out.new.items ≡ out.old.items ++ canonical (view value.now)) }
+    ensures err { OnErr result (out.new.items ≡ out.old.items) }
+{
+    let start = out.len();
+    let result = append(value, out);
+    if result.is_err() {
+        out.truncate(start);
+    }
+    result
+}
+
+/// The same, but want of memory may leave a part of it at the end.
+#[cycle(values)]
+fn append(value: &Value, out: &mut Vec<u8>) -> Result<(), AllocError>
+    requires { HasSizes (view value.now) }
+    ensures ok { OnOk result (out.new.items ≡ out.old.items ++ canonical (view value.now)) }
+    ensures err { OnErr result (Grows out.old.items out.new.items) }
+{
+    match value {
+        Value::Bool(b) => put_bool(out, *b),
+        Value::Byte(n) => put_byte(out, *n),
+        Value::Short(n) => put_short(out, *n),
+        Value::Int(n) => put_int(out, *n),
+        Value::Long(n) => put_long(out, *n),
+        Value::Text(text) => put_str(out, text.as_str()),
+        Value::Seq(items) => {
+            put_size(out, items.len() as u32)?;
+            append_each(items.as_slice(), out)?;
+            Ok(())
+        }
+    }
+}
+
+/// Values one after the other.
+#[cycle(values)]
+fn append_each(items: &[Value], out: &mut Vec<u8>) -> Result<(), AllocError>
+    requires { EachHasSizes (view_all items.now) }
+    ensures ok { OnOk result (out.new.items ≡ out.old.items ++ canonical_each (view_all items.now)) }
+    ensures err { OnErr result (Grows out.old.items out.new.items) }
+{
+    for item in items {
+        append(item, out)?;
+    }
+    Ok(())
+}
