@@ -20,3 +20,6 @@ pub use mem_sink::{MOST_ROOM, MemSink};
 pub use mem_source::MemSource;
 pub use ports::{Failed, Shelf, ShelfFault, Sink, Source};
 pub use std_streams::{StdSink, StdSource};
+
+#[cfg(test)]
+mod tests;
