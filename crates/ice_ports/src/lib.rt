@@ -1,0 +1,25 @@
+//! The outside, as traits: where bytes come from, where they go, and files by name.
+//!
+//! Each object counts its failures. A call answers a failure only where that count rose in the
+//! call. The versions in memory tell what they hold, so that contracts can speak of it; the
+//! versions over the system tell nothing.
+#![tactic(auto)]
+
+mod fault_plan;
+mod folder_shelf;
+mod mem_shelf;
+mod mem_sink;
+mod mem_source;
+mod ports;
+mod std_streams;
+
+pub use fault_plan::FaultPlan;
+pub use folder_shelf::FolderShelf;
+pub use mem_shelf::MemShelf;
+pub use mem_sink::{MOST_ROOM, MemSink};
+pub use mem_source::MemSource;
+pub use ports::{Failed, Shelf, ShelfFault, Sink, Source};
+pub use std_streams::{StdSink, StdSource};
+
+#[cfg(test)]
+mod tests;

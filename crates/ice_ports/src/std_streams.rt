@@ -1,0 +1,171 @@
+//! Standard input, output and error, by calls of the system with no buffer between.
+ghost use Rattle.std.specs.Prelude.{◌≡◌, ◌<◌, length, None, IfOk, is_err};
+ghost use Rattle.std.specs.Io.{ReadsAtMost, WritesAtMost};
+ghost use Rattle.std.specs.Io.KnownBytes.{ReadConsumes, WriteAppends};
+ghost use Rattle.ice_ports.specs.Causes.{HasCause, count_after};
+
+use super::ports::{Failed, Sink, Source};
+use std::io::{ErrorKind, Read, Write};
+use std::marker::Model;
+use std::rt::{HostRuntime, Stderr, Stdin, Stdout};
+
+/// Standard input. A read of the system goes straight into the slice. Contracts see how many
+/// failed.
+#[derive(Drop)]
+pub struct StdSource {
+    input: Stdin,
+    faults: u64,
+}
+
+impl Model for StdSource {
+    ghost use Rattle.std.specs.Prelude.{ℕ};
+
+    ghost Value = { ℕ };
+
+    ghost view = { λ s. s.faults };
+}
+
+impl StdSource {
+    /// The standard input of the program.
+    pub fn new(rt: &HostRuntime) -> StdSource
+        ensures { result ≡ 0 }
+    {
+        StdSource {
+            input: rt.stdin(),
+            faults: 0,
+        }
+    }
+
+    /// How many reads failed, as far as u64 counts.
+    pub fn failures(&self) -> u64
+        ensures { result ≡ self.now }
+    {
+        self.faults
+    }
+}
+
+impl Source for StdSource {
+    ghost left = { λ _. None };
+
+    ghost faults = { λ s. s };
+
+    fn read(&mut self, into: &mut [u8]) -> Result<usize, Failed>
+        ensures bound { ReadsAtMost result into.new }
+        ensures bytes { ReadConsumes None None result into.new }
+        ensures cause { HasCause self.old self.new result }
+        ensures count { self.new ≡ count_after self.old (is_err result) }
+    {
+        let result = read_once(&mut self.input, into);
+        if result.is_err() {
+            self.faults = self.faults.saturating_add(1);
+        }
+        result
+    }
+}
+
+/// Standard output or standard error. A write is one of the system, and keeps no bytes back.
+/// Contracts see how many failed.
+#[derive(Drop)]
+pub struct StdSink<W> {
+    output: W,
+    faults: u64,
+}
+
+impl<W> Model for StdSink<W> {
+    ghost use Rattle.std.specs.Prelude.{ℕ};
+
+    ghost Value = { ℕ };
+
+    ghost view = { λ s. s.faults };
+}
+
+impl StdSink<Stdout> {
+    /// The standard output of the program.
+    pub fn output(rt: &HostRuntime) -> StdSink<Stdout>
+        ensures { result ≡ 0 }
+    {
+        StdSink {
+            output: rt.stdout(),
+            faults: 0,
+        }
+    }
+}
+
+impl StdSink<Stderr> {
+    /// The standard error of the program.
+    pub fn error(rt: &HostRuntime) -> StdSink<Stderr>
+        ensures { result ≡ 0 }
+    {
+        StdSink {
+            output: rt.stderr(),
+            faults: 0,
+        }
+    }
+}
+
+impl<W> StdSink<W> {
+    /// How many writes failed, as far as u64 counts.
+    pub fn failures(&self) -> u64
+        ensures { result ≡ self.now }
+    {
+        self.faults
+    }
+}
+
+impl<W: Write> Sink for StdSink<W> {
+    ghost taken = { λ _. None };
+
+    ghost faults = { λ s. s };
+
+    fn write(&mut self, piece: &[u8]) -> Result<usize, Failed>
+        ensures bound { WritesAtMost result piece.now }
+        ensures bytes { WriteAppends None None result piece.now }
+        ensures progress { IfOk result (λ n. 0 < length piece.now → 0 < n) }
+        ensures cause { HasCause self.old self.new result }
+        ensures count { self.new ≡ count_after self.old (is_err result) }
+    {
+        let result = write_once(&mut self.output, piece);
+        if result.is_err() {
+            self.faults = self.faults.saturating_add(1);
+        }
+        result
+    }
+}
+
+/// One read, repeated only where it was interrupted.
+pub(crate) fn read_once<R: Read>(reader: &mut R, into: &mut [u8]) -> Result<usize, Failed>
+    ensures bound { ReadsAtMost result into.new }
+    ensures bytes { ReadConsumes (R.remaining reader.old) (R.remaining reader.new) result into.new }
+{
+    for _ in 0..u64::MAX {
+        match reader.read(into) {
+            Ok(count) => return Ok(count),
+            Err(error) => {
+                if error.kind() != ErrorKind::Interrupted {
+                    return Err(Failed);
+                }
+            }
+        }
+    }
+    Err(Failed)
+}
+
+/// One write, repeated only where it was interrupted. A write that takes nothing has failed.
+pub(crate) fn write_once<W: Write>(writer: &mut W, piece: &[u8]) -> Result<usize, Failed>
+    ensures bound { WritesAtMost result piece.now }
+    ensures bytes { WriteAppends (W.contents writer.old) (W.contents writer.new) result piece.now }
+    ensures progress { IfOk result (λ n. 0 < length piece.now → 0 < n) }
+{
+    for _ in 0..u64::MAX {
+        match writer.write(piece) {
+            Ok(0) if !piece.is_empty() => return Err(Failed),
+            Ok(count) => return Ok(count),
+            Err(error) => {
+                if error.kind() != ErrorKind::Interrupted {
+                    return Err(Failed);
+                }
+            }
+        }
+    }
+    Err(Failed)
+}
