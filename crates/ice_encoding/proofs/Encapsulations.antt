@@ -18,7 +18,7 @@ use Rattle.ice_prims.proofs.Once.{int_once}
 use Rattle.ice_encoding.specs.Tree.{Tree}
 use Rattle.ice_encoding.specs.Value.{SpellsPlainValue, plain_value_at}
 use Rattle.ice_encoding.specs.Canonical.{canonical}
-use Rattle.ice_encoding.specs.Encapsulation.{SpellsEncapsulation, encapsulation_bytes, bounded, version_at, ended, encapsulation_at}
+use Rattle.ice_encoding.specs.Encapsulation.{SpellsEncapsulation, encapsulation_bytes, encapsulation_size, version_at, ended, encapsulation_at}
 use Rattle.ice_encoding.proofs.Plain.{plain_found, plain_only, plain_once}
 
 goes : {A B : Type 0} (r : Result A Fault) (f : A → Result B Fault) (x : A) → r ≡ Ok x → (r >>= f) ≡ f x
@@ -30,7 +30,7 @@ ended_is [] place x y e = (refl, ok_is x y e)
 ended_is (byte ∷ bytes) place x y e = absurd cc
 
 -- a size that was taken is a size of the bytes
-pub bounded_is : (z : ℤ) (r : Rest) (n : ℕ) → bounded z r ≡ Ok n → (z ≡ pos n) × (6 ≤ n) × (n ≤ 1048576) × (n ≤ length r.bytes)
+pub bounded_is : (z : ℤ) (r : Rest) (n : ℕ) → encapsulation_size z r ≡ Ok n → (z ≡ pos n) × (6 ≤ n) × (n ≤ 1048576) × (n ≤ length r.bytes)
 bounded_is (pos k) r n e =
     elim (chosen (ltb 1048576 k) (fault r.place TooLarge) (cond (ltb (length r.bytes) k) (fault r.place Short) (cond (ltb k 6) (fault r.place BadSize) (Ok k))) (Ok n) e) [
       | inl c ↦ absurd cc
@@ -46,7 +46,7 @@ bounded_is (pos k) r n e =
     ]
 bounded_is (negsuc k) r n e = absurd cc
 
-pub bounded_only : (r : Rest) (n : ℕ) → 6 ≤ n → n ≤ 1048576 → n ≤ length r.bytes → bounded (pos n) r ≡ Ok n
+pub bounded_only : (r : Rest) (n : ℕ) → 6 ≤ n → n ≤ 1048576 → n ≤ length r.bytes → encapsulation_size (pos n) r ≡ Ok n
 bounded_only r n least most within =
     let large : ltb 1048576 n ≡ false = le-ltb _ _ most in
     let short : ltb (length r.bytes) n ≡ false = le-ltb _ _ within in
@@ -82,7 +82,7 @@ module _ (t : Tables) (kind : TypeRef) where
   at_bound size n = bound_at (n - 4) size.1 >>= at_version
 
   abbrev at_size : Rest → ℤ × Rest → Result Tree Fault
-  at_size r size = bounded size.0 r >>= at_bound size
+  at_size r size = encapsulation_size size.0 r >>= at_bound size
 
   -- the parts that were read are the encapsulation
   whole_is : (bytes size rest inside beyond mid content more : List ℕ) (z : ℤ) (n : ℕ) (v : Tree) → bytes ≡ size ++ rest → rest ≡ inside ++ beyond → beyond ≡ [] → inside ≡ 1 ∷ 1 ∷ mid → mid ≡ content ++ more → more ≡ []
@@ -97,7 +97,7 @@ module _ (t : Tables) (kind : TypeRef) where
   pub encapsulation_found : (bytes : List ℕ) (v : Tree) → IsBytes bytes → encapsulation_at t kind (whole bytes) ≡ Ok v → SpellsEncapsulation t kind bytes v
   encapsulation_found bytes v fits e =
       then_ok (signed_at w32 (whole bytes)) (at_size (whole bytes)) v e λ size size_is e1.
-      then_ok (bounded size.0 (whole bytes)) (at_bound size) v e1 λ n n_is e2.
+      then_ok (encapsulation_size size.0 (whole bytes)) (at_bound size) v e1 λ n n_is e2.
       then_ok (bound_at (n - 4) size.1) at_version v e2 λ bound bound_is e3.
       then_ok (bytes_at (n - 4) size.1) (λ b. Ok (record { place = size.1.place; bytes = b.0 }, b.1)) bound bound_is λ b b_is bound_last.
       then_ok (version_at bound.0) (at_value bound) v e3 λ content content_is e4.
@@ -136,7 +136,7 @@ module _ (t : Tables) (kind : TypeRef) where
       let value = plain_only t kind inner last content v (record { parts = sym (append-nil content); moved = refl }) h.5 in
       let bound_is : bound_at (n - 4) m ≡ Ok (record { place = 0 + length h.0; bytes = 1 ∷ 1 ∷ content }, end) = goes (bytes_at (n - 4) m) (λ b. Ok (record { place = 0 + length h.0; bytes = b.0 }, b.1)) (1 ∷ 1 ∷ content, end) cut in
       goes (signed_at w32 (whole bytes)) (at_size (whole bytes)) (pos n, m) size
-      ∙ goes (bounded (pos n) (whole bytes)) (at_bound (pos n, m)) n bound
+      ∙ goes (encapsulation_size (pos n) (whole bytes)) (at_bound (pos n, m)) n bound
       ∙ goes (bound_at (n - 4) m) at_version (record { place = 0 + length h.0; bytes = 1 ∷ 1 ∷ content }, end) bound_is
       ∙ goes (version_at (record { place = 0 + length h.0; bytes = 1 ∷ 1 ∷ content })) (at_value (record { place = 0 + length h.0; bytes = 1 ∷ 1 ∷ content }, end)) inner version
       ∙ goes (plain_value_at t kind inner) (at_end (record { place = 0 + length h.0; bytes = 1 ∷ 1 ∷ content }, end)) (v, last) value

@@ -8,19 +8,19 @@ use Rattle.ice_prims.specs.Number.{SpellsSize}
 use Rattle.ice_prims.specs.Bytes.{size_bytes}
 use Rattle.ice_prims.proofs.Once.{bool_once, short_once, int_once, long_once, size_once, text_once, both}
 use Rattle.ice_encoding.specs.Tree.{Tree, Trees, tree_count}
-use Rattle.ice_encoding.specs.Port.{Spelled, no_references}
+use Rattle.ice_encoding.specs.Port.{Speller, no_references}
 use Rattle.ice_encoding.specs.Spelling.{Each, SpellsValue}
 use Rattle.ice_encoding.specs.Canonical.{canonical, canonical_each, HasSizes, EachHasSizes}
 
-abbrev Once : Spelled (Unit {0}) Tree → Type 0
+abbrev Once : Speller (Unit {0}) Tree → Type 0
 Once Spells = (bytes : List ℕ) (v : Tree) → IsBytes bytes → Spells bytes v tt tt → bytes ≡ canonical v
 
-each_once : (One : Spelled (Unit {0}) Tree) → Once One → (n : ℕ) (bytes : List ℕ) (items : Trees) → IsBytes bytes → Each One n bytes items tt tt → bytes ≡ canonical_each items
+each_once : (One : Speller (Unit {0}) Tree) → Once One → (n : ℕ) (bytes : List ℕ) (items : Trees) → IsBytes bytes → Each One n bytes items tt tt → bytes ≡ canonical_each items
 each_once One once zero bytes items fits h = rw h.1 h.0
 each_once One once (suc n) bytes items fits h =
     rw h.5 (both bytes h.2 h.3 (canonical h.0) (canonical_each h.1) fits h.6 (λ f. once h.2 h.0 f h.7) (λ f. each_once One once n h.3 h.1 f h.8))
 
-each_count : (One : Spelled (Unit {0}) Tree) (n : ℕ) (bytes : List ℕ) (items : Trees) → Each One n bytes items tt tt → tree_count items ≡ n
+each_count : (One : Speller (Unit {0}) Tree) (n : ℕ) (bytes : List ℕ) (items : Trees) → Each One n bytes items tt tt → tree_count items ≡ n
 each_count One zero bytes items h = rw h.1 refl
 each_count One (suc n) bytes items h = rw h.5 (ap suc (each_count One n h.3 h.1 h.8))
 
@@ -47,7 +47,7 @@ size_fits : (front : List ℕ) (n : ℕ) → SpellsSize front n → n < 2 ^ 31
 size_fits front n (inl h) = omega (arith, h.0)
 size_fits front n (inr h) = h.1
 
-each_sizes : (One : Spelled (Unit {0}) Tree) → ((bytes : List ℕ) (v : Tree) → One bytes v tt tt → HasSizes v) → (n : ℕ) (bytes : List ℕ) (items : Trees) → Each One n bytes items tt tt → EachHasSizes items
+each_sizes : (One : Speller (Unit {0}) Tree) → ((bytes : List ℕ) (v : Tree) → One bytes v tt tt → HasSizes v) → (n : ℕ) (bytes : List ℕ) (items : Trees) → Each One n bytes items tt tt → EachHasSizes items
 each_sizes One sizes zero bytes items h = rw h.1 tt
 each_sizes One sizes (suc n) bytes items h = rw h.5 (sizes h.2 h.0 h.7, each_sizes One sizes n h.3 h.1 h.8)
 

@@ -1,5 +1,5 @@
 -- The laws of values: each way of joining keeps them.
-use Rattle.std.proofs.Common.{◌≡◌, ℕ, ℤ, zero, suc, ◌+◌, List, [], ◌++◌, length, take, Option, Some, None, Result, Ok, refl, sym, ap, subst, ◌∙◌, arith}
+use Rattle.std.proofs.Common.{◌≡◌, ℕ, ℤ, zero, suc, ◌+◌, List, [], ◌++◌, length, take, Option, Some, None, Result, Ok, refl, sym, ap, subst, ◌∙◌, zero-add}
 use Rattle.std.specs.Prelude.{slice_get}
 use Rattle.std.specs.Int.{Width, w16, w32, w64}
 use Rattle.std.proofs.lemmas.List.{take_at}
@@ -13,12 +13,12 @@ use Rattle.ice_prims.specs.Laws.{FoundPart, OnlyPart}
 use Rattle.ice_prims.proofs.Parts.{then_ok, ok_is, Took-none, Took-none-is, Took-then, between, Took-fits}
 use Rattle.ice_prims.proofs.Numbers.{bool_found, bool_only, byte_found, byte_only, signed_found, signed_only, size_found, size_only, text_found, text_only}
 use Rattle.ice_encoding.specs.Tree.{Tree, boolean, byte, short, int, long, text, sequence, tree}
-use Rattle.ice_encoding.specs.Port.{One, Spelled, Found, Only, Port, IsLawful, no_references}
+use Rattle.ice_encoding.specs.Port.{Reader, Speller, Found, Only, Port, IsLawful, no_references}
 use Rattle.ice_encoding.specs.Reading.{each_at, plain, made, sized, listed, value_at}
 use Rattle.ice_encoding.specs.Spelling.{Plain, Made, Sized, Each, SpellsValue}
 
 -- a reading and what it is to spell, and both laws
-pub record Lawful {S A : Type 0} (read : One S A) (Spells : Spelled S A) : Type 0 where
+pub record Lawful {S A : Type 0} (read : Reader S A) (Spells : Speller S A) : Type 0 where
   pub found : Found read Spells
   pub only : Only read Spells
 
@@ -33,7 +33,7 @@ one_answer : {A : Type 0} (r : Result A Fault) (x y : A) → r ≡ Ok x → r �
 one_answer r x y p q = ok_is x y (sym p ∙ q)
 
 -- from what was found at some bytes, and what the last step answers
-lands : {S A : Type 0} (Spells : Spelled S A) (s : S) (r : Rest) (x y : A × S × Rest) (bytes : List ℕ) → Took r bytes x.2 → Spells bytes x.0 s x.1 → answer x ≡ answer y → (bytes : List ℕ) × Took r bytes y.2 × Spells bytes y.0 s y.1
+lands : {S A : Type 0} (Spells : Speller S A) (s : S) (r : Rest) (x y : A × S × Rest) (bytes : List ℕ) → Took r bytes x.2 → Spells bytes x.0 s x.1 → answer x ≡ answer y → (bytes : List ℕ) × Took r bytes y.2 × Spells bytes y.0 s y.1
 lands {S} {A} Spells s r x y bytes took h e = subst (λ (z : A × S × Rest). (bytes : List ℕ) × Took r bytes z.2 × Spells bytes z.0 s z.1) (ok_is x y e) (bytes, took, h)
 
 plain_lawful : {S A : Type 0} (read : Rest → Result (A × Rest) Fault) (Spells : List ℕ → A → Type 0) → LawfulPart read Spells → Lawful {S = S} (plain read) (Plain Spells)
@@ -43,14 +43,14 @@ plain_lawful {S} read Spells one = record {
   only = λ s to r after bytes v k h. rw (one.only r after bytes v k h.0, h.1) refl;
 }
 
-made_lawful : {S A : Type 0} (make : A → Tree) (read : One S A) (Spells : Spelled S A) → Lawful read Spells → Lawful (made make read) (Made make Spells)
+made_lawful : {S A : Type 0} (make : A → Tree) (read : Reader S A) (Spells : Speller S A) → Lawful read Spells → Lawful (made make read) (Made make Spells)
 made_lawful make read Spells one = record {
   found = λ s r x fits e. then_ok (read s r) (λ x. Ok (make x.0, x.1, x.2)) x e λ a a_is last.
       let f = one.found s r a fits a_is in lands (Made make Spells) s r _ x f.0 f.1 (a.0, refl, f.2) last;
   only = λ s to r after bytes v k h. rw (one.only s to r after bytes h.0 k h.2, h.1) refl;
 }
 
-sized_lawful : {S A : Type 0} (read : ℕ → One S A) (Spells : ℕ → Spelled S A) → ((n : ℕ) → Lawful (read n) (Spells n)) → Lawful (sized read) (Sized Spells)
+sized_lawful : {S A : Type 0} (read : ℕ → Reader S A) (Spells : ℕ → Speller S A) → ((n : ℕ) → Lawful (read n) (Spells n)) → Lawful (sized read) (Sized Spells)
 sized_lawful read Spells one = record {
   found = λ s r x fits e. then_ok (size_at r) (λ n. read n.0 s n.1) x e λ n n_is last.
       let size = size_found r n fits n_is in
@@ -61,14 +61,14 @@ sized_lawful read Spells one = record {
       rw (size_only r m.0 h.1 h.0 m.1 h.4, (one h.0).only s to m.0 after h.2 v m.2 h.5) refl;
 }
 
-listed_lawful : {S A B : Type 0} (o : Option A) (read : A → One S B) (Spells : A → Spelled S B) → ((a : A) → Lawful (read a) (Spells a)) → Lawful (λ s r. listed o r.place (λ a. read a s r)) (λ bytes v from to. (a : A) × (o ≡ Some a) × Spells a bytes v from to)
+listed_lawful : {S A B : Type 0} (o : Option A) (read : A → Reader S B) (Spells : A → Speller S B) → ((a : A) → Lawful (read a) (Spells a)) → Lawful (λ s r. listed o r (λ a. read a s r)) (λ bytes v from to. (a : A) × (o ≡ Some a) × Spells a bytes v from to)
 listed_lawful None read Spells one = record { found = λ s r x fits e. absurd cc; only = λ s to r after bytes v k h. absurd cc }
 listed_lawful (Some a) read Spells one = record {
   found = λ s r x fits e. let f = (one a).found s r x fits e in (f.0, f.1, (a, refl, f.2));
   only = λ s to r after bytes v k h. let a_is : h.0 ≡ a = cc in (one a).only s to r after bytes v k (rw (← a_is) h.2);
 }
 
-each_lawful : {S : Type 0} (read : One S Tree) (Spells : Spelled S Tree) → Lawful read Spells → (n : ℕ) → Lawful (each_at read n) (Each Spells n)
+each_lawful : {S : Type 0} (read : Reader S Tree) (Spells : Speller S Tree) → Lawful read Spells → (n : ℕ) → Lawful (each_at read n) (Each Spells n)
 each_lawful {S} read Spells one zero = record {
   found = λ s r x fits e. lands (Each Spells 0) s r _ x [] (Took-none r) (refl, refl, refl) e;
   only = λ s to r after bytes v k h. rw (Took-none-is r after (rw (← h.0) k), h.1, h.2) refl;
@@ -117,7 +117,8 @@ module _ {S : Type 0} (port : Port S) (lawful : IsLawful port) (t : Tables) wher
       let one : (v, to, record { place = 0 + length a; bytes = x }) ≡ (w, end, record { place = 0 + length b; bytes = y })
       = one_answer {A = Tree × S × Rest} (value_at port t levels kind s (record { place = 0; bytes = a ++ x })) _ _ p (rw e q) in
       let long : 0 + length a ≡ 0 + length b = ap (λ (z : Tree × S × Rest). z.2.place) one in
-      (sym (take_at a x (length a) refl) ∙ ap (take (length a)) e ∙ take_at b y (length a) (omega (arith, long)), ap (λ (z : Tree × S × Rest). z.0) one, ap (λ (z : Tree × S × Rest). z.1) one)
+      let back : length b ≡ length a = sym (sym (zero-add (length a)) ∙ long ∙ zero-add (length b)) in
+      (sym (take_at a x (length a) refl) ∙ ap (take (length a)) e ∙ take_at b y (length a) back, ap (λ (z : Tree × S × Rest). z.0) one, ap (λ (z : Tree × S × Rest). z.1) one)
 
 pub none_lawful : IsLawful no_references
 none_lawful = record { found = λ at s r x fits e. absurd cc; only = λ at s to r after bytes v k h. absurd h }

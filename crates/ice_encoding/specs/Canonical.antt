@@ -18,7 +18,7 @@ abbrev mutual
   canonical_each none = []
   canonical_each (tree v vs) = canonical v ++ canonical_each vs
 
--- each size in the value is below the greatest int
+-- each size in the value is at most the greatest int
 abbrev mutual
   pub HasSizes : Tree → Type 0
   HasSizes (boolean b) = Unit {0}

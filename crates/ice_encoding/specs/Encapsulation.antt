@@ -25,12 +25,12 @@ encapsulation_bytes v = signed_bytes w32 (pos (length (canonical v) + 6)) ++ 1 �
 -- ---- reading, with the first fault
 
 -- the size of an encapsulation that begins here
-abbrev pub bounded : ℤ → Rest → Result ℕ Fault
-bounded (pos n) r =
+abbrev pub encapsulation_size : ℤ → Rest → Result ℕ Fault
+encapsulation_size (pos n) r =
     if nat_lt 1048576 n then fault r.place TooLarge
     else (if nat_lt (length r.bytes) n then fault r.place Short
     else (if nat_lt n 6 then fault r.place BadSize else Ok n))
-bounded (negsuc n) r = fault r.place BadSize
+encapsulation_size (negsuc n) r = fault r.place BadSize
 
 -- the two version bytes are one part
 abbrev pub version_at : Rest → Result Rest Fault
@@ -45,7 +45,7 @@ ended (byte ∷ bytes) place x = fault place LeftOver
 abbrev pub encapsulation_at : Tables → TypeRef → Rest → Result Tree Fault
 encapsulation_at t kind r = do
   size ← signed_at w32 r
-  n ← bounded size.0 r
+  n ← encapsulation_size size.0 r
   bound ← bound_at (n - 4) size.1
   content ← version_at bound.0
   v ← plain_value_at t kind content

@@ -6,32 +6,37 @@ use Rattle.ice_prims.specs.declared.fault.Kind.TheVariants.{LeftOver}
 use Rattle.ice_prims.specs.Rest.{Rest, fault, Took, IsBytes}
 
 -- reading of something, from a state to a state
-abbrev pub One : Type 0 → Type 0 → Type 0
-One S A = S → Rest → Result (A × S × Rest) Fault
+abbrev pub Reader : Type 0 → Type 0 → Type 0
+Reader S A = S → Rest → Result (A × S × Rest) Fault
 
 -- bytes that spell something, from a state to a state
-abbrev pub Spelled : Type 0 → Type 0 → Type 1
-Spelled S A = List ℕ → A → S → S → Type 0
+abbrev pub Speller : Type 0 → Type 0 → Type 1
+Speller S A = List ℕ → A → S → S → Type 0
 
 -- what reading finds is spelled by the bytes that it took
-abbrev pub Found : {S A : Type 0} → One S A → Spelled S A → Type 0
+abbrev pub Found : {S A : Type 0} → Reader S A → Speller S A → Type 0
 Found {S} {A} read Spells = (s : S) (r : Rest) (x : A × S × Rest) → IsBytes r.bytes → read s r ≡ Ok x
     → (bytes : List ℕ) × Took r bytes x.2 × Spells bytes x.0 s x.1
 
 -- what is spelled is read, whatever follows it
-abbrev pub Only : {S A : Type 0} → One S A → Spelled S A → Type 0
+abbrev pub Only : {S A : Type 0} → Reader S A → Speller S A → Type 0
 Only {S} {A} read Spells = (s to : S) (r after : Rest) (bytes : List ℕ) (v : A) → Took r bytes after → Spells bytes v s to
     → read s r ≡ Ok (v, to, after)
 
--- by the place of the declared class; None is null, Some the number of an instance
+-- By the place of the declared class, None where any class may stand. What is read is the number of an instance,
+-- and None for null.
 pub record Port (S : Type 0) : Type 1 where
-  pub read : ℕ → One S (Option ℕ)
-  pub Spells : ℕ → Spelled S (Option ℕ)
+  pub read : Option ℕ → Reader S (Option ℕ)
+  pub Spells : Option ℕ → Speller S (Option ℕ)
 
 pub record IsLawful {S : Type 0} (port : Port S) : Type 0 where
-  pub found : (at : ℕ) → Found (port.read at) (port.Spells at)
-  pub only : (at : ℕ) → Only (port.read at) (port.Spells at)
+  pub found : (at : Option ℕ) → Found (port.read at) (port.Spells at)
+  pub only : (at : Option ℕ) → Only (port.read at) (port.Spells at)
+
+-- the answer where no type of a schema leads
+abbrev pub nowhere : {A : Type 0} → Rest → Result A Fault
+nowhere r = fault r.place LeftOver
 
 -- no reference stands anywhere, and there is nothing to remember
 abbrev pub no_references : Port (Unit {0})
-no_references = record { read = λ at s r. fault r.place LeftOver; Spells = λ at bytes n from to. ⊥ }
+no_references = record { read = λ at s r. nowhere r; Spells = λ at bytes n from to. ⊥ }

@@ -5,49 +5,48 @@ use Rattle.ice_types.specs.declared.kind.TypeRef.{TypeRef}
 use Rattle.ice_types.specs.declared.kind.TypeRef.TheVariants as kinds
 use Rattle.ice_types.specs.Tables.{Tables}
 use Rattle.ice_prims.specs.declared.fault.Fault.{Fault}
-use Rattle.ice_prims.specs.declared.fault.Kind.TheVariants.{LeftOver}
-use Rattle.ice_prims.specs.Rest.{Rest, fault, ◌>>=◌}
+use Rattle.ice_prims.specs.Rest.{Rest, ◌>>=◌}
 use Rattle.ice_prims.specs.Number.{bool_at, byte_at, signed_at, size_at, text_at}
 use Rattle.ice_encoding.specs.Tree.{Tree, boolean, byte, short, int, long, text, sequence, Trees, none, tree}
-use Rattle.ice_encoding.specs.Port.{Port, One}
+use Rattle.ice_encoding.specs.Port.{Port, Reader, nowhere}
 
 -- something that changes no state
-abbrev pub plain : {S A : Type 0} → (Rest → Result (A × Rest) Fault) → One S A
+abbrev pub plain : {S A : Type 0} → (Rest → Result (A × Rest) Fault) → Reader S A
 plain read s r = read r >>= λ x. Ok (x.0, s, x.1)
 
 -- a value made of something
-abbrev pub made : {S A : Type 0} → (A → Tree) → One S A → One S Tree
+abbrev pub made : {S A : Type 0} → (A → Tree) → Reader S A → Reader S Tree
 made make read s r = read s r >>= λ x. Ok (make x.0, x.1, x.2)
 
 -- a size, and so many of what follows
-abbrev pub sized : {S A : Type 0} → (ℕ → One S A) → One S A
+abbrev pub sized : {S A : Type 0} → (ℕ → Reader S A) → Reader S A
 sized read s r = size_at r >>= λ n. read n.0 s n.1
 
 -- so many items, one after the other
-abbrev pub each_at : {S : Type 0} → One S Tree → ℕ → One S Trees
+abbrev pub each_at : {S : Type 0} → Reader S Tree → ℕ → Reader S Trees
 each_at one zero s r = Ok (none, s, r)
 each_at one (suc n) s r = do
   first ← one s r
   others ← each_at one n first.1 first.2
   Ok (tree first.0 others.0, others.1, others.2)
 
--- A row of a table. A place past the table's end is of no schema, and nothing is read there.
-abbrev pub listed : {A B : Type 0} → Option A → ℕ → (A → Result B Fault) → Result B Fault
-listed None place next = fault place LeftOver
-listed (Some x) place next = next x
+-- a row of a table
+abbrev pub listed : {A B : Type 0} → Option A → Rest → (A → Result B Fault) → Result B Fault
+listed None r next = nowhere r
+listed (Some x) r next = next x
 
 module _ {S : Type 0} (port : Port S) (t : Tables) where
   -- a type, by the reading of the types inside it
-  abbrev pub value_step : (TypeRef → One S Tree) → TypeRef → One S Tree
+  abbrev pub value_step : (TypeRef → Reader S Tree) → TypeRef → Reader S Tree
   value_step read kinds.Bool = made boolean (plain bool_at)
   value_step read kinds.Byte = made byte (plain byte_at)
   value_step read kinds.Short = made short (plain (signed_at w16))
   value_step read kinds.Int = made int (plain (signed_at w32))
   value_step read kinds.Long = made long (plain (signed_at w64))
   value_step read kinds.Text = made text (plain text_at)
-  value_step read (kinds.Seq at) = λ s r. listed (slice_get t.seqs at) r.place (λ q. made sequence (sized (each_at (read q.element))) s r)
+  value_step read (kinds.Seq at) = λ s r. listed (slice_get t.seqs at) r (λ q. made sequence (sized (each_at (read q.element))) s r)
 
   -- No type of a schema nests deeper than a hundred levels, so it is read within them.
-  abbrev pub value_at : ℕ → TypeRef → One S Tree
-  value_at zero kind = λ s r. fault r.place LeftOver
+  abbrev pub value_at : ℕ → TypeRef → Reader S Tree
+  value_at zero kind = λ s r. nowhere r
   value_at (suc levels) kind = value_step (value_at levels) kind

@@ -7,29 +7,29 @@ use Rattle.ice_types.specs.declared.declarations.SeqDecl.{SeqDecl}
 use Rattle.ice_types.specs.Tables.{Tables}
 use Rattle.ice_prims.specs.Number.{SpellsBool, SpellsByte, SpellsSigned, SpellsSize, SpellsText}
 use Rattle.ice_encoding.specs.Tree.{Tree, boolean, byte, short, int, long, text, sequence, Trees, none, tree}
-use Rattle.ice_encoding.specs.Port.{Port, Spelled}
+use Rattle.ice_encoding.specs.Port.{Port, Speller}
 
 -- something that changes no state
-abbrev pub Plain : {S A : Type 0} → (List ℕ → A → Type 0) → Spelled S A
+abbrev pub Plain : {S A : Type 0} → (List ℕ → A → Type 0) → Speller S A
 Plain Spells bytes x from to = Spells bytes x × (to ≡ from)
 
 -- a value made of something
-abbrev pub Made : {S A : Type 0} → (A → Tree) → Spelled S A → Spelled S Tree
+abbrev pub Made : {S A : Type 0} → (A → Tree) → Speller S A → Speller S Tree
 Made {S} {A} make Spells bytes v from to = (x : A) × (v ≡ make x) × Spells bytes x from to
 
 -- a size, and so many of what follows
-abbrev pub Sized : {S A : Type 0} → (ℕ → Spelled S A) → Spelled S A
+abbrev pub Sized : {S A : Type 0} → (ℕ → Speller S A) → Speller S A
 Sized Spells bytes x from to = (n : ℕ) × (front body : List ℕ) × (bytes ≡ front ++ body) × SpellsSize front n × Spells n body x from to
 
 -- so many items, one after the other
-abbrev pub Each : {S : Type 0} → Spelled S Tree → ℕ → Spelled S Trees
+abbrev pub Each : {S : Type 0} → Speller S Tree → ℕ → Speller S Trees
 Each {S} One zero bytes items from to = (bytes ≡ []) × (items ≡ none) × (to ≡ from)
 Each {S} One (suc n) bytes items from to = (v : Tree) × (vs : Trees) × (a b : List ℕ) × (mid : S)
     × (items ≡ tree v vs) × (bytes ≡ a ++ b) × One a v from mid × Each One n b vs mid to
 
 module _ {S : Type 0} (port : Port S) (t : Tables) where
   -- a type, by what spells the types inside it
-  abbrev pub SpellsParts : (TypeRef → Spelled S Tree) → TypeRef → Spelled S Tree
+  abbrev pub SpellsParts : (TypeRef → Speller S Tree) → TypeRef → Speller S Tree
   SpellsParts One kinds.Bool = Made boolean (Plain SpellsBool)
   SpellsParts One kinds.Byte = Made byte (Plain SpellsByte)
   SpellsParts One kinds.Short = Made short (Plain (SpellsSigned w16))
@@ -38,6 +38,6 @@ module _ {S : Type 0} (port : Port S) (t : Tables) where
   SpellsParts One kinds.Text = Made text (Plain SpellsText)
   SpellsParts One (kinds.Seq at) = λ bytes v from to. (q : SeqDecl) × (slice_get t.seqs at ≡ Some q) × Made sequence (Sized (Each (One q.element))) bytes v from to
 
-  abbrev pub SpellsValue : ℕ → TypeRef → Spelled S Tree
+  abbrev pub SpellsValue : ℕ → TypeRef → Speller S Tree
   SpellsValue zero kind = λ bytes v from to. ⊥
   SpellsValue (suc levels) kind = SpellsParts (SpellsValue levels) kind

@@ -32,7 +32,7 @@ pub fn values_once()
         → IsBytes bytes → SpellsPlainValue t kind bytes v → bytes ≡ canonical v }
 {}
 
-/// Each size of a value that bytes spell is below the greatest int.
+/// Each size of a value that bytes spell is at most the greatest int.
 pub fn values_have_sizes()
     ensures { (t : Tables) (kind : TypeRef) (bytes : List ℕ) (v : Tree) → SpellsPlainValue t kind bytes v → HasSizes v }
 {}

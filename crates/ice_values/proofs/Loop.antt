@@ -5,7 +5,7 @@ use Rattle.ice_prims.specs.declared.fault.ReadFault.{ReadFault}
 use Rattle.ice_prims.specs.declared.fault.ReadFault.TheVariants as faults
 use Rattle.ice_prims.specs.Rest.{Rest, ◌>>=◌}
 use Rattle.ice_prims.specs.Taking.{Fails}
-use Rattle.ice_encoding.specs.Port.{One}
+use Rattle.ice_encoding.specs.Port.{Reader}
 use Rattle.ice_encoding.specs.Reading.{each_at}
 use Rattle.ice_encoding.specs.Tree.{Tree, Trees, none, tree}
 use Rattle.graph_arena.specs.View.{trees_of}
@@ -37,7 +37,7 @@ regroup : {S : Type 0} (front : Trees) (t : Tree) (read : Result (Trees × S × 
 regroup {S} front t (Ok x) = ap (λ (ts : Trees). answer {S = S} (ts, x.1, x.2)) (join-tree front t x.0)
 regroup front t (Err f) = refl
 
-module _ {S : Type 0} (one : One S Tree) where
+module _ {S : Type 0} (one : Reader S Tree) where
   pub goes_on : (front : Trees) (count i : ℕ) (s mid : S) (r after : Rest) (t : Tree) (total : Result (Trees × S × Rest) Fault) → i < count → one s r ≡ Ok (t, mid, after)
       → with_front front (each_at one (count - i) s r) ≡ total → with_front (join front (tree t none)) (each_at one (count - (i + 1)) mid after) ≡ total
   goes_on front count i s mid r after t total lt h so_far =

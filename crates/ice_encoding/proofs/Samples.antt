@@ -1,0 +1,137 @@
+-- What the definitions answer at inputs that are written out, byte by byte.
+use Rattle.std.proofs.Common.{◌≡◌, ℕ, List, [], ◌∷◌, Ok, refl}
+use Rattle.std.specs.Prelude.{pos, negsuc, Result}
+use Rattle.std.specs.Str.{is_utf8, chars}
+use lib.Utf8.{encode}
+use Rattle.ice_types.specs.declared.kind.TypeRef.{TypeRef}
+use Rattle.ice_types.specs.declared.kind.TypeRef.TheVariants as kinds
+use Rattle.ice_types.specs.Tables.{Tables}
+use Rattle.ice_prims.specs.declared.fault.Fault.{Fault}
+use Rattle.ice_prims.specs.declared.fault.Kind.TheVariants.{Short, TooLarge, BadSize, BadVersion, BadBool, BadText, LeftOver}
+use Rattle.ice_prims.specs.Rest.{fault, whole}
+use Rattle.ice_prims.specs.Bytes.{size_bytes}
+use Rattle.ice_encoding.specs.Tree.{Tree, short, int, long, text, sequence, none, tree}
+use Rattle.ice_encoding.specs.Value.{plain_value_at}
+use Rattle.ice_encoding.specs.Encapsulation.{encapsulation_at, encapsulation_bytes}
+
+-- a sequence of bytes, one of ints, and one of strings
+abbrev tables : Tables
+tables = record { seqs = record { id = []; element = kinds.Byte } ∷ record { id = []; element = kinds.Int } ∷ record { id = []; element = kinds.Text } ∷ [] }
+
+-- what an input is read as
+abbrev reads : TypeRef → List ℕ → Result Tree Fault
+reads kind bytes = encapsulation_at tables kind (whole bytes)
+
+-- an encapsulation's size below 256, its version, and what the input has behind them
+abbrev headed : ℕ → List ℕ → List ℕ
+headed size bytes = size ∷ 0 ∷ 0 ∷ 0 ∷ 1 ∷ 1 ∷ bytes
+
+-- ---- values
+
+no_bytes : reads (kinds.Seq 0) (headed 7 (0 ∷ [])) ≡ Ok (sequence none)
+unfolding plain_value_at
+no_bytes = refl
+
+two_ints : reads (kinds.Seq 1) (headed 15 (2 ∷ 1 ∷ 2 ∷ 0 ∷ 0 ∷ 254 ∷ 255 ∷ 255 ∷ 255 ∷ [])) ≡ Ok (sequence (tree (int (pos 513)) (tree (int (negsuc 1)) none)))
+unfolding plain_value_at
+two_ints = refl
+
+written : encapsulation_bytes (sequence (tree (int (pos 513)) (tree (int (negsuc 1)) none))) ≡ headed 15 (2 ∷ 1 ∷ 2 ∷ 0 ∷ 0 ∷ 254 ∷ 255 ∷ 255 ∷ 255 ∷ [])
+written = refl
+
+least_short : reads kinds.Short (headed 8 (0 ∷ 128 ∷ [])) ≡ Ok (short (negsuc 32767))
+unfolding plain_value_at
+least_short = refl
+
+greatest_long : reads kinds.Long (headed 14 (255 ∷ 255 ∷ 255 ∷ 255 ∷ 255 ∷ 255 ∷ 255 ∷ 127 ∷ [])) ≡ Ok (long (pos 9223372036854775807))
+unfolding plain_value_at
+greatest_long = refl
+
+-- three bytes that are one character
+euro : reads kinds.Text (headed 10 (3 ∷ 226 ∷ 130 ∷ 172 ∷ [])) ≡ Ok (text (226 ∷ 130 ∷ 172 ∷ []))
+unfolding plain_value_at is_utf8 chars encode
+euro = refl
+
+one_byte : size_bytes 254 ≡ 254 ∷ []
+one_byte = refl
+
+five_bytes : size_bytes 255 ≡ 255 ∷ 255 ∷ 0 ∷ 0 ∷ 0 ∷ []
+five_bytes = refl
+
+-- ---- the size of the encapsulation
+
+no_input : reads kinds.Bool [] ≡ fault 0 Short
+no_input = refl
+
+cut_short : reads kinds.Bool (7 ∷ 0 ∷ 0 ∷ []) ≡ fault 0 Short
+cut_short = refl
+
+below_six : reads kinds.Bool (headed 5 (1 ∷ [])) ≡ fault 0 BadSize
+below_six = refl
+
+-- below 6, and past the end of the input
+below_six_and_past : reads kinds.Bool (5 ∷ 0 ∷ 0 ∷ 0 ∷ []) ≡ fault 0 Short
+below_six_and_past = refl
+
+negative : reads kinds.Bool (255 ∷ 255 ∷ 255 ∷ 255 ∷ []) ≡ fault 0 BadSize
+negative = refl
+
+-- 1,048,576, and past the end of the input
+largest : reads kinds.Bool (0 ∷ 0 ∷ 16 ∷ 0 ∷ 1 ∷ 1 ∷ []) ≡ fault 0 Short
+largest = refl
+
+-- 1,048,577, and past the end of the input
+too_large : reads kinds.Bool (1 ∷ 0 ∷ 16 ∷ 0 ∷ 1 ∷ 1 ∷ []) ≡ fault 0 TooLarge
+too_large = refl
+
+-- ---- the content
+
+-- the second version byte is wrong, and the place is that of the first
+other_version : reads kinds.Bool (7 ∷ 0 ∷ 0 ∷ 0 ∷ 1 ∷ 0 ∷ 1 ∷ []) ≡ fault 4 BadVersion
+other_version = refl
+
+-- a wrong bool, and a byte behind the encapsulation
+bad_bool : reads kinds.Bool (headed 7 (2 ∷ 1 ∷ [])) ≡ fault 6 BadBool
+unfolding plain_value_at
+bad_bool = refl
+
+-- an int that goes past its encapsulation, and not past the input
+past_the_bound : reads kinds.Int (headed 9 (1 ∷ 2 ∷ 3 ∷ 4 ∷ [])) ≡ fault 6 Short
+unfolding plain_value_at
+past_the_bound = refl
+
+second_int : reads (kinds.Seq 1) (headed 13 (2 ∷ 1 ∷ 0 ∷ 0 ∷ 0 ∷ 2 ∷ 0 ∷ [])) ≡ fault 11 Short
+unfolding plain_value_at
+second_int = refl
+
+long_size_cut_short : reads (kinds.Seq 0) (headed 10 (255 ∷ 5 ∷ 0 ∷ 0 ∷ [])) ≡ fault 6 Short
+unfolding plain_value_at
+long_size_cut_short = refl
+
+-- 254 in five bytes
+long_form : reads (kinds.Seq 0) (headed 11 (255 ∷ 254 ∷ 0 ∷ 0 ∷ 0 ∷ [])) ≡ fault 6 BadSize
+unfolding plain_value_at
+long_form = refl
+
+negative_size : reads kinds.Text (headed 11 (255 ∷ 0 ∷ 0 ∷ 0 ∷ 128 ∷ [])) ≡ fault 6 BadSize
+unfolding plain_value_at
+negative_size = refl
+
+-- the place is that of the string's bytes, behind its size
+text_cut_short : reads kinds.Text (headed 8 (5 ∷ 104 ∷ [])) ≡ fault 7 Short
+unfolding plain_value_at
+text_cut_short = refl
+
+bad_text : reads kinds.Text (headed 9 (2 ∷ 104 ∷ 200 ∷ [])) ≡ fault 7 BadText
+unfolding plain_value_at is_utf8 chars encode
+bad_text = refl
+
+-- ---- bytes that are left
+
+left_inside : reads kinds.Bool (headed 8 (1 ∷ 1 ∷ [])) ≡ fault 7 LeftOver
+unfolding plain_value_at
+left_inside = refl
+
+left_behind : reads kinds.Bool (headed 7 (1 ∷ 1 ∷ [])) ≡ fault 7 LeftOver
+unfolding plain_value_at
+left_behind = refl
