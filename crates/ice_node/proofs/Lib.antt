@@ -1,1 +1,4 @@
 pub mod Samples
+pub mod EncapsulationSteps
+pub mod KnownBytes
+pub mod Inputs

@@ -1,3 +1,4 @@
 pub mod Words
 pub mod SliceText
 pub mod Steps
+pub mod Streams

@@ -2,5 +2,9 @@
 #![tactic(auto)]
 
 mod encapsulation;
+mod input;
+mod output;
 
 pub use encapsulation::{LARGEST, decode, encode};
+pub use input::{InputFault, read_input};
+pub use output::write_all;

@@ -1,0 +1,15 @@
+use Rattle.std.proofs.Common.{ℕ, ◌≡◌, ◌-◌, ◌≤◌, List, ◌++◌, length, vec_len}
+use Rattle.std.specs.Io.KnownBytes.{Consumes}
+use Rattle.ice_node.proofs.input.read_up_to.Given as goal
+
+abbrev pub invariant-loop-buffer : goal.invariant-loop-buffer
+invariant-loop-buffer g l = record {
+  more : List ℕ;
+  parts : l.bytes.items ≡ l.fn.bytes.items ++ more;
+  within : vec_len l.bytes ≤ l.goal;
+  consumed : Consumes (g.S.Source.left l.fn.source) (g.S.Source.left l.source) more;
+  later : g.S.Source.faults l.fn.source ≤ g.S.Source.faults l.source;
+}
+
+abbrev pub decreases-loop-buffer : goal.decreases-loop-buffer
+decreases-loop-buffer g l = l.goal - vec_len l.bytes
