@@ -1,1 +1,2 @@
 pub mod CommandForms
+pub mod TokenFronts

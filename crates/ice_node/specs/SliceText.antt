@@ -4,10 +4,12 @@
 --   sequence = "sequence" "<" built-in ">" name ";"
 --
 -- Blanks alone stand between tokens. No two sequences have names that are equal without regard to case.
-use Rattle.std.specs.Prelude.{ℕ, ◌≡◌, ◌≢◌, ◌≤◌, Bool, true, false, IsTrue, ◌&&◌, List, [], ◌∷◌, ◌++◌, length, All, Contains, codes, if◌then◌else◌}
+use Rattle.std.specs.Prelude.{ℕ, ◌≡◌, ◌≢◌, ◌≤◌, Bool, true, false, IsTrue, ◌&&◌, List, [], ◌∷◌, ◌++◌, length, map, All, Contains, codes, if◌then◌else◌}
+use Rattle.std.specs.Borrow.{Bor}
 use Rattle.std.specs.Char.{is_ascii_alphanumeric, is_ascii_alphabetic, is_ascii_whitespace}
 use Rattle.std.specs.Str.{str_to_ascii_lowercase}
 use Rattle.ice_types.specs.Tables.{Tables, Names, no_types}
+use Rattle.ice_types.specs.declared.kind.TypeRef.{TypeRef}
 use Rattle.ice_types.specs.declared.declarations.SeqDecl.{SeqDecl}
 
 abbrev pub Token : Type 0
@@ -50,20 +52,26 @@ abbrev pub type_id : Token → Token → List ℕ
 type_id module_name name = codes "::" ++ (module_name ++ (codes "::" ++ name))
 
 -- sequence = "sequence" "<" built-in ">" name ";"
-abbrev pub IsSequence : Token → List Token → Token → SeqDecl → List Token → Type 0
-IsSequence module_name text name seq after = (kind : Token)
+abbrev pub IsSequence : List Token → TypeRef → Token → List Token → Type 0
+IsSequence text element name after = (kind : Token)
     × (text ≡ codes "sequence" ∷ codes "<" ∷ kind ∷ codes ">" ∷ name ∷ codes ";" ∷ after)
-    × Names no_types kind seq.element × IsName name × (seq.id ≡ type_id module_name name)
+    × Names no_types kind element × IsName name
 
--- { sequence }, behind sequences of these names
+-- { sequence } in this module, behind sequences of these names
 abbrev pub AreSequences : Token → List Token → List Token → List SeqDecl → List Token → Type 0
 AreSequences module_name names text [] after = text ≡ after
 AreSequences module_name names text (seq ∷ seqs) after = (name : Token) × (mid : List Token)
-    × IsSequence module_name text name seq mid × IsFree names name × AreSequences module_name (name ∷ names) mid seqs after
+    × IsSequence text seq.element name mid × (seq.id ≡ type_id module_name name) × IsFree names name × AreSequences module_name (name ∷ names) mid seqs after
 
 -- file = "module" name "{" { sequence } "}" ";"
-abbrev pub Means : List ℕ → Tables → Type 0
-Means text schema = (module_name : Token) × (body : List Token)
-    × (length text ≤ 1000000)
-    × (tokens text ≡ codes "module" ∷ module_name ∷ codes "{" ∷ body) × IsName module_name
+abbrev pub IsFile : List Token → Tables → Type 0
+IsFile text schema = (module_name : Token) × (body : List Token)
+    × (text ≡ codes "module" ∷ module_name ∷ codes "{" ∷ body) × IsName module_name
     × AreSequences module_name [] body schema.seqs (codes "}" ∷ codes ";" ∷ [])
+
+abbrev pub Means : List ℕ → Tables → Type 0
+Means text schema = (length text ≤ 1000000) × IsFile (tokens text) schema
+
+-- the bytes of the tokens, wherever they lie in memory
+abbrev pub tokens_seen : List (Bor Token) → List Token
+tokens_seen found = map (λ token. token.now) found

@@ -1,6 +1,8 @@
 //! The words of the command line, and what the program does for them.
 #![tactic(auto)]
 
+mod slice_text;
 mod words;
 
+pub use slice_text::tokens_of;
 pub use words::{Command, command_of, forms_apart};
