@@ -1,2 +1,4 @@
 pub mod CommandForms
 pub mod TokenFronts
+pub mod SliceNames
+pub mod SequenceFronts
