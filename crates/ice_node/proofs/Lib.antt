@@ -2,3 +2,5 @@ pub mod CommandForms
 pub mod TokenFronts
 pub mod SliceNames
 pub mod SequenceFronts
+pub mod SequenceReading
+pub mod FileReading

@@ -44,7 +44,7 @@ word_utf8 (byte ∷ bytes) h =
     let parts = and_true (is_ascii_alphabetic byte) (list_all is_ascii_alphanumeric bytes) h in
     IsUtf8-from_ascii (byte ∷ bytes) (IsAscii-cons byte bytes (first_ascii byte parts.0) (letters_ascii bytes parts.1))
 
-no_row : (at : ℕ) (q : SeqDecl) → slice_get {X = SeqDecl} [] at ≡ Some q → ⊥
+pub no_row : (at : ℕ) (q : SeqDecl) → slice_get {X = SeqDecl} [] at ≡ Some q → ⊥
 no_row zero q e = cc
 no_row (suc at) q e = cc
 

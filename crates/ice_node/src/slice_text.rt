@@ -1,6 +1,6 @@
 //! The Slice texts of this stage, and the schema that each of them means.
 
-ghost use Rattle.std.specs.Prelude.{List, ◌≡◌, ◌≤◌, ◌∷◌, [], ◌↔◌, IsTrue, IfOk, MatchOption, length, codes};
+ghost use Rattle.std.specs.Prelude.{List, ◌≡◌, ◌≤◌, ◌∷◌, [], ◌↔◌, IsTrue, IfOk, MatchOption, length, drop, codes};
 ghost use Rattle.ice_types.specs.Tables.{Names, no_types};
 ghost use Rattle.ice_types.specs.declared.kind.TypeRef.{TypeRef};
 ghost use Rattle.ice_node.specs.SliceText.{Answers, AreSequences, IsFile, IsSequence, Means, Token, tokens_seen, type_id};
@@ -18,6 +18,9 @@ use std::collections::BTreeSet;
 use tokens::tokens_of;
 
 const MOST_BYTES: usize = 1_000_000;
+
+/// How many tokens a sequence takes.
+const SEQUENCE_LENGTH: usize = 6;
 
 /// The schema that the text means.
 pub fn schema_of(alloc: Global, text: &[u8]) -> Result<Schema, TextFault>
@@ -61,7 +64,7 @@ fn sequences_of(alloc: Global, module: &str, body: &[&[u8]]) -> Result<Schema, T
         let id = type_id(alloc, module, sequence.name)?;
         let element = sequence.element;
         schema.add_seq(SeqDecl { id, element })?;
-        rest = sequence.after;
+        rest = &rest[SEQUENCE_LENGTH..];
     }
     if is_end(rest) {
         Ok(schema)
@@ -70,20 +73,19 @@ fn sequences_of(alloc: Global, module: &str, body: &[&[u8]]) -> Result<Schema, T
     }
 }
 
-/// A sequence as it is written, and the tokens behind it.
+/// A sequence as it is written.
 #[derive(Clone, Copy)]
-struct Sequence<'t, 'a> {
+struct Sequence<'a> {
     element: TypeRef,
     name: &'a str,
-    after: &'t [&'a [u8]],
 }
 
 /// The sequence at the front, None where there is none.
-fn sequence_at<'t, 'a>(alloc: Global, tokens: &'t [&'a [u8]]) -> Option<Sequence<'t, 'a>>
+fn sequence_at<'a>(alloc: Global, tokens: &[&'a [u8]]) -> Option<Sequence<'a>>
     ensures { MatchOption result ((element : TypeRef) (name : Token) (after : List Token) → IsSequence (tokens_seen tokens.now) element name after → ⊥)
-        (λ s. IsSequence (tokens_seen tokens.now) s.element s.name.now (tokens_seen s.after.now)) }
+        (λ s. IsSequence (tokens_seen tokens.now) s.element s.name.now (drop 6 (tokens_seen tokens.now))) }
 {
-    let [keyword, open, kind, close, name, end, after @ ..] = tokens else {
+    let [keyword, open, kind, close, name, end, ..] = tokens else {
         return None;
     };
     if !is_text(keyword, "sequence") || !is_text(open, "<") || !is_text(close, ">") || !is_text(end, ";") {
@@ -91,7 +93,7 @@ fn sequence_at<'t, 'a>(alloc: Global, tokens: &'t [&'a [u8]]) -> Option<Sequence
     }
     let element = built_in(alloc, kind)?;
     let name = name_of(name)?;
-    Some(Sequence { element, name, after })
+    Some(Sequence { element, name })
 }
 
 fn is_end(tokens: &[&[u8]]) -> bool
