@@ -4,3 +4,4 @@ pub mod SliceNames
 pub mod SequenceFronts
 pub mod SequenceReading
 pub mod FileReading
+pub mod TextMeanings

@@ -29,13 +29,13 @@ sequence_same text d e m n a b g h =
     let kind : g.0 ≡ h.0 = cc (g.1, h.1) in
     (names_apart no_types no_types_kept h.0 d e (subst (λ (word : Token). Names no_types word d) kind g.2) h.2, cc (g.1, h.1), cc (g.1, h.1))
 
-seq_same : (p q : SeqDecl) → p.id ≡ q.id → p.element ≡ q.element → p ≡ q
+pub seq_same : (p q : SeqDecl) → p.id ≡ q.id → p.element ≡ q.element → p ≡ q
 seq_same p q id element = λ i. record { id = id i; element = element i }
 
 abbrev pub the_end : List Token
 the_end = codes "}" ∷ codes ";" ∷ []
 
-no_end : (text : List Token) (e : TypeRef) (name : Token) (after : List Token) → IsSequence text e name after → text ≡ the_end → ⊥
+pub no_end : (text : List Token) (e : TypeRef) (name : Token) (after : List Token) → IsSequence text e name after → text ≡ the_end → ⊥
 no_end text e name after h is = cc (h.1)
 
 -- ---- names without regard to case

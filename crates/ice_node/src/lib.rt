@@ -4,5 +4,5 @@
 mod slice_text;
 mod words;
 
-pub use slice_text::{TextFault, schema_of};
+pub use slice_text::{TextFault, schema_of, texts_apart};
 pub use words::{Command, command_of, forms_apart};

@@ -1,7 +1,7 @@
 //! The Slice texts of this stage, and the schema that each of them means.
 
-ghost use Rattle.std.specs.Prelude.{List, ◌≡◌, ◌≤◌, ◌∷◌, [], ◌↔◌, IsTrue, IfOk, MatchOption, length, drop, codes};
-ghost use Rattle.ice_types.specs.Tables.{Names, no_types};
+ghost use Rattle.std.specs.Prelude.{ℕ, List, ◌≡◌, ◌≤◌, ◌∷◌, [], ◌↔◌, IsTrue, IfOk, MatchOption, length, drop, codes};
+ghost use Rattle.ice_types.specs.Tables.{Tables, Names, no_types};
 ghost use Rattle.ice_types.specs.declared.kind.TypeRef.{TypeRef};
 ghost use Rattle.ice_node.specs.SliceText.{Answers, AreSequences, IsFile, IsSequence, Means, Token, tokens_seen, type_id};
 
@@ -31,6 +31,12 @@ pub fn schema_of(alloc: Global, text: &[u8]) -> Result<Schema, TextFault>
     }
     let tokens = tokens_of(alloc, text)?;
     file_of(alloc, tokens.as_slice())
+}
+
+/// A text means one schema at most.
+pub fn texts_apart()
+    ensures { (text : List ℕ) (t u : Tables) → Means text t → Means text u → t ≡ u }
+{
 }
 
 fn file_of(alloc: Global, tokens: &[&[u8]]) -> Result<Schema, TextFault>
