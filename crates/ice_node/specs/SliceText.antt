@@ -4,11 +4,16 @@
 --   sequence = "sequence" "<" built-in ">" name ";"
 --
 -- Blanks alone stand between tokens. No two sequences have names that are equal without regard to case.
-use Rattle.std.specs.Prelude.{ℕ, ◌≡◌, ◌≢◌, ◌≤◌, Bool, true, false, IsTrue, ◌&&◌, List, [], ◌∷◌, ◌++◌, length, All, Contains, codes, if◌then◌else◌}
+use Rattle.std.specs.Prelude.{ℕ, ◌≡◌, ◌≢◌, ◌≤◌, Bool, true, false, IsTrue, ◌&&◌, List, [], ◌∷◌, ◌++◌, length, map, All, Contains, codes, if◌then◌else◌, Result, Ok, Err}
+use Rattle.std.specs.Borrow.{Bor}
 use Rattle.std.specs.Char.{is_ascii_alphanumeric, is_ascii_alphabetic, is_ascii_whitespace}
+use Rattle.std.specs.List.{list_all}
 use Rattle.std.specs.Str.{str_to_ascii_lowercase}
 use Rattle.ice_types.specs.Tables.{Tables, Names, no_types}
+use Rattle.ice_types.specs.declared.kind.TypeRef.{TypeRef}
 use Rattle.ice_types.specs.declared.declarations.SeqDecl.{SeqDecl}
+use Rattle.ice_node.specs.declared.slice_text.error.TextFault.{TextFault}
+use Rattle.ice_node.specs.declared.slice_text.error.TextFault.TheVariants as faults
 
 abbrev pub Token : Type 0
 Token = List ℕ
@@ -36,11 +41,14 @@ keywords = codes "bool" ∷ codes "byte" ∷ codes "class" ∷ codes "const" ∷
     ∷ codes "LocalObject" ∷ codes "long" ∷ codes "module" ∷ codes "Object" ∷ codes "optional" ∷ codes "out" ∷ codes "sequence" ∷ codes "short"
     ∷ codes "string" ∷ codes "struct" ∷ codes "throws" ∷ codes "true" ∷ codes "Value" ∷ codes "void" ∷ []
 
--- letters and digits, of which the first is a letter; no keyword
-pub record IsName (name : Token) : Type 0 where
-  pub begins : (first : ℕ) × (others : List ℕ) × (name ≡ first ∷ others) × IsTrue (is_ascii_alphabetic first)
-  pub each : All (λ byte. IsTrue (is_ascii_alphanumeric byte)) name
-  pub free : Contains keywords name → ⊥
+-- a letter, then letters and digits
+abbrev pub is_word : Token → Bool
+is_word [] = false
+is_word (first ∷ others) = is_ascii_alphabetic first && list_all is_ascii_alphanumeric others
+
+-- a word that is no keyword
+abbrev pub IsName : Token → Type 0
+IsName token = IsTrue (is_word token) × (Contains keywords token → ⊥)
 
 -- none of the names is equal to this one without regard to case
 abbrev pub IsFree : List Token → Token → Type 0
@@ -50,20 +58,32 @@ abbrev pub type_id : Token → Token → List ℕ
 type_id module_name name = codes "::" ++ (module_name ++ (codes "::" ++ name))
 
 -- sequence = "sequence" "<" built-in ">" name ";"
-abbrev pub IsSequence : Token → List Token → Token → SeqDecl → List Token → Type 0
-IsSequence module_name text name seq after = (kind : Token)
+abbrev pub IsSequence : List Token → TypeRef → Token → List Token → Type 0
+IsSequence text element name after = (kind : Token)
     × (text ≡ codes "sequence" ∷ codes "<" ∷ kind ∷ codes ">" ∷ name ∷ codes ";" ∷ after)
-    × Names no_types kind seq.element × IsName name × (seq.id ≡ type_id module_name name)
+    × Names no_types kind element × IsName name
 
--- { sequence }, behind sequences of these names
+-- { sequence } in this module, behind sequences of these names
 abbrev pub AreSequences : Token → List Token → List Token → List SeqDecl → List Token → Type 0
 AreSequences module_name names text [] after = text ≡ after
 AreSequences module_name names text (seq ∷ seqs) after = (name : Token) × (mid : List Token)
-    × IsSequence module_name text name seq mid × IsFree names name × AreSequences module_name (name ∷ names) mid seqs after
+    × IsSequence text seq.element name mid × (seq.id ≡ type_id module_name name) × IsFree names name × AreSequences module_name (name ∷ names) mid seqs after
 
 -- file = "module" name "{" { sequence } "}" ";"
-abbrev pub Means : List ℕ → Tables → Type 0
-Means text schema = (module_name : Token) × (body : List Token)
-    × (length text ≤ 1000000)
-    × (tokens text ≡ codes "module" ∷ module_name ∷ codes "{" ∷ body) × IsName module_name
+abbrev pub IsFile : List Token → Tables → Type 0
+IsFile text schema = (module_name : Token) × (body : List Token)
+    × (text ≡ codes "module" ∷ module_name ∷ codes "{" ∷ body) × IsName module_name
     × AreSequences module_name [] body schema.seqs (codes "}" ∷ codes ";" ∷ [])
+
+abbrev pub Means : List ℕ → Tables → Type 0
+Means text schema = (length text ≤ 1000000) × IsFile (tokens text) schema
+
+-- the bytes of the tokens, wherever they lie in memory
+abbrev pub tokens_seen : List (Bor Token) → List Token
+tokens_seen found = map (λ token. token.now) found
+
+-- The answer to a text that may mean some schema. Want of memory says nothing of the text.
+abbrev pub Answers : (Tables → Type 0) → Result Tables TextFault → Type 0
+Answers Meant (Ok schema) = Meant schema
+Answers Meant (Err faults.Refused) = (schema : Tables) → Meant schema → ⊥
+Answers Meant (Err faults.Memory) = Unit {0}

@@ -4,7 +4,11 @@
 mod encapsulation;
 mod input;
 mod output;
+mod slice_text;
+mod words;
 
 pub use encapsulation::{LARGEST, decode, encode};
 pub use input::{InputFault, read_input};
 pub use output::write_all;
+pub use slice_text::{TextFault, schema_of, texts_apart};
+pub use words::{Command, command_of, forms_apart};

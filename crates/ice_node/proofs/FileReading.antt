@@ -1,0 +1,49 @@
+-- From the parts of a Slice text to its meaning.
+use Rattle.std.proofs.Common.{ℕ, zero, suc, ◌≡◌, ◌-◌, ◌≤◌, List, [], ◌∷◌, length, map, take, drop, codes, Result, Ok, Err, refl, sym, ap, ◌∙◌, subst, arith, Bor}
+use Rattle.std.proofs.Math.Seq.{take-length}
+use Rattle.std.proofs.lemmas.List.{drop-map, length-drop}
+use Rattle.ice_types.specs.Tables.{Tables}
+use Rattle.ice_node.specs.declared.slice_text.error.TextFault.{TextFault}
+use Rattle.ice_node.specs.declared.slice_text.error.TextFault.TheVariants as faults
+use Rattle.ice_node.specs.SliceText.{Token, tokens, tokens_seen, IsName, AreSequences, IsFile, Means, Answers}
+use Rattle.ice_node.proofs.SequenceFronts.{token_at}
+use Rattle.ice_node.proofs.SequenceReading.{the_end}
+
+-- what is behind some tokens
+pub behind : (n : ℕ) (found : List (Bor Token)) → drop n (tokens_seen found) ≡ tokens_seen (take (length found - n) (drop n found))
+behind n found =
+    let all : take (length found - n) (drop n found) ≡ drop n found = ap (λ k. take k (drop n found)) (sym (length-drop n found)) ∙ take-length (drop n found) in
+    drop-map (λ (token : Bor Token). token.now) n found ∙ ap tokens_seen (sym all)
+
+-- answers to the same question
+pub answers_as : (P Q : Tables → Type 0) → ((t : Tables) → P t → Q t) → ((t : Tables) → Q t → P t) → (r : Result Tables TextFault) → Answers P r → Answers Q r
+answers_as P Q to from (Ok schema) h = to schema h
+answers_as P Q to from (Err faults.Refused) h = λ schema q. h schema (from schema q)
+answers_as P Q to from (Err faults.Memory) h = tt
+
+three : (found : List (Bor Token)) → 3 ≤ length found → tokens_seen found ≡ token_at found 0 ∷ token_at found 1 ∷ token_at found 2 ∷ drop 3 (tokens_seen found)
+three [] h = absurd (omega arith)
+three (a ∷ []) h = absurd (omega arith)
+three (a ∷ b ∷ []) h = absurd (omega arith)
+three (a ∷ b ∷ c ∷ more) h = refl
+
+module _ (found : List (Bor Token)) (name : Token) (enough : 3 ≤ length found) (keyword : token_at found 0 ≡ codes "module") (opens : token_at found 2 ≡ codes "{")
+    (is : name ≡ token_at found 1) (good : IsName (token_at found 1)) where
+  parts : tokens_seen found ≡ codes "module" ∷ name ∷ codes "{" ∷ drop 3 (tokens_seen found)
+  parts = rw (sym keyword, is, sym opens) (three found enough)
+
+  pub file_answers : (r : Result Tables TextFault) → Answers (λ schema. AreSequences name [] (tokens_seen (take (length found - 3) (drop 3 found))) schema.seqs the_end) r
+      → Answers (IsFile (tokens_seen found)) r
+  file_answers = answers_as (λ schema. AreSequences name [] (tokens_seen (take (length found - 3) (drop 3 found))) schema.seqs the_end) (IsFile (tokens_seen found))
+      (λ schema h. (name, drop 3 (tokens_seen found), parts, subst IsName (sym is) good, subst (λ (body : List Token). AreSequences name [] body schema.seqs the_end) (sym (behind 3 found)) h))
+      (λ schema h.
+        let named : name ≡ h.0 = cc (parts, h.2) in
+        let body : drop 3 (tokens_seen found) ≡ h.1 = cc (parts, h.2) in
+        subst (λ (rest : List Token). AreSequences name [] rest schema.seqs the_end) (sym body ∙ behind 3 found)
+        (subst (λ (other : Token). AreSequences other [] h.1 schema.seqs the_end) (sym named) h.4))
+
+pub text_answers : (text : List ℕ) (found : List (Bor Token)) → tokens_seen found ≡ tokens text → length text ≤ 1000000
+    → (r : Result Tables TextFault) → Answers (IsFile (tokens_seen found)) r → Answers (Means text) r
+text_answers text found is short = answers_as (IsFile (tokens_seen found)) (Means text)
+    (λ schema h. (short, subst (λ (all : List Token). IsFile all schema) is h))
+    (λ schema h. subst (λ (all : List Token). IsFile all schema) (sym is) h.1)

@@ -1,0 +1,52 @@
+//! The command line.
+
+ghost use Rattle.std.specs.Prelude.{◌≡◌, List, [], ◌∷◌};
+ghost use Rattle.ice_node.specs.Words.{Word, Command as Asked, Form, Asks, words_of};
+
+const MOST_BYTES: usize = 8192;
+
+/// What the words ask the program to do.
+#[derive(Clone, Copy, Debug, PartialEq, Eq)]
+pub enum Command<'a> {
+    /// To relay values of the type `kind`, which the Slice file defines.
+    Relay { file: &'a str, kind: &'a str },
+    Help,
+    Version,
+}
+
+/// The command that the words ask for, None where they are no listed form.
+pub fn command_of(words: &[String]) -> Option<Command<'_>>
+    ensures { Asks result (words_of words.now) }
+{
+    match words {
+        [option] => option_of(option.as_str()),
+        [command, file, kind] => relay_of(command.as_str(), file.as_str(), kind.as_str()),
+        _ => None,
+    }
+}
+
+fn option_of(word: &str) -> Option<Command<'_>>
+    ensures { Asks result (word.now ∷ []) }
+{
+    match word {
+        "--help" => Some(Command::Help),
+        "--version" => Some(Command::Version),
+        _ => None,
+    }
+}
+
+fn relay_of<'a>(word: &'a str, file: &'a str, kind: &'a str) -> Option<Command<'a>>
+    ensures { Asks result (word.now ∷ file.now ∷ kind.now ∷ []) }
+{
+    if word == "relay" && file.len() <= MOST_BYTES && kind.len() <= MOST_BYTES {
+        Some(Command::Relay { file, kind })
+    } else {
+        None
+    }
+}
+
+/// Words ask for one command at most.
+pub fn forms_apart()
+    ensures { (words : List Word) (a b : Asked) → Form words a → Form words b → a ≡ b }
+{
+}
