@@ -2,12 +2,14 @@
 #![tactic(auto)]
 
 mod encapsulation;
+mod help;
 mod input;
 mod output;
 mod slice_text;
 mod words;
 
 pub use encapsulation::{LARGEST, decode, encode};
+pub use help::{HELP, VERSION};
 pub use input::{InputFault, read_input};
 pub use output::write_all;
 pub use slice_text::{TextFault, schema_of, texts_apart};
