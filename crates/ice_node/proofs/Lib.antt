@@ -9,3 +9,4 @@ pub mod TextMeanings
 pub mod EncapsulationSteps
 pub mod KnownBytes
 pub mod Inputs
+pub mod Relaying

@@ -3,3 +3,4 @@ pub mod SliceText
 pub mod Steps
 pub mod Streams
 pub mod Statuses
+pub mod Outcomes

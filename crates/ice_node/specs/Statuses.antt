@@ -34,16 +34,16 @@ status read_failed = 5
 status (write_failed bytes) = 6
 status no_memory = 9
 
--- the line on the sink of faults, without its newline
-abbrev pub fault_text : Answer → List ℕ
-fault_text (done bytes) = []
-fault_text usage = codes "ice: usage"
-fault_text (no_such_name word) = codes "ice: no such name " ++ word
-fault_text slice_refused = codes "ice: slice refused"
-fault_text input_refused = codes "ice: input refused"
-fault_text read_failed = codes "ice: read failed"
-fault_text (write_failed bytes) = codes "ice: write failed"
-fault_text no_memory = codes "ice: no memory"
+-- the line on the sink of faults
+abbrev pub fault_line : Answer → List ℕ
+fault_line (done bytes) = []
+fault_line usage = codes "ice: usage\n"
+fault_line (no_such_name word) = codes "ice: no such name " ++ (word ++ codes "\n")
+fault_line slice_refused = codes "ice: slice refused\n"
+fault_line input_refused = codes "ice: input refused\n"
+fault_line read_failed = codes "ice: read failed\n"
+fault_line (write_failed bytes) = codes "ice: write failed\n"
+fault_line no_memory = codes "ice: no memory\n"
 
 -- ---- what is decided by the words, the files and the input, where the outside tells them
 
@@ -61,25 +61,26 @@ pub record World : Type 0 where
 abbrev pub FileMeans : Files → Word → Tables → Type 0
 FileMeans files file t = (text : List ℕ) × (file_named files file ≡ Some text) × Means text t
 
-abbrev pub Schema : World → Word → Tables → Type 0
-Schema w file t = IfSome w.files (λ files. FileMeans files file t)
+-- the file means the schema, where the shelf tells its files
+abbrev pub Told : Option Files → Word → Tables → Type 0
+Told files file t = IfSome files (λ known. FileMeans known file t)
 
 -- what `relay FILE TYPE` comes to
-abbrev pub Relays : World → Word → Word → Answer → Type 0
-Relays w file word (done bytes) = (t : Tables) × (kind : TypeRef) × (v : Tree) × Schema w file t × Names t word kind
-    × IfSome w.input (λ input. SpellsEncapsulation t kind input v) × (bytes ≡ encapsulation_bytes v)
-Relays w file word (no_such_name unknown) = (unknown ≡ word) × (t : Tables) × Schema w file t × ((kind : TypeRef) → Names t word kind → ⊥)
-Relays w file word slice_refused = IfSome w.files (λ files. (t : Tables) → FileMeans files file t → ⊥)
-Relays w file word input_refused = (t : Tables) × (kind : TypeRef) × Schema w file t × Names t word kind
-    × IfSome w.input (λ input. (v : Tree) → SpellsEncapsulation t kind input v → ⊥)
-Relays w file word usage = ⊥
-Relays w file word read_failed = ⊥
-Relays w file word (write_failed bytes) = ⊥
-Relays w file word no_memory = ⊥
+abbrev pub Relays : Option Files → Option (List ℕ) → Word → Word → Answer → Type 0
+Relays files input file word (done bytes) = (t : Tables) × (kind : TypeRef) × (v : Tree) × Told files file t × Names t word kind
+    × IfSome input (λ known. SpellsEncapsulation t kind known v) × (bytes ≡ encapsulation_bytes v)
+Relays files input file word (no_such_name unknown) = (unknown ≡ word) × (t : Tables) × Told files file t × ((kind : TypeRef) → Names t word kind → ⊥)
+Relays files input file word slice_refused = IfSome files (λ known. (t : Tables) → FileMeans known file t → ⊥)
+Relays files input file word input_refused = (t : Tables) × (kind : TypeRef) × Told files file t × Names t word kind
+    × IfSome input (λ known. (v : Tree) → SpellsEncapsulation t kind known v → ⊥)
+Relays files input file word usage = ⊥
+Relays files input file word read_failed = ⊥
+Relays files input file word (write_failed bytes) = ⊥
+Relays files input file word no_memory = ⊥
 
 -- what a command comes to
 abbrev pub Commands : World → Command → Answer → Type 0
-Commands w (relay file word) answer = Relays w file word answer
+Commands w (relay file word) answer = Relays w.files w.input file word answer
 Commands w help answer = answer ≡ done HELP.now
 Commands w version answer = answer ≡ done VERSION.now
 
@@ -113,11 +114,7 @@ Writes old new read_failed = Keeps old new
 Writes old new (write_failed bytes) = AppendsFront old new bytes
 Writes old new no_memory = Keeps old new
 
--- what the sink of faults got: no line, or the line, or a front of it where the sink failed
-abbrev pub fault_line : Answer → List ℕ
-fault_line (done bytes) = []
-fault_line answer = fault_text answer ++ codes "\n"
-
+-- what the sink of faults got: the line, or a front of it where the sink failed
 abbrev pub Tells : Option (List ℕ) → Option (List ℕ) → (fault_rose : Type 0) → Answer → Type 0
 Tells old new fault_rose answer = Appends old new (fault_line answer) ⊎ (fault_rose × AppendsFront old new (fault_line answer))
 

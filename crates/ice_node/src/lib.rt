@@ -4,13 +4,16 @@
 mod encapsulation;
 mod help;
 mod input;
+mod outcome;
 mod output;
+mod relay;
 mod slice_text;
 mod words;
 
 pub use encapsulation::{LARGEST, decode, encode};
 pub use help::{HELP, VERSION};
 pub use input::{InputFault, read_input};
+pub use outcome::Outcome;
 pub use output::write_all;
 pub use slice_text::{TextFault, schema_of, texts_apart};
 pub use words::{Command, command_of, forms_apart};
