@@ -8,6 +8,7 @@ mod outcome;
 mod output;
 mod relay;
 mod slice_text;
+mod top_call;
 mod words;
 
 pub use encapsulation::{LARGEST, decode, encode};
@@ -16,4 +17,5 @@ pub use input::{InputFault, read_input};
 pub use outcome::Outcome;
 pub use output::write_all;
 pub use slice_text::{TextFault, schema_of, texts_apart};
+pub use top_call::node;
 pub use words::{Command, command_of, forms_apart};
