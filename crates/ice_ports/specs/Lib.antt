@@ -2,3 +2,4 @@ pub mod Causes
 pub mod Files
 pub mod Plan
 pub mod Memory
+pub mod Streams

@@ -1,5 +1,5 @@
 //! The files of the system as a shelf.
-ghost use Rattle.std.specs.Prelude.{◌≡◌, ◌≤◌, ◌↔◌, None};
+ghost use Rattle.std.specs.Prelude.{◌≡◌, ◌≤◌, ◌↔◌, None, IfOk, IfSome};
 ghost use Rattle.std.specs.IoError.{error_kind};
 ghost use Rattle.ice_ports.specs.Causes.{Rose, count_after};
 ghost use Rattle.ice_ports.specs.Files.{Finds, is_failed};
@@ -71,9 +71,16 @@ fn read_file<R: Files>(alloc: Global, files: &R, path: &str) -> Result<Option<By
         Err(error) if is_missing(&error) => return Ok(None),
         Err(error) => return Err(fault_of(&error)),
     };
+    Ok(Some(read_whole(alloc, &mut file)?))
+}
+
+/// All that is left of an open file.
+fn read_whole<F: Read>(alloc: Global, file: &mut F) -> Result<Bytes, ShelfFault>
+    ensures { IfOk result (λ content. IfSome (F.remaining file.old) (λ known. content ≡ known)) }
+{
     let mut bytes = Vec::new(alloc);
     match file.read_to_end(&mut bytes) {
-        Ok(_) => Ok(Some(List::from_vec(bytes))),
+        Ok(_) => Ok(List::from_vec(bytes)),
         Err(error) => Err(fault_of(&error)),
     }
 }

@@ -1,5 +1,5 @@
 //! A shelf of files in memory.
-ghost use Rattle.std.specs.Prelude.{◌≡◌, ◌≤◌, ℕ, List, Some, IfOk, option_copied};
+ghost use Rattle.std.specs.Prelude.{◌≡◌, ◌≤◌, Some, IfOk, option_copied};
 ghost use Rattle.ice_ports.specs.Causes.{Rose};
 ghost use Rattle.ice_ports.specs.Files.{Finds, file_named, is_failed};
 ghost use Rattle.ice_ports.specs.Plan.{new_plan, fails_now, after_call};

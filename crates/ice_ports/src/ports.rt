@@ -73,7 +73,8 @@ pub trait Shelf {
     // How many failures there were.
     ghost faults: { Self → ℕ };
 
-    /// The content of the first file of this name, or None where there is none.
+    /// The content of the first file of this name, or None where there is none. After `Failed` and
+    /// `Memory` the files are as they were.
     fn load(&mut self, alloc: Global, name: &str) -> Result<Option<Bytes>, ShelfFault>
         ensures found { Finds (files self.old) name.now result }
         ensures kept { files self.new ≡ files self.old }

@@ -1,5 +1,5 @@
 //! Standard input, output and error, by calls of the system with no buffer between.
-ghost use Rattle.std.specs.Prelude.{◌≡◌, ◌<◌, length, None, IfOk, is_err};
+ghost use Rattle.std.specs.Prelude.{◌≡◌, ◌<◌, length, IfOk, is_err};
 ghost use Rattle.std.specs.Io.{ReadsAtMost, WritesAtMost};
 ghost use Rattle.std.specs.Io.KnownBytes.{ReadConsumes, WriteAppends};
 ghost use Rattle.ice_ports.specs.Causes.{HasCause, count_after};
@@ -9,51 +9,53 @@ use std::io::{ErrorKind, Read, Write};
 use std::marker::Model;
 use std::rt::{HostRuntime, Stderr, Stdin, Stdout};
 
-/// Standard input. A read of the system goes straight into the slice. Contracts see how many
-/// failed.
+/// Standard input. A read of the system goes straight into the slice. Contracts see the reader,
+/// which tells no bytes where it is the system's, and how many reads failed.
 #[derive(Drop)]
-pub struct StdSource {
-    input: Stdin,
+pub struct StdSource<R> {
+    input: R,
     faults: u64,
 }
 
-impl Model for StdSource {
-    ghost use Rattle.std.specs.Prelude.{ℕ};
+impl<R> Model for StdSource<R> {
+    ghost use Rattle.ice_ports.specs.Streams.{Counted};
 
-    ghost Value = { ℕ };
+    ghost Value = { Counted R };
 
-    ghost view = { λ s. s.faults };
+    ghost view = { λ s. record { stream = s.input; failures = s.faults } };
 }
 
-impl StdSource {
+impl StdSource<Stdin> {
     /// The standard input of the program.
-    pub fn new(rt: &HostRuntime) -> StdSource
-        ensures { result ≡ 0 }
+    pub fn input(rt: &HostRuntime) -> StdSource<Stdin>
+        ensures { result.failures ≡ 0 }
     {
         StdSource {
             input: rt.stdin(),
             faults: 0,
         }
     }
+}
 
+impl<R> StdSource<R> {
     /// How many reads failed, as far as u64 counts.
     pub fn failures(&self) -> u64
-        ensures { result ≡ self.now }
+        ensures { result ≡ self.now.failures }
     {
         self.faults
     }
 }
 
-impl Source for StdSource {
-    ghost left = { λ _. None };
+impl<R: Read> Source for StdSource<R> {
+    ghost left = { λ s. R.remaining s.stream };
 
-    ghost faults = { λ s. s };
+    ghost faults = { λ s. s.failures };
 
     fn read(&mut self, into: &mut [u8]) -> Result<usize, Failed>
         ensures bound { ReadsAtMost result into.new }
-        ensures bytes { ReadConsumes None None result into.new }
-        ensures cause { HasCause self.old self.new result }
-        ensures count { self.new ≡ count_after self.old (is_err result) }
+        ensures bytes { ReadConsumes (R.remaining self.old.stream) (R.remaining self.new.stream) result into.new }
+        ensures cause { HasCause self.old.failures self.new.failures result }
+        ensures count { self.new.failures ≡ count_after self.old.failures (is_err result) }
     {
         let result = read_once(&mut self.input, into);
         if result.is_err() {
@@ -64,7 +66,8 @@ impl Source for StdSource {
 }
 
 /// Standard output or standard error. A write is one of the system, and keeps no bytes back.
-/// Contracts see how many failed.
+/// Contracts see the writer, which tells no bytes where it is the system's, and how many writes
+/// failed.
 #[derive(Drop)]
 pub struct StdSink<W> {
     output: W,
@@ -72,17 +75,17 @@ pub struct StdSink<W> {
 }
 
 impl<W> Model for StdSink<W> {
-    ghost use Rattle.std.specs.Prelude.{ℕ};
+    ghost use Rattle.ice_ports.specs.Streams.{Counted};
 
-    ghost Value = { ℕ };
+    ghost Value = { Counted W };
 
-    ghost view = { λ s. s.faults };
+    ghost view = { λ s. record { stream = s.output; failures = s.faults } };
 }
 
 impl StdSink<Stdout> {
     /// The standard output of the program.
     pub fn output(rt: &HostRuntime) -> StdSink<Stdout>
-        ensures { result ≡ 0 }
+        ensures { result.failures ≡ 0 }
     {
         StdSink {
             output: rt.stdout(),
@@ -94,7 +97,7 @@ impl StdSink<Stdout> {
 impl StdSink<Stderr> {
     /// The standard error of the program.
     pub fn error(rt: &HostRuntime) -> StdSink<Stderr>
-        ensures { result ≡ 0 }
+        ensures { result.failures ≡ 0 }
     {
         StdSink {
             output: rt.stderr(),
@@ -106,23 +109,23 @@ impl StdSink<Stderr> {
 impl<W> StdSink<W> {
     /// How many writes failed, as far as u64 counts.
     pub fn failures(&self) -> u64
-        ensures { result ≡ self.now }
+        ensures { result ≡ self.now.failures }
     {
         self.faults
     }
 }
 
 impl<W: Write> Sink for StdSink<W> {
-    ghost taken = { λ _. None };
+    ghost taken = { λ s. W.contents s.stream };
 
-    ghost faults = { λ s. s };
+    ghost faults = { λ s. s.failures };
 
     fn write(&mut self, piece: &[u8]) -> Result<usize, Failed>
         ensures bound { WritesAtMost result piece.now }
-        ensures bytes { WriteAppends None None result piece.now }
+        ensures bytes { WriteAppends (W.contents self.old.stream) (W.contents self.new.stream) result piece.now }
         ensures progress { IfOk result (λ n. 0 < length piece.now → 0 < n) }
-        ensures cause { HasCause self.old self.new result }
-        ensures count { self.new ≡ count_after self.old (is_err result) }
+        ensures cause { HasCause self.old.failures self.new.failures result }
+        ensures count { self.new.failures ≡ count_after self.old.failures (is_err result) }
     {
         let result = write_once(&mut self.output, piece);
         if result.is_err() {

@@ -7,10 +7,9 @@ use super::std_streams::{read_once, write_once};
 use super::*;
 use ice_types::{Bytes, List, Name};
 use std::alloc::{AllocError, Global};
-use std::io;
 use std::io::{Error, ErrorKind, Read, Write};
 use std::test::Fail;
-use std::{env, fs, process};
+use std::{env, fs, io, process};
 
 /// Hands what one read gives to a sink, and answers how many bytes it took.
 fn move_piece<S: Source, K: Sink>(source: &mut S, sink: &mut K) -> Result<usize, Failed>
@@ -105,7 +104,7 @@ fn a_folder_has_files_and_no_others(rt: HostRuntime) -> Result<(), Fail> {
 
 #[test]
 fn the_standard_streams_count_their_failures(rt: HostRuntime) {
-    let mut source = StdSource::new(&rt);
+    let mut source = StdSource::input(&rt);
     let failed = source.read(&mut []).is_err();
     assert_eq!(rt; source.failures(), failed as u64);
     let mut output = StdSink::output(&rt);

@@ -1,5 +1,5 @@
 -- What was read and what is left are the bytes that were left.
-use Rattle.std.proofs.Common.{rules, ◌≡◌, ◌+◌, ◌≤◌, sym, ap, ◌∙◌, arith}
+use Rattle.std.proofs.Common.{rules, ◌+◌, sym, ap, ◌∙◌}
 use Rattle.ice_ports.specs.Memory.{Supply}
 use Rattle.ice_ports.proofs.Reading.{left_splits, nothing_left}
 use Rattle.ice_ports.proofs.mem_source.MemSourceSource.read.Goals as goal
