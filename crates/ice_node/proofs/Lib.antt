@@ -10,3 +10,4 @@ pub mod EncapsulationSteps
 pub mod KnownBytes
 pub mod Inputs
 pub mod Relaying
+pub mod Answering
