@@ -1,5 +1,5 @@
 //! The files of the system as a shelf.
-ghost use Rattle.std.specs.Prelude.{◌≡◌, ◌≤◌, ◌↔◌, None, IfOk, IfSome};
+ghost use Rattle.std.specs.Prelude.{◌≡◌, ◌≤◌, ◌↔◌, None, IfOk, IfSome, take};
 ghost use Rattle.std.specs.IoError.{error_kind};
 ghost use Rattle.ice_ports.specs.Causes.{Rose, count_after};
 ghost use Rattle.ice_ports.specs.Files.{Finds, is_failed};
@@ -18,6 +18,7 @@ use std::rt::Files;
 #[derive(Drop)]
 pub struct FolderShelf<R> {
     files: R,
+    most: u64,
     faults: u64,
 }
 
@@ -30,11 +31,16 @@ impl<R> Model for FolderShelf<R> {
 }
 
 impl<R: Files> FolderShelf<R> {
-    /// The files of this runtime.
-    pub fn new(files: R) -> FolderShelf<R>
+    /// The files of this runtime. No more than `most` bytes of a file are read: one that goes on
+    /// behind them is cut there.
+    pub fn new(files: R, most: u64) -> FolderShelf<R>
         ensures { result ≡ 0 }
     {
-        FolderShelf { files, faults: 0 }
+        FolderShelf {
+            files,
+            most,
+            faults: 0,
+        }
     }
 
     /// How many loads failed, as far as u64 counts.
@@ -56,7 +62,7 @@ impl<R: Files> Shelf for FolderShelf<R> {
         ensures failed { result ≡ Err ShelfFault.Failed → Rose self.old self.new }
         ensures count { self.new ≡ count_after self.old (is_failed result) }
     {
-        let result = read_file(alloc, &self.files, name);
+        let result = read_file(alloc, &self.files, name, self.most);
         if matches!(result, Err(ShelfFault::Failed)) {
             self.faults = self.faults.saturating_add(1);
         }
@@ -64,22 +70,27 @@ impl<R: Files> Shelf for FolderShelf<R> {
     }
 }
 
-/// The whole file at a path, or None where the system has none there.
-fn read_file<R: Files>(alloc: Global, files: &R, path: &str) -> Result<Option<Bytes>, ShelfFault> {
-    let mut file = match File::open(files, path) {
+/// The front of the file at a path, or None where the system has none there.
+fn read_file<R: Files>(
+    alloc: Global,
+    files: &R,
+    path: &str,
+    most: u64,
+) -> Result<Option<Bytes>, ShelfFault> {
+    let file = match File::open(files, path) {
         Ok(file) => file,
         Err(error) if is_missing(&error) => return Ok(None),
         Err(error) => return Err(fault_of(&error)),
     };
-    Ok(Some(read_whole(alloc, &mut file)?))
+    Ok(Some(read_front(alloc, file, most)?))
 }
 
-/// All that is left of an open file.
-fn read_whole<F: Read>(alloc: Global, file: &mut F) -> Result<Bytes, ShelfFault>
-    ensures { IfOk result (λ content. IfSome (F.remaining file.old) (λ known. content ≡ known)) }
+/// So many bytes of what is left of an open file, or all of it.
+fn read_front<F: Read + Drop>(alloc: Global, file: F, most: u64) -> Result<Bytes, ShelfFault>
+    ensures { IfOk result (λ content. IfSome (F.remaining file) (λ known. content ≡ take most known)) }
 {
     let mut bytes = Vec::new(alloc);
-    match file.read_to_end(&mut bytes) {
+    match file.take(most).read_to_end(&mut bytes) {
         Ok(_) => Ok(List::from_vec(bytes)),
         Err(error) => Err(fault_of(&error)),
     }

@@ -88,7 +88,7 @@ fn a_folder_has_files_and_no_others(rt: HostRuntime) -> Result<(), Fail> {
     let path = format!(in alloc; "{}/ice_ports_{}", temp.as_str(), process::id(rt.process()))?;
     let below = format!(in alloc; "{path}/below")?;
     let long = format!(in alloc; "{path}{:300}", "")?;
-    let mut shelf = FolderShelf::new(rt);
+    let mut shelf = FolderShelf::new(rt, 1 << 20);
     assert!(rt; has(alloc, &mut shelf, path.as_str(), None));
     fs::write(&rt, path.as_str(), b"kept".as_slice())?;
     assert!(rt; has(alloc, &mut shelf, path.as_str(), Some(b"kept")));
