@@ -160,9 +160,9 @@ module _ (module_name : Token) (body : List Token) where
         room = omega (arith, r.room, length-append seqs (q ∷ []), ap length seq.1);
         so_far = λ more h. subst (λ (all : List SeqDecl). AreSequences module_name [] body all the_end) (sym (append_assoc seqs (q ∷ []) more)) (r.so_far (q ∷ more) (name, after, seq, id, free names name fresh, h));
         onward = λ all h.
-          let w = r.onward all h in
-          let n = next module_name names rest q name after seq id w.0 w.2 in
-          (n.0, w.1 ∙ ap (λ (more : List SeqDecl). seqs ++ more) n.1 ∙ sym (append_assoc seqs (q ∷ []) n.0), n.2);
+            let w = r.onward all h in
+            let n = next module_name names rest q name after seq id w.0 w.2 in
+            (n.0, w.1 ∙ ap (λ (more : List SeqDecl). seqs ++ more) n.1 ∙ sym (append_assoc seqs (q ∷ []) n.0), n.2);
         ids = λ at p is. elim (slice_get-push seqs q at p is) [
           | inl there ↦ let old = r.ids at p there in (old.0, Contains-cons name names old.0 old.1, old.2)
           | inr last ↦ (name, Contains-head name names, ap (λ (x : SeqDecl). x.id) (sym last.1) ∙ id)

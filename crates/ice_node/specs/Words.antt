@@ -13,7 +13,7 @@ pub data Command : Type 0 where
   help : Command
   version : Command
 
--- no word is longer
+-- a word has at most 8,192 bytes
 abbrev pub IsWord : Word → Type 0
 IsWord word = length word ≤ 8192
 

@@ -7,10 +7,11 @@ ghost use Rattle.ice_node.specs.SliceText.{Answers, AreSequences, IsFile, IsSequ
 
 mod error;
 mod names;
+#[cfg(test)]
+mod tests;
 mod tokens;
 
 pub use error::TextFault;
-
 use ice_types::{Name, Schema, SeqDecl, TypeRef};
 use names::name_of;
 use std::alloc::{AllocError, Global};
@@ -36,8 +37,7 @@ pub fn schema_of(alloc: Global, text: &[u8]) -> Result<Schema, TextFault>
 /// A text means one schema at most.
 pub fn texts_apart()
     ensures { (text : List ℕ) (t u : Tables) → Means text t → Means text u → t ≡ u }
-{
-}
+{}
 
 fn file_of(alloc: Global, tokens: &[&[u8]]) -> Result<Schema, TextFault>
     requires { length tokens.now ≤ 1000000 }
@@ -64,7 +64,8 @@ fn sequences_of(alloc: Global, module: &str, body: &[&[u8]]) -> Result<Schema, T
     let mut names = BTreeSet::new(alloc);
     let mut rest = body;
     while let Some(sequence) = sequence_at(alloc, rest) {
-        if !names.insert(sequence.name.to_ascii_lowercase(alloc)?)? {
+        let lowered = sequence.name.to_ascii_lowercase(alloc)?;
+        if !names.insert(lowered)? {
             return Err(TextFault::Refused);
         }
         let id = type_id(alloc, module, sequence.name)?;
@@ -94,7 +95,11 @@ fn sequence_at<'a>(alloc: Global, tokens: &[&'a [u8]]) -> Option<Sequence<'a>>
     let [keyword, open, kind, close, name, end, ..] = tokens else {
         return None;
     };
-    if !is_text(keyword, "sequence") || !is_text(open, "<") || !is_text(close, ">") || !is_text(end, ";") {
+    if !is_text(keyword, "sequence")
+        || !is_text(open, "<")
+        || !is_text(close, ">")
+        || !is_text(end, ";")
+    {
         return None;
     }
     let element = built_in(alloc, kind)?;

@@ -48,5 +48,4 @@ fn relay_of<'a>(word: &'a str, file: &'a str, kind: &'a str) -> Option<Command<'
 /// Words ask for one command at most.
 pub fn forms_apart()
     ensures { (words : List Word) (a b : Asked) → Form words a → Form words b → a ≡ b }
-{
-}
+{}

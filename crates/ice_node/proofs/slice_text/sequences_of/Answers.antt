@@ -16,8 +16,8 @@ pub returns-then-not-branch : goal.returns-then-not-branch
 returns-then-not-branch c = λ schema.
     let i = c.loop-sequence.invariant in
     let q = c.in-Some.sequence in
-    let lowered = string_bytes c.in_ok-to_ascii_lowercase.field-0 in
-    let old = was_old c.in_ok-insert.field-0 (contains_text c.loop-sequence.names lowered) i.0 q.name.now lowered c.in_ok-to_ascii_lowercase.ensures.ok c.in_ok-insert.ensures.added (i.2 lowered) c.if-not-branch.true in
+    let lowered = string_bytes c.in_ok-lowered.lowered in
+    let old = was_old c.in_ok-insert.field-0 (contains_text c.loop-sequence.names lowered) i.0 q.name.now lowered c.in_ok-lowered.ensures.ok c.in_ok-insert.ensures.added (i.2 lowered) c.if-not-branch.true in
     twice c.args.module.now (tokens_seen c.args.body.now) c.loop-sequence.schema.seqs i.0 (tokens_seen c.loop-sequence.rest.now) i.1
     q.element q.name.now (drop 6 (tokens_seen c.loop-sequence.rest.now)) c.in-Some.ensures old schema.seqs
 
@@ -26,8 +26,8 @@ add_seq-requires-clause-new_id c =
     let i = c.loop-sequence.invariant in
     let q = c.in-Some.sequence in
     let decl : SeqDecl = record { id = c.in_ok-id.id; element = q.element } in
-    let lowered = string_bytes c.in_ok-to_ascii_lowercase.field-0 in
-    let fresh = was_new c.in_ok-insert.field-0 (contains_text c.loop-sequence.names lowered) i.0 q.name.now lowered c.in_ok-to_ascii_lowercase.ensures.ok c.in_ok-insert.ensures.added (i.2 lowered) c.if-not-branch.false in
+    let lowered = string_bytes c.in_ok-lowered.lowered in
+    let fresh = was_new c.in_ok-insert.field-0 (contains_text c.loop-sequence.names lowered) i.0 q.name.now lowered c.in_ok-lowered.ensures.ok c.in_ok-insert.ensures.added (i.2 lowered) c.if-not-branch.false in
     is_new c.args.module.now (tokens_seen c.args.body.now) c.loop-sequence.schema.seqs i.0 (tokens_seen c.loop-sequence.rest.now) i.1
     decl q.name.now (drop 6 (tokens_seen c.loop-sequence.rest.now)) c.in-Some.ensures fresh c.in_ok-id.ensures
 
@@ -36,17 +36,17 @@ loop-sequence-preserved c =
     let i = c.loop-sequence.invariant in
     let q = c.in-Some.sequence in
     let decl : SeqDecl = record { id = c.in_ok-id.id; element = q.element } in
-    let key = c.in_ok-to_ascii_lowercase.field-0 in
-    let lower = c.in_ok-to_ascii_lowercase.ensures.ok in
+    let key = c.in_ok-lowered.lowered in
+    let lower = c.in_ok-lowered.ensures.ok in
     let fresh = was_new c.in_ok-insert.field-0 (contains_text c.loop-sequence.names (string_bytes key)) i.0 q.name.now (string_bytes key) lower c.in_ok-insert.ensures.added (i.2 (string_bytes key)) c.if-not-branch.false in
     let more = goes_on c.args.module.now (tokens_seen c.args.body.now) c.loop-sequence.schema.seqs i.0 (tokens_seen c.loop-sequence.rest.now) i.1
-      decl q.name.now (drop 6 (tokens_seen c.loop-sequence.rest.now)) c.in-Some.ensures fresh c.in_ok-id.ensures in
+    decl q.name.now (drop 6 (tokens_seen c.loop-sequence.rest.now)) c.in-Some.ensures fresh c.in_ok-id.ensures in
     let seqs : c.loop-sequence.schema.seqs ++ decl ∷ [] ≡ c.add_seq.new.self.seqs = sym (ap (λ (t : Tables). t.seqs) c.in_ok-add_seq.ensures.ok.1) in (
       q.name.now ∷ i.0,
       subst (λ (after : List Token). Reading c.args.module.now (tokens_seen c.args.body.now) c.add_seq.new.self.seqs (q.name.now ∷ i.0) after) (behind 6 c.loop-sequence.rest.now)
-      (subst (λ (all : List SeqDecl). Reading c.args.module.now (tokens_seen c.args.body.now) all (q.name.now ∷ i.0) (drop 6 (tokens_seen c.loop-sequence.rest.now))) seqs more),
+          (subst (λ (all : List SeqDecl). Reading c.args.module.now (tokens_seen c.args.body.now) all (q.name.now ∷ i.0) (drop 6 (tokens_seen c.loop-sequence.rest.now))) seqs more),
       λ lowered. has_more i.0 q.name.now (string_bytes key) lowered (contains_text c.insert.new.self lowered) (contains_text c.loop-sequence.names lowered) lower
-      (btree_set_updates_text (string_bytes key) c.loop-sequence.names c.insert.new.self true c.in_ok-insert.ensures.updates lowered) (i.2 lowered),
+          (btree_set_updates_text (string_bytes key) c.loop-sequence.names c.insert.new.self true c.in_ok-insert.ensures.updates lowered) (i.2 lowered),
     )
 
 pub returns-then-is_end : goal.returns-then-is_end
