@@ -1,10 +1,10 @@
 -- Reading the sequences of a Slice text from the left.
-use Rattle.std.proofs.Common.{ℕ, zero, suc, ◌≡◌, ◌≢◌, ◌+◌, ◌<◌, ◌≤◌, Bool, true, false, cond, not, List, [], ◌∷◌, ◌++◌, length, take, drop, codes, Contains, All, Some, slice_get, refl, sym, ap, ◌∙◌, subst, arith, inl, inr, ◌⊎◌, append_assoc}
+use Rattle.std.proofs.Common.{ℕ, suc, ◌≡◌, ◌≢◌, ◌+◌, ◌≤◌, Bool, true, false, cond, not, List, [], ◌∷◌, ◌++◌, length, codes, Contains, Some, slice_get, refl, sym, ap, ◌∙◌, subst, arith, inl, inr, ◌⊎◌, append_assoc}
 use Rattle.std.specs.Str.{bytes_eq, str_to_ascii_lowercase}
 use Rattle.std.proofs.lemmas.List.{append-nil, append_cancel_left, length-append}
 use Rattle.std.proofs.lemmas.List.Elements.{All-nil, All-cons, All-head, All-tail, All-contains}
 use Rattle.std.proofs.lemmas.Slice.Eq.{bytes_eq-Decides}
-use Rattle.ice_types.specs.Tables.{Tables, Names, LacksId, no_types}
+use Rattle.ice_types.specs.Tables.{Names, LacksId, no_types}
 use Rattle.ice_types.specs.Rules.{IsSchema}
 use Rattle.ice_types.specs.declared.kind.TypeRef.{TypeRef}
 use Rattle.ice_types.specs.declared.declarations.SeqDecl.{SeqDecl}

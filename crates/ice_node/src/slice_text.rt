@@ -18,12 +18,13 @@ use std::alloc::{AllocError, Global};
 use std::collections::BTreeSet;
 use tokens::tokens_of;
 
+/// No text that means a schema is longer.
 const MOST_BYTES: usize = 1_000_000;
 
 /// How many tokens a sequence takes.
 const SEQUENCE_LENGTH: usize = 6;
 
-/// The schema that the text means.
+/// The schema that the text means. A text that means none, also one of more than 1,000,000 bytes, is refused.
 pub fn schema_of(alloc: Global, text: &[u8]) -> Result<Schema, TextFault>
     ensures { Answers (Means text.now) result }
 {
@@ -39,8 +40,9 @@ pub fn texts_apart()
     ensures { (text : List ℕ) (t u : Tables) → Means text t → Means text u → t ≡ u }
 {}
 
+/// The schema of a whole text's tokens.
 fn file_of(alloc: Global, tokens: &[&[u8]]) -> Result<Schema, TextFault>
-    requires { length tokens.now ≤ 1000000 }
+    requires { length tokens.now ≤ MOST_BYTES }
     ensures { Answers (IsFile (tokens_seen tokens.now)) result }
 {
     let [keyword, name, open, body @ ..] = tokens else {
@@ -50,15 +52,15 @@ fn file_of(alloc: Global, tokens: &[&[u8]]) -> Result<Schema, TextFault>
         return Err(TextFault::Refused);
     }
     match name_of(name) {
-        Some(module) => sequences_of(alloc, module, body),
+        Some(module_name) => sequences_of(alloc, module_name, body),
         None => Err(TextFault::Refused),
     }
 }
 
 /// The schema of the sequences up to the end of the text.
-fn sequences_of(alloc: Global, module: &str, body: &[&[u8]]) -> Result<Schema, TextFault>
-    requires { length body.now ≤ 1000000 }
-    ensures { Answers (λ schema. AreSequences module.now [] (tokens_seen body.now) schema.seqs (codes "}" ∷ codes ";" ∷ [])) result }
+fn sequences_of(alloc: Global, module_name: &str, body: &[&[u8]]) -> Result<Schema, TextFault>
+    requires { length body.now ≤ MOST_BYTES }
+    ensures { Answers (λ schema. AreSequences module_name.now [] (tokens_seen body.now) schema.seqs (codes "}" ∷ codes ";" ∷ [])) result }
 {
     let mut schema = Schema::new(alloc);
     let mut names = BTreeSet::new(alloc);
@@ -68,7 +70,7 @@ fn sequences_of(alloc: Global, module: &str, body: &[&[u8]]) -> Result<Schema, T
         if !names.insert(lowered)? {
             return Err(TextFault::Refused);
         }
-        let id = type_id(alloc, module, sequence.name)?;
+        let id = type_id(alloc, module_name, sequence.name)?;
         let element = sequence.element;
         schema.add_seq(SeqDecl { id, element })?;
         rest = &rest[SEQUENCE_LENGTH..];
@@ -133,9 +135,9 @@ fn is_text(token: &[u8], text: &str) -> bool
 }
 
 /// The type id of a sequence in a module, as `::M::Q`.
-fn type_id(alloc: Global, module: &str, name: &str) -> Result<Name, AllocError>
-    ensures { IfOk result (λ id. id ≡ type_id module.now name.now) }
+fn type_id(alloc: Global, module_name: &str, name: &str) -> Result<Name, AllocError>
+    ensures { IfOk result (λ id. id ≡ type_id module_name.now name.now) }
 {
-    let text = format!(in alloc; "::{module}::{name}")?;
+    let text = format!(in alloc; "::{module_name}::{name}")?;
     Name::of(alloc, text.as_str())
 }

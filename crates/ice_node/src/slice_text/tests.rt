@@ -42,6 +42,7 @@ const REFUSED: [&str; 24] = [
     "module M { }; x",
 ];
 
+/// Whether the text is accepted, None where memory ran out.
 fn is_accepted(rt: &impl AllocGlobal, text: &[u8]) -> Option<bool> {
     match schema_of(rt.alloc(), text) {
         Ok(_) => Some(true),
