@@ -1,5 +1,5 @@
 -- From the parts of a Slice text to its meaning.
-use Rattle.std.proofs.Common.{ℕ, zero, suc, ◌≡◌, ◌-◌, ◌≤◌, List, [], ◌∷◌, length, map, take, drop, codes, Result, Ok, Err, refl, sym, ap, ◌∙◌, subst, arith, Bor}
+use Rattle.std.proofs.Common.{ℕ, ◌≡◌, ◌-◌, ◌≤◌, List, [], ◌∷◌, length, take, drop, codes, Result, Ok, Err, refl, sym, ap, ◌∙◌, subst, arith, Bor}
 use Rattle.std.proofs.Math.Seq.{take-length}
 use Rattle.std.proofs.lemmas.List.{drop-map, length-drop}
 use Rattle.ice_types.specs.Tables.{Tables}
@@ -37,10 +37,10 @@ module _ (found : List (Bor Token)) (name : Token) (enough : 3 ≤ length found)
   file_answers = answers_as (λ schema. AreSequences name [] (tokens_seen (take (length found - 3) (drop 3 found))) schema.seqs the_end) (IsFile (tokens_seen found))
       (λ schema h. (name, drop 3 (tokens_seen found), parts, subst IsName (sym is) good, subst (λ (body : List Token). AreSequences name [] body schema.seqs the_end) (sym (behind 3 found)) h))
       (λ schema h.
-        let named : name ≡ h.0 = cc (parts, h.2) in
-        let body : drop 3 (tokens_seen found) ≡ h.1 = cc (parts, h.2) in
-        subst (λ (rest : List Token). AreSequences name [] rest schema.seqs the_end) (sym body ∙ behind 3 found)
-        (subst (λ (other : Token). AreSequences other [] h.1 schema.seqs the_end) (sym named) h.4))
+      let named : name ≡ h.0 = cc (parts, h.2) in
+      let body : drop 3 (tokens_seen found) ≡ h.1 = cc (parts, h.2) in
+      subst (λ (rest : List Token). AreSequences name [] rest schema.seqs the_end) (sym body ∙ behind 3 found)
+      (subst (λ (other : Token). AreSequences other [] h.1 schema.seqs the_end) (sym named) h.4))
 
 pub text_answers : (text : List ℕ) (found : List (Bor Token)) → tokens_seen found ≡ tokens text → length text ≤ 1000000
     → (r : Result Tables TextFault) → Answers (IsFile (tokens_seen found)) r → Answers (Means text) r

@@ -1,5 +1,5 @@
 -- The sequence at the front of some tokens.
-use Rattle.std.proofs.Common.{ℕ, zero, suc, ◌≡◌, ◌-◌, ◌≤◌, List, [], ◌∷◌, length, take, drop, get_or, Bool, false, IsTrue, codes, refl, sym, ap, ◌∙◌, subst, arith, Bor}
+use Rattle.std.proofs.Common.{ℕ, ◌≡◌, ◌≤◌, List, [], ◌∷◌, length, drop, get_or, Bool, false, IsTrue, codes, refl, sym, subst, arith, Bor}
 use Rattle.ice_types.specs.Tables.{Names, no_types}
 use Rattle.ice_types.specs.declared.kind.TypeRef.{TypeRef}
 use Rattle.ice_node.specs.SliceText.{Token, IsName, IsSequence, tokens_seen}

@@ -1,10 +1,10 @@
 -- Reading the sequences of a Slice text from the left.
-use Rattle.std.proofs.Common.{ℕ, zero, suc, ◌≡◌, ◌≢◌, ◌+◌, ◌<◌, ◌≤◌, Bool, true, false, cond, not, List, [], ◌∷◌, ◌++◌, length, take, drop, codes, Contains, All, Some, slice_get, refl, sym, ap, ◌∙◌, subst, arith, inl, inr, ◌⊎◌, append_assoc}
+use Rattle.std.proofs.Common.{ℕ, suc, ◌≡◌, ◌≢◌, ◌+◌, ◌≤◌, Bool, true, false, cond, not, List, [], ◌∷◌, ◌++◌, length, codes, Contains, Some, slice_get, refl, sym, ap, ◌∙◌, subst, arith, inl, inr, ◌⊎◌, append_assoc}
 use Rattle.std.specs.Str.{bytes_eq, str_to_ascii_lowercase}
 use Rattle.std.proofs.lemmas.List.{append-nil, append_cancel_left, length-append}
 use Rattle.std.proofs.lemmas.List.Elements.{All-nil, All-cons, All-head, All-tail, All-contains}
 use Rattle.std.proofs.lemmas.Slice.Eq.{bytes_eq-Decides}
-use Rattle.ice_types.specs.Tables.{Tables, Names, LacksId, no_types}
+use Rattle.ice_types.specs.Tables.{Names, LacksId, no_types}
 use Rattle.ice_types.specs.Rules.{IsSchema}
 use Rattle.ice_types.specs.declared.kind.TypeRef.{TypeRef}
 use Rattle.ice_types.specs.declared.declarations.SeqDecl.{SeqDecl}
@@ -160,9 +160,9 @@ module _ (module_name : Token) (body : List Token) where
         room = omega (arith, r.room, length-append seqs (q ∷ []), ap length seq.1);
         so_far = λ more h. subst (λ (all : List SeqDecl). AreSequences module_name [] body all the_end) (sym (append_assoc seqs (q ∷ []) more)) (r.so_far (q ∷ more) (name, after, seq, id, free names name fresh, h));
         onward = λ all h.
-          let w = r.onward all h in
-          let n = next module_name names rest q name after seq id w.0 w.2 in
-          (n.0, w.1 ∙ ap (λ (more : List SeqDecl). seqs ++ more) n.1 ∙ sym (append_assoc seqs (q ∷ []) n.0), n.2);
+            let w = r.onward all h in
+            let n = next module_name names rest q name after seq id w.0 w.2 in
+            (n.0, w.1 ∙ ap (λ (more : List SeqDecl). seqs ++ more) n.1 ∙ sym (append_assoc seqs (q ∷ []) n.0), n.2);
         ids = λ at p is. elim (slice_get-push seqs q at p is) [
           | inl there ↦ let old = r.ids at p there in (old.0, Contains-cons name names old.0 old.1, old.2)
           | inr last ↦ (name, Contains-head name names, ap (λ (x : SeqDecl). x.id) (sym last.1) ∙ id)

@@ -1,5 +1,5 @@
 -- Names of a Slice text.
-use Rattle.std.proofs.Common.{ℕ, zero, suc, ◌≡◌, ◌+◌, ◌-◌, ◌<◌, ◌≤◌, Bool, true, false, cond, not, ◌&&◌, List, [], ◌∷◌, ◌++◌, length, Contains, IsTrue, refl, sym, ap, ◌∙◌, subst, arith, inl, inr, ◌⊎◌, Bor, get_or, slice_get, Some}
+use Rattle.std.proofs.Common.{ℕ, zero, suc, ◌≡◌, ◌<◌, Bool, true, false, ◌&&◌, List, [], ◌∷◌, Contains, IsTrue, refl, sym, ◌∙◌, arith, get_or, slice_get, Some}
 use Rattle.std.specs.Char.{is_ascii_alphanumeric, is_ascii_alphabetic}
 use Rattle.std.specs.List.{list_any, list_all}
 use Rattle.std.specs.Str.{bytes_eq, IsAscii, IsUtf8}
@@ -13,7 +13,7 @@ use Rattle.ice_types.specs.Tables.{Names, no_types}
 use Rattle.ice_types.specs.declared.kind.TypeRef.{TypeRef}
 use Rattle.ice_types.specs.declared.kind.TypeRef.TheVariants as kinds
 use Rattle.ice_types.specs.declared.declarations.SeqDecl.{SeqDecl}
-use Rattle.ice_node.specs.SliceText.{Token, is_word, IsName}
+use Rattle.ice_node.specs.SliceText.{Token, is_word}
 
 -- what a search among words tells
 pub among_is : (words : List Token) (word : Token) (found : Bool) → found ≡ list_any (bytes_eq word) words → (IsTrue found → Contains words word) × (Contains words word → IsTrue found)

@@ -1,5 +1,5 @@
 -- A Slice text means one schema at most.
-use Rattle.std.proofs.Common.{ℕ, ◌≡◌, List, [], ◌∷◌, codes, refl, sym, ap, ◌∙◌, subst}
+use Rattle.std.proofs.Common.{ℕ, ◌≡◌, List, [], ◌∷◌, refl, sym, ap, ◌∙◌, subst}
 use Rattle.ice_types.specs.Tables.{Tables}
 use Rattle.ice_types.specs.declared.declarations.SeqDecl.{SeqDecl}
 use Rattle.ice_node.specs.SliceText.{Token, tokens, AreSequences, IsFile, Means, type_id}

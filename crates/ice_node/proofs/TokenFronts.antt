@@ -1,5 +1,5 @@
 -- The tokens of a text, one at a time.
-use Rattle.std.proofs.Common.{append_assoc, ℕ, zero, suc, ◌≡◌, ◌+◌, ◌-◌, ◌<◌, ◌≤◌, max, Bool, true, false, cond, not, ◌&&◌, List, [], ◌∷◌, ◌++◌, length, take, drop, get_or, refl, sym, ap, ◌∙◌, subst, one-add, arith, inl, inr, ◌⊎◌, Bor}
+use Rattle.std.proofs.Common.{append_assoc, ℕ, suc, ◌≡◌, ◌<◌, ◌≤◌, max, Bool, true, false, cond, ◌&&◌, List, [], ◌∷◌, ◌++◌, length, take, drop, get_or, refl, sym, ap, ◌∙◌, one-add, arith, Bor}
 use Rattle.std.specs.Char.{is_ascii_alphanumeric, is_ascii_whitespace}
 use Rattle.std.specs.List.{prefix_len, take_while}
 use Rattle.std.proofs.lemmas.Bool.Decides.{nat_tests}

@@ -7,22 +7,24 @@ ghost use Rattle.ice_node.specs.SliceText.{Answers, AreSequences, IsFile, IsSequ
 
 mod error;
 mod names;
+#[cfg(test)]
+mod tests;
 mod tokens;
 
 pub use error::TextFault;
-
 use ice_types::{Name, Schema, SeqDecl, TypeRef};
 use names::name_of;
 use std::alloc::{AllocError, Global};
 use std::collections::BTreeSet;
 use tokens::tokens_of;
 
+/// No text that means a schema is longer.
 const MOST_BYTES: usize = 1_000_000;
 
 /// How many tokens a sequence takes.
 const SEQUENCE_LENGTH: usize = 6;
 
-/// The schema that the text means.
+/// The schema that the text means. A text that means none, also one of more than 1,000,000 bytes, is refused.
 pub fn schema_of(alloc: Global, text: &[u8]) -> Result<Schema, TextFault>
     ensures { Answers (Means text.now) result }
 {
@@ -36,11 +38,11 @@ pub fn schema_of(alloc: Global, text: &[u8]) -> Result<Schema, TextFault>
 /// A text means one schema at most.
 pub fn texts_apart()
     ensures { (text : List ℕ) (t u : Tables) → Means text t → Means text u → t ≡ u }
-{
-}
+{}
 
+/// The schema of a whole text's tokens.
 fn file_of(alloc: Global, tokens: &[&[u8]]) -> Result<Schema, TextFault>
-    requires { length tokens.now ≤ 1000000 }
+    requires { length tokens.now ≤ MOST_BYTES }
     ensures { Answers (IsFile (tokens_seen tokens.now)) result }
 {
     let [keyword, name, open, body @ ..] = tokens else {
@@ -50,24 +52,25 @@ fn file_of(alloc: Global, tokens: &[&[u8]]) -> Result<Schema, TextFault>
         return Err(TextFault::Refused);
     }
     match name_of(name) {
-        Some(module) => sequences_of(alloc, module, body),
+        Some(module_name) => sequences_of(alloc, module_name, body),
         None => Err(TextFault::Refused),
     }
 }
 
 /// The schema of the sequences up to the end of the text.
-fn sequences_of(alloc: Global, module: &str, body: &[&[u8]]) -> Result<Schema, TextFault>
-    requires { length body.now ≤ 1000000 }
-    ensures { Answers (λ schema. AreSequences module.now [] (tokens_seen body.now) schema.seqs (codes "}" ∷ codes ";" ∷ [])) result }
+fn sequences_of(alloc: Global, module_name: &str, body: &[&[u8]]) -> Result<Schema, TextFault>
+    requires { length body.now ≤ MOST_BYTES }
+    ensures { Answers (λ schema. AreSequences module_name.now [] (tokens_seen body.now) schema.seqs (codes "}" ∷ codes ";" ∷ [])) result }
 {
     let mut schema = Schema::new(alloc);
     let mut names = BTreeSet::new(alloc);
     let mut rest = body;
     while let Some(sequence) = sequence_at(alloc, rest) {
-        if !names.insert(sequence.name.to_ascii_lowercase(alloc)?)? {
+        let lowered = sequence.name.to_ascii_lowercase(alloc)?;
+        if !names.insert(lowered)? {
             return Err(TextFault::Refused);
         }
-        let id = type_id(alloc, module, sequence.name)?;
+        let id = type_id(alloc, module_name, sequence.name)?;
         let element = sequence.element;
         schema.add_seq(SeqDecl { id, element })?;
         rest = &rest[SEQUENCE_LENGTH..];
@@ -94,7 +97,11 @@ fn sequence_at<'a>(alloc: Global, tokens: &[&'a [u8]]) -> Option<Sequence<'a>>
     let [keyword, open, kind, close, name, end, ..] = tokens else {
         return None;
     };
-    if !is_text(keyword, "sequence") || !is_text(open, "<") || !is_text(close, ">") || !is_text(end, ";") {
+    if !is_text(keyword, "sequence")
+        || !is_text(open, "<")
+        || !is_text(close, ">")
+        || !is_text(end, ";")
+    {
         return None;
     }
     let element = built_in(alloc, kind)?;
@@ -128,9 +135,9 @@ fn is_text(token: &[u8], text: &str) -> bool
 }
 
 /// The type id of a sequence in a module, as `::M::Q`.
-fn type_id(alloc: Global, module: &str, name: &str) -> Result<Name, AllocError>
-    ensures { IfOk result (λ id. id ≡ type_id module.now name.now) }
+fn type_id(alloc: Global, module_name: &str, name: &str) -> Result<Name, AllocError>
+    ensures { IfOk result (λ id. id ≡ type_id module_name.now name.now) }
 {
-    let text = format!(in alloc; "::{module}::{name}")?;
+    let text = format!(in alloc; "::{module_name}::{name}")?;
     Name::of(alloc, text.as_str())
 }

@@ -3,6 +3,7 @@
 ghost use Rattle.std.specs.Prelude.{◌≡◌, List, [], ◌∷◌};
 ghost use Rattle.ice_node.specs.Words.{Word, Command as Asked, Form, Asks, words_of};
 
+/// No word of a listed form is longer.
 const MOST_BYTES: usize = 8192;
 
 /// What the words ask the program to do.
@@ -10,7 +11,9 @@ const MOST_BYTES: usize = 8192;
 pub enum Command<'a> {
     /// To relay values of the type `kind`, which the Slice file defines.
     Relay { file: &'a str, kind: &'a str },
+    /// To print how the program is called.
     Help,
+    /// To print the program's version.
     Version,
 }
 
@@ -48,5 +51,4 @@ fn relay_of<'a>(word: &'a str, file: &'a str, kind: &'a str) -> Option<Command<'
 /// Words ask for one command at most.
 pub fn forms_apart()
     ensures { (words : List Word) (a b : Asked) → Form words a → Form words b → a ≡ b }
-{
-}
+{}
