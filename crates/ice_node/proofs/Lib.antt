@@ -11,3 +11,4 @@ pub mod KnownBytes
 pub mod Inputs
 pub mod Relaying
 pub mod Answering
+pub mod OneAnswer

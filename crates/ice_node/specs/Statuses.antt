@@ -65,13 +65,17 @@ FileMeans files file t = (text : List ℕ) × (file_named files file ≡ Some te
 abbrev pub Told : Option Files → Word → Tables → Type 0
 Told files file t = IfSome files (λ known. FileMeans known file t)
 
+-- the word names this type, and no other
+abbrev pub IsNamed : Tables → Word → TypeRef → Type 0
+IsNamed t word kind = Names t word kind × ((other : TypeRef) → Names t word other → other ≡ kind)
+
 -- what `relay FILE TYPE` comes to
 abbrev pub Relays : Option Files → Option (List ℕ) → Word → Word → Answer → Type 0
-Relays files input file word (done bytes) = (t : Tables) × (kind : TypeRef) × (v : Tree) × Told files file t × Names t word kind
+Relays files input file word (done bytes) = (t : Tables) × (kind : TypeRef) × (v : Tree) × Told files file t × IsNamed t word kind
     × IfSome input (λ known. SpellsEncapsulation t kind known v) × (bytes ≡ encapsulation_bytes v)
 Relays files input file word (no_such_name unknown) = (unknown ≡ word) × (t : Tables) × Told files file t × ((kind : TypeRef) → Names t word kind → ⊥)
 Relays files input file word slice_refused = IfSome files (λ known. (t : Tables) → FileMeans known file t → ⊥)
-Relays files input file word input_refused = (t : Tables) × (kind : TypeRef) × Told files file t × Names t word kind
+Relays files input file word input_refused = (t : Tables) × (kind : TypeRef) × Told files file t × IsNamed t word kind
     × IfSome input (λ known. (v : Tree) → SpellsEncapsulation t kind known v → ⊥)
 Relays files input file word usage = ⊥
 Relays files input file word read_failed = ⊥
@@ -102,6 +106,10 @@ Comes w read_rose write_rose no_memory = Unit {0}
 -- a front of the bytes was taken
 abbrev pub AppendsFront : Option (List ℕ) → Option (List ℕ) → List ℕ → Type 0
 AppendsFront old new bytes = (front back : List ℕ) × (bytes ≡ front ++ back) × Appends old new front
+
+-- The status is the answer's, unless a read, a write or memory failed.
+abbrev pub Ends : ℕ → Answer → Type 0
+Ends result answer = (result ≡ status answer) ⊎ ((result ≡ 5) ⊎ ((result ≡ 6) ⊎ (result ≡ 9)))
 
 -- what the sink of answers got
 abbrev pub Writes : Option (List ℕ) → Option (List ℕ) → Answer → Type 0

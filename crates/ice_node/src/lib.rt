@@ -17,5 +17,5 @@ pub use input::{InputFault, read_input};
 pub use outcome::Outcome;
 pub use output::write_all;
 pub use slice_text::{TextFault, schema_of, texts_apart};
-pub use top_call::node;
+pub use top_call::{answers_apart, node};
 pub use words::{Command, command_of, forms_apart};

@@ -3,9 +3,9 @@
 ghost use Rattle.std.specs.Prelude.{◌≡◌, ◌⊎◌, List, ℕ, Some};
 ghost use Rattle.std.specs.List.{flat_map};
 ghost use Rattle.ice_ports.specs.Causes.{Rose, HasCause};
-ghost use Rattle.ice_node.specs.Words.{words_of};
+ghost use Rattle.ice_node.specs.Words.{Word, words_of};
 ghost use Rattle.ice_node.specs.Streams.{Wrote};
-ghost use Rattle.ice_node.specs.Statuses.{World, Answer, Answered};
+ghost use Rattle.ice_node.specs.Statuses.{World, Files, Answer, Answered, Decides, Ends};
 ghost use Rattle.ice_node.specs.Outcomes.{Ran};
 
 use crate::help::{HELP, VERSION};
@@ -33,11 +33,42 @@ pub fn node<H: Shelf, S: Source, K: Sink, E: Sink>(
         (Rose (H.faults shelf.old) (H.faults shelf.new) ⊎ Rose (S.faults source.old) (S.faults source.new))
         (Rose (K.faults sink.old) (K.faults sink.new)) (Rose (E.faults faults.old) (E.faults faults.new))
         (K.taken sink.old) (K.taken sink.new) (E.taken faults.old) (E.taken faults.new) result answer }
+
+    // Where the outside tells what it holds, and that decides an answer, no other answer comes,
+    // unless a read, a write or memory failed.
+    ensures exactly { (files : Files) (input : List ℕ) (answer : Answer) → H.files shelf.old ≡ Some files → S.left source.old ≡ Some input
+        → Decides (record { words = words_of words.now; files = Some files; input = Some input }) answer → Ends result answer }
+{
+    respond(alloc, words, shelf, source, sink, faults)
+}
+
+/// The same.
+fn respond<H: Shelf, S: Source, K: Sink, E: Sink>(
+    alloc: Global,
+    words: &[String],
+    shelf: &mut H,
+    source: &mut S,
+    sink: &mut K,
+    faults: &mut E,
+) -> u8
+    ensures { (answer : Answer) × Answered
+        (record { words = words_of words.now; files = H.files shelf.old; input = S.left source.old })
+        (Rose (H.faults shelf.old) (H.faults shelf.new) ⊎ Rose (S.faults source.old) (S.faults source.new))
+        (Rose (K.faults sink.old) (K.faults sink.new)) (Rose (E.faults faults.old) (E.faults faults.new))
+        (K.taken sink.old) (K.taken sink.new) (E.taken faults.old) (E.taken faults.new) result answer }
 {
     let outcome = run(alloc, words, shelf, source, sink);
     // A line that cannot be written leaves the status as it is.
     let _ = write_pieces(faults, &outcome.line());
     outcome.status()
+}
+
+/// At most one answer is decided where the outside tells what it holds.
+pub fn answers_apart()
+    ensures { (words : List Word) (files : Files) (input : List ℕ) (a b : Answer)
+        → Decides (record { words = words; files = Some files; input = Some input }) a
+        → Decides (record { words = words; files = Some files; input = Some input }) b → a ≡ b }
+{
 }
 
 /// Does what the words ask for.

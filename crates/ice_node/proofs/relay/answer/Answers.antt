@@ -9,8 +9,8 @@ returns-in-Err g c =
 pub returns-in-Ok-canonical_of : goal.returns-in-Ok-canonical_of
 returns-in-Ok-canonical_of g c =
     let e = c.in-Ok-canonical_of.ensures in
-    (c.in-Ok.schema, c.in-Some.kind, e.0, c.in-Ok.ensures, c.in-Some.ensures.named, input_accepted c.in-Ok.schema c.in-Some.kind (g.S.Source.left c.args.source.now) (g.S.Source.left c.read_input.new.source) c.in-Ok-read_input.input.items e.0 c.in-Ok-read_input.ensures.read (rw c.as_slice.ensures.value at e.1), e.2)
+    (c.in-Ok.schema, c.in-Some.kind, e.0, c.in-Ok.ensures, (c.in-Some.ensures.named, c.in-Some.ensures.only), input_accepted c.in-Ok.schema c.in-Some.kind (g.S.Source.left c.args.source.now) (g.S.Source.left c.read_input.new.source) c.in-Ok-read_input.input.items e.0 c.in-Ok-read_input.ensures.read (rw c.as_slice.ensures.value at e.1), e.2)
 
 pub returns-in-Err-Broken : goal.returns-in-Err-Broken
 returns-in-Err-Broken g c =
-    (c.in-Ok.schema, c.in-Some.kind, c.in-Ok.ensures, c.in-Some.ensures.named, input_refused c.in-Ok.schema c.in-Some.kind (g.S.Source.left c.args.source.now) (g.S.Source.left c.read_input.new.source) c.in-Ok-read_input.input.items c.in-Ok-read_input.ensures.read (rw (c.in-Err-Broken.field-0-is, c.as_slice.ensures.value) at c.in-Err-Broken.ensures))
+    (c.in-Ok.schema, c.in-Some.kind, c.in-Ok.ensures, (c.in-Some.ensures.named, c.in-Some.ensures.only), input_refused c.in-Ok.schema c.in-Some.kind (g.S.Source.left c.args.source.now) (g.S.Source.left c.read_input.new.source) c.in-Ok-read_input.input.items c.in-Ok-read_input.ensures.read (rw (c.in-Err-Broken.field-0-is, c.as_slice.ensures.value) at c.in-Err-Broken.ensures))
