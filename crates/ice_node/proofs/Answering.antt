@@ -1,12 +1,12 @@
 -- What the program did, from what its parts did.
-use Rattle.std.proofs.Common.{◌≡◌, ℕ, ◌+◌, ◌<◌, List, [], ◌∷◌, ◌++◌, length, get_or, take, drop, Option, Some, Result, Ok, Err, Bor, refl, sym, ap, subst, ◌∙◌, append_assoc, arith, inl, inr, ◌⊎◌}
+use Rattle.std.proofs.Common.{◌≡◌, ℕ, ◌+◌, ◌<◌, List, ◌++◌, length, get_or, take, drop, Option, Result, Err, Bor, sym, ap, ◌∙◌, append_assoc, inr}
 use Rattle.std.specs.List.{flat_map}
 use Rattle.std.specs.Io.KnownBytes.{Appends}
 use Rattle.std.proofs.lemmas.Grind.{flat_map-append}
 use Rattle.std.proofs.lemmas.List.{take-append-drop, drop_more}
-use Rattle.ice_node.specs.Words.{Word, Command, Form}
+use Rattle.ice_node.specs.Words.{Command, Form}
 use Rattle.ice_node.specs.Streams.{Wrote}
-use Rattle.ice_node.specs.Statuses.{World, done, Commands, AppendsFront, Decides}
+use Rattle.ice_node.specs.Statuses.{World, done, Commands, AppendsFront}
 use Rattle.ice_node.specs.declared.outcome.Outcome.{Outcome}
 use Rattle.ice_node.specs.declared.outcome.Outcome.TheVariants as outcomes
 use Rattle.ice_node.specs.Outcomes.{Prints, Ran}

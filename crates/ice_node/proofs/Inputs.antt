@@ -1,7 +1,7 @@
 -- What was read is enough.
-use Rattle.std.proofs.Common.{◌≡◌, ℕ, ℤ, pos, ◌+◌, ◌<◌, ◌≤◌, List, [], ◌++◌, length, Option, None, Some, refl, sym, ap, subst, ◌∙◌, append_assoc, arith, inl, inr, ◌⊎◌}
+use Rattle.std.proofs.Common.{◌≡◌, ℕ, ℤ, pos, ◌+◌, ◌<◌, List, [], ◌++◌, length, Option, None, Some, sym, ap, subst, ◌∙◌, append_assoc, arith, inl, inr, ◌⊎◌}
 use Rattle.std.specs.Io.KnownBytes.{Consumes, IsAtEnd}
-use Rattle.ice_node.specs.Streams.{ReadsUpTo, Claims, IsSize, ClaimsSize, IsPastSize, IsFrugal, ReadsInput}
+use Rattle.ice_node.specs.Streams.{ReadsUpTo, Claims, IsSize, ClaimsSize, IsPastSize, ReadsInput}
 use Rattle.ice_node.proofs.KnownBytes.{Consumes-then}
 
 all_new : (got more : List ℕ) → got ≡ [] ++ more → more ≡ got

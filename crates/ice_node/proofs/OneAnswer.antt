@@ -1,12 +1,10 @@
 -- At most one answer is decided where the outside tells what it holds.
-use Rattle.std.proofs.Common.{◌≡◌, ℕ, List, Option, Some, None, refl, sym, ap, subst, ◌∙◌, inl, inr, ◌⊎◌}
-use Rattle.std.specs.Prelude.{IfSome}
+use Rattle.std.proofs.Common.{◌≡◌, ℕ, List, Option, Some, refl, sym, ap, subst, ◌∙◌, inl, inr, ◌⊎◌}
 use Rattle.ice_types.specs.declared.kind.TypeRef.{TypeRef}
 use Rattle.ice_types.specs.Tables.{Tables, Names}
-use Rattle.ice_encoding.specs.Tree.{Tree}
 use Rattle.ice_encoding.specs.Encapsulation.{SpellsEncapsulation, encapsulation_bytes}
 use Rattle.ice_encoding.proofs.Encapsulations.{encapsulation_apart}
-use Rattle.ice_node.specs.Words.{Word, Command, relay, help, version, Form}
+use Rattle.ice_node.specs.Words.{Word, Command, relay, help, version}
 use Rattle.ice_node.specs.SliceText.{Means}
 use Rattle.ice_node.specs.Statuses.{Answer, done, usage, no_such_name, slice_refused, input_refused, read_failed, write_failed, no_memory, status, Files, World, FileMeans, IsNamed, Relays, Commands, Decides, Comes, Ends}
 use Rattle.ice_node.proofs.CommandForms.{forms_apart}

@@ -1,8 +1,7 @@
 -- What was loaded and read, and what it comes to.
-use Rattle.std.proofs.Common.{◌≡◌, ℕ, ℤ, pos, ◌+◌, ◌<◌, ◌≤◌, ◌^◌, List, [], ◌∷◌, ◌++◌, length, take, Option, None, Some, Result, Ok, Err, refl, sym, ap, subst, ◌∙◌, append_assoc, arith, inl, inr, ◌⊎◌}
+use Rattle.std.proofs.Common.{◌≡◌, ℕ, ℤ, pos, ◌+◌, ◌<◌, ◌^◌, List, [], ◌∷◌, ◌++◌, length, take, Option, None, Some, Ok, Err, sym, ap, subst, ◌∙◌, append_assoc, arith, inl, inr}
 use Rattle.std.specs.Prelude.{IfSome}
 use Rattle.std.specs.Int.{w32, from_le_bytes, cast_signed}
-use Rattle.std.specs.Io.KnownBytes.{Consumes, IsAtEnd}
 use Rattle.std.proofs.lemmas.List.{append-nil, length-append, take_at}
 use Rattle.ice_types.specs.declared.kind.TypeRef.{TypeRef}
 use Rattle.ice_types.specs.Tables.{Tables}
@@ -14,13 +13,13 @@ use Rattle.ice_prims.specs.Taking.{Fails}
 use Rattle.ice_prims.specs.Bytes.{signed_bytes}
 use Rattle.ice_encoding.specs.Tree.{Tree}
 use Rattle.ice_encoding.specs.Canonical.{canonical, HasSizes}
-use Rattle.ice_encoding.specs.Encapsulation.{SpellsEncapsulation, encapsulation_at, encapsulation_bytes}
+use Rattle.ice_encoding.specs.Encapsulation.{SpellsEncapsulation, encapsulation_at}
 use Rattle.ice_encoding.proofs.Plain.{plain_sizes}
 use Rattle.ice_encoding.proofs.Encapsulations.{encapsulation_found, encapsulation_only, encapsulation_once}
 use Rattle.ice_ports.specs.Files.{file_named}
 use Rattle.ice_node.specs.Words.{Word}
 use Rattle.ice_node.specs.SliceText.{Means}
-use Rattle.ice_node.specs.Streams.{Claims, IsSize, IsPastSize, ReadsInput}
+use Rattle.ice_node.specs.Streams.{Claims, IsSize, ReadsInput}
 use Rattle.ice_node.specs.Statuses.{Files, FileMeans, Told}
 use Rattle.ice_node.specs.declared.outcome.Outcome.{Outcome}
 use Rattle.ice_node.specs.declared.outcome.Outcome.TheVariants as outcomes
@@ -83,9 +82,9 @@ module _ (t : Tables) (kind : TypeRef) where
   input_refused (Some known) (Some rest) got r none = λ v h. elim r.1 [
     | inl end ↦ let same : known ≡ got = r.0 ∙ ap (λ (l : List ℕ). got ++ l) end ∙ append-nil got in none v (subst (λ (l : List ℕ). SpellsEncapsulation t kind l v) same h)
     | inr past ↦
-      let size = claims_length known got rest v past.0 r.0 past.1 h in
-      let below : length known < length got = past.2 (length known) size in
-      omega (arith, ap length r.0, length-append got rest)
+        let size = claims_length known got rest v past.0 r.0 past.1 h in
+        let below : length known < length got = past.2 (length known) size in
+        omega (arith, ap length r.0, length-append got rest)
   ]
 
   -- no value where reading failed, unless memory was wanting

@@ -1,8 +1,8 @@
 -- What the steps of reading an encapsulation answer.
 use Rattle.std.specs.Prelude.{ℕ, ℤ, ◌≡◌, List, [], ◌∷◌, length, Result, Ok, Err}
 use Rattle.ice_prims.specs.declared.fault.Fault.{Fault}
-use Rattle.ice_prims.specs.declared.fault.Kind.TheVariants.{Short, TooLarge, BadSize, LeftOver}
-use Rattle.ice_prims.specs.Rest.{Rest, fault}
+use Rattle.ice_prims.specs.declared.fault.Kind.TheVariants.{LeftOver}
+use Rattle.ice_prims.specs.Rest.{Rest}
 use Rattle.ice_encoding.specs.Encapsulation.{encapsulation_size}
 
 -- the size of an encapsulation that begins an input of so many bytes

@@ -19,3 +19,6 @@ pub use output::write_all;
 pub use slice_text::{TextFault, schema_of, texts_apart};
 pub use top_call::{answers_apart, node};
 pub use words::{Command, command_of, forms_apart};
+
+#[cfg(test)]
+mod tests;

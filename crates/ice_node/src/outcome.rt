@@ -5,7 +5,6 @@ ghost use Rattle.std.specs.List.{flat_map};
 ghost use Rattle.ice_node.specs.Statuses.{status, fault_line};
 ghost use Rattle.ice_node.specs.Outcomes.{answer_of};
 
-
 /// What the program's work came to.
 #[derive(Clone, Copy, Debug, PartialEq, Eq)]
 pub enum Outcome<'a> {

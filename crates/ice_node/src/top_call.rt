@@ -68,8 +68,7 @@ pub fn answers_apart()
     ensures { (words : List Word) (files : Files) (input : List ℕ) (a b : Answer)
         → Decides (record { words = words; files = Some files; input = Some input }) a
         → Decides (record { words = words; files = Some files; input = Some input }) b → a ≡ b }
-{
-}
+{}
 
 /// Does what the words ask for.
 fn run<'a, H: Shelf, S: Source, K: Sink>(

@@ -1,8 +1,7 @@
-use Rattle.std.proofs.Common.{◌≡◌, ◌-◌, ◌≤◌, length, take, drop, sym, ap, arith}
+use Rattle.std.proofs.Common.{◌-◌, ◌≤◌, length, take, drop, sym, ap, arith}
 use Rattle.std.proofs.lemmas.List.{take-append-drop, length-drop}
 use Rattle.std.proofs.lemmas.Result.{err_from_is_err_and}
 use Rattle.ice_prims.proofs.Texts.{from_here}
-use Rattle.ice_node.specs.Streams.{Wrote}
 use Rattle.ice_node.proofs.KnownBytes.{Appends-kept, Appends-more}
 use Rattle.ice_node.proofs.output.write_all.Goals as goal
 
