@@ -6,6 +6,8 @@ mod cursor;
 mod fault;
 mod front;
 mod put;
+#[cfg(test)]
+mod tests;
 
 pub use cursor::Cursor;
 pub use fault::{Fault, Kind, ReadFault};

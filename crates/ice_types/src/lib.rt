@@ -6,6 +6,8 @@ mod kind;
 mod list;
 mod name;
 mod schema;
+#[cfg(test)]
+mod tests;
 
 pub use declarations::SeqDecl;
 pub use kind::TypeRef;
