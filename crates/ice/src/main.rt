@@ -34,6 +34,13 @@ fn main(rt: HostRuntime) -> io::Result<ExitCode> {
     let mut sink = StdSink::output(&rt);
     let alloc = rt.alloc();
     let mut shelf = FolderShelf::new(rt, MOST_OF_A_FILE);
-    let status = node(alloc, words.as_slice(), &mut shelf, &mut source, &mut sink, &mut faults);
+    let status = node(
+        alloc,
+        words.as_slice(),
+        &mut shelf,
+        &mut source,
+        &mut sink,
+        &mut faults,
+    );
     Ok(ExitCode::from(status))
 }
