@@ -10,3 +10,12 @@ pub struct SeqDecl {
     pub id: Name,
     pub element: TypeRef,
 }
+
+/// `dictionary<KEY, VALUE> NAME;`
+#[derive(Debug, Drop)]
+pub struct DictDecl {
+    /// The type id, as `::M::D`.
+    pub id: Name,
+    pub key: TypeRef,
+    pub value: TypeRef,
+}

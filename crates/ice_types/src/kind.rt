@@ -10,4 +10,5 @@ pub enum TypeRef {
     Long,
     Text,
     Seq(u32),
+    Dict(u32),
 }

@@ -9,7 +9,7 @@ mod schema;
 #[cfg(test)]
 mod tests;
 
-pub use declarations::SeqDecl;
+pub use declarations::{DictDecl, SeqDecl};
 pub use kind::TypeRef;
 pub use list::{Bytes, List};
 pub use name::Name;

@@ -1,10 +1,11 @@
 //! The types of a Slice text by place, under the rules that every schema keeps.
 
-ghost use Rattle.std.specs.Prelude.{◌≡◌, ◌+◌, ◌<◌, MatchOption, IfOk, IfSome, OnErr, length, IsTrue};
-ghost use Rattle.ice_types.specs.Tables.{Tables, no_types, with_seq, is_within, IsTypeId, LacksId, HasId, Names};
+ghost use Rattle.std.specs.Prelude.{◌≡◌, ◌+◌, ◌<◌, MatchOption, IfOk, IfSome, OnErr, length, map, IsTrue, Some, slice_get, ℕ};
+ghost use Rattle.ice_types.specs.Tables.{Tables, no_types, with_seq, with_dict, is_within, is_key, IsTypeId, IsNewId, HasId, LacksId, Names};
 ghost use Rattle.ice_types.specs.declared.kind.TypeRef.{TypeRef};
+ghost use Rattle.ice_types.specs.declared.declarations.DictDecl.{DictDecl};
 
-use crate::declarations::SeqDecl;
+use crate::declarations::{DictDecl, SeqDecl};
 use crate::kind::TypeRef;
 use crate::list::List;
 use std::alloc::{AllocError, Global};
@@ -20,6 +21,7 @@ pub const MOST_DEPTH: u32 = 100;
 #[derive(Debug, Drop)]
 pub struct Schema {
     seqs: List<SeqDecl>,
+    dicts: List<DictDecl>,
 }
 
 impl Model for Schema {
@@ -28,9 +30,9 @@ impl Model for Schema {
 
     ghost Value = { Tables };
 
-    ghost view = { λ s. record { seqs = s.seqs } };
+    ghost view = { λ s. record { seqs = s.seqs; dicts = s.dicts } };
 
-    ghost invariant = { λ s. IsSchema (record { seqs = s.seqs }) };
+    ghost invariant = { λ s. IsSchema (record { seqs = s.seqs; dicts = s.dicts }) };
 }
 
 impl Schema {
@@ -40,6 +42,7 @@ impl Schema {
     {
         Schema {
             seqs: List::new(alloc),
+            dicts: List::new(alloc),
         }
     }
 
@@ -50,17 +53,41 @@ impl Schema {
         &self.seqs
     }
 
+    /// The dictionaries, in the order in which they were added. Each has a key that may be one.
+    pub fn dicts(&self) -> &List<DictDecl>
+        ensures rows { result.now ≡ self.now.dicts }
+        ensures keys { (at : ℕ) (d : DictDecl) → slice_get self.now.dicts at ≡ Some d → IsTrue (is_key d.key) }
+    {
+        &self.dicts
+    }
+
     /// Adds a sequence and answers its place. Want of memory leaves the schema as it was.
     pub fn add_seq(&mut self, decl: SeqDecl) -> Result<u32, AllocError>
         requires room { length self.old.seqs + 1 < MOST_ROWS }
         requires type_id { IsTypeId decl.id }
-        requires new_id { LacksId self.old.seqs decl.id }
+        requires new_id { IsNewId self.old decl.id }
         requires depth { IsTrue (is_within self.old 99 decl.element) }
         ensures ok { IfOk result (λ at. (at ≡ length self.old.seqs) × (self.new ≡ with_seq self.old decl)) }
         ensures err { OnErr result (self.new ≡ self.old) }
     {
         let at = self.seqs.len() as u32;
         self.seqs.push(decl)?;
+        Ok(at)
+    }
+
+    /// Adds a dictionary and answers its place. Want of memory leaves the schema as it was.
+    pub fn add_dict(&mut self, decl: DictDecl) -> Result<u32, AllocError>
+        requires room { length self.old.dicts + 1 < MOST_ROWS }
+        requires type_id { IsTypeId decl.id }
+        requires new_id { IsNewId self.old decl.id }
+        requires key { IsTrue (is_key decl.key) }
+        requires key_depth { IsTrue (is_within self.old 98 decl.key) }
+        requires value_depth { IsTrue (is_within self.old 98 decl.value) }
+        ensures ok { IfOk result (λ at. (at ≡ length self.old.dicts) × (self.new ≡ with_dict self.old decl)) }
+        ensures err { OnErr result (self.new ≡ self.old) }
+    {
+        let at = self.dicts.len() as u32;
+        self.dicts.push(decl)?;
         Ok(at)
     }
 
@@ -71,6 +98,7 @@ impl Schema {
         ensures only { IfSome result (λ kind. (other : TypeRef) → Names self.now text.now other → other ≡ kind) }
     {
         let seqs = self.seqs.as_slice();
+        let dicts = self.dicts.as_slice();
         match text {
             "bool" => Some(TypeRef::Bool),
             "byte" => Some(TypeRef::Byte),
@@ -78,7 +106,10 @@ impl Schema {
             "int" => Some(TypeRef::Int),
             "long" => Some(TypeRef::Long),
             "string" => Some(TypeRef::Text),
-            _ => seq_named(seqs, text).map(TypeRef::Seq),
+            _ => match seq_named(seqs, text) {
+                Some(at) => Some(TypeRef::Seq(at)),
+                None => dict_named(dicts, text).map(TypeRef::Dict),
+            },
         }
     }
 }
@@ -86,10 +117,23 @@ impl Schema {
 /// The place of the sequence with this type id.
 fn seq_named(seqs: &[SeqDecl], id: &str) -> Option<u32>
     requires { length seqs.now < MOST_ROWS }
-    ensures { MatchOption result (LacksId seqs.now id.now) (λ at. HasId seqs.now id.now at) }
+    ensures { MatchOption result (LacksId (map (λ q. q.id) seqs.now) id.now) (HasId (map (λ q. q.id) seqs.now) id.now) }
 {
     for (at, seq) in seqs.iter().enumerate() {
         if seq.id.as_str() == id {
+            return Some(at as u32);
+        }
+    }
+    None
+}
+
+/// The place of the dictionary with this type id.
+fn dict_named(dicts: &[DictDecl], id: &str) -> Option<u32>
+    requires { length dicts.now < MOST_ROWS }
+    ensures { MatchOption result (LacksId (map (λ d. d.id) dicts.now) id.now) (HasId (map (λ d. d.id) dicts.now) id.now) }
+{
+    for (at, dict) in dicts.iter().enumerate() {
+        if dict.id.as_str() == id {
             return Some(at as u32);
         }
     }
