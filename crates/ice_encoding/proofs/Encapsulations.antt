@@ -19,7 +19,7 @@ use Rattle.ice_encoding.specs.Tree.{Tree}
 use Rattle.ice_encoding.specs.Value.{SpellsPlainValue, plain_value_at}
 use Rattle.ice_encoding.specs.Canonical.{canonical}
 use Rattle.ice_encoding.specs.Encapsulation.{SpellsEncapsulation, encapsulation_bytes, encapsulation_size, version_at, ended, encapsulation_at}
-use Rattle.ice_encoding.proofs.Plain.{plain_found, plain_only, plain_once}
+use Rattle.ice_encoding.proofs.Plain.{plain_found, plain_only, plain_canon}
 
 goes : {A B : Type 0} (r : Result A Fault) (f : A → Result B Fault) (x : A) → r ≡ Ok x → (r >>= f) ≡ f x
 goes r f x e = rw e refl
@@ -141,13 +141,15 @@ module _ (t : Tables) (kind : TypeRef) where
       ∙ goes (version_at (record { place = 0 + length h.0; bytes = 1 ∷ 1 ∷ content })) (at_value (record { place = 0 + length h.0; bytes = 1 ∷ 1 ∷ content }, end)) inner version
       ∙ goes (plain_value_at t kind inner) (at_end (record { place = 0 + length h.0; bytes = 1 ∷ 1 ∷ content }, end)) (v, last) value
 
-  pub encapsulation_once : (bytes : List ℕ) (v : Tree) → IsBytes bytes → SpellsEncapsulation t kind bytes v → bytes ≡ encapsulation_bytes v
-  encapsulation_once bytes v fits h =
+  pub encapsulation_canon : (bytes : List ℕ) (v : Tree) → IsBytes bytes → SpellsEncapsulation t kind bytes v → SpellsEncapsulation t kind (encapsulation_bytes v) v × (length (encapsulation_bytes v) ≡ length bytes)
+  encapsulation_canon bytes v fits h =
       let all : IsBytes (h.0 ++ 1 ∷ 1 ∷ h.1) = subst IsBytes h.2 fits in
-      let front : h.0 ≡ signed_bytes w32 (pos (length bytes)) = int_once h.0 (pos (length bytes)) (IsBytes-front h.0 (1 ∷ 1 ∷ h.1) all) h.3 in
-      let content : h.1 ≡ canonical v = plain_once t kind h.1 v (IsBytes-rest (1 ∷ 1 ∷ []) h.1 (IsBytes-rest h.0 (1 ∷ 1 ∷ h.1) all)) h.5 in
-      let long : length bytes ≡ length (canonical v) + 6 = ap length h.2 ∙ length-append h.0 (1 ∷ 1 ∷ h.1) ∙ omega (arith, h.3.0, ap length content) in
-      h.2 ∙ ap (λ (l : List ℕ). l ++ 1 ∷ 1 ∷ h.1) (front ∙ ap (λ (k : ℕ). signed_bytes w32 (pos k)) long) ∙ ap (λ (l : List ℕ). signed_bytes w32 (pos (length (canonical v) + 6)) ++ 1 ∷ 1 ∷ l) content
+      let content = plain_canon t kind h.1 v (IsBytes-rest (1 ∷ 1 ∷ []) h.1 (IsBytes-rest h.0 (1 ∷ 1 ∷ h.1) all)) h.5 in
+      let claimed : length bytes ≡ length (canonical v) + 6 = ap length h.2 ∙ length-append h.0 (1 ∷ 1 ∷ h.1) ∙ omega (arith, h.3.0, content.1) in
+      let size : h.0 ≡ signed_bytes w32 (pos (length (canonical v) + 6)) = int_once h.0 (pos (length bytes)) (IsBytes-front h.0 (1 ∷ 1 ∷ h.1) all) h.3 ∙ ap (λ (k : ℕ). signed_bytes w32 (pos k)) claimed in
+      let long : length (encapsulation_bytes v) ≡ length bytes = length-append (signed_bytes w32 (pos (length (canonical v) + 6))) (1 ∷ 1 ∷ canonical v) ∙ omega (arith, claimed) in
+      let spelled : SpellsSigned w32 (signed_bytes w32 (pos (length (canonical v) + 6))) (pos (length bytes)) = subst (λ (l : List ℕ). SpellsSigned w32 l (pos (length bytes))) size h.3 in
+      ((signed_bytes w32 (pos (length (canonical v) + 6)), canonical v, refl, subst (λ (k : ℕ). SpellsSigned w32 (signed_bytes w32 (pos (length (canonical v) + 6))) (pos k)) (sym long) spelled, rw long h.4, content.0), long)
 
   -- an encapsulation holds one value
   pub encapsulation_apart : (bytes : List ℕ) (v w : Tree) → SpellsEncapsulation t kind bytes v → SpellsEncapsulation t kind bytes w → v ≡ w

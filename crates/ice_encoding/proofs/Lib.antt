@@ -1,5 +1,7 @@
+pub mod Order
 pub mod Values
-pub mod Once
+pub mod Canonical
+pub mod Sizes
 pub mod Plain
 pub mod Encapsulations
 pub mod Samples

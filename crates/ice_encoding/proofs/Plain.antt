@@ -1,5 +1,5 @@
 -- The laws of a value of the schema.
-use Rattle.std.proofs.Common.{◌≡◌, ℕ, List, ◌++◌, Result, Ok, refl, subst}
+use Rattle.std.proofs.Common.{◌≡◌, ℕ, List, length, ◌++◌, Result, Ok, refl, subst}
 use Rattle.ice_types.specs.declared.kind.TypeRef.{TypeRef}
 use Rattle.ice_types.specs.Tables.{Tables}
 use Rattle.ice_prims.specs.declared.fault.Fault.{Fault}
@@ -13,7 +13,8 @@ use Rattle.ice_encoding.specs.Reading.{value_at}
 use Rattle.ice_encoding.specs.Canonical.{canonical, HasSizes}
 use Rattle.ice_encoding.specs.Value.{SpellsPlainValue, plain_value_at}
 use Rattle.ice_encoding.proofs.Values.{value_lawful, value_apart, none_lawful}
-use Rattle.ice_encoding.proofs.Once.{value_once, value_sizes}
+use Rattle.ice_encoding.proofs.Canonical.{value_canon}
+use Rattle.ice_encoding.proofs.Sizes.{value_sizes}
 
 -- the value alone, without the state
 abbrev stateless : Tree × (Unit {0}) × Rest → Result (Tree × Rest) Fault
@@ -44,9 +45,9 @@ module _ (t : Tables) (kind : TypeRef) where
   unfolding SpellsPlainValue
   plain_apart a b x y v w h g e = let p = value_apart no_references none_lawful t 100 kind a b x y v w tt tt tt h g e in (p.0, p.1)
 
-  pub plain_once : (bytes : List ℕ) (v : Tree) → IsBytes bytes → SpellsPlainValue t kind bytes v → bytes ≡ canonical v
+  pub plain_canon : (bytes : List ℕ) (v : Tree) → IsBytes bytes → SpellsPlainValue t kind bytes v → SpellsPlainValue t kind (canonical v) v × (length (canonical v) ≡ length bytes)
   unfolding SpellsPlainValue
-  plain_once = value_once t 100 kind
+  plain_canon = value_canon t 100 kind
 
   pub plain_sizes : (bytes : List ℕ) (v : Tree) → SpellsPlainValue t kind bytes v → HasSizes v
   unfolding SpellsPlainValue

@@ -16,7 +16,7 @@ use Rattle.ice_encoding.specs.Encapsulation.{encapsulation_at, encapsulation_byt
 
 -- a sequence of bytes, one of ints, and one of strings
 abbrev tables : Tables
-tables = record { seqs = record { id = []; element = kinds.Byte } ∷ record { id = []; element = kinds.Int } ∷ record { id = []; element = kinds.Text } ∷ [] }
+tables = record { seqs = record { id = []; element = kinds.Byte } ∷ record { id = []; element = kinds.Int } ∷ record { id = []; element = kinds.Text } ∷ []; dicts = [] }
 
 -- what an input is read as
 abbrev reads : TypeRef → List ℕ → Result Tree Fault

@@ -1,5 +1,5 @@
 -- The laws of values: each way of joining keeps them.
-use Rattle.std.proofs.Common.{◌≡◌, ℕ, ℤ, zero, suc, ◌+◌, List, [], ◌++◌, length, take, Option, Some, None, Result, Ok, refl, sym, ap, subst, ◌∙◌, zero-add}
+use Rattle.std.proofs.Common.{◌≡◌, ℕ, ℤ, zero, suc, ◌+◌, List, [], ◌++◌, length, take, Option, Some, None, Result, Ok, refl, sym, ap, subst, ◌∙◌, inl, inr, zero-add}
 use Rattle.std.specs.Prelude.{slice_get}
 use Rattle.std.specs.Int.{Width, w16, w32, w64}
 use Rattle.std.proofs.lemmas.List.{take_at}
@@ -7,15 +7,18 @@ use Rattle.ice_types.specs.declared.kind.TypeRef.{TypeRef}
 use Rattle.ice_types.specs.declared.kind.TypeRef.TheVariants as kinds
 use Rattle.ice_types.specs.Tables.{Tables}
 use Rattle.ice_prims.specs.declared.fault.Fault.{Fault}
-use Rattle.ice_prims.specs.Rest.{Rest, ◌>>=◌, Took}
+use Rattle.ice_prims.specs.declared.fault.Kind.TheVariants.{EqualKey}
+use Rattle.ice_prims.specs.Rest.{Rest, fault, ◌>>=◌, Took}
 use Rattle.ice_prims.specs.Number.{SpellsBool, SpellsByte, SpellsSigned, SpellsText, bool_at, byte_at, signed_at, size_at, text_at}
 use Rattle.ice_prims.specs.Laws.{FoundPart, OnlyPart}
-use Rattle.ice_prims.proofs.Parts.{then_ok, ok_is, Took-none, Took-none-is, Took-then, between, Took-fits}
+use Rattle.ice_prims.proofs.Parts.{chosen, then_ok, ok_is, Took-none, Took-none-is, Took-then, between, Took-fits}
 use Rattle.ice_prims.proofs.Numbers.{bool_found, bool_only, byte_found, byte_only, signed_found, signed_only, size_found, size_only, text_found, text_only}
-use Rattle.ice_encoding.specs.Tree.{Tree, boolean, byte, short, int, long, text, sequence, tree}
+use Rattle.ice_encoding.specs.Tree.{Tree, boolean, byte, short, int, long, text, sequence, dictionary, tree, Entries, no_entry}
 use Rattle.ice_encoding.specs.Port.{Reader, Speller, Found, Only, Port, IsLawful, no_references}
-use Rattle.ice_encoding.specs.Reading.{each_at, plain, made, sized, listed, value_at}
-use Rattle.ice_encoding.specs.Spelling.{Plain, Made, Sized, Each, SpellsValue}
+use Rattle.ice_encoding.specs.Order.{has_key, insert, LacksKey}
+use Rattle.ice_encoding.proofs.Order.{is_new, has_none}
+use Rattle.ice_encoding.specs.Reading.{new_key, pairs_at, each_at, plain, made, sized, listed, value_at}
+use Rattle.ice_encoding.specs.Spelling.{Plain, Made, Sized, Each, Pairs, SpellsValue}
 
 -- a reading and what it is to spell, and both laws
 pub record Lawful {S A : Type 0} (read : Reader S A) (Spells : Speller S A) : Type 0 where
@@ -28,6 +31,12 @@ pub record LawfulPart {A : Type 0} (read : Rest → Result (A × Rest) Fault) (S
 
 abbrev answer : {A : Type 0} → A → Result A Fault
 answer x = Ok x
+
+key_ok : {A : Type 0} {C : Type 0} (key : Tree) (before : Entries) (place : ℕ) (next : Result A Fault) (y : A) → new_key key before place next ≡ Ok y → (LacksKey key before → next ≡ Ok y → C) → C
+key_ok key before place next y e go = elim (chosen (has_key key before) (fault place EqualKey) next (Ok y) e) [
+  | inl c ↦ absurd cc
+  | inr c ↦ go (is_new key before c.0) c.1
+]
 
 one_answer : {A : Type 0} (r : Result A Fault) (x y : A) → r ≡ Ok x → r ≡ Ok y → x ≡ y
 one_answer r x y p q = ok_is x y (sym p ∙ q)
@@ -85,6 +94,27 @@ each_lawful {S} read Spells one (suc n) = record {
       rw (one.only s h.4 r m.0 h.2 h.0 m.1 h.7, (each_lawful read Spells one n).only h.4 to m.0 after h.3 h.1 m.2 h.8, h.5) refl;
 }
 
+pairs_lawful : {S : Type 0} (key value : Reader S Tree) (Key Held : Speller S Tree) → Lawful key Key → Lawful value Held → (n : ℕ) (before : Entries) → Lawful (pairs_at key value n before) (Pairs Key Held n before)
+pairs_lawful key value Key Held one two zero before = record {
+  found = λ s r x fits e. lands (Pairs Key Held 0 before) s r _ x [] (Took-none r) (refl, refl, refl) e;
+  only = λ s to r after bytes v k h. rw (Took-none-is r after (rw (← h.0) k), h.1, h.2) refl;
+}
+pairs_lawful key value Key Held one two (suc n) before = record {
+  found = λ s r x fits e.
+      then_ok (key s r) (λ k. new_key k.0 before r.place (value k.1 k.2) >>= λ v. pairs_at key value n (insert k.0 v.0 before) v.1 v.2) x e λ k k_is after_key.
+      then_ok (new_key k.0 before r.place (value k.1 k.2)) (λ v. pairs_at key value n (insert k.0 v.0 before) v.1 v.2) x after_key λ v new_is later.
+      key_ok k.0 before r.place (value k.1 k.2) v new_is λ new v_is.
+      let f = one.found s r k fits k_is in
+      let fits_k = (Took-fits r k.2 f.0 fits f.1).1 in
+      let g = two.found k.1 k.2 v fits_k v_is in
+      let h = (pairs_lawful key value Key Held one two n (insert k.0 v.0 before)).found v.1 v.2 x ((Took-fits k.2 v.2 g.0 fits_k g.1).1) later in
+      (f.0 ++ (g.0 ++ h.0), Took-then r k.2 x.2 f.0 (g.0 ++ h.0) f.1 (Took-then k.2 v.2 x.2 g.0 h.0 g.1 h.1), (k.0, v.0, f.0, g.0, h.0, k.1, v.1, refl, f.2, new, g.2, h.2));
+  only = λ s to r after bytes v k h.
+      let m = between r after h.2 (h.3 ++ h.4) (rw (← h.7) k) in
+      let l = between m.0 after h.3 h.4 m.2 in
+      rw (one.only s h.5 r m.0 h.2 h.0 m.1 h.8, has_none h.0 before h.9, two.only h.5 h.6 m.0 l.0 h.3 h.1 l.1 h.10, (pairs_lawful key value Key Held one two n (insert h.0 h.1 before)).only h.6 to l.0 after h.4 v l.2 h.11) refl;
+}
+
 signed_lawful : {S : Type 0} (make : ℤ → Tree) (w : Width) → Lawful {S = S} (made make (plain (signed_at w))) (Made make (Plain (SpellsSigned w)))
 signed_lawful make w = made_lawful make (plain (signed_at w)) (Plain (SpellsSigned w)) (plain_lawful (signed_at w) (SpellsSigned w) (record { found = signed_found w; only = signed_only w }))
 
@@ -107,6 +137,7 @@ module _ {S : Type 0} (port : Port S) (lawful : IsLawful port) (t : Tables) wher
   value_lawful (suc n) kinds.Long = signed_lawful long w64
   value_lawful (suc n) kinds.Text = made_lawful text (plain text_at) (Plain SpellsText) (plain_lawful text_at SpellsText text_lawful)
   value_lawful (suc n) (kinds.Seq at) = listed_lawful (slice_get t.seqs at) _ _ λ q. made_lawful sequence _ _ (sized_lawful _ _ (each_lawful _ _ (value_lawful n q.element)))
+  value_lawful (suc n) (kinds.Dict at) = listed_lawful (slice_get t.dicts at) _ _ λ d. made_lawful dictionary _ _ (sized_lawful _ _ (λ m. pairs_lawful _ _ _ _ (value_lawful n d.key) (value_lawful n d.value) m no_entry))
 
   -- No spelling begins another: bytes begin with one spelling at most.
   pub value_apart : (levels : ℕ) (kind : TypeRef) (a b x y : List ℕ) (v w : Tree) (s to end : S) → SpellsValue port t levels kind a v s to → SpellsValue port t levels kind b w s end → a ++ x ≡ b ++ y → (a ≡ b) × (v ≡ w) × (to ≡ end)

@@ -2,7 +2,7 @@
 use Rattle.std.specs.Prelude.{ℕ, ◌<◌, ◌^◌, List, [], ◌∷◌, ◌++◌, length}
 use Rattle.std.specs.Int.{w16, w32, w64}
 use Rattle.ice_prims.specs.Bytes.{bool_bytes, signed_bytes, size_bytes, text_bytes}
-use Rattle.ice_encoding.specs.Tree.{Tree, boolean, byte, short, int, long, text, sequence, Trees, none, tree, tree_count}
+use Rattle.ice_encoding.specs.Tree.{Tree, boolean, byte, short, int, long, text, sequence, dictionary, Trees, none, tree, tree_count, Entries, no_entry, entry, entry_count}
 
 abbrev mutual
   pub canonical : Tree → List ℕ
@@ -13,10 +13,15 @@ abbrev mutual
   canonical (long z) = signed_bytes w64 z
   canonical (text s) = text_bytes s
   canonical (sequence items) = size_bytes (tree_count items) ++ canonical_each items
+  canonical (dictionary pairs) = size_bytes (entry_count pairs) ++ canonical_pairs pairs
 
   pub canonical_each : Trees → List ℕ
   canonical_each none = []
   canonical_each (tree v vs) = canonical v ++ canonical_each vs
+
+  pub canonical_pairs : Entries → List ℕ
+  canonical_pairs no_entry = []
+  canonical_pairs (entry k v rest) = canonical k ++ (canonical v ++ canonical_pairs rest)
 
 -- each size in the value is at most the greatest int
 abbrev mutual
@@ -28,7 +33,12 @@ abbrev mutual
   HasSizes (long z) = Unit {0}
   HasSizes (text s) = length s < 2 ^ 31
   HasSizes (sequence items) = (tree_count items < 2 ^ 31) × EachHasSizes items
+  HasSizes (dictionary pairs) = (entry_count pairs < 2 ^ 31) × PairsHaveSizes pairs
 
   pub EachHasSizes : Trees → Type 0
   EachHasSizes none = Unit {0}
   EachHasSizes (tree v vs) = HasSizes v × EachHasSizes vs
+
+  pub PairsHaveSizes : Entries → Type 0
+  PairsHaveSizes no_entry = Unit {0}
+  PairsHaveSizes (entry k v rest) = HasSizes k × HasSizes v × PairsHaveSizes rest

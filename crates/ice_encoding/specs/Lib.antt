@@ -1,4 +1,5 @@
 pub mod Tree
+pub mod Order
 pub mod Port
 pub mod Spelling
 pub mod Reading

@@ -1,13 +1,15 @@
 -- Reading a value from the left, with the first fault.
-use Rattle.std.specs.Prelude.{ℕ, zero, suc, Option, None, Some, Result, Ok, slice_get}
+use Rattle.std.specs.Prelude.{ℕ, zero, suc, Option, None, Some, Result, Ok, slice_get, if◌then◌else◌}
 use Rattle.std.specs.Int.{w16, w32, w64}
 use Rattle.ice_types.specs.declared.kind.TypeRef.{TypeRef}
 use Rattle.ice_types.specs.declared.kind.TypeRef.TheVariants as kinds
 use Rattle.ice_types.specs.Tables.{Tables}
 use Rattle.ice_prims.specs.declared.fault.Fault.{Fault}
-use Rattle.ice_prims.specs.Rest.{Rest, ◌>>=◌}
+use Rattle.ice_prims.specs.declared.fault.Kind.TheVariants.{EqualKey}
+use Rattle.ice_prims.specs.Rest.{Rest, fault, ◌>>=◌}
 use Rattle.ice_prims.specs.Number.{bool_at, byte_at, signed_at, size_at, text_at}
-use Rattle.ice_encoding.specs.Tree.{Tree, boolean, byte, short, int, long, text, sequence, Trees, none, tree}
+use Rattle.ice_encoding.specs.Tree.{Tree, boolean, byte, short, int, long, text, sequence, dictionary, Trees, none, tree, Entries, no_entry}
+use Rattle.ice_encoding.specs.Order.{has_key, insert}
 use Rattle.ice_encoding.specs.Port.{Port, Reader, nowhere}
 
 -- something that changes no state
@@ -30,6 +32,18 @@ each_at one (suc n) s r = do
   others ← each_at one n first.1 first.2
   Ok (tree first.0 others.0, others.1, others.2)
 
+-- a key that none of those before is; known when the key has been read whole
+abbrev pub new_key : {A : Type 0} → Tree → Entries → ℕ → Result A Fault → Result A Fault
+new_key key before place next = if has_key key before then fault place EqualKey else next
+
+-- so many pairs beside those before, each put at its place
+abbrev pub pairs_at : {S : Type 0} → Reader S Tree → Reader S Tree → ℕ → Entries → Reader S Entries
+pairs_at key value zero before s r = Ok (before, s, r)
+pairs_at key value (suc n) before s r = do
+  k ← key s r
+  v ← new_key k.0 before r.place (value k.1 k.2)
+  pairs_at key value n (insert k.0 v.0 before) v.1 v.2
+
 -- a row of a table
 abbrev pub listed : {A B : Type 0} → Option A → Rest → (A → Result B Fault) → Result B Fault
 listed None r next = nowhere r
@@ -45,6 +59,7 @@ module _ {S : Type 0} (port : Port S) (t : Tables) where
   value_step read kinds.Long = made long (plain (signed_at w64))
   value_step read kinds.Text = made text (plain text_at)
   value_step read (kinds.Seq at) = λ s r. listed (slice_get t.seqs at) r (λ q. made sequence (sized (each_at (read q.element))) s r)
+  value_step read (kinds.Dict at) = λ s r. listed (slice_get t.dicts at) r (λ d. made dictionary (sized (λ n. pairs_at (read d.key) (read d.value) n no_entry)) s r)
 
   -- No type of a schema nests deeper than a hundred levels, so it is read within them.
   abbrev pub value_at : ℕ → TypeRef → Reader S Tree

@@ -4,9 +4,11 @@ use Rattle.std.specs.Int.{w16, w32, w64}
 use Rattle.ice_types.specs.declared.kind.TypeRef.{TypeRef}
 use Rattle.ice_types.specs.declared.kind.TypeRef.TheVariants as kinds
 use Rattle.ice_types.specs.declared.declarations.SeqDecl.{SeqDecl}
+use Rattle.ice_types.specs.declared.declarations.DictDecl.{DictDecl}
 use Rattle.ice_types.specs.Tables.{Tables}
 use Rattle.ice_prims.specs.Number.{SpellsBool, SpellsByte, SpellsSigned, SpellsSize, SpellsText}
-use Rattle.ice_encoding.specs.Tree.{Tree, boolean, byte, short, int, long, text, sequence, Trees, none, tree}
+use Rattle.ice_encoding.specs.Tree.{Tree, boolean, byte, short, int, long, text, sequence, dictionary, Trees, none, tree, Entries, no_entry}
+use Rattle.ice_encoding.specs.Order.{LacksKey, insert}
 use Rattle.ice_encoding.specs.Port.{Port, Speller}
 
 -- something that changes no state
@@ -27,6 +29,12 @@ Each {S} One zero bytes items from to = (bytes ≡ []) × (items ≡ none) × (t
 Each {S} One (suc n) bytes items from to = (v : Tree) × (vs : Trees) × (a b : List ℕ) × (mid : S)
     × (items ≡ tree v vs) × (bytes ≡ a ++ b) × One a v from mid × Each One n b vs mid to
 
+-- So many pairs beside those before, in any order. No key is one of those before.
+abbrev pub Pairs : {S : Type 0} → Speller S Tree → Speller S Tree → ℕ → Entries → Speller S Entries
+Pairs {S} Key Held zero before bytes pairs from to = (bytes ≡ []) × (pairs ≡ before) × (to ≡ from)
+Pairs {S} Key Held (suc n) before bytes pairs from to = (k v : Tree) × (a b c : List ℕ) × (then last : S) × (bytes ≡ a ++ (b ++ c))
+    × Key a k from then × LacksKey k before × Held b v then last × Pairs Key Held n (insert k v before) c pairs last to
+
 module _ {S : Type 0} (port : Port S) (t : Tables) where
   -- a type, by what spells the types inside it
   abbrev pub SpellsParts : (TypeRef → Speller S Tree) → TypeRef → Speller S Tree
@@ -37,6 +45,8 @@ module _ {S : Type 0} (port : Port S) (t : Tables) where
   SpellsParts One kinds.Long = Made long (Plain (SpellsSigned w64))
   SpellsParts One kinds.Text = Made text (Plain SpellsText)
   SpellsParts One (kinds.Seq at) = λ bytes v from to. (q : SeqDecl) × (slice_get t.seqs at ≡ Some q) × Made sequence (Sized (Each (One q.element))) bytes v from to
+  SpellsParts One (kinds.Dict at) = λ bytes v from to. (d : DictDecl) × (slice_get t.dicts at ≡ Some d)
+      × Made dictionary (Sized (λ n. Pairs (One d.key) (One d.value) n no_entry)) bytes v from to
 
   abbrev pub SpellsValue : ℕ → TypeRef → Speller S Tree
   SpellsValue zero kind = λ bytes v from to. ⊥

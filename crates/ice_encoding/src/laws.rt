@@ -1,6 +1,6 @@
 //! What the definitions promise of each other, one law a function.
 
-ghost use Rattle.std.specs.Prelude.{◌≡◌, ◌++◌, ℕ, List, Ok};
+ghost use Rattle.std.specs.Prelude.{◌≡◌, ◌++◌, ℕ, List, Ok, length};
 ghost use Rattle.ice_types.specs.Tables.{Tables};
 ghost use Rattle.ice_types.specs.declared.kind.TypeRef.{TypeRef};
 ghost use Rattle.ice_prims.specs.Rest.{IsBytes, whole};
@@ -26,10 +26,11 @@ pub fn values_apart()
         → SpellsPlainValue t kind a v → SpellsPlainValue t kind b w → a ++ x ≡ b ++ y → (a ≡ b) × (v ≡ w) }
 {}
 
-/// A value has one spelling: its canonical bytes.
-pub fn values_once()
+/// The canonical bytes of a value spell it, and are as long as any of its spellings. So equal values
+/// have equal canonical bytes, and these are read as the same value.
+pub fn values_canonical()
     ensures { (t : Tables) (kind : TypeRef) (bytes : List ℕ) (v : Tree)
-        → IsBytes bytes → SpellsPlainValue t kind bytes v → bytes ≡ canonical v }
+        → IsBytes bytes → SpellsPlainValue t kind bytes v → SpellsPlainValue t kind (canonical v) v × (length (canonical v) ≡ length bytes) }
 {}
 
 /// Each size of a value that bytes spell is at most the greatest int.
@@ -56,8 +57,10 @@ pub fn encapsulations_apart()
         → SpellsEncapsulation t kind bytes v → SpellsEncapsulation t kind bytes w → v ≡ w }
 {}
 
-/// An encapsulation of a value is the canonical one, so what was relayed comes out unchanged.
-pub fn encapsulations_once()
+/// The canonical encapsulation of a value holds it, and is as long as any encapsulation of it. So
+/// relaying what was relayed changes nothing.
+pub fn encapsulations_canonical()
     ensures { (t : Tables) (kind : TypeRef) (bytes : List ℕ) (v : Tree)
-        → IsBytes bytes → SpellsEncapsulation t kind bytes v → bytes ≡ encapsulation_bytes v }
+        → IsBytes bytes → SpellsEncapsulation t kind bytes v
+        → SpellsEncapsulation t kind (encapsulation_bytes v) v × (length (encapsulation_bytes v) ≡ length bytes) }
 {}

@@ -6,6 +6,6 @@
 mod laws;
 
 pub use laws::{
-    encapsulations_apart, encapsulations_found, encapsulations_once, encapsulations_only,
-    values_apart, values_found, values_have_sizes, values_once, values_only,
+    encapsulations_apart, encapsulations_canonical, encapsulations_found, encapsulations_only,
+    values_apart, values_canonical, values_found, values_have_sizes, values_only,
 };

@@ -21,6 +21,8 @@ pub enum Kind {
     BadBool,
     /// A string's bytes are not UTF-8.
     BadText,
+    /// A key is equal to an earlier one of its dictionary.
+    EqualKey,
     /// Bytes are left behind the last part.
     LeftOver,
 }
@@ -37,6 +39,7 @@ impl Kind {
             Kind::BadVersion => "BadVersion",
             Kind::BadBool => "BadBool",
             Kind::BadText => "BadText",
+            Kind::EqualKey => "EqualKey",
             Kind::LeftOver => "LeftOver",
         }
     }
