@@ -1,12 +1,16 @@
 -- A value without where it lies in memory.
 use Rattle.std.specs.Prelude.{List, [], ◌∷◌, map}
-use Rattle.ice_encoding.specs.Tree.{Tree, boolean, byte, short, int, long, text, sequence, Trees, none, tree}
+use Rattle.ice_encoding.specs.Tree.{Tree, boolean, byte, short, int, long, text, sequence, dictionary, Trees, none, tree, Entries, no_entry, entry}
 use Rattle.graph_arena.specs.declared.value.Value.{Value, fold-Value}
 use Rattle.graph_arena.specs.declared.value.Value.TheOpen.{Value-F}
 
 abbrev pub trees_of : List Tree → Trees
 trees_of [] = none
 trees_of (v ∷ vs) = tree v (trees_of vs)
+
+abbrev pub entries_of : List (Tree × Tree) → Entries
+entries_of [] = no_entry
+entries_of (p ∷ ps) = entry p.0 p.1 (entries_of ps)
 
 -- one level, whose parts are seen as trees already
 abbrev pub view_step : Value-F Tree → Tree
@@ -17,9 +21,13 @@ view_step (Value-F.Int z) = int z
 view_step (Value-F.Long z) = long z
 view_step (Value-F.Text s) = text s
 view_step (Value-F.Seq items) = sequence (trees_of items)
+view_step (Value-F.Pairs pairs) = dictionary (entries_of pairs)
 
 abbrev pub view : Value → Tree
 view = fold-Value Tree view_step
 
 abbrev pub view_all : List Value → Trees
 view_all values = trees_of (map view values)
+
+abbrev pub view_pairs : List (Value × Value) → Entries
+view_pairs pairs = entries_of (map (λ p. (view p.0, view p.1)) pairs)

@@ -13,4 +13,6 @@ pub enum Value {
     Text(Name),
     /// The items of a sequence, in order.
     Seq(List<Value>),
+    /// The pairs of a dictionary.
+    Pairs(List<(Value, Value)>),
 }
