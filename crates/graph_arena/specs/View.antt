@@ -29,5 +29,8 @@ view = fold-Value Tree view_step
 abbrev pub view_all : List Value → Trees
 view_all values = trees_of (map view values)
 
+abbrev pub view_pair : Value × Value → Tree × Tree
+view_pair pair = (view pair.0, view pair.1)
+
 abbrev pub view_pairs : List (Value × Value) → Entries
-view_pairs pairs = entries_of (map (λ p. (view p.0, view p.1)) pairs)
+view_pairs pairs = entries_of (map view_pair pairs)

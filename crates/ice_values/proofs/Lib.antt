@@ -1,3 +1,4 @@
 pub mod Loop
 pub mod Writing
 pub mod Plain
+pub mod KeyOrder

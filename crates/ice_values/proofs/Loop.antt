@@ -1,13 +1,15 @@
 -- Reading values one after the other, as a loop does.
-use Rattle.std.proofs.Common.{◌≡◌, ℕ, suc, ◌-◌, ◌+◌, ◌≤◌, ◌<◌, List, [], ◌∷◌, ◌++◌, Result, Ok, Err, refl, sym, ap, ◌∙◌, arith}
+use Rattle.std.proofs.Common.{◌≡◌, ℕ, suc, true, false, ◌-◌, ◌+◌, ◌≤◌, ◌<◌, List, [], ◌∷◌, ◌++◌, Result, Ok, Err, refl, sym, ap, ◌∙◌, arith}
 use Rattle.ice_prims.specs.declared.fault.Fault.{Fault}
 use Rattle.ice_prims.specs.declared.fault.ReadFault.{ReadFault}
 use Rattle.ice_prims.specs.declared.fault.ReadFault.TheVariants as faults
-use Rattle.ice_prims.specs.Rest.{Rest, ◌>>=◌}
+use Rattle.ice_prims.specs.declared.fault.Kind.TheVariants.{EqualKey}
+use Rattle.ice_prims.specs.Rest.{Rest, fault, ◌>>=◌}
 use Rattle.ice_prims.specs.Taking.{Fails}
 use Rattle.ice_encoding.specs.Port.{Reader}
-use Rattle.ice_encoding.specs.Reading.{each_at}
-use Rattle.ice_encoding.specs.Tree.{Tree, Trees, none, tree}
+use Rattle.ice_encoding.specs.Order.{has_key, insert}
+use Rattle.ice_encoding.specs.Reading.{each_at, pairs_at}
+use Rattle.ice_encoding.specs.Tree.{Tree, Trees, none, tree, Entries}
 use Rattle.graph_arena.specs.View.{trees_of}
 
 abbrev pub join : Trees → Trees → Trees
@@ -57,4 +59,39 @@ module _ {S : Type 0} (one : Reader S Tree) where
   is_done front count i s r total le so_far =
       let k : count - i ≡ 0 = omega arith in
       let first : with_front front (each_at one (count - i) s r) ≡ Ok (front, s, r) = rw (k, join-none front) refl in
+      sym so_far ∙ first
+
+-- ---- pairs, each put at its place
+
+module _ (key value : Reader (Unit {0}) Tree) (before : Entries) (count i : ℕ) (r : Rest) (total : Result (Entries × (Unit {0}) × Rest) Fault) (so_far : pairs_at key value (count - i) before tt r ≡ total) where
+  pub pairs_go_on : (k v : Tree) (mid after : Rest) → i < count → key tt r ≡ Ok (k, tt, mid) → has_key k before ≡ false → value tt mid ≡ Ok (v, tt, after) → pairs_at key value (count - (i + 1)) (insert k v before) tt after ≡ total
+  pairs_go_on k v mid after lt key_is new value_is =
+      let n : count - i ≡ suc (count - (i + 1)) = omega arith in
+      let first : pairs_at key value (count - i) before tt r ≡ pairs_at key value (count - (i + 1)) (insert k v before) tt after = rw (n, key_is, new, value_is) refl in
+      sym first ∙ so_far
+
+  pub pairs_refused : (k : Tree) (mid : Rest) → i < count → key tt r ≡ Ok (k, tt, mid) → has_key k before ≡ true → total ≡ fault r.place EqualKey
+  pairs_refused k mid lt key_is old =
+      let n : count - i ≡ suc (count - (i + 1)) = omega arith in
+      let first : pairs_at key value (count - i) before tt r ≡ fault r.place EqualKey = rw (n, key_is, old) refl in
+      sym so_far ∙ first
+
+  pub pairs_key_fails : (e : ReadFault) → i < count → Fails e (key tt r) → Fails e total
+  pairs_key_fails faults.Memory lt h = tt
+  pairs_key_fails (faults.Broken f) lt h =
+      let n : count - i ≡ suc (count - (i + 1)) = omega arith in
+      let first : pairs_at key value (count - i) before tt r ≡ Err f = rw (n, h) refl in
+      sym so_far ∙ first
+
+  pub pairs_value_fails : (e : ReadFault) (k : Tree) (mid : Rest) → i < count → key tt r ≡ Ok (k, tt, mid) → has_key k before ≡ false → Fails e (value tt mid) → Fails e total
+  pairs_value_fails faults.Memory k mid lt key_is new h = tt
+  pairs_value_fails (faults.Broken f) k mid lt key_is new h =
+      let n : count - i ≡ suc (count - (i + 1)) = omega arith in
+      let first : pairs_at key value (count - i) before tt r ≡ Err f = rw (n, key_is, new, h) refl in
+      sym so_far ∙ first
+
+  pub pairs_done : count ≤ i → total ≡ Ok (before, tt, r)
+  pairs_done le =
+      let n : count - i ≡ 0 = omega arith in
+      let first : pairs_at key value (count - i) before tt r ≡ Ok (before, tt, r) = rw n refl in
       sym so_far ∙ first

@@ -2,12 +2,12 @@
 use Rattle.std.proofs.Common.{◌≡◌, ℕ, zero, suc, ◌+◌, ◌<◌, ◌^◌, List, [], ◌∷◌, ◌++◌, length, map, get_or, take, refl, sym, ap, subst, ◌∙◌, append_assoc, arith}
 use Rattle.std.proofs.lemmas.List.{append-nil, map_push, take_more, length-map}
 use Rattle.ice_prims.specs.Bytes.{size_bytes, Grows}
-use Rattle.ice_encoding.specs.Tree.{Tree, sequence, tree_count}
-use Rattle.ice_encoding.specs.Canonical.{canonical, canonical_each, HasSizes, EachHasSizes}
+use Rattle.ice_encoding.specs.Tree.{Tree, sequence, dictionary, tree_count, entry_count}
+use Rattle.ice_encoding.specs.Canonical.{canonical, canonical_each, canonical_pairs, HasSizes, EachHasSizes, PairsHaveSizes}
 use Rattle.graph_arena.specs.declared.value.Value.{Value}
 use Rattle.graph_arena.specs.declared.value.Value.TheVariants as variants
-use Rattle.graph_arena.proofs.Shapes.{view_seq}
-use Rattle.graph_arena.specs.View.{trees_of, view, view_all}
+use Rattle.graph_arena.proofs.Shapes.{view_seq, view_dict}
+use Rattle.graph_arena.specs.View.{trees_of, entries_of, view, view_all, view_pair, view_pairs}
 
 count_trees : (ts : List Tree) → tree_count (trees_of ts) ≡ length ts
 count_trees [] = refl
@@ -47,3 +47,39 @@ seq_sizes value items is h =
     let shape : view value ≡ sequence (view_all items) = ap view is ∙ view_seq items in
     let sizes : HasSizes (sequence (view_all items)) = subst HasSizes shape h in
     (rw (← count_all items) sizes.0, sizes.1)
+
+-- ---- pairs
+
+count_entries : (ps : List (Tree × Tree)) → entry_count (entries_of ps) ≡ length ps
+count_entries [] = refl
+count_entries (p ∷ ps) = ap suc (count_entries ps)
+
+pub count_pairs : (ps : List (Value × Value)) → entry_count (view_pairs ps) ≡ length ps
+count_pairs ps = count_entries (map view_pair ps) ∙ length-map ps view_pair
+
+pairs-push : (ps : List (Tree × Tree)) (p : Tree × Tree) → canonical_pairs (entries_of (ps ++ p ∷ [])) ≡ canonical_pairs (entries_of ps) ++ (canonical p.0 ++ canonical p.1)
+pairs-push [] p = ap (λ (l : List ℕ). canonical p.0 ++ l) (append-nil (canonical p.1))
+pairs-push (x ∷ ps) p = ap (λ (l : List ℕ). canonical x.0 ++ (canonical x.1 ++ l)) (pairs-push ps p) ∙ simp append_assoc
+
+pub pair_more : (ps : List (Value × Value)) (i : ℕ) (p : Value × Value) (before out mid new : List ℕ) → i < length ps → p ≡ get_or ps i p → out ≡ before ++ canonical_pairs (view_pairs (take i ps)) → mid ≡ out ++ canonical (view p.0) → new ≡ mid ++ canonical (view p.1) → new ≡ before ++ canonical_pairs (view_pairs (take (i + 1) ps))
+pair_more ps i p before out mid new lt is so_far one two =
+    let front : take (i + 1) ps ≡ take i ps ++ p ∷ [] = take_more ps i p lt ∙ ap (λ (x : Value × Value). take i ps ++ x ∷ []) (sym is) in
+    let all : canonical_pairs (view_pairs (take (i + 1) ps)) ≡ canonical_pairs (view_pairs (take i ps)) ++ (canonical (view p.0) ++ canonical (view p.1)) = ap (λ (l : List (Value × Value)). canonical_pairs (view_pairs l)) front ∙ ap (λ (l : List (Tree × Tree)). canonical_pairs (entries_of l)) (map_push view_pair (take i ps) p) ∙ pairs-push (map view_pair (take i ps)) (view_pair p) in
+    two ∙ ap (λ (l : List ℕ). l ++ canonical (view p.1)) (one ∙ ap (λ (l : List ℕ). l ++ canonical (view p.0)) so_far) ∙ simp append_assoc (ap (λ (l : List ℕ). before ++ l) (sym all))
+
+pub dict_written : (ps qs : List (Value × Value)) (n : ℕ) (old mid new : List ℕ) → qs ≡ ps → n ≡ length ps → mid ≡ old ++ size_bytes n → new ≡ mid ++ canonical_pairs (view_pairs qs) → new ≡ old ++ canonical (dictionary (view_pairs ps))
+dict_written ps qs n old mid new same len front body =
+    let size : n ≡ entry_count (view_pairs ps) = len ∙ sym (count_pairs ps) in
+    body ∙ ap (λ (l : List (Value × Value)). mid ++ canonical_pairs (view_pairs l)) same ∙ ap (λ (l : List ℕ). l ++ canonical_pairs (view_pairs ps)) (front ∙ ap (λ (m : ℕ). old ++ size_bytes m) size) ∙ append_assoc old (size_bytes (entry_count (view_pairs ps))) (canonical_pairs (view_pairs ps))
+
+-- the sizes of one pair
+pub pair_sizes_at : (ps : List (Value × Value)) (i : ℕ) (p : Value × Value) → i < length ps → p ≡ get_or ps i p → PairsHaveSizes (view_pairs ps) → HasSizes (view p.0) × HasSizes (view p.1)
+pair_sizes_at [] i p lt is h = absurd (omega arith)
+pair_sizes_at (x ∷ ps) zero p lt is h = rw is (h.0, h.1)
+pair_sizes_at (x ∷ ps) (suc i) p lt is h = pair_sizes_at ps i p (omega arith) is h.2
+
+pub dict_sizes : (value : Value) (pairs : List (Value × Value)) → value ≡ variants.Pairs pairs → HasSizes (view value) → (length pairs < 2 ^ 31) × PairsHaveSizes (view_pairs pairs)
+dict_sizes value pairs is h =
+    let shape : view value ≡ dictionary (view_pairs pairs) = ap view is ∙ view_dict pairs in
+    let sizes : HasSizes (dictionary (view_pairs pairs)) = subst HasSizes shape h in
+    (rw (← count_pairs pairs) sizes.0, sizes.1)

@@ -1,6 +1,7 @@
 //! Values by their type: read from bytes with the first fault, and written as canonical bytes.
 #![tactic(auto)]
 
+mod key;
 mod read;
 mod write;
 

@@ -1,17 +1,21 @@
 //! A value of a type from bytes.
 
-ghost use Rattle.std.specs.Prelude.{◌≡◌};
+ghost use Rattle.std.specs.Prelude.{◌≡◌, IsTrue};
+ghost use Rattle.ice_types.specs.Tables.{is_key};
 ghost use Rattle.ice_prims.specs.Taking.{TakesUnlessMemory};
 ghost use Rattle.ice_encoding.specs.Port.{no_references};
-ghost use Rattle.ice_encoding.specs.Reading.{value_at, value_step, each_at};
+ghost use Rattle.ice_encoding.specs.Reading.{value_at, value_step, each_at, pairs_at};
+ghost use Rattle.ice_encoding.specs.Tree.{no_entry};
 ghost use Rattle.ice_encoding.specs.Value.{plain_value_at};
-ghost use Rattle.graph_arena.specs.View.{view, view_all};
+ghost use Rattle.graph_arena.specs.View.{view, view_all, view_pairs};
 ghost use Rattle.ice_values.specs.Reads.{Reads, ReadsPlain};
 
+use crate::key::{in_order, read_key};
 use graph_arena::Value;
 use ice_prims::{Cursor, Kind, ReadFault};
 use ice_types::{List, MOST_DEPTH, Name, Schema, TypeRef};
 use std::alloc::Global;
+use std::collections::BTreeMap;
 
 /// The value of the type at the front, with the first fault from the left. A refusal leaves the
 /// cursor as it was. Memory is taken for what is read, never for what a size merely claims.
@@ -95,6 +99,15 @@ fn read_parts(
             }
             None => Err(ReadFault::Broken(cursor.fault(Kind::LeftOver))),
         },
+        TypeRef::Dict(at) => match schema.dicts().get(at as usize) {
+            Some(decl) => {
+                let count = cursor.take_size()?;
+                Ok(Value::Pairs(read_pairs(
+                    alloc, schema, levels, decl.key, decl.value, count, cursor,
+                )?))
+            }
+            None => Err(ReadFault::Broken(cursor.fault(Kind::LeftOver))),
+        },
     }
 }
 
@@ -116,4 +129,32 @@ fn read_each(
         items.push(item)?;
     }
     Ok(items)
+}
+
+/// So many pairs, each put at its place. A key that is equal to an earlier one is refused when it
+/// has been read whole.
+#[cycle(values)]
+fn read_pairs(
+    alloc: Global,
+    schema: &Schema,
+    levels: u32,
+    key: TypeRef,
+    value: TypeRef,
+    count: u32,
+    cursor: &mut Cursor<'_>,
+) -> Result<List<(Value, Value)>, ReadFault>
+    requires { IsTrue (is_key key) }
+    ensures { Reads view_pairs result cursor.new (pairs_at (value_at no_references schema.now levels key) (value_at no_references schema.now levels value) count no_entry tt cursor.old) }
+{
+    let mut pairs = BTreeMap::new(alloc);
+    for _ in 0..count {
+        let equal = cursor.fault(Kind::EqualKey);
+        let found = read_key(alloc, levels, key, cursor)?;
+        if pairs.contains_key(&found) {
+            return Err(ReadFault::Broken(equal));
+        }
+        let held = read_level(alloc, schema, levels, value, cursor)?;
+        pairs.insert(found, held)?;
+    }
+    Ok(in_order(alloc, pairs)?)
 }

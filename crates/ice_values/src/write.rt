@@ -2,8 +2,8 @@
 
 ghost use Rattle.std.specs.Prelude.{◌≡◌, ◌++◌, OnOk, OnErr};
 ghost use Rattle.ice_prims.specs.Bytes.{Grows};
-ghost use Rattle.ice_encoding.specs.Canonical.{canonical, canonical_each, HasSizes, EachHasSizes};
-ghost use Rattle.graph_arena.specs.View.{view, view_all};
+ghost use Rattle.ice_encoding.specs.Canonical.{canonical, canonical_each, canonical_pairs, HasSizes, EachHasSizes, PairsHaveSizes};
+ghost use Rattle.graph_arena.specs.View.{view, view_all, view_pairs};
 
 use graph_arena::Value;
 use ice_prims::{put_bool, put_byte, put_int, put_long, put_short, put_size, put_str};
@@ -43,6 +43,11 @@ fn append(value: &Value, out: &mut Vec<u8>) -> Result<(), AllocError>
             append_each(items.as_slice(), out)?;
             Ok(())
         }
+        Value::Pairs(pairs) => {
+            put_size(out, pairs.len() as u32)?;
+            append_pairs(pairs.as_slice(), out)?;
+            Ok(())
+        }
     }
 }
 
@@ -55,6 +60,20 @@ fn append_each(items: &[Value], out: &mut Vec<u8>) -> Result<(), AllocError>
 {
     for item in items {
         append(item, out)?;
+    }
+    Ok(())
+}
+
+/// Pairs one after the other, each key before its value.
+#[cycle(values)]
+fn append_pairs(pairs: &[(Value, Value)], out: &mut Vec<u8>) -> Result<(), AllocError>
+    requires { PairsHaveSizes (view_pairs pairs.now) }
+    ensures ok { OnOk result (out.new.items ≡ out.old.items ++ canonical_pairs (view_pairs pairs.now)) }
+    ensures err { OnErr result (Grows out.old.items out.new.items) }
+{
+    for (key, value) in pairs {
+        append(key, out)?;
+        append(value, out)?;
     }
     Ok(())
 }

@@ -1,11 +1,14 @@
-use Rattle.std.proofs.Common.{◌≡◌, ℕ, suc, ◌-◌, subst, arith}
+use Rattle.std.proofs.Common.{◌≡◌, ℕ, suc, true, false, ◌-◌, rules, refl, sym, ap, subst, ◌∙◌, arith}
 use Rattle.std.proofs.lemmas.List.{map_push}
 use Rattle.ice_encoding.specs.Port.{no_references}
 use Rattle.ice_encoding.specs.Reading.{value_at, each_at}
 use Rattle.ice_encoding.specs.Tree.{none, tree}
 use Rattle.graph_arena.specs.View.{view, view_all}
 use Rattle.ice_values.specs.Reads.{Reads}
-use Rattle.ice_values.proofs.Loop.{join, trees-push, goes_on, is_done}
+use Rattle.ice_encoding.specs.Order.{has_key, insert}
+use Rattle.ice_values.specs.Keys.{view_key, view_entries}
+use Rattle.ice_values.proofs.Loop.{join, trees-push, goes_on, is_done, pairs_go_on, pairs_refused, pairs_value_fails}
+use Rattle.ice_values.proofs.KeyOrder.{has_is, insert_is}
 use Rattle.ice_values.proofs.read.+values.Goals as goal
 
 pub read_each-loop-preserved : goal.read_each-loop-preserved
@@ -23,3 +26,20 @@ pub read_level-returns : goal.read_level-returns
 read_level-returns t c =
     let more : suc (c.args.levels - 1) ≡ c.args.levels = omega arith in
     subst (λ (n : ℕ). Reads view c.read_parts.result c.read_parts.new.cursor (value_at no_references c.args.schema.now n c.args.kind tt c.args.cursor.now)) more c.read_parts.ensures
+
+pub read_pairs-returns-then-contains_key : goal.read_pairs-returns-then-contains_key
+read_pairs-returns-then-contains_key t c =
+    let old : has_key (view_key c.in_ok-found.found) (view_entries c.loop.pairs.entries) ≡ true = sym (has_is c.in_ok-found.found c.loop.pairs.entries) ∙ sym c.contains_key.ensures ∙ c.if-contains_key.true in
+    rw (pairs_refused (value_at no_references c.args.schema.now c.args.levels c.args.key) (value_at no_references c.args.schema.now c.args.levels c.args.value) (view_entries c.loop.pairs.entries) c.args.count c.loop.counter c.loop.cursor _ c.loop.invariant (view_key c.in_ok-found.found) c.read_key.new.cursor c.loop-test.true (c.in_ok-found.ensures c.args.schema.now) old, c.fault-equal.ensures) refl
+
+pub read_pairs-returns-in_err-held : goal.read_pairs-returns-in_err-held
+read_pairs-returns-in_err-held t c =
+    let new : has_key (view_key c.in_ok-found.found) (view_entries c.loop.pairs.entries) ≡ false = sym (has_is c.in_ok-found.found c.loop.pairs.entries) ∙ sym c.contains_key.ensures ∙ c.if-contains_key.false in
+    let fails = pairs_value_fails (value_at no_references c.args.schema.now c.args.levels c.args.key) (value_at no_references c.args.schema.now c.args.levels c.args.value) (view_entries c.loop.pairs.entries) c.args.count c.loop.counter c.loop.cursor _ c.loop.invariant c.in_err-held.field-0.0 (view_key c.in_ok-found.found) c.read_key.new.cursor c.loop-test.true (c.in_ok-found.ensures c.args.schema.now) new c.in_err-held.ensures in
+    search (rules, fails)
+
+pub read_pairs-loop-preserved : goal.read_pairs-loop-preserved
+read_pairs-loop-preserved t c =
+    let new : has_key (view_key c.in_ok-found.found) (view_entries c.loop.pairs.entries) ≡ false = sym (has_is c.in_ok-found.found c.loop.pairs.entries) ∙ sym c.contains_key.ensures ∙ c.if-contains_key.false in
+    let put : view_entries c.insert.new.self.entries ≡ insert (view_key c.in_ok-found.found) (view c.in_ok-held.held) (view_entries c.loop.pairs.entries) = ap view_entries c.in_ok-insert.ensures.entries ∙ insert_is c.in_ok-found.found c.in_ok-held.held c.loop.pairs.entries new in
+    rw put (pairs_go_on (value_at no_references c.args.schema.now c.args.levels c.args.key) (value_at no_references c.args.schema.now c.args.levels c.args.value) (view_entries c.loop.pairs.entries) c.args.count c.loop.counter c.loop.cursor _ c.loop.invariant (view_key c.in_ok-found.found) (view c.in_ok-held.held) c.read_key.new.cursor c.read_level.new.cursor c.loop-test.true (c.in_ok-found.ensures c.args.schema.now) new c.in_ok-held.ensures)
