@@ -5,7 +5,7 @@ use Rattle.graph_arena.proofs.value.Value.TheLaws.{the_size}
 use Rattle.graph_arena.specs.declared.value.Value.{Value}
 use Rattle.graph_arena.specs.View.{view, view_all}
 use Rattle.graph_arena.proofs.Shapes.{view_seq}
-use Rattle.ice_values.proofs.Writing.{item_more, seq_written, sizes_at, seq_sizes, Grows-then}
+use Rattle.ice_values.proofs.Writing.{item_more, seq_written, sizes_at, seq_sizes}
 use Rattle.ice_values.proofs.write.+values.Goals as goal
 
 pub append-overflow_cast-len : goal.append-overflow_cast-len
@@ -17,7 +17,7 @@ append-put_size-requires t c = let sizes = seq_sizes c.args.value.now c.in-Seq.i
 pub append_each-append-requires : goal.append_each-append-requires
 append_each-append-requires t c =
     let deep : the_size c.item-item.result ≤ most the_size c.args.items.now =
-        subst (λ (v : Value). the_size v ≤ most the_size c.args.items.now) (sym c.item-item.is) (at_most the_size c.args.items.now c.loop-item.item-index c.item-item.result c.loop-item-test.true) in
+    subst (λ (v : Value). the_size v ≤ most the_size c.args.items.now) (sym c.item-item.is) (at_most the_size c.args.items.now c.loop-item.item-index c.item-item.result c.loop-item-test.true) in
     (search (rules, deep), sizes_at c.args.items.now c.loop-item.item-index c.item-item.result c.loop-item-test.true c.item-item.is c.requires)
 
 pub append_each-loop-item-preserved : goal.append_each-loop-item-preserved
