@@ -3,6 +3,8 @@
 
 mod key;
 mod read;
+#[cfg(test)]
+mod tests;
 mod write;
 
 pub use read::read_value;

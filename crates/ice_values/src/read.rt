@@ -88,14 +88,7 @@ fn read_parts(
         TypeRef::Seq(at) => match schema.seqs().get(at as usize) {
             Some(decl) => {
                 let count = cursor.take_size()?;
-                Ok(Value::Seq(read_each(
-                    alloc,
-                    schema,
-                    levels,
-                    decl.element,
-                    count,
-                    cursor,
-                )?))
+                Ok(Value::Seq(read_each(alloc, schema, levels, decl.element, count, cursor)?))
             }
             None => Err(ReadFault::Broken(cursor.fault(Kind::LeftOver))),
         },

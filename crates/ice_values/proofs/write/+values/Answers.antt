@@ -20,7 +20,7 @@ append-put_size-requires t c = let sizes = seq_sizes c.args.value.now c.in-Seq.i
 pub append_each-append-requires : goal.append_each-append-requires
 append_each-append-requires t c =
     let deep : the_size c.item-item.result ≤ most the_size c.args.items.now =
-        subst (λ (v : Value). the_size v ≤ most the_size c.args.items.now) (sym c.item-item.is) (at_most the_size c.args.items.now c.loop-item.item-index c.item-item.result c.loop-item-test.true) in
+    subst (λ (v : Value). the_size v ≤ most the_size c.args.items.now) (sym c.item-item.is) (at_most the_size c.args.items.now c.loop-item.item-index c.item-item.result c.loop-item-test.true) in
     (search (rules, deep), sizes_at c.args.items.now c.loop-item.item-index c.item-item.result c.loop-item-test.true c.item-item.is c.requires)
 
 pub append_each-loop-item-preserved : goal.append_each-loop-item-preserved
