@@ -1,6 +1,9 @@
 //! Values of types that are known at run time alone.
 #![tactic(auto)]
 
+mod key;
+mod order;
 mod value;
 
+pub use order::is_sorted;
 pub use value::Value;
