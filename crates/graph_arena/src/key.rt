@@ -1,11 +1,13 @@
 //! Keys of dictionaries.
 
-ghost use Rattle.std.specs.Prelude.{◌≡◌};
+ghost use Rattle.std.specs.Prelude.{◌≡◌, IfOk};
 ghost use Rattle.graph_arena.specs.Keys.{key_tree};
 ghost use Rattle.graph_arena.specs.Sorted.{IsPlain};
 ghost use Rattle.graph_arena.specs.View.{view};
 
 use crate::Value;
+use ice_types::Name;
+use std::alloc::{AllocError, Global};
 
 /// A key, in the order of keys: false before true, numbers by value, text by its bytes.
 #[derive(Clone, Copy, PartialEq, Eq, PartialOrd, Ord)]
@@ -31,5 +33,19 @@ pub(crate) fn key_of(value: &Value) -> KeyRef<'_>
         Value::Long(n) => KeyRef::Long(*n),
         Value::Text(text) => KeyRef::Text(text.as_str()),
         Value::Seq(_) | Value::Pairs(_) => unreachable!(),
+    }
+}
+
+/// The value that the key is, as a copy.
+pub(crate) fn value_of(alloc: Global, key: KeyRef<'_>) -> Result<Value, AllocError>
+    ensures { IfOk result (λ value. view value ≡ key_tree key.entry) }
+{
+    match key {
+        KeyRef::Bool(b) => Ok(Value::Bool(b)),
+        KeyRef::Byte(n) => Ok(Value::Byte(n)),
+        KeyRef::Short(n) => Ok(Value::Short(n)),
+        KeyRef::Int(n) => Ok(Value::Int(n)),
+        KeyRef::Long(n) => Ok(Value::Long(n)),
+        KeyRef::Text(text) => Ok(Value::Text(Name::of(alloc, text)?)),
     }
 }

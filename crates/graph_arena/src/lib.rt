@@ -3,7 +3,9 @@
 
 mod key;
 mod order;
+mod sort;
 mod value;
 
 pub use order::is_sorted;
+pub use sort::sort_pairs;
 pub use value::Value;
