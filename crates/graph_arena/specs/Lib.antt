@@ -1,1 +1,4 @@
 pub mod View
+pub mod Sorted
+pub mod Keys
+pub mod Sorting

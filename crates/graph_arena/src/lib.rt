@@ -1,6 +1,11 @@
 //! Values of types that are known at run time alone.
 #![tactic(auto)]
 
+mod key;
+mod order;
+mod sort;
 mod value;
 
+pub use order::is_sorted;
+pub use sort::sort_pairs;
 pub use value::Value;

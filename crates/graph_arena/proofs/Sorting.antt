@@ -1,0 +1,182 @@
+-- Pairs put at their places one after the other, as a loop does, and which keys are equal.
+use Rattle.std.proofs.Common.{◌≡◌, ℕ, ◌<◌, List, [], ◌∷◌, ◌++◌, length, map, take, drop, Bool, true, false, cond, ◌||◌, Option, None, Some, refl, sym, ap, subst, ◌∙◌, not, arith}
+use Rattle.std.specs.Ordering.{is_lt, is_eq, ordering_reverse, match_ordering}
+use Rattle.std.specs.declared.cmp.Ordering.{Ordering}
+use Rattle.std.specs.declared.cmp.Ordering.TheVariants.{Less, Equal, Greater}
+use Rattle.std.specs.Option.{is_some}
+use Rattle.std.specs.Map.{lookup}
+use Rattle.std.specs.BTreeMap.{BTreeMap, insert_entry, is_at}
+use Rattle.std.proofs.Math.Seq.{take-length, drop-length}
+use Rattle.ice_encoding.specs.Tree.{Tree, boolean, byte, short, int, long, text, sequence, dictionary, Trees, none, tree, Entries, no_entry, entry}
+use Rattle.ice_encoding.specs.Order.{tree_cmp, insert, has_key}
+use Rattle.ice_encoding.proofs.Order.{turns}
+use Rattle.graph_arena.specs.declared.value.Value.{Value}
+use Rattle.graph_arena.specs.declared.value.Value.TheVariants as variants
+use Rattle.graph_arena.specs.declared.key.KeyRef.{KeyRef}
+use Rattle.graph_arena.specs.declared.key.KeyRef.TheVariants as keys
+use Rattle.graph_arena.specs.contracts.key.KeyRefOrd.TheImpl.{cmp-value}
+use Rattle.graph_arena.specs.Keys.{key_tree}
+use Rattle.graph_arena.specs.Sorted.{sorted, sorted_each, sorted_onto, has_equal_keys, some_has_equal_keys, have_equal_keys}
+use Rattle.graph_arena.specs.Sorting.{view_map, UnlessEqual, Puts}
+use Rattle.graph_arena.proofs.Shapes.{view_dict}
+use Rattle.graph_arena.specs.View.{view, view_all, view_pairs, trees_of}
+
+-- ---- what a map of keys holds
+
+module _ (cmp : KeyRef → KeyRef → Ordering) (agrees : (a b : KeyRef) → cmp a b ≡ tree_cmp (key_tree a) (key_tree b)) where
+  -- whether the key is among those of the map
+  pub found_is : (k : KeyRef) (es : List (KeyRef × Value)) → is_some (lookup (is_at (cmp k)) es) ≡ has_key (key_tree k) (view_map es)
+  found_is k [] = refl
+  found_is k (e ∷ es) = rw agrees (by_test (is_eq (tree_cmp (key_tree k) (key_tree e.0))) (found_is k es))
+    where
+      by_test : (b : Bool) → is_some (lookup (is_at (cmp k)) es) ≡ has_key (key_tree k) (view_map es) → is_some (cond b (Some e.1) (lookup (is_at (cmp k)) es)) ≡ (b || has_key (key_tree k) (view_map es))
+      by_test true h = refl
+      by_test false h = h
+
+  -- a new key goes to its place
+  pub put_is : (k : KeyRef) (v : Value) (es : List (KeyRef × Value)) → has_key (key_tree k) (view_map es) ≡ false → view_map (insert_entry cmp es k v) ≡ insert (key_tree k) (view v) (view_map es)
+  put_is k v [] h = refl
+  put_is k v (e ∷ es) h = rw agrees (by_order (tree_cmp (key_tree k) (key_tree e.0)) h (put_is k v es))
+    where
+      by_order : (o : Ordering) → (is_eq o || has_key (key_tree k) (view_map es)) ≡ false → (has_key (key_tree k) (view_map es) ≡ false → view_map (insert_entry cmp es k v) ≡ insert (key_tree k) (view v) (view_map es))
+          → view_map (match_ordering o ((k, v) ∷ e ∷ es) ((e.0, v) ∷ es) (e ∷ insert_entry cmp es k v)) ≡ cond (is_lt o) (entry (key_tree k) (view v) (entry (key_tree e.0) (view e.1) (view_map es))) (entry (key_tree e.0) (view e.1) (insert (key_tree k) (view v) (view_map es)))
+      by_order Less h g = refl
+      by_order Equal h g = absurd cc
+      by_order Greater h g = ap (entry (key_tree e.0) (view e.1)) (g h)
+
+-- what the map's own call answers
+pub puts : (cmp : KeyRef → KeyRef → Ordering) → ((a b : KeyRef) → cmp a b ≡ tree_cmp (key_tree a) (key_tree b)) → (k : KeyRef) (v : Value) (es new : List (KeyRef × Value)) (old : Option Value) (fresh : Bool)
+    → old ≡ lookup (is_at (cmp k)) es → new ≡ insert_entry cmp es k v → is_some old ≡ not fresh → Puts (key_tree k) (view v) (view_map es) (view_map new) fresh
+puts cmp agrees k v es new old true was is test =
+    let lacks : has_key (key_tree k) (view_map es) ≡ false = sym (found_is cmp agrees k es) ∙ ap is_some (sym was) ∙ test in
+    (lacks, ap view_map is ∙ put_is cmp agrees k v es lacks)
+puts cmp agrees k v es new old false was is test = sym (found_is cmp agrees k es) ∙ ap is_some (sym was) ∙ test
+
+-- the derived order of keys is the order of their values
+pub key_order : (a b : KeyRef) → cmp-value.it a b ≡ tree_cmp (key_tree a) (key_tree b)
+key_order (keys.Bool a) (keys.Bool b) = refl
+key_order (keys.Byte a) (keys.Byte b) = refl
+key_order (keys.Short a) (keys.Short b) = refl
+key_order (keys.Int a) (keys.Int b) = refl
+key_order (keys.Long a) (keys.Long b) = refl
+key_order (keys.Text a) (keys.Text b) = refl
+key_order a b = refl
+
+-- ---- which keys are equal
+
+-- two keys are equal, of those before or of what follows
+abbrev pub equal_onto : Entries → Entries → Bool
+equal_onto before no_entry = false
+equal_onto before (entry k v rest) = has_key k before || (has_equal_keys v || equal_onto (insert k (sorted v) before) rest)
+
+-- one key stands in both
+abbrev meets : Entries → Entries → Bool
+meets before no_entry = false
+meets before (entry k v rest) = has_key k before || meets before rest
+
+eq_turns : (k l : Tree) → is_eq (tree_cmp k l) ≡ is_eq (tree_cmp l k)
+eq_turns k l = ap is_eq (turns k l) ∙ at (tree_cmp l k)
+  where
+    at : (o : Ordering) → is_eq (ordering_reverse o) ≡ is_eq o
+    at Less = refl
+    at Equal = refl
+    at Greater = refl
+
+or_swap : (a b c : Bool) → (a || (b || c)) ≡ (b || (a || c))
+or_swap true true c = refl
+or_swap true false c = refl
+or_swap false b c = refl
+
+has_inserted : (l k v : Tree) (before : Entries) → has_key l (insert k v before) ≡ (is_eq (tree_cmp l k) || has_key l before)
+has_inserted l k v no_entry = refl
+has_inserted l k v (entry m w rest) = by_test (is_lt (tree_cmp k m)) (has_inserted l k v rest)
+  where
+    by_test : (b : Bool) → has_key l (insert k v rest) ≡ (is_eq (tree_cmp l k) || has_key l rest)
+        → has_key l (cond b (entry k v (entry m w rest)) (entry m w (insert k v rest))) ≡ (is_eq (tree_cmp l k) || (is_eq (tree_cmp l m) || has_key l rest))
+    by_test true h = refl
+    by_test false h = ap (λ (b : Bool). is_eq (tree_cmp l m) || b) h ∙ or_swap (is_eq (tree_cmp l m)) (is_eq (tree_cmp l k)) (has_key l rest)
+
+or_middle : (a b c d : Bool) → ((a || b) || (c || d)) ≡ ((a || c) || (b || d))
+or_middle true b c d = refl
+or_middle false true true d = refl
+or_middle false true false d = refl
+or_middle false false c d = refl
+
+meets_inserted : (k v : Tree) (before rest : Entries) → meets (insert k v before) rest ≡ (has_key k rest || meets before rest)
+meets_inserted k v before no_entry = refl
+meets_inserted k v before (entry l w rest) =
+    rw (has_inserted l k v before, meets_inserted k v before rest, eq_turns l k) (or_middle (is_eq (tree_cmp k l)) (has_key l before) (has_key k rest) (meets before rest))
+
+or_apart : (a b m r h : Bool) → (a || (b || ((r || m) || h))) ≡ ((a || m) || (r || (b || h)))
+or_apart true b m r h = refl
+or_apart false true true r h = refl
+or_apart false true false true h = refl
+or_apart false true false false h = refl
+or_apart false false true true h = refl
+or_apart false false true false h = refl
+or_apart false false false true h = refl
+or_apart false false false false h = refl
+
+equal_apart : (before rest : Entries) → equal_onto before rest ≡ (meets before rest || have_equal_keys rest)
+equal_apart before no_entry = refl
+equal_apart before (entry k v rest) =
+    rw (equal_apart (insert k (sorted v) before) rest, meets_inserted k (sorted v) before rest) (or_apart (has_key k before) (has_equal_keys v) (meets before rest) (has_key k rest) (have_equal_keys rest))
+
+meets_none : (rest : Entries) → meets no_entry rest ≡ false
+meets_none no_entry = refl
+meets_none (entry k v rest) = meets_none rest
+
+pub equal_is : (pairs : Entries) → equal_onto no_entry pairs ≡ have_equal_keys pairs
+equal_is pairs = equal_apart no_entry pairs ∙ ap (λ (b : Bool). b || have_equal_keys pairs) (meets_none pairs)
+
+-- ---- pairs taken out of the map in order
+
+abbrev pub join : Entries → Entries → Entries
+join no_entry others = others
+join (entry k v rest) others = entry k v (join rest others)
+
+join_none : (ps : Entries) → join ps no_entry ≡ ps
+join_none no_entry = refl
+join_none (entry k v rest) = ap (entry k v) (join_none rest)
+
+pub pushed : (ps : List (Value × Value)) (p : Value × Value) (others : Entries) → join (view_pairs (ps ++ p ∷ [])) others ≡ join (view_pairs ps) (entry (view p.0) (view p.1) others)
+pushed [] p others = refl
+pushed (q ∷ ps) p others = ap (entry (view q.0) (view q.1)) (pushed ps p others)
+
+pub out_more : (ps qs : List (Value × Value)) (es fs : List (KeyRef × Value)) (k : KeyRef) (v key : Value) (total : Entries) → es ≡ (k, v) ∷ fs → view key ≡ key_tree k → qs ≡ ps ++ (key, v) ∷ []
+    → join (view_pairs ps) (view_map es) ≡ total → join (view_pairs qs) (view_map fs) ≡ total
+out_more ps qs es fs k v key total first same more h =
+    ap (λ (l : List (Value × Value)). join (view_pairs l) (view_map fs)) more ∙ pushed ps (key, v) (view_map fs)
+    ∙ ap (λ (t : Tree). join (view_pairs ps) (entry t (view v) (view_map fs))) same ∙ ap (λ (l : List (KeyRef × Value)). join (view_pairs ps) (view_map l)) (sym first) ∙ h
+
+pub all_out : (ps : List (Value × Value)) (es : List (KeyRef × Value)) (total : Entries) → (0 < length es → false ≡ true) → join (view_pairs ps) (view_map es) ≡ total → view_pairs ps ≡ total
+all_out ps [] total left h = sym (join_none (view_pairs ps)) ∙ h
+all_out ps (e ∷ es) total left h = absurd (at (left (omega arith)))
+  where
+    at : false ≡ true → ⊥
+    at e = cc
+
+-- ---- what is copied whole
+
+copied_each : (vs : List Tree) → trees_of (map sorted vs) ≡ sorted_each (trees_of vs)
+copied_each [] = refl
+copied_each (v ∷ vs) = ap (tree (sorted v)) (copied_each vs)
+
+map_sorted : (vs : List Value) → map (λ v. sorted (view v)) vs ≡ map sorted (map view vs)
+map_sorted [] = refl
+map_sorted (v ∷ vs) = ap (λ (l : List Tree). sorted (view v) ∷ l) (map_sorted vs)
+
+pub items_copied : (items copies : List Value) (i : ℕ) → i ≡ length items → map view copies ≡ map (λ v. sorted (view v)) (take i items) → some_has_equal_keys (view_all (drop i items)) ≡ some_has_equal_keys (view_all items)
+    → (some_has_equal_keys (view_all items) ≡ false) × (view_all copies ≡ sorted_each (view_all items))
+items_copied items copies i last copied equal =
+    let none_left : some_has_equal_keys (view_all (drop i items)) ≡ false = ap (λ (l : List Value). some_has_equal_keys (view_all l)) (ap (λ (n : ℕ). drop n items) last ∙ drop-length items) in
+    let all : take i items ≡ items = ap (λ (n : ℕ). take n items) last ∙ take-length items in
+    (sym equal ∙ none_left, ap trees_of (copied ∙ ap (λ (l : List Value). map (λ v. sorted (view v)) l) all ∙ map_sorted items) ∙ copied_each (map view items))
+
+pub pairs_copied : (value : Value) (pairs slice copies : List (Value × Value)) (answer : Option (BTreeMap KeyRef Value)) (m : BTreeMap KeyRef Value) → value ≡ variants.Pairs pairs → slice ≡ pairs → answer ≡ Some m
+    → UnlessEqual (λ m. view_map m.entries) (have_equal_keys (view_pairs slice)) (sorted_onto no_entry (view_pairs slice)) answer → view_pairs copies ≡ view_map m.entries
+    → (has_equal_keys (view value) ≡ false) × (view (variants.Pairs copies) ≡ sorted (view value))
+pairs_copied value pairs slice copies answer m is same found h out =
+    let shape : view value ≡ dictionary (view_pairs slice) = ap view is ∙ view_dict pairs ∙ ap (λ (l : List (Value × Value)). dictionary (view_pairs l)) (sym same) in
+    let here : (have_equal_keys (view_pairs slice) ≡ false) × (view_map m.entries ≡ sorted_onto no_entry (view_pairs slice)) = subst (UnlessEqual (λ m. view_map m.entries) (have_equal_keys (view_pairs slice)) (sorted_onto no_entry (view_pairs slice))) found h in
+    (ap has_equal_keys shape ∙ here.0, view_dict copies ∙ ap dictionary (out ∙ here.1) ∙ sym (ap sorted shape))

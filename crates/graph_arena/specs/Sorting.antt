@@ -1,0 +1,30 @@
+-- What sorting answers and leaves.
+use Rattle.std.specs.Prelude.{Bool, true, false, ◌≡◌, List, [], ◌∷◌, Option, None, Some, Result, Ok, Err}
+use Rattle.std.specs.declared.alloc.AllocError.{AllocError}
+use Rattle.ice_encoding.specs.Order.{insert, has_key}
+use Rattle.ice_encoding.specs.Tree.{Tree, Entries, no_entry, entry}
+use Rattle.graph_arena.specs.declared.key.KeyRef.{KeyRef}
+use Rattle.graph_arena.specs.declared.value.Value.{Value}
+use Rattle.graph_arena.specs.Keys.{key_tree}
+use Rattle.graph_arena.specs.Sorted.{sorted, has_equal_keys}
+use Rattle.graph_arena.specs.View.{view}
+
+-- Done: the value is sorted. Refused, where keys are equal, or no memory: it is as it was.
+abbrev pub Sorts : Value → Value → Result Bool AllocError → Type 0
+Sorts old new (Ok true) = (has_equal_keys (view old) ≡ false) × (view new ≡ sorted (view old))
+Sorts old new (Ok false) = (has_equal_keys (view old) ≡ true) × (new ≡ old)
+Sorts old new (Err e) = new ≡ old
+
+-- what was wanted, or none where keys are equal
+abbrev pub UnlessEqual : {X Y : Type 0} → (X → Y) → Bool → Y → Option X → Type 0
+UnlessEqual view equal wanted (Some x) = (equal ≡ false) × (view x ≡ wanted)
+UnlessEqual view equal wanted None = equal ≡ true
+
+abbrev pub view_map : List (KeyRef × Value) → Entries
+view_map [] = no_entry
+view_map (e ∷ es) = entry (key_tree e.0) (view e.1) (view_map es)
+
+-- whether the key was new, and where it was, the pair among the others
+abbrev pub Puts : Tree → Tree → Entries → Entries → Bool → Type 0
+Puts key value before after true = (has_key key before ≡ false) × (after ≡ insert key value before)
+Puts key value before after false = has_key key before ≡ true

@@ -1,0 +1,116 @@
+//! Dictionaries put into order.
+
+ghost use Rattle.std.specs.Prelude.{◌≡◌, IfOk};
+ghost use Rattle.ice_encoding.specs.Tree.{no_entry};
+ghost use Rattle.graph_arena.specs.Keys.{key_tree};
+ghost use Rattle.graph_arena.specs.Sorted.{HasPlainKeys, EachHasPlainKeys, HavePlainKeys, sorted, sorted_each, sorted_onto, has_equal_keys, some_has_equal_keys, have_equal_keys};
+ghost use Rattle.graph_arena.specs.Sorting.{Sorts, UnlessEqual, Puts, view_map};
+ghost use Rattle.graph_arena.specs.View.{view, view_all, view_pairs};
+
+use crate::Value;
+use crate::key::{KeyRef, key_of, value_of};
+use ice_types::{List, Name};
+use std::alloc::{AllocError, Global};
+use std::collections::BTreeMap;
+
+/// Puts the pairs of every dictionary inside the value into rising key order. False, with the value
+/// as it was, where two keys of one dictionary are equal. Want of memory leaves the value as it was.
+pub fn sort_pairs(alloc: Global, value: &mut Value) -> Result<bool, AllocError>
+    requires { HasPlainKeys (view value.old) }
+    ensures { Sorts value.old value.new result }
+{
+    match sorted_copy(alloc, value)? {
+        Some(copy) => {
+            *value = copy;
+            Ok(true)
+        }
+        None => Ok(false),
+    }
+}
+
+/// The value with its dictionaries in order, or None where keys are equal.
+#[cycle(copies)]
+fn sorted_copy(alloc: Global, value: &Value) -> Result<Option<Value>, AllocError>
+    requires { HasPlainKeys (view value.now) }
+    ensures { IfOk result (UnlessEqual view (has_equal_keys (view value.now)) (sorted (view value.now))) }
+{
+    match value {
+        Value::Bool(b) => Ok(Some(Value::Bool(*b))),
+        Value::Byte(n) => Ok(Some(Value::Byte(*n))),
+        Value::Short(n) => Ok(Some(Value::Short(*n))),
+        Value::Int(n) => Ok(Some(Value::Int(*n))),
+        Value::Long(n) => Ok(Some(Value::Long(*n))),
+        Value::Text(text) => Ok(Some(Value::Text(Name::of(alloc, text.as_str())?))),
+        Value::Seq(items) => match sorted_items(alloc, items.as_slice())? {
+            Some(items) => Ok(Some(Value::Seq(items))),
+            None => Ok(None),
+        },
+        Value::Pairs(pairs) => match by_key(alloc, pairs.as_slice())? {
+            Some(map) => Ok(Some(Value::Pairs(in_order(alloc, map)?))),
+            None => Ok(None),
+        },
+    }
+}
+
+/// The items, each with its dictionaries in order, or None where keys are equal.
+#[cycle(copies)]
+fn sorted_items(alloc: Global, items: &[Value]) -> Result<Option<List<Value>>, AllocError>
+    requires { EachHasPlainKeys (view_all items.now) }
+    ensures { IfOk result (UnlessEqual view_all (some_has_equal_keys (view_all items.now)) (sorted_each (view_all items.now))) }
+{
+    let mut copies = List::new(alloc);
+    for item in items {
+        let Some(copy) = sorted_copy(alloc, item)? else {
+            return Ok(None);
+        };
+        copies.push(copy)?;
+    }
+    Ok(Some(copies))
+}
+
+/// The values by their keys, each with its dictionaries in order, or None where keys are equal.
+#[cycle(copies)]
+fn by_key<'a>(
+    alloc: Global,
+    pairs: &'a [(Value, Value)],
+) -> Result<Option<BTreeMap<KeyRef<'a>, Value>>, AllocError>
+    requires { HavePlainKeys (view_pairs pairs.now) }
+    ensures { IfOk result (UnlessEqual (λ m. view_map m.entries) (have_equal_keys (view_pairs pairs.now)) (sorted_onto no_entry (view_pairs pairs.now))) }
+{
+    let mut map = BTreeMap::new(alloc);
+    for pair in pairs {
+        let Some(value) = sorted_copy(alloc, &pair.1)? else {
+            return Ok(None);
+        };
+        if !put(&mut map, key_of(&pair.0), value)? {
+            return Ok(None);
+        }
+    }
+    Ok(Some(map))
+}
+
+/// Puts a value at a new key. False where the key is not new.
+fn put<'a>(
+    map: &mut BTreeMap<KeyRef<'a>, Value>,
+    key: KeyRef<'a>,
+    value: Value,
+) -> Result<bool, AllocError>
+    ensures { IfOk result (Puts (key_tree key.entry) (view value) (view_map map.old.entries) (view_map map.new.entries)) }
+{
+    Ok(map.insert(key, value)?.is_none())
+}
+
+/// The pairs of the map, in the order of their keys.
+fn in_order(
+    alloc: Global,
+    mut map: BTreeMap<KeyRef<'_>, Value>,
+) -> Result<List<(Value, Value)>, AllocError>
+    ensures { IfOk result (λ pairs. view_pairs pairs ≡ view_map map.entry.entries) }
+{
+    let mut pairs = List::new(alloc);
+    while let Some((key, value)) = map.pop_first() {
+        let key = value_of(alloc, key)?;
+        pairs.push((key, value))?;
+    }
+    Ok(pairs)
+}
