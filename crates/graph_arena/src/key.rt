@@ -11,7 +11,7 @@ use std::alloc::{AllocError, Global};
 
 /// A key, in the order of keys: false before true, numbers by value, text by its bytes.
 #[derive(Clone, Copy, PartialEq, Eq, PartialOrd, Ord)]
-pub(crate) enum KeyRef<'a> {
+pub enum KeyRef<'a> {
     Bool(bool),
     Byte(u8),
     Short(i16),

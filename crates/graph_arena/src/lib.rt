@@ -6,6 +6,7 @@ mod order;
 mod sort;
 mod value;
 
+pub use key::KeyRef;
 pub use order::is_sorted;
-pub use sort::sort_pairs;
+pub use sort::{in_order, sort_pairs};
 pub use value::Value;

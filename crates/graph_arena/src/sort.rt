@@ -100,8 +100,8 @@ fn put<'a>(
     Ok(map.insert(key, value)?.is_none())
 }
 
-/// The pairs of the map, in the order of their keys.
-fn in_order(
+/// The pairs of a map, in the order of their keys.
+pub fn in_order(
     alloc: Global,
     mut map: BTreeMap<KeyRef<'_>, Value>,
 ) -> Result<List<(Value, Value)>, AllocError>

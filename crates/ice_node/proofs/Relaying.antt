@@ -15,7 +15,7 @@ use Rattle.ice_encoding.specs.Tree.{Tree}
 use Rattle.ice_encoding.specs.Canonical.{canonical, HasSizes}
 use Rattle.ice_encoding.specs.Encapsulation.{SpellsEncapsulation, encapsulation_at}
 use Rattle.ice_encoding.proofs.Plain.{plain_sizes}
-use Rattle.ice_encoding.proofs.Encapsulations.{encapsulation_found, encapsulation_only, encapsulation_once}
+use Rattle.ice_encoding.proofs.Encapsulations.{encapsulation_found, encapsulation_only, encapsulation_canon}
 use Rattle.ice_ports.specs.Files.{file_named}
 use Rattle.ice_node.specs.Words.{Word}
 use Rattle.ice_node.specs.SliceText.{Means}
@@ -52,8 +52,8 @@ module _ (t : Tables) (kind : TypeRef) where
   pub value_fits : (input : List ℕ) (v : Tree) → IsBytes input → encapsulation_at t kind (whole input) ≡ Ok v → SpellsEncapsulation t kind input v × HasSizes v × (length (canonical v) + 6 < 2 ^ 31)
   value_fits input v fits e =
       let h = encapsulation_found t kind input v fits e in
-      let once = encapsulation_once t kind input v fits h in
-      let long : length input ≡ length (canonical v) + 6 = ap length once ∙ length-append (signed_bytes w32 (pos (length (canonical v) + 6))) (1 ∷ 1 ∷ canonical v) ∙ omega arith in
+      let canon = encapsulation_canon t kind input v fits h in
+      let long : length input ≡ length (canonical v) + 6 = sym canon.1 ∙ length-append (signed_bytes w32 (pos (length (canonical v) + 6))) (1 ∷ 1 ∷ canonical v) ∙ omega arith in
       (h, plain_sizes t kind h.1 v h.5, omega (arith, long, h.4))
 
   pub none_fits : (input : List ℕ) (fault : Fault) → encapsulation_at t kind (whole input) ≡ Err fault → (v : Tree) → SpellsEncapsulation t kind input v → ⊥

@@ -1,4 +1,3 @@
 pub mod Loop
 pub mod Writing
 pub mod Plain
-pub mod KeyOrder

@@ -10,8 +10,8 @@ ghost use Rattle.ice_encoding.specs.Value.{plain_value_at};
 ghost use Rattle.graph_arena.specs.View.{view, view_all, view_pairs};
 ghost use Rattle.ice_values.specs.Reads.{Reads, ReadsPlain};
 
-use crate::key::{in_order, read_key};
-use graph_arena::Value;
+use crate::key::read_key;
+use graph_arena::{Value, in_order};
 use ice_prims::{Cursor, Kind, ReadFault};
 use ice_types::{List, MOST_DEPTH, Name, Schema, TypeRef};
 use std::alloc::Global;
@@ -142,7 +142,7 @@ fn read_pairs(
     let mut pairs = BTreeMap::new(alloc);
     for _ in 0..count {
         let equal = cursor.fault(Kind::EqualKey);
-        let found = read_key(alloc, levels, key, cursor)?;
+        let found = read_key(levels, key, cursor)?;
         if pairs.contains_key(&found) {
             return Err(ReadFault::Broken(equal));
         }

@@ -6,9 +6,10 @@ use Rattle.ice_encoding.specs.Tree.{none, tree}
 use Rattle.graph_arena.specs.View.{view, view_all}
 use Rattle.ice_values.specs.Reads.{Reads}
 use Rattle.ice_encoding.specs.Order.{has_key, insert}
-use Rattle.ice_values.specs.Keys.{view_key, view_entries}
+use Rattle.graph_arena.specs.Keys.{key_tree}
+use Rattle.graph_arena.specs.Sorting.{view_map}
 use Rattle.ice_values.proofs.Loop.{join, trees-push, goes_on, is_done, pairs_go_on, pairs_refused, pairs_value_fails}
-use Rattle.ice_values.proofs.KeyOrder.{has_is, insert_is}
+use Rattle.graph_arena.proofs.Sorting.{key_order, found_is, put_is}
 use Rattle.ice_values.proofs.read.+values.Goals as goal
 
 pub read_each-loop-preserved : goal.read_each-loop-preserved
@@ -29,17 +30,17 @@ read_level-returns t c =
 
 pub read_pairs-returns-then-contains_key : goal.read_pairs-returns-then-contains_key
 read_pairs-returns-then-contains_key t c =
-    let old : has_key (view_key c.in_ok-found.found) (view_entries c.loop.pairs.entries) ≡ true = sym (has_is c.in_ok-found.found c.loop.pairs.entries) ∙ sym c.contains_key.ensures ∙ c.if-contains_key.true in
-    rw (pairs_refused (value_at no_references c.args.schema.now c.args.levels c.args.key) (value_at no_references c.args.schema.now c.args.levels c.args.value) (view_entries c.loop.pairs.entries) c.args.count c.loop.counter c.loop.cursor _ c.loop.invariant (view_key c.in_ok-found.found) c.read_key.new.cursor c.loop-test.true (c.in_ok-found.ensures c.args.schema.now) old, c.fault-equal.ensures) refl
+    let old : has_key (key_tree c.in_ok-found.found) (view_map c.loop.pairs.entries) ≡ true = sym (found_is _ key_order c.in_ok-found.found c.loop.pairs.entries) ∙ sym c.contains_key.ensures ∙ c.if-contains_key.true in
+    rw (pairs_refused (value_at no_references c.args.schema.now c.args.levels c.args.key) (value_at no_references c.args.schema.now c.args.levels c.args.value) (view_map c.loop.pairs.entries) c.args.count c.loop.counter c.loop.cursor _ c.loop.invariant (key_tree c.in_ok-found.found) c.read_key.new.cursor c.loop-test.true (c.in_ok-found.ensures c.args.schema.now) old, c.fault-equal.ensures) refl
 
 pub read_pairs-returns-in_err-held : goal.read_pairs-returns-in_err-held
 read_pairs-returns-in_err-held t c =
-    let new : has_key (view_key c.in_ok-found.found) (view_entries c.loop.pairs.entries) ≡ false = sym (has_is c.in_ok-found.found c.loop.pairs.entries) ∙ sym c.contains_key.ensures ∙ c.if-contains_key.false in
-    let fails = pairs_value_fails (value_at no_references c.args.schema.now c.args.levels c.args.key) (value_at no_references c.args.schema.now c.args.levels c.args.value) (view_entries c.loop.pairs.entries) c.args.count c.loop.counter c.loop.cursor _ c.loop.invariant c.in_err-held.field-0.0 (view_key c.in_ok-found.found) c.read_key.new.cursor c.loop-test.true (c.in_ok-found.ensures c.args.schema.now) new c.in_err-held.ensures in
+    let new : has_key (key_tree c.in_ok-found.found) (view_map c.loop.pairs.entries) ≡ false = sym (found_is _ key_order c.in_ok-found.found c.loop.pairs.entries) ∙ sym c.contains_key.ensures ∙ c.if-contains_key.false in
+    let fails = pairs_value_fails (value_at no_references c.args.schema.now c.args.levels c.args.key) (value_at no_references c.args.schema.now c.args.levels c.args.value) (view_map c.loop.pairs.entries) c.args.count c.loop.counter c.loop.cursor _ c.loop.invariant c.in_err-held.field-0.0 (key_tree c.in_ok-found.found) c.read_key.new.cursor c.loop-test.true (c.in_ok-found.ensures c.args.schema.now) new c.in_err-held.ensures in
     search (rules, fails)
 
 pub read_pairs-loop-preserved : goal.read_pairs-loop-preserved
 read_pairs-loop-preserved t c =
-    let new : has_key (view_key c.in_ok-found.found) (view_entries c.loop.pairs.entries) ≡ false = sym (has_is c.in_ok-found.found c.loop.pairs.entries) ∙ sym c.contains_key.ensures ∙ c.if-contains_key.false in
-    let put : view_entries c.insert.new.self.entries ≡ insert (view_key c.in_ok-found.found) (view c.in_ok-held.held) (view_entries c.loop.pairs.entries) = ap view_entries c.in_ok-insert.ensures.entries ∙ insert_is c.in_ok-found.found c.in_ok-held.held c.loop.pairs.entries new in
-    rw put (pairs_go_on (value_at no_references c.args.schema.now c.args.levels c.args.key) (value_at no_references c.args.schema.now c.args.levels c.args.value) (view_entries c.loop.pairs.entries) c.args.count c.loop.counter c.loop.cursor _ c.loop.invariant (view_key c.in_ok-found.found) (view c.in_ok-held.held) c.read_key.new.cursor c.read_level.new.cursor c.loop-test.true (c.in_ok-found.ensures c.args.schema.now) new c.in_ok-held.ensures)
+    let new : has_key (key_tree c.in_ok-found.found) (view_map c.loop.pairs.entries) ≡ false = sym (found_is _ key_order c.in_ok-found.found c.loop.pairs.entries) ∙ sym c.contains_key.ensures ∙ c.if-contains_key.false in
+    let put : view_map c.insert.new.self.entries ≡ insert (key_tree c.in_ok-found.found) (view c.in_ok-held.held) (view_map c.loop.pairs.entries) = ap view_map c.in_ok-insert.ensures.entries ∙ put_is _ key_order c.in_ok-found.found c.in_ok-held.held c.loop.pairs.entries new in
+    rw put (pairs_go_on (value_at no_references c.args.schema.now c.args.levels c.args.key) (value_at no_references c.args.schema.now c.args.levels c.args.value) (view_map c.loop.pairs.entries) c.args.count c.loop.counter c.loop.cursor _ c.loop.invariant (key_tree c.in_ok-found.found) (view c.in_ok-held.held) c.read_key.new.cursor c.read_level.new.cursor c.loop-test.true (c.in_ok-found.ensures c.args.schema.now) new c.in_ok-held.ensures)
