@@ -1,19 +1,10 @@
 -- From the parts of a Slice text to its meaning.
-use Rattle.std.proofs.Common.{ℕ, ◌≡◌, ◌-◌, ◌≤◌, List, [], ◌∷◌, length, take, drop, codes, Result, Ok, Err, refl, sym, ap, ◌∙◌, subst, arith, Bor}
-use Rattle.std.proofs.Math.Seq.{take-length}
-use Rattle.std.proofs.lemmas.List.{drop-map, length-drop}
+use Rattle.std.proofs.Common.{ℕ, ◌≡◌, ◌-◌, ◌≤◌, List, [], ◌∷◌, length, take, drop, codes, Result, Ok, Err, refl, sym, ◌∙◌, subst, arith, Bor}
 use Rattle.ice_types.specs.Tables.{Tables}
 use Rattle.ice_node.specs.declared.slice_text.error.TextFault.{TextFault}
 use Rattle.ice_node.specs.declared.slice_text.error.TextFault.TheVariants as faults
-use Rattle.ice_node.specs.SliceText.{Token, tokens, tokens_seen, IsName, AreSequences, IsFile, Means, Answers}
-use Rattle.ice_node.proofs.SequenceFronts.{token_at}
-use Rattle.ice_node.proofs.SequenceReading.{the_end}
-
--- what is behind some tokens
-pub behind : (n : ℕ) (found : List (Bor Token)) → drop n (tokens_seen found) ≡ tokens_seen (take (length found - n) (drop n found))
-behind n found =
-    let all : take (length found - n) (drop n found) ≡ drop n found = ap (λ k. take k (drop n found)) (sym (length-drop n found)) ∙ take-length (drop n found) in
-    drop-map (λ (token : Bor Token). token.now) n found ∙ ap tokens_seen (sym all)
+use Rattle.ice_node.specs.SliceText.{Token, tokens, tokens_seen, IsName, IsBody, IsFile, Means, Answers}
+use Rattle.ice_node.proofs.SequenceFronts.{token_at, behind}
 
 -- answers to the same question
 pub answers_as : (P Q : Tables → Type 0) → ((t : Tables) → P t → Q t) → ((t : Tables) → Q t → P t) → (r : Result Tables TextFault) → Answers P r → Answers Q r
@@ -32,15 +23,14 @@ module _ (found : List (Bor Token)) (name : Token) (enough : 3 ≤ length found)
   parts : tokens_seen found ≡ codes "module" ∷ name ∷ codes "{" ∷ drop 3 (tokens_seen found)
   parts = rw (sym keyword, is, sym opens) (three found enough)
 
-  pub file_answers : (r : Result Tables TextFault) → Answers (λ schema. AreSequences name [] (tokens_seen (take (length found - 3) (drop 3 found))) schema.seqs the_end) r
-      → Answers (IsFile (tokens_seen found)) r
-  file_answers = answers_as (λ schema. AreSequences name [] (tokens_seen (take (length found - 3) (drop 3 found))) schema.seqs the_end) (IsFile (tokens_seen found))
-      (λ schema h. (name, drop 3 (tokens_seen found), parts, subst IsName (sym is) good, subst (λ (body : List Token). AreSequences name [] body schema.seqs the_end) (sym (behind 3 found)) h))
+  pub file_answers : (r : Result Tables TextFault) → Answers (IsBody name (tokens_seen (take (length found - 3) (drop 3 found)))) r → Answers (IsFile (tokens_seen found)) r
+  file_answers = answers_as (IsBody name (tokens_seen (take (length found - 3) (drop 3 found)))) (IsFile (tokens_seen found))
+      (λ schema h. (name, drop 3 (tokens_seen found), parts, subst IsName (sym is) good, subst (λ (body : List Token). IsBody name body schema) (sym (behind 3 found)) h))
       (λ schema h.
       let named : name ≡ h.0 = cc (parts, h.2) in
       let body : drop 3 (tokens_seen found) ≡ h.1 = cc (parts, h.2) in
-      subst (λ (rest : List Token). AreSequences name [] rest schema.seqs the_end) (sym body ∙ behind 3 found)
-      (subst (λ (other : Token). AreSequences other [] h.1 schema.seqs the_end) (sym named) h.4))
+      subst (λ (rest : List Token). IsBody name rest schema) (sym body ∙ behind 3 found)
+      (subst (λ (other : Token). IsBody other h.1 schema) (sym named) h.4))
 
 pub text_answers : (text : List ℕ) (found : List (Bor Token)) → tokens_seen found ≡ tokens text → length text ≤ 1000000
     → (r : Result Tables TextFault) → Answers (IsFile (tokens_seen found)) r → Answers (Means text) r

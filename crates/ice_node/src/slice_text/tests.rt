@@ -2,7 +2,7 @@ use super::{TextFault, schema_of};
 use ice_types::TypeRef;
 use std::test::Fail;
 
-const ACCEPTED: [&str; 10] = [
+const ACCEPTED: [&str; 15] = [
     "module M { sequence<byte> Q; };",
     "module M { };",
     "module M{sequence<byte>Q;};",
@@ -13,9 +13,14 @@ const ACCEPTED: [&str; 10] = [
     "module M1 { sequence<byte> a2B3; };",
     "module m { sequence<byte> Bool; sequence<byte> VALUE; };",
     "module M { sequence<byte> A; sequence<byte> AA; };",
+    "module M { dictionary<string, int> D; };",
+    "module M{dictionary<int,long>D;};",
+    "module M { dictionary<byte, bool> A; sequence<int> B; dictionary<short, short> C; };",
+    "module M { sequence<byte> A; dictionary<bool, byte> B; sequence<long> C; };",
+    "module M { dictionary<long, string> Dictionary; sequence<byte> M; };",
 ];
 
-const REFUSED: [&str; 24] = [
+const REFUSED: [&str; 38] = [
     "",
     " \n",
     "moduleM { };",
@@ -40,6 +45,20 @@ const REFUSED: [&str; 24] = [
     "// none\nmodule M { };",
     "module M { }; module N { };",
     "module M { }; x",
+    "module M { sequence<byte> dictionary; };",
+    "module M { sequence<byte, int> Q; };",
+    "module M { dictionary<int> D; };",
+    "module M { dictionary<string, int, int> D; };",
+    "module M { dictionary<string int> D; };",
+    "module M { dictionary<string, int>; };",
+    "module M { dictionary<string, int> D };",
+    "module M { dictionary<string, float> D; };",
+    "module M { sequence<byte> N; dictionary<int, int> N; };",
+    "module M { dictionary<int, int> n; sequence<byte> N; };",
+    "module M { dictionary<int, int> D; dictionary<int, byte> d; };",
+    "module M { sequence<byte> Q; dictionary<Q, int> D; };",
+    "module M { sequence<byte> Q; dictionary<int, Q> D; };",
+    "module M { dictionary<int, int> D; dictionary<string, D> E; };",
 ];
 
 /// Whether the text is accepted, None where memory ran out.
@@ -87,7 +106,7 @@ fn longest_text(rt: HostRuntime) -> Result<(), Fail> {
 fn types_of_a_text(rt: HostRuntime) -> Result<(), Fail> {
     let schema = schema_of(
         rt.alloc(),
-        b"module M { sequence<byte> P; sequence<string> Q; };",
+        b"module M { dictionary<short, bool> D; sequence<byte> P; dictionary<long, byte> E; sequence<string> Q; };",
     )?;
     assert_eq!(rt; schema.type_named("::M::P"), Some(TypeRef::Seq(0)));
     assert_eq!(rt; schema.type_named("::M::Q"), Some(TypeRef::Seq(1)));
@@ -97,5 +116,12 @@ fn types_of_a_text(rt: HostRuntime) -> Result<(), Fail> {
     let last = schema.seqs().get(1).ok_or("no row")?;
     assert_eq!(rt; last.id.as_str(), "::M::Q");
     assert_eq!(rt; last.element, TypeRef::Text);
+    assert_eq!(rt; schema.type_named("::M::D"), Some(TypeRef::Dict(0)));
+    assert_eq!(rt; schema.type_named("::M::E"), Some(TypeRef::Dict(1)));
+    assert_eq!(rt; schema.dicts().len(), 2);
+    let first = schema.dicts().get(0).ok_or("no row")?;
+    assert_eq!(rt; first.id.as_str(), "::M::D");
+    assert_eq!(rt; first.key, TypeRef::Short);
+    assert_eq!(rt; first.value, TypeRef::Bool);
     Ok(())
 }
