@@ -1,4 +1,4 @@
-use crate::{Bytes, Name, Schema, SeqDecl, TypeRef};
+use crate::{Bytes, DictDecl, Name, Schema, SeqDecl, TypeRef};
 use std::test::Fail;
 
 #[test]
@@ -14,6 +14,12 @@ fn types_by_name(rt: HostRuntime) -> Result<(), Fail> {
         element: TypeRef::Seq(0),
     };
     assert_eq!(rt; schema.add_seq(rows)?, 1);
+    let counts = DictDecl {
+        id: Name::of(rt.alloc(), "::M::Counts")?,
+        key: TypeRef::Text,
+        value: TypeRef::Seq(1),
+    };
+    assert_eq!(rt; schema.add_dict(counts)?, 0);
     for (text, want) in [
         ("bool", Some(TypeRef::Bool)),
         ("byte", Some(TypeRef::Byte)),
@@ -23,6 +29,7 @@ fn types_by_name(rt: HostRuntime) -> Result<(), Fail> {
         ("string", Some(TypeRef::Text)),
         ("::M::Numbers", Some(TypeRef::Seq(0))),
         ("::M::Rows", Some(TypeRef::Seq(1))),
+        ("::M::Counts", Some(TypeRef::Dict(0))),
         ("::M::rows", None),
         ("Rows", None),
         ("text", None),
