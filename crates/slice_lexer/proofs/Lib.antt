@@ -4,3 +4,4 @@ pub mod Standing
 pub mod Keywords
 pub mod Values
 pub mod Steps
+pub mod Total

@@ -1,6 +1,6 @@
 //! From a text to its tokens.
 
-ghost use Rattle.std.specs.Prelude.{List, ℕ, ◌≡◌, length};
+ghost use Rattle.std.specs.Prelude.{List, ℕ, ◌≡◌, ◌⊎◌, length};
 ghost use Rattle.slice_lexer.specs.declared.fault.LexFault.{LexFault};
 ghost use Rattle.slice_lexer.specs.declared.token.Token.{Token};
 ghost use Rattle.slice_lexer.specs.Lexing.{Answers, AreSpans, Lexes, LexBreaks};
@@ -39,8 +39,9 @@ pub fn tokens(alloc: Global, text: &[u8]) -> Result<Tokens, LexFault>
     Ok(Tokens::from_vec(items))
 }
 
-/// A text has tokens or a first defect, and one of either alone.
+/// Each text, of any length, has tokens or a first defect, and no two of these.
 pub fn one_answer()
+    ensures some { (text : List ℕ) → ((tokens : List Token) × Lexes text tokens) ⊎ ((fault : LexFault) × LexBreaks text fault) }
     ensures tokens { (text : List ℕ) (tokens others : List Token) → Lexes text tokens → Lexes text others → tokens ≡ others }
     ensures defect { (text : List ℕ) (fault other : LexFault) → LexBreaks text fault → LexBreaks text other → fault ≡ other }
     ensures never_both { (text : List ℕ) (tokens : List Token) (fault : LexFault) → Lexes text tokens → LexBreaks text fault → ⊥ }
