@@ -1,14 +1,13 @@
 -- A defect stands at the place where no piece stands.
-use Rattle.std.proofs.Common.{ℕ, ◌≡◌, ◌+◌, Bool, false, not, if◌then◌else◌, ◌==◌, nat_lt, List, [], ◌∷◌, length, take, drop, codes, Option, Some, None, Result, Ok, Err, refl, subst}
+use Rattle.std.proofs.Common.{ℕ, ◌≡◌, ◌+◌, false, not, if◌then◌else◌, ◌==◌, nat_lt, List, length, take, drop, codes, Option, Some, None, Ok, Err, refl, subst}
 use Rattle.std.specs.Char.{is_ascii_digit}
 use Rattle.slice_lexer.specs.declared.fault.LexFault.{LexFault}
 use Rattle.slice_lexer.specs.declared.fault.LexFault.TheVariants as faults
 use Rattle.slice_lexer.specs.declared.piece.Piece.{Piece}
 use Rattle.slice_lexer.specs.declared.piece.Piece.TheVariants as pieces
-use Rattle.slice_lexer.specs.declared.token.TokenKind.{TokenKind}
 use Rattle.slice_lexer.specs.declared.token.TokenKind.TheVariants as kinds
 use Rattle.slice_lexer.specs.Bytes.{quote, hash, slash, backslash, first, is_blank, is_letter, begins_with, line, word, is_line_blank, before_close, string_length}
-use Rattle.slice_lexer.specs.Pieces.{Front, gap, token, comment_at, word_kind, word_at, escaped_at, number_length, number_value, is_number, number_at, string_at, directive_at, symbol_code, symbol_or, symbol_at, front}
+use Rattle.slice_lexer.specs.Pieces.{Front, gap, token, comment_at, word_kind, escaped_at, number_length, number_value, is_number, number_at, string_at, directive_at, symbol_code, symbol_or, symbol_at, front}
 use Rattle.slice_lexer.specs.Lexing.{IsAt}
 use Rattle.slice_lexer.proofs.Sizes.{choose}
 

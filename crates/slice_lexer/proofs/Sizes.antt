@@ -1,20 +1,20 @@
 -- A piece has at least one byte, and ends within the text.
-use Rattle.std.proofs.Common.{ℕ, zero, suc, ◌≡◌, ◌+◌, ◌-◌, ◌<◌, ◌≤◌, Bool, true, false, not, ◌&&◌, ◌||◌, cond, if◌then◌else◌, ◌==◌, nat_lt, nat_le, List, [], ◌∷◌, length, take, drop, codes, Option, Some, None, Result, Ok, Err, refl, sym, ap, ◌∙◌, arith}
+use Rattle.std.proofs.Common.{ℕ, suc, ◌≡◌, ◌+◌, ◌<◌, ◌≤◌, Bool, true, false, not, ◌&&◌, cond, if◌then◌else◌, ◌==◌, nat_lt, List, [], ◌∷◌, length, take, drop, codes, Option, Some, None, Ok, Err, refl, arith}
 use Rattle.std.specs.Char.{is_ascii_digit}
 use Rattle.std.specs.List.{prefix_len, take_while}
 use Rattle.std.proofs.lemmas.Bool.Decides.{nat_tests}
 use Rattle.std.proofs.lemmas.List.{length-take, length-drop}
 use Rattle.std.proofs.lemmas.List.Folds.{length-prefix_len}
 use Rattle.std.proofs.lemmas.List.Sums.{prefix_len-le-length}
-use borrow.Author.Tests.{ltb-true, leb-true}
+use borrow.Author.Tests.{ltb-true}
 use Rattle.slice_lexer.specs.declared.fault.LexFault.{LexFault}
 use Rattle.slice_lexer.specs.declared.fault.LexFault.TheVariants as faults
 use Rattle.slice_lexer.specs.declared.piece.Piece.{Piece}
 use Rattle.slice_lexer.specs.declared.piece.Piece.TheVariants as pieces
 use Rattle.slice_lexer.specs.declared.token.TokenKind.{TokenKind}
 use Rattle.slice_lexer.specs.declared.token.TokenKind.TheVariants as kinds
-use Rattle.slice_lexer.specs.Bytes.{newline, quote, hash, slash, backslash, first, is_blank, is_letter, is_word_byte, spoils_number, begins_with, line, word, digits, is_line_blank, before_close, string_length}
-use Rattle.slice_lexer.specs.Pieces.{Front, gap, token, comment_at, word_kind, word_at, escaped_at, number_digits, number_length, number_value, is_number, prefix_of, number_at, string_at, directive_at, symbol_code, symbol_or, symbol_at, front}
+use Rattle.slice_lexer.specs.Bytes.{newline, quote, hash, slash, backslash, first, is_blank, is_letter, is_word_byte, begins_with, line, word, before_close, string_length}
+use Rattle.slice_lexer.specs.Pieces.{Front, gap, token, comment_at, word_kind, word_at, escaped_at, number_digits, number_length, number_value, prefix_of, number_at, string_at, directive_at, symbol_code, symbol_or, symbol_at, front}
 use Rattle.slice_lexer.specs.Lexing.{length_of}
 
 -- the piece has a byte, and no more than these bytes

@@ -1,4 +1,3 @@
-use Rattle.std.proofs.Common.{◌≤◌, length}
 use Rattle.slice_lexer.proofs.Steps.{token_read, bytes_read}
 use Rattle.slice_lexer.proofs.token.Tokens.text.Goals as goal
 
