@@ -43,6 +43,10 @@ pub break_step : (text : List ℕ) (tokens : List Token) (place : ℕ) (fault : 
 break_step text tokens place fault r h less few e is =
     err_answer text fault r is (placed text place fault (front_fault place _ _ fault (sym e)) few (tokens, place, h, less, sym e))
 
+-- a defect's place is a byte of the text
+pub break_placed : (text : List ℕ) (fault : LexFault) → LexBreaks text fault → (place : ℕ) × (place < length text) × IsAt place fault
+break_placed text fault h = (h.1, h.3, front_fault h.1 _ _ fault h.4)
+
 -- the token that an index reads
 pub token_read : (text : List ℕ) (items seen : List Token) (at : ℕ) (token : Token) → items ≡ seen → at < length seen → token ≡ get_or items at token → Lexes text seen
     → (token.from ≤ token.to) × (token.to ≤ length text)

@@ -1,9 +1,9 @@
 //! From a text to its tokens.
 
-ghost use Rattle.std.specs.Prelude.{List, ℕ, ◌≡◌, ◌⊎◌, length};
+ghost use Rattle.std.specs.Prelude.{List, ℕ, ◌≡◌, ◌<◌, ◌⊎◌, length};
 ghost use Rattle.slice_lexer.specs.declared.fault.LexFault.{LexFault};
 ghost use Rattle.slice_lexer.specs.declared.token.Token.{Token};
-ghost use Rattle.slice_lexer.specs.Lexing.{Answers, AreSpans, Lexes, LexBreaks};
+ghost use Rattle.slice_lexer.specs.Lexing.{Answers, AreSpans, IsAt, Lexes, LexBreaks};
 
 use crate::fault::LexFault;
 use crate::fronts::front;
@@ -50,4 +50,9 @@ pub fn one_answer()
 /// The spans of a text's tokens rise without overlap and end within the text. None is empty.
 pub fn spans_rise()
     ensures { (text : List ℕ) (tokens : List Token) → Lexes text tokens → AreSpans 0 tokens (length text) }
+{}
+
+/// A defect's place is a byte of the text, and it is never `TooLong` or `Memory`.
+pub fn defects_placed()
+    ensures { (text : List ℕ) (fault : LexFault) → LexBreaks text fault → (place : ℕ) × (place < length text) × IsAt place fault }
 {}
