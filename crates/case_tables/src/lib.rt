@@ -1,0 +1,75 @@
+//! Named codes: a table gives each of its names a code, which counts the rows from 0.
+#![tactic(auto)]
+
+ghost use Rattle.std.specs.Prelude.{◌≡◌, ◌≤◌, IsTrue, length};
+ghost use Rattle.std.specs.List.{position};
+ghost use Rattle.std.specs.Str.{bytes_eq};
+ghost use Rattle.case_tables.specs.Tables.{names_seen, are_distinct};
+
+mod slice_words;
+
+pub use slice_words::{codes_apart, keywords};
+
+/// Names in the order of their codes, no two of which are equal, and at most 256.
+#[derive(Clone, Copy, Debug)]
+pub struct CaseTable<const N: usize> {
+    names: &'static [&'static str],
+    pub ghost distinct: { IsTrue (are_distinct (names_seen names.now)) },
+    pub ghost count: { length (names_seen names.now) ≡ N },
+    pub ghost few: { N ≤ 256 },
+}
+
+impl<const N: usize> CaseTable<N> {
+    ghost use Rattle.std.specs.Prelude.{◌≡◌, ◌≤◌, MatchOption, Some, Contains, length, slice_get};
+    ghost use Rattle.std.specs.List.{position};
+    ghost use Rattle.std.specs.Str.{bytes_eq};
+    ghost use Rattle.case_tables.specs.Rows.{names_of};
+
+    /// The code of the name, None where no row has it.
+    pub fn code_of(&self, name: &str) -> Option<u8>
+        ensures row { MatchOption result (Contains (names_of self.now) name.now → ⊥) (λ code. slice_get (names_of self.now) code ≡ Some name.now) }
+        ensures place { result ≡ position (bytes_eq name.now) (names_of self.now) }
+    {
+        match place_of(self.names, name) {
+            Some(place) => Some(place as u8),
+            None => None,
+        }
+    }
+
+    /// The name of the code, None where no row has it.
+    pub fn name_of(&self, code: u8) -> Option<&'static str>
+        ensures { MatchOption result (length (names_of self.now) ≤ code) (λ name. slice_get (names_of self.now) code ≡ Some name.now) }
+    {
+        self.names.get(usize::from(code)).copied()
+    }
+}
+
+/// The place of the first of the names that is this one.
+fn place_of(names: &[&str], name: &str) -> Option<usize>
+    ensures { result ≡ position (λ other. bytes_eq name.now other.now) names.now }
+{
+    names.iter().position(|other| name == *other)
+}
+
+#[cfg(test)]
+mod tests {
+    use super::keywords;
+
+    #[test]
+    fn codes_and_names(rt: HostRuntime) {
+        let table = keywords();
+        for (name, code) in [
+            ("bool", 0),
+            ("LocalObject", 16),
+            ("Value", 28),
+            ("void", 29),
+        ] {
+            assert_eq!(rt; table.code_of(name), Some(code), "of {name:?}");
+            assert_eq!(rt; table.name_of(code), Some(name), "of {code}");
+        }
+        for name in ["", "Bool", "boo", "bools", "VOID"] {
+            assert_eq!(rt; table.code_of(name), None, "of {name:?}");
+        }
+        assert_eq!(rt; table.name_of(30), None);
+    }
+}

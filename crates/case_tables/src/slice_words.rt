@@ -1,0 +1,57 @@
+//! The table of the words that Slice keeps for itself.
+
+ghost use Rattle.std.specs.Prelude.{ℕ, ◌≡◌, Some, slice_get};
+ghost use Rattle.case_tables.specs.Tables.{Name, keyword_names};
+ghost use Rattle.case_tables.specs.Rows.{names_of};
+
+use crate::CaseTable;
+
+/// No name has two codes. That no code has two names is what a list is.
+pub fn codes_apart<const N: usize>(table: &CaseTable<N>)
+    ensures { (code other : ℕ) (name : Name) → slice_get (names_of table.now) code ≡ Some name → slice_get (names_of table.now) other ≡ Some name → code ≡ other }
+{}
+
+/// A table of the names in this order.
+macro_rules! case_table {
+    ($($name:literal),* $(,)?) => {
+        CaseTable { names: &[$($name),*] }
+    };
+}
+
+/// The words of Slice that are no identifiers, unless a `\` stands before them.
+pub fn keywords() -> CaseTable<30>
+    ensures { names_of result ≡ keyword_names }
+{
+    case_table![
+        "bool",
+        "byte",
+        "class",
+        "const",
+        "dictionary",
+        "double",
+        "enum",
+        "exception",
+        "extends",
+        "false",
+        "float",
+        "idempotent",
+        "implements",
+        "int",
+        "interface",
+        "local",
+        "LocalObject",
+        "long",
+        "module",
+        "Object",
+        "optional",
+        "out",
+        "sequence",
+        "short",
+        "string",
+        "struct",
+        "throws",
+        "true",
+        "Value",
+        "void",
+    ]
+}

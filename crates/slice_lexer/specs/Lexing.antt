@@ -1,0 +1,59 @@
+-- The tokens of a Slice text.
+use Rattle.std.specs.Prelude.{ℕ, ◌≡◌, ◌+◌, ◌<◌, ◌≤◌, List, [], ◌∷◌, length, take, drop, Result, Ok, Err}
+use Rattle.slice_lexer.specs.declared.fault.LexFault.{LexFault}
+use Rattle.slice_lexer.specs.declared.fault.LexFault.TheVariants as faults
+use Rattle.slice_lexer.specs.declared.token.Token.{Token}
+use Rattle.slice_lexer.specs.declared.piece.Piece.{Piece}
+use Rattle.slice_lexer.specs.declared.piece.Piece.TheVariants as pieces
+use Rattle.slice_lexer.specs.Pieces.{Front, front}
+
+abbrev pub front_at : List ℕ → ℕ → Front
+front_at text place = front place (take place text) (drop place text)
+
+abbrev pub length_of : Piece → ℕ
+length_of (pieces.Gap length) = length
+length_of (pieces.Token kind length) = length
+
+-- From one place of the text to another these pieces stand one behind the other.
+abbrev pub Stand : List ℕ → ℕ → List Piece → ℕ → Type 0
+Stand text place [] end = place ≡ end
+Stand text place (piece ∷ others) end = (front_at text place ≡ Ok piece) × Stand text (place + length_of piece) others end
+
+-- the pieces from a place on that are no gaps, each with its span
+abbrev pub tokens_of : ℕ → List Piece → List Token
+tokens_of place [] = []
+tokens_of place (pieces.Gap length ∷ others) = tokens_of (place + length) others
+tokens_of place (pieces.Token kind length ∷ others) = record { kind = kind; from = place; to = place + length } ∷ tokens_of (place + length) others
+
+-- The text up to a place is pieces, of which these are the tokens.
+abbrev pub Reads : List ℕ → List Token → ℕ → Type 0
+Reads text tokens place = (found : List Piece) × Stand text 0 found place × (tokens_of 0 found ≡ tokens)
+
+-- The whole text is pieces, of which these are the tokens.
+abbrev pub Lexes : List ℕ → List Token → Type 0
+Lexes text tokens = Reads text tokens (length text)
+
+-- The text is pieces up to a place, and there is this defect.
+abbrev pub LexBreaks : List ℕ → LexFault → Type 0
+LexBreaks text fault = (tokens : List Token) × (place : ℕ) × Reads text tokens place × (place < length text) × (front_at text place ≡ Err fault)
+
+-- the place that a defect of the text names
+abbrev pub IsAt : ℕ → LexFault → Type 0
+IsAt place (faults.BadByte from) = from ≡ place
+IsAt place (faults.OpenString from) = from ≡ place
+IsAt place (faults.OpenComment from) = from ≡ place
+IsAt place (faults.BadNumber from) = from ≡ place
+IsAt place faults.TooLong = ⊥
+IsAt place faults.Memory = ⊥
+
+-- Spans from one place to another: they rise without overlap, and none is empty.
+abbrev pub AreSpans : ℕ → List Token → ℕ → Type 0
+AreSpans place [] end = place ≤ end
+AreSpans place (token ∷ tokens) end = (place ≤ token.from) × (token.from < token.to) × AreSpans token.to tokens end
+
+-- The answer to a text. Want of memory says nothing of it.
+abbrev pub Answers : List ℕ → Result (List Token) LexFault → Type 0
+Answers text (Ok tokens) = (length text ≤ 1000000) × Lexes text tokens
+Answers text (Err faults.TooLong) = 1000000 < length text
+Answers text (Err faults.Memory) = Unit {0}
+Answers text (Err fault) = (length text ≤ 1000000) × LexBreaks text fault
