@@ -165,3 +165,51 @@ fn bytes_of_tokens(rt: HostRuntime) -> Result<(), Fail> {
     assert_eq!(rt; found.text(3, text), b"\"a\"".as_slice());
     Ok(())
 }
+
+/// Whether the piece, so many times, has so many tokens. `bench/lexer` times the tests that ask it.
+fn has_tokens(
+    rt: &impl AllocGlobal,
+    piece: &[u8],
+    times: usize,
+    count: usize,
+) -> Result<bool, Fail> {
+    let mut text = Vec::new(rt.alloc());
+    for _ in 0..times {
+        text.extend_from_slice(piece)?;
+    }
+    Ok(tokens(rt.alloc(), text.as_slice())?.len() == count)
+}
+
+#[test]
+fn million_bytes_of_words(rt: HostRuntime) -> Result<(), Fail> {
+    assert!(rt; has_tokens(&rt, b"a ", 500_000, 500_000)?);
+    Ok(())
+}
+
+#[test]
+fn million_bytes_of_comments(rt: HostRuntime) -> Result<(), Fail> {
+    assert!(rt; has_tokens(&rt, b"/**/", 250_000, 0)?);
+    Ok(())
+}
+
+#[test]
+fn million_bytes_of_brackets(rt: HostRuntime) -> Result<(), Fail> {
+    assert!(rt; has_tokens(&rt, b"[", 1_000_000, 500_000)?);
+    Ok(())
+}
+
+#[test]
+fn million_bytes_of_newlines(rt: HostRuntime) -> Result<(), Fail> {
+    assert!(rt; has_tokens(&rt, b"\n", 1_000_000, 0)?);
+    Ok(())
+}
+
+#[test]
+fn million_bytes_of_one_string(rt: HostRuntime) -> Result<(), Fail> {
+    let mut text = Vec::from_slice(rt.alloc(), b"\"")?;
+    text.resize(999_999, b'[')?;
+    text.push(b'"')?;
+    let found = written(&rt, text.as_slice())?;
+    assert_eq!(rt; found.as_str(), "Text 0..1000000, ");
+    Ok(())
+}

@@ -50,14 +50,14 @@ pair_size = weighed-Value-Pairs-0-at-2.weight Value the_size
 pub append_pairs-append-requires : goal.append_pairs-append-requires
 append_pairs-append-requires t c =
     let deep : max (the_size c.loop-key-item.result.0) (max (the_size c.loop-key-item.result.1) 0) ≤ most pair_size c.args.pairs.now =
-        subst (λ (p : Value × Value). pair_size p ≤ most pair_size c.args.pairs.now) (sym c.loop-key-item.is) (at_most pair_size c.args.pairs.now c.loop-key.key-index c.loop-key-item.result c.loop-key-test.true) in
+    subst (λ (p : Value × Value). pair_size p ≤ most pair_size c.args.pairs.now) (sym c.loop-key-item.is) (at_most pair_size c.args.pairs.now c.loop-key.key-index c.loop-key-item.result c.loop-key-test.true) in
     let sizes = pair_sizes_at c.args.pairs.now c.loop-key.key-index c.loop-key-item.result c.loop-key-test.true c.loop-key-item.is c.requires in
     (search (rules, deep), sizes.0)
 
 pub append_pairs-append-requires-in-loop-key : goal.append_pairs-append-requires-in-loop-key
 append_pairs-append-requires-in-loop-key t c =
     let deep : max (the_size c.loop-key-item.result.0) (max (the_size c.loop-key-item.result.1) 0) ≤ most pair_size c.args.pairs.now =
-        subst (λ (p : Value × Value). pair_size p ≤ most pair_size c.args.pairs.now) (sym c.loop-key-item.is) (at_most pair_size c.args.pairs.now c.loop-key.key-index c.loop-key-item.result c.loop-key-test.true) in
+    subst (λ (p : Value × Value). pair_size p ≤ most pair_size c.args.pairs.now) (sym c.loop-key-item.is) (at_most pair_size c.args.pairs.now c.loop-key.key-index c.loop-key-item.result c.loop-key-test.true) in
     let sizes = pair_sizes_at c.args.pairs.now c.loop-key.key-index c.loop-key-item.result c.loop-key-test.true c.loop-key-item.is c.requires in
     (search (rules, deep), sizes.1)
 
