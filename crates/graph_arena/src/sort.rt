@@ -13,8 +13,9 @@ use ice_types::{List, Name};
 use std::alloc::{AllocError, Global};
 use std::collections::BTreeMap;
 
-/// Puts the pairs of every dictionary inside the value into rising key order. False, with the value
-/// as it was, where two keys of one dictionary are equal. Want of memory leaves the value as it was.
+/// Puts the pairs of every dictionary inside the value into rising key order, where all keys are of
+/// built-in types. False, with the value as it was, where two keys of one dictionary are equal. Want
+/// of memory leaves the value as it was.
 pub fn sort_pairs(alloc: Global, value: &mut Value) -> Result<bool, AllocError>
     requires { HasPlainKeys (view value.old) }
     ensures { Sorts value.old value.new result }
