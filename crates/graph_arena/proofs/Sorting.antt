@@ -135,7 +135,7 @@ abbrev pub join : Entries → Entries → Entries
 join no_entry others = others
 join (entry k v rest) others = entry k v (join rest others)
 
-join_none : (ps : Entries) → join ps no_entry ≡ ps
+pub join_none : (ps : Entries) → join ps no_entry ≡ ps
 join_none no_entry = refl
 join_none (entry k v rest) = ap (entry k v) (join_none rest)
 
