@@ -1,3 +1,4 @@
 pub mod Shapes
 pub mod Rising
 pub mod Sorting
+pub mod SortedLaws

@@ -1,5 +1,5 @@
 -- Pairs put at their places one after the other, as a loop does, and which keys are equal.
-use Rattle.std.proofs.Common.{◌≡◌, ℕ, ◌<◌, List, [], ◌∷◌, ◌++◌, length, map, take, drop, Bool, true, false, cond, ◌||◌, Option, None, Some, refl, sym, ap, subst, ◌∙◌, not, arith}
+use Rattle.std.proofs.Common.{◌≡◌, ℕ, ◌<◌, List, [], ◌∷◌, ◌++◌, length, map, take, drop, Bool, true, false, cond, ◌||◌, Option, Some, refl, sym, ap, subst, ◌∙◌, not, arith}
 use Rattle.std.specs.Ordering.{is_lt, is_eq, ordering_reverse, match_ordering}
 use Rattle.std.specs.declared.cmp.Ordering.{Ordering}
 use Rattle.std.specs.declared.cmp.Ordering.TheVariants.{Less, Equal, Greater}
@@ -7,7 +7,7 @@ use Rattle.std.specs.Option.{is_some}
 use Rattle.std.specs.Map.{lookup}
 use Rattle.std.specs.BTreeMap.{BTreeMap, insert_entry, is_at}
 use Rattle.std.proofs.Math.Seq.{take-length, drop-length}
-use Rattle.ice_encoding.specs.Tree.{Tree, boolean, byte, short, int, long, text, sequence, dictionary, Trees, none, tree, Entries, no_entry, entry}
+use Rattle.ice_encoding.specs.Tree.{Tree, dictionary, tree, Entries, no_entry, entry}
 use Rattle.ice_encoding.specs.Order.{tree_cmp, insert, has_key}
 use Rattle.ice_encoding.proofs.Order.{turns}
 use Rattle.graph_arena.specs.declared.value.Value.{Value}
@@ -135,7 +135,7 @@ abbrev pub join : Entries → Entries → Entries
 join no_entry others = others
 join (entry k v rest) others = entry k v (join rest others)
 
-join_none : (ps : Entries) → join ps no_entry ≡ ps
+pub join_none : (ps : Entries) → join ps no_entry ≡ ps
 join_none no_entry = refl
 join_none (entry k v rest) = ap (entry k v) (join_none rest)
 

@@ -20,6 +20,7 @@ abbrev pub UnlessEqual : {X Y : Type 0} → (X → Y) → Bool → Y → Option 
 UnlessEqual view equal wanted (Some x) = (equal ≡ false) × (view x ≡ wanted)
 UnlessEqual view equal wanted None = equal ≡ true
 
+-- the entries of a map by key, as pairs of a dictionary
 abbrev pub view_map : List (KeyRef × Value) → Entries
 view_map [] = no_entry
 view_map (e ∷ es) = entry (key_tree e.0) (view e.1) (view_map es)

@@ -4,6 +4,8 @@
 mod key;
 mod order;
 mod sort;
+#[cfg(test)]
+mod tests;
 mod value;
 
 pub use key::KeyRef;

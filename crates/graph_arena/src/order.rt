@@ -8,7 +8,8 @@ ghost use Rattle.graph_arena.specs.View.{view, view_all, view_pairs};
 use crate::Value;
 use crate::key::{KeyRef, key_of};
 
-/// Whether the pairs of every dictionary inside the value stand in strictly rising key order.
+/// Whether the pairs of every dictionary inside the value stand in strictly rising key order, where
+/// all keys are of built-in types.
 #[cycle(sorted)]
 pub fn is_sorted(value: &Value) -> bool
     requires { HasPlainKeys (view value.now) }

@@ -9,16 +9,21 @@ ghost use Rattle.graph_arena.specs.View.{view, view_all, view_pairs};
 
 use crate::Value;
 use crate::key::{KeyRef, key_of, value_of};
+use crate::order::is_sorted;
 use ice_types::{List, Name};
 use std::alloc::{AllocError, Global};
 use std::collections::BTreeMap;
 
-/// Puts the pairs of every dictionary inside the value into rising key order. False, with the value
-/// as it was, where two keys of one dictionary are equal. Want of memory leaves the value as it was.
+/// Puts the pairs of every dictionary inside the value into rising key order, where all keys are of
+/// built-in types. False, with the value as it was, where two keys of one dictionary are equal. Want
+/// of memory leaves the value as it was; a value in order takes none.
 pub fn sort_pairs(alloc: Global, value: &mut Value) -> Result<bool, AllocError>
     requires { HasPlainKeys (view value.old) }
     ensures { Sorts value.old value.new result }
 {
+    if is_sorted(value) {
+        return Ok(true);
+    }
     match sorted_copy(alloc, value)? {
         Some(copy) => {
             *value = copy;

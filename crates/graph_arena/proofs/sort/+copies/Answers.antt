@@ -7,7 +7,7 @@ pub by_key-loop-pair-init : goal.by_key-loop-pair-init
 by_key-loop-pair-init t c = record {
   plain = c.requires;
   put = rw c.new-map.ensures.empty refl;
-  equal = rw c.new-map.ensures.empty (equal_is (view_pairs c.args.pairs.now))
+  equal = rw c.new-map.ensures.empty (equal_is (view_pairs c.args.pairs.now));
 }
 
 pub sorted_copy-returns-in_ok-in_order-in-Some-2 :
