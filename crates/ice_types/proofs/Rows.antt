@@ -8,7 +8,7 @@ use Rattle.ice_types.specs.declared.declarations.DictDecl.{DictDecl}
 use Rattle.ice_types.specs.declared.kind.TypeRef.{TypeRef}
 use Rattle.ice_types.specs.declared.kind.TypeRef.TheVariants as kinds
 use Rattle.ice_types.specs.Tables.{Tables, with_seq, with_dict, is_within, is_key, IsTypeId, seq_ids, dict_ids, HasId, LacksId, IsNewId}
-use Rattle.ice_types.specs.Rules.{AreIds, AreApart, IsDeep, IsSchema}
+use Rattle.ice_types.specs.Rules.{AreIds, IsSchema}
 
 -- a row that was there stays at its place
 pub slice_get-front : {A : Type 0} (xs ys : List A) (i : ℕ) (x : A) → slice_get xs i ≡ Some x → slice_get (xs ++ ys) i ≡ Some x

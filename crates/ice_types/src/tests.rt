@@ -17,7 +17,7 @@ fn types_by_name(rt: HostRuntime) -> Result<(), Fail> {
     let counts = DictDecl {
         id: Name::of(rt.alloc(), "::M::Counts")?,
         key: TypeRef::Text,
-        value: TypeRef::Seq(1),
+        value: TypeRef::Int,
     };
     assert_eq!(rt; schema.add_dict(counts)?, 0);
     for (text, want) in [
