@@ -1,10 +1,8 @@
 -- Canonical bytes spell the value that any of its spellings spells, and are as long.
-use Rattle.std.proofs.Common.{◌≡◌, ℕ, zero, suc, ◌+◌, ◌<◌, ◌^◌, Bool, true, false, cond, List, [], ◌∷◌, ◌++◌, length, refl, sym, ap, subst, ◌∙◌, arith, add-zero, inl, inr}
-use Rattle.std.specs.Prelude.{slice_get}
+use Rattle.std.proofs.Common.{◌≡◌, ℕ, zero, suc, ◌+◌, Bool, true, false, cond, List, ◌++◌, length, refl, sym, ap, subst, ◌∙◌, arith}
 use Rattle.std.specs.Ordering.{is_lt}
-use Rattle.std.specs.declared.cmp.Ordering.{Ordering}
-use Rattle.std.specs.declared.cmp.Ordering.TheVariants.{Less, Greater}
-use Rattle.std.proofs.lemmas.List.{length-append, append-nil}
+use Rattle.std.specs.declared.cmp.Ordering.TheVariants.{Less}
+use Rattle.std.proofs.lemmas.List.{length-append}
 use Rattle.ice_types.specs.declared.kind.TypeRef.{TypeRef}
 use Rattle.ice_types.specs.declared.kind.TypeRef.TheVariants as kinds
 use Rattle.ice_types.specs.Tables.{Tables}
@@ -13,11 +11,11 @@ use Rattle.ice_prims.specs.Number.{SpellsSize}
 use Rattle.ice_prims.specs.Bytes.{size_bytes}
 use Rattle.ice_prims.proofs.Parts.{IsBytes-front, IsBytes-rest}
 use Rattle.ice_prims.proofs.Once.{bool_once, short_once, int_once, long_once, size_once, text_once}
-use Rattle.ice_encoding.specs.Tree.{Tree, Trees, sequence, dictionary, tree_count, Entries, no_entry, entry, entry_count}
+use Rattle.ice_encoding.specs.Tree.{Tree, Trees, tree_count, Entries, no_entry, entry, entry_count}
 use Rattle.ice_encoding.specs.Order.{tree_cmp, IsRising, insert, LacksKey}
 use Rattle.ice_encoding.specs.Port.{Speller, no_references}
 use Rattle.ice_encoding.specs.Spelling.{Each, Pairs, SpellsValue}
-use Rattle.ice_encoding.specs.Canonical.{canonical, canonical_each, canonical_pairs, HasSizes, EachHasSizes, PairsHaveSizes}
+use Rattle.ice_encoding.specs.Canonical.{canonical, canonical_each, canonical_pairs}
 use Rattle.ice_encoding.proofs.Order.{turns, less_then, insert_rising}
 
 -- ---- the parts of a dictionary

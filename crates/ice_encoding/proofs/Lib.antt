@@ -1,4 +1,5 @@
 pub mod Order
+pub mod Same
 pub mod Values
 pub mod Canonical
 pub mod Sizes

@@ -1,8 +1,8 @@
 -- The order turns round, equal values are one, and what is below is below.
-use Rattle.std.proofs.Common.{◌≡◌, rules, ℕ, Bool, true, false, cond, ◌||◌, refl, sym, ap, subst, ◌∙◌, inl, inr, ◌⊎◌}
+use Rattle.std.proofs.Common.{◌≡◌, rules, Bool, true, false, cond, ◌||◌, refl, sym, ap, subst, ◌∙◌, inl, inr, ◌⊎◌}
 use Rattle.std.specs.Prelude.{◌≢◌}
 use Rattle.std.proofs.lemmas.Map.Lookups.{exact_unsigned, exact_signed, exact_bytes}
-use Rattle.std.specs.Ordering.{is_lt, is_eq, ordering_then, ordering_reverse, nat_cmp, bool_cmp}
+use Rattle.std.specs.Ordering.{is_lt, is_eq, ordering_then, ordering_reverse, bool_cmp}
 use Rattle.std.specs.Cmp.{then_flip, bool_cmp_total}
 use Rattle.std.specs.declared.cmp.Ordering.{Ordering}
 use Rattle.std.specs.declared.cmp.Ordering.TheVariants.{Less, Equal, Greater}
@@ -169,7 +169,7 @@ has_none key (entry k v ps) h =
 -- ---- a pair at its place
 
 -- a key that is not below another, and is not that one, is above it
-above : (k l : Tree) → is_lt (tree_cmp k l) ≡ false → k ≢ l → tree_cmp l k ≡ Less
+pub above : (k l : Tree) → is_lt (tree_cmp k l) ≡ false → k ≢ l → tree_cmp l k ≡ Less
 above k l e apart = turns l k ∙ at (tree_cmp k l) e (λ equal. apart (equal_is k l equal))
   where
     at : (o : Ordering) → is_lt o ≡ false → (o ≡ Equal → ⊥) → ordering_reverse o ≡ Less
@@ -177,7 +177,7 @@ above k l e apart = turns l k ∙ at (tree_cmp k l) e (λ equal. apart (equal_is
     at Equal e h = absurd (h refl)
     at Greater e h = refl
 
-below : (k l : Tree) → is_lt (tree_cmp k l) ≡ true → tree_cmp k l ≡ Less
+pub below : (k l : Tree) → is_lt (tree_cmp k l) ≡ true → tree_cmp k l ≡ Less
 below k l e = at (tree_cmp k l) e
   where
     at : (o : Ordering) → is_lt o ≡ true → o ≡ Less

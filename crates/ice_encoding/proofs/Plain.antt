@@ -1,5 +1,6 @@
 -- The laws of a value of the schema.
-use Rattle.std.proofs.Common.{◌≡◌, ℕ, List, length, ◌++◌, Result, Ok, refl, subst}
+use Rattle.std.proofs.Common.{◌≡◌, ℕ, List, length, [], ◌++◌, Result, Ok, refl, ap, subst}
+use Rattle.std.specs.Prelude.{◌↔◌}
 use Rattle.ice_types.specs.declared.kind.TypeRef.{TypeRef}
 use Rattle.ice_types.specs.Tables.{Tables}
 use Rattle.ice_prims.specs.declared.fault.Fault.{Fault}
@@ -11,10 +12,12 @@ use Rattle.ice_encoding.specs.Port.{no_references}
 use Rattle.ice_encoding.specs.Spelling.{SpellsValue}
 use Rattle.ice_encoding.specs.Reading.{value_at}
 use Rattle.ice_encoding.specs.Canonical.{canonical, HasSizes}
+use Rattle.ice_encoding.specs.Same.{Same, IsOrdered}
 use Rattle.ice_encoding.specs.Value.{SpellsPlainValue, plain_value_at}
 use Rattle.ice_encoding.proofs.Values.{value_lawful, value_apart, none_lawful}
 use Rattle.ice_encoding.proofs.Canonical.{value_canon}
 use Rattle.ice_encoding.proofs.Sizes.{value_sizes}
+use Rattle.ice_encoding.proofs.Same.{value_ordered, same_is, same_self}
 
 -- the value alone, without the state
 abbrev stateless : Tree × (Unit {0}) × Rest → Result (Tree × Rest) Fault
@@ -52,3 +55,20 @@ module _ (t : Tables) (kind : TypeRef) where
   pub plain_sizes : (bytes : List ℕ) (v : Tree) → SpellsPlainValue t kind bytes v → HasSizes v
   unfolding SpellsPlainValue
   plain_sizes = value_sizes t 100 kind
+
+  pub plain_ordered : (bytes : List ℕ) (v : Tree) → SpellsPlainValue t kind bytes v → IsOrdered v
+  unfolding SpellsPlainValue
+  plain_ordered = value_ordered t 100 kind
+
+  pub plain_same : (a b : List ℕ) (v w : Tree) → SpellsPlainValue t kind a v → SpellsPlainValue t kind b w → Same v w → v ≡ w
+  plain_same a b v w h g same = same_is v w (plain_ordered a v h) (plain_ordered b w g) same
+
+  canonical_same : (a b : List ℕ) (v w : Tree) → IsBytes a → IsBytes b → SpellsPlainValue t kind a v → SpellsPlainValue t kind b w → canonical v ≡ canonical w → Same v w
+  canonical_same a b v w fits_a fits_b h g e =
+      let again = plain_canon a v fits_a h in
+      let other = plain_canon b w fits_b g in
+      let one : v ≡ w = (plain_apart (canonical v) (canonical w) [] [] v w again.0 other.0 (ap (λ (l : List ℕ). l ++ []) e)).1 in
+      subst (λ (x : Tree). Same v x) one (same_self v)
+
+  pub plain_equal : (a b : List ℕ) (v w : Tree) → IsBytes a → IsBytes b → SpellsPlainValue t kind a v → SpellsPlainValue t kind b w → Same v w ↔ (canonical v ≡ canonical w)
+  plain_equal a b v w fits_a fits_b h g = (λ same. ap canonical (plain_same a b v w h g same), canonical_same a b v w fits_a fits_b h g)

@@ -1,5 +1,6 @@
 pub mod Tree
 pub mod Order
+pub mod Same
 pub mod Port
 pub mod Spelling
 pub mod Reading

@@ -1,11 +1,13 @@
 //! What the definitions promise of each other, one law a function.
 
-ghost use Rattle.std.specs.Prelude.{◌≡◌, ◌++◌, ℕ, List, Ok, length};
+ghost use Rattle.std.specs.Prelude.{◌≡◌, ◌≢◌, ◌↔◌, ◌++◌, ℕ, List, Ok, length};
 ghost use Rattle.ice_types.specs.Tables.{Tables};
 ghost use Rattle.ice_types.specs.declared.kind.TypeRef.{TypeRef};
 ghost use Rattle.ice_prims.specs.Rest.{IsBytes, whole};
 ghost use Rattle.ice_prims.specs.Laws.{FoundPart, OnlyPart};
-ghost use Rattle.ice_encoding.specs.Tree.{Tree};
+ghost use Rattle.ice_encoding.specs.Tree.{Tree, Entries};
+ghost use Rattle.ice_encoding.specs.Order.{insert};
+ghost use Rattle.ice_encoding.specs.Same.{Same, IsOrdered};
 ghost use Rattle.ice_encoding.specs.Value.{SpellsPlainValue, plain_value_at};
 ghost use Rattle.ice_encoding.specs.Canonical.{canonical, HasSizes};
 ghost use Rattle.ice_encoding.specs.Encapsulation.{SpellsEncapsulation, encapsulation_at, encapsulation_bytes};
@@ -26,11 +28,30 @@ pub fn values_apart()
         → SpellsPlainValue t kind a v → SpellsPlainValue t kind b w → a ++ x ≡ b ++ y → (a ≡ b) × (v ≡ w) }
 {}
 
-/// The canonical bytes of a value spell it, and are as long as any of its spellings. So equal values
-/// have equal canonical bytes, and these are read as the same value.
+/// The canonical bytes of a value spell it, and are as long as any of its spellings. So they are
+/// read as this value again.
 pub fn values_canonical()
     ensures { (t : Tables) (kind : TypeRef) (bytes : List ℕ) (v : Tree)
         → IsBytes bytes → SpellsPlainValue t kind bytes v → SpellsPlainValue t kind (canonical v) v × (length (canonical v) ≡ length bytes) }
+{}
+
+/// The keys of each dictionary in a value that bytes spell rise, in whatever order the bytes have them.
+pub fn values_ordered()
+    ensures { (t : Tables) (kind : TypeRef) (bytes : List ℕ) (v : Tree) → SpellsPlainValue t kind bytes v → IsOrdered v }
+{}
+
+/// Values are the same, in whatever order the pairs of their dictionaries stand, exactly where their
+/// canonical bytes are equal.
+pub fn equal_values()
+    ensures values { (t : Tables) (kind : TypeRef) (a b : List ℕ) (v w : Tree)
+        → SpellsPlainValue t kind a v → SpellsPlainValue t kind b w → Same v w → v ≡ w }
+    ensures bytes { (t : Tables) (kind : TypeRef) (a b : List ℕ) (v w : Tree)
+        → IsBytes a → IsBytes b → SpellsPlainValue t kind a v → SpellsPlainValue t kind b w → Same v w ↔ (canonical v ≡ canonical w) }
+{}
+
+/// Two pairs come to the same places whichever of them is put first.
+pub fn pairs_in_any_order()
+    ensures { (k v l w : Tree) (pairs : Entries) → k ≢ l → insert k v (insert l w pairs) ≡ insert l w (insert k v pairs) }
 {}
 
 /// Each size of a value that bytes spell is at most the greatest int.
