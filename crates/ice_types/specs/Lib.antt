@@ -1,3 +1,4 @@
 pub mod formers
 pub mod Tables
+pub mod Measures
 pub mod Rules

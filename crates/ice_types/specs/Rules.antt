@@ -1,30 +1,33 @@
 -- What every schema keeps.
-use Rattle.std.specs.Prelude.{ℕ, ◌≡◌, ◌<◌, IsTrue, List, length, Some, slice_get}
+use Rattle.std.specs.Prelude.{ℕ, ◌≡◌, ◌<◌, ◌≤◌, List, length, Option, Some, true, slice_get}
+use Rattle.ice_types.specs.declared.kind.TypeRef.{TypeRef}
+use Rattle.ice_types.specs.declared.kind.TypeRef.TheVariants as kinds
 use Rattle.ice_types.specs.declared.declarations.SeqDecl.{SeqDecl}
 use Rattle.ice_types.specs.declared.declarations.DictDecl.{DictDecl}
-use Rattle.ice_types.specs.Tables.{Tables, is_within, is_key, seq_ids, dict_ids, HasId, IsTypeId}
+use Rattle.ice_types.specs.declared.declarations.StructDecl.{StructDecl}
+use Rattle.ice_types.specs.declared.measure.Measure.{Measure}
+use Rattle.ice_types.specs.Tables.{Tables, seq_ids, dict_ids, struct_ids, HasId, IsTypeId}
+use Rattle.ice_types.specs.Measures.{measure, SeqFits, DictFits, StructFits}
 
--- type ids, none of them twice
-pub record AreIds (ids : List (List ℕ)) : Type 0 where
-  pub each : (at : ℕ) (id : List ℕ) → HasId ids id at → IsTypeId id
-  pub apart : (at other : ℕ) (id : List ℕ) → HasId ids id at → HasId ids id other → at ≡ other
-
--- no dictionary's id is a sequence's
-abbrev pub AreApart : Tables → Type 0
-AreApart t = (at other : ℕ) (id : List ℕ) → HasId (seq_ids t) id at → HasId (dict_ids t) id other → ⊥
-
--- each row's type nests at most a hundred deep
-pub record IsDeep (t : Tables) : Type 0 where
-  pub seqs : (at : ℕ) (q : SeqDecl) → slice_get t.seqs at ≡ Some q → IsTrue (is_within t 99 q.element)
-  pub keys : (at : ℕ) (d : DictDecl) → slice_get t.dicts at ≡ Some d → IsTrue (is_within t 98 d.key)
-  pub values : (at : ℕ) (d : DictDecl) → slice_get t.dicts at ≡ Some d → IsTrue (is_within t 98 d.value)
+-- the type of this type id
+abbrev pub HasTypeId : Tables → List ℕ → TypeRef → Type 0
+HasTypeId t id (kinds.Seq at) = HasId (seq_ids t) id at
+HasTypeId t id (kinds.Dict at) = HasId (dict_ids t) id at
+HasTypeId t id (kinds.Struct at) = HasId (struct_ids t) id at
+HasTypeId t id kind = ⊥
 
 pub record IsSchema (t : Tables) : Type 0 where
   pub seq_room : length t.seqs < 100000000
   pub dict_room : length t.dicts < 100000000
-  pub seqs : AreIds (seq_ids t)
-  pub dicts : AreIds (dict_ids t)
-  pub apart : AreApart t
-  pub depth : IsDeep t
-  -- each dictionary's key may be one
-  pub keys : (at : ℕ) (d : DictDecl) → slice_get t.dicts at ≡ Some d → IsTrue (is_key d.key)
+  pub struct_room : length t.structs < 100000000
+  -- type ids, none of two types
+  pub type_ids : (id : List ℕ) (kind : TypeRef) → HasTypeId t id kind → IsTypeId id
+  pub apart : (id : List ℕ) (a b : TypeRef) → HasTypeId t id a → HasTypeId t id b → a ≡ b
+  -- no row is off the limits, and each dictionary's key may be one
+  pub seqs : (at : ℕ) (q : SeqDecl) → slice_get t.seqs at ≡ Some q → SeqFits t q.element
+  pub dicts : (at : ℕ) (d : DictDecl) → slice_get t.dicts at ≡ Some d → DictFits t d.key d.value
+  pub structs : (at : ℕ) (d : StructDecl) → slice_get t.structs at ≡ Some d → StructFits t d.members
+
+-- What is kept of each row beside it: what the schema says of its type.
+abbrev pub AreMeasures : Tables → (ℕ → TypeRef) → List Measure → Type 0
+AreMeasures t kind found = (at : ℕ) → slice_get found at ≡ measure t 100 (kind at)

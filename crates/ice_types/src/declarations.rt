@@ -1,6 +1,7 @@
 //! What each row of a schema's tables says.
 
 use crate::kind::TypeRef;
+use crate::list::List;
 use crate::name::Name;
 
 /// `sequence<ELEMENT> NAME;`
@@ -18,4 +19,19 @@ pub struct DictDecl {
     pub id: Name,
     pub key: TypeRef,
     pub value: TypeRef,
+}
+
+/// `struct NAME { MEMBERS };`
+#[derive(Debug, Drop)]
+pub struct StructDecl {
+    /// The type id, as `::M::S`.
+    pub id: Name,
+    pub members: List<Member>,
+}
+
+/// `TYPE NAME;` inside a struct.
+#[derive(Debug, Drop)]
+pub struct Member {
+    pub name: Name,
+    pub kind: TypeRef,
 }

@@ -11,4 +11,5 @@ pub enum TypeRef {
     Text,
     Seq(u32),
     Dict(u32),
+    Struct(u32),
 }

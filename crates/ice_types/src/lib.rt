@@ -4,13 +4,15 @@
 mod declarations;
 mod kind;
 mod list;
+mod measure;
 mod name;
 mod schema;
 #[cfg(test)]
 mod tests;
 
-pub use declarations::{DictDecl, SeqDecl};
+pub use declarations::{DictDecl, Member, SeqDecl, StructDecl};
 pub use kind::TypeRef;
 pub use list::{Bytes, List};
+pub use measure::Measure;
 pub use name::Name;
 pub use schema::{MOST_DEPTH, MOST_ROWS, Schema};
