@@ -1,10 +1,11 @@
 -- Canonical bytes spell the value that any of its spellings spells, and are as long.
-use Rattle.std.proofs.Common.{◌≡◌, ℕ, zero, suc, ◌+◌, Bool, true, false, cond, List, ◌++◌, length, refl, sym, ap, subst, ◌∙◌, arith}
+use Rattle.std.proofs.Common.{◌≡◌, ℕ, zero, suc, ◌+◌, Bool, true, false, cond, List, [], ◌∷◌, ◌++◌, length, refl, sym, ap, subst, ◌∙◌, arith}
 use Rattle.std.specs.Ordering.{is_lt}
 use Rattle.std.specs.declared.cmp.Ordering.TheVariants.{Less}
 use Rattle.std.proofs.lemmas.List.{length-append}
 use Rattle.ice_types.specs.declared.kind.TypeRef.{TypeRef}
 use Rattle.ice_types.specs.declared.kind.TypeRef.TheVariants as kinds
+use Rattle.ice_types.specs.declared.declarations.Member.{Member}
 use Rattle.ice_types.specs.Tables.{Tables}
 use Rattle.ice_prims.specs.Rest.{IsBytes}
 use Rattle.ice_prims.specs.Number.{SpellsSize}
@@ -14,7 +15,7 @@ use Rattle.ice_prims.proofs.Once.{bool_once, short_once, int_once, long_once, si
 use Rattle.ice_encoding.specs.Tree.{Tree, Trees, tree_count, Entries, no_entry, entry, entry_count}
 use Rattle.ice_encoding.specs.Order.{tree_cmp, IsRising, insert, LacksKey}
 use Rattle.ice_encoding.specs.Port.{Speller, no_references}
-use Rattle.ice_encoding.specs.Spelling.{Each, Pairs, SpellsValue}
+use Rattle.ice_encoding.specs.Spelling.{Each, Members, Pairs, SpellsValue}
 use Rattle.ice_encoding.specs.Canonical.{canonical, canonical_each, canonical_pairs}
 use Rattle.ice_encoding.proofs.Order.{turns, less_then, insert_rising}
 
@@ -129,6 +130,15 @@ each_canon One canon (suc n) bytes items fits h =
     let long : length (canonical h.0 ++ canonical_each h.1) ≡ length (h.2 ++ h.3) = length-append (canonical h.0) (canonical_each h.1) ∙ omega (arith, first.1, others.1, length-append h.2 h.3) in
     rw (h.5, h.6) ((h.0, h.1, canonical h.0, canonical_each h.1, tt, refl, refl, first.0, others.0), long, ap suc others.2)
 
+members_canon : (One : TypeRef → Speller (Unit {0}) Tree) → ((kind : TypeRef) → Canon (One kind)) → (ms : List Member) (bytes : List ℕ) (items : Trees) → IsBytes bytes → Members One ms bytes items tt tt → Members One ms (canonical_each items) items tt tt × (length (canonical_each items) ≡ length bytes)
+members_canon One canon [] bytes items fits h = rw (h.1, h.0) ((refl, refl, refl), refl)
+members_canon One canon (m ∷ ms) bytes items fits h =
+    let all : IsBytes (h.2 ++ h.3) = subst IsBytes h.6 fits in
+    let first = canon m.kind h.2 h.0 (IsBytes-front h.2 h.3 all) h.7 in
+    let others = members_canon One canon ms h.3 h.1 (IsBytes-rest h.2 h.3 all) h.8 in
+    let long : length (canonical h.0 ++ canonical_each h.1) ≡ length (h.2 ++ h.3) = length-append (canonical h.0) (canonical_each h.1) ∙ omega (arith, first.1, others.1, length-append h.2 h.3) in
+    rw (h.5, h.6) ((h.0, h.1, canonical h.0, canonical_each h.1, tt, refl, refl, first.0, others.0), long)
+
 -- what a dictionary that was read keeps
 pub record Kept (Key Held : Speller (Unit {0}) Tree) (pairs : Entries) (count long : ℕ) : Type 0 where
   pub rising : IsRising pairs
@@ -195,3 +205,6 @@ value_canon t (suc levels) (kinds.Dict at) bytes v fits h =
     nothing_before : (pairs : Entries) → Follows no_entry pairs
     nothing_before no_entry = tt
     nothing_before (entry k v rest) = tt
+value_canon t (suc levels) (kinds.Struct at) bytes v fits h =
+    let again = members_canon (SpellsValue no_references t levels) (value_canon t levels) h.0.members bytes h.2.0 fits h.2.2 in
+    rw h.2.1 ((h.0, h.1, (h.2.0, refl, again.0)), again.1)

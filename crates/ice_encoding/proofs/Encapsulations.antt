@@ -154,3 +154,7 @@ module _ (t : Tables) (kind : TypeRef) where
   -- an encapsulation holds one value
   pub encapsulation_apart : (bytes : List ℕ) (v w : Tree) → SpellsEncapsulation t kind bytes v → SpellsEncapsulation t kind bytes w → v ≡ w
   encapsulation_apart bytes v w h g = ok_is v w (sym (encapsulation_only bytes v h) ∙ encapsulation_only bytes w g)
+
+  -- what was relayed is relayed as it is
+  pub relayed_as_it_is : (bytes : List ℕ) (v w : Tree) → IsBytes bytes → SpellsEncapsulation t kind bytes v → SpellsEncapsulation t kind (encapsulation_bytes v) w → encapsulation_bytes w ≡ encapsulation_bytes v
+  relayed_as_it_is bytes v w fits h g = ap encapsulation_bytes (encapsulation_apart (encapsulation_bytes v) w v g ((encapsulation_canon bytes v fits h).0))

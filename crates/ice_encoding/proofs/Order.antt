@@ -7,7 +7,7 @@ use Rattle.std.specs.Cmp.{then_flip, bool_cmp_total}
 use Rattle.std.specs.declared.cmp.Ordering.{Ordering}
 use Rattle.std.specs.declared.cmp.Ordering.TheVariants.{Less, Equal, Greater}
 use Rattle.std.proofs.lemmas.Cmp.{nat_cmp_total, int_cmp_total, nat_list_cmp_total}
-use Rattle.ice_encoding.specs.Tree.{Tree, boolean, byte, short, int, long, text, sequence, dictionary, Trees, none, tree, Entries, no_entry, entry}
+use Rattle.ice_encoding.specs.Tree.{Tree, boolean, byte, short, int, long, text, sequence, dictionary, struct, Trees, none, tree, Entries, no_entry, entry}
 use Rattle.ice_encoding.specs.Order.{rank, tree_cmp, trees_cmp, entries_cmp, IsRising, insert, LacksKey, has_key}
 
 mutual
@@ -20,6 +20,7 @@ mutual
   turns (text a) (text b) = nat_list_cmp_total.antisymm a b
   turns (sequence a) (sequence b) = all_turn a b
   turns (dictionary a) (dictionary b) = entries_turn a b
+  turns (struct a) (struct b) = all_turn a b
   turns a b = nat_cmp_total.antisymm (rank a) (rank b)
 
   all_turn : (a b : Trees) → trees_cmp a b ≡ ordering_reverse (trees_cmp b a)
@@ -55,6 +56,7 @@ mutual
   equal_is (text a) (text b) e = ap text (exact_bytes a b e)
   equal_is (sequence a) (sequence b) e = ap sequence (all_equal a b e)
   equal_is (dictionary a) (dictionary b) e = ap dictionary (entries_equal a b e)
+  equal_is (struct a) (struct b) e = ap struct (all_equal a b e)
   equal_is a b e = absurd cc
 
   all_equal : (a b : Trees) → trees_cmp a b ≡ Equal → a ≡ b
@@ -87,6 +89,7 @@ mutual
   less_then (text a) (text b) (text c) p q = nat_list_cmp_total.trans a b c p q
   less_then (sequence a) (sequence b) (sequence c) p q = all_less_then a b c p q
   less_then (dictionary a) (dictionary b) (dictionary c) p q = entries_less_then a b c p q
+  less_then (struct a) (struct b) (struct c) p q = all_less_then a b c p q
   less_then a b c p q = first_of (cc, search rules)
 
   all_less_then : (a b c : Trees) → trees_cmp a b ≡ Less → trees_cmp b c ≡ Less → trees_cmp a c ≡ Less

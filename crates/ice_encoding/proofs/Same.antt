@@ -1,16 +1,17 @@
 -- A value that bytes spell is ordered, and ordered values that are the same are equal.
-use Rattle.std.proofs.Common.{◌≡◌, ℕ, zero, suc, ◌≤◌, Bool, true, false, cond, List, refl, sym, ap, subst, arith, inl, inr}
+use Rattle.std.proofs.Common.{◌≡◌, ℕ, zero, suc, ◌≤◌, Bool, true, false, cond, List, [], ◌∷◌, refl, sym, ap, subst, arith, inl, inr}
 use Rattle.std.specs.Prelude.{◌≢◌}
 use Rattle.std.specs.Ordering.{is_lt}
 use Rattle.std.specs.declared.cmp.Ordering.TheVariants.{Less}
 use Rattle.ice_types.specs.declared.kind.TypeRef.{TypeRef}
 use Rattle.ice_types.specs.declared.kind.TypeRef.TheVariants as kinds
+use Rattle.ice_types.specs.declared.declarations.Member.{Member}
 use Rattle.ice_types.specs.Tables.{Tables}
-use Rattle.ice_encoding.specs.Tree.{Tree, boolean, byte, short, int, long, text, sequence, dictionary, Trees, none, tree, Entries, no_entry, entry, entry_count}
+use Rattle.ice_encoding.specs.Tree.{Tree, boolean, byte, short, int, long, text, sequence, dictionary, struct, Trees, none, tree, Entries, no_entry, entry, entry_count}
 use Rattle.ice_encoding.specs.Order.{tree_cmp, IsRising, insert}
 use Rattle.ice_encoding.specs.Same.{SomePair, Same, SameEach, AreAmong, IsOrdered, EachOrdered, PairsOrdered}
 use Rattle.ice_encoding.specs.Port.{Speller, no_references}
-use Rattle.ice_encoding.specs.Spelling.{Each, Pairs, SpellsValue}
+use Rattle.ice_encoding.specs.Spelling.{Each, Members, Pairs, SpellsValue}
 use Rattle.ice_encoding.proofs.Order.{turns, equal_self, less_then, above, below, insert_rising}
 
 -- ---- what bytes spell
@@ -27,6 +28,11 @@ insert_ordered k v (entry l w rest) p q h =
 each_ordered : (One : Speller (Unit {0}) Tree) → ((bytes : List ℕ) (v : Tree) → One bytes v tt tt → IsOrdered v) → (n : ℕ) (bytes : List ℕ) (items : Trees) → Each One n bytes items tt tt → EachOrdered items
 each_ordered One ordered zero bytes items h = rw h.1 tt
 each_ordered One ordered (suc n) bytes items h = rw h.5 (ordered h.2 h.0 h.7, each_ordered One ordered n h.3 h.1 h.8)
+
+members_ordered : (One : TypeRef → Speller (Unit {0}) Tree) → ((kind : TypeRef) (bytes : List ℕ) (v : Tree) → One kind bytes v tt tt → IsOrdered v)
+    → (ms : List Member) (bytes : List ℕ) (items : Trees) → Members One ms bytes items tt tt → EachOrdered items
+members_ordered One ordered [] bytes items h = rw h.1 tt
+members_ordered One ordered (m ∷ ms) bytes items h = rw h.5 (ordered m.kind h.2 h.0 h.7, members_ordered One ordered ms h.3 h.1 h.8)
 
 pairs_ordered : (Key Held : Speller (Unit {0}) Tree) → ((bytes : List ℕ) (v : Tree) → Key bytes v tt tt → IsOrdered v) → ((bytes : List ℕ) (v : Tree) → Held bytes v tt tt → IsOrdered v)
     → (n : ℕ) (before : Entries) (bytes : List ℕ) (pairs : Entries) → IsRising before × PairsOrdered before → Pairs Key Held n before bytes pairs tt tt → IsRising pairs × PairsOrdered pairs
@@ -48,6 +54,8 @@ value_ordered t (suc levels) (kinds.Seq at) bytes v h =
 value_ordered t (suc levels) (kinds.Dict at) bytes v h =
     rw h.2.1 (pairs_ordered (SpellsValue no_references t levels h.0.key) (SpellsValue no_references t levels h.0.value)
     (value_ordered t levels h.0.key) (value_ordered t levels h.0.value) h.2.2.0 no_entry h.2.2.2 h.2.0 (tt, tt) h.2.2.5)
+value_ordered t (suc levels) (kinds.Struct at) bytes v h =
+    rw h.2.1 (members_ordered (SpellsValue no_references t levels) (value_ordered t levels) h.0.members bytes h.2.0 h.2.2)
 
 -- ---- rising pairs that are the same pairs
 
@@ -133,6 +141,7 @@ mutual
   same_is (text a) (text b) p q h = ap text h
   same_is (sequence a) (sequence b) p q h = ap sequence (each_same a b p q h)
   same_is (dictionary a) (dictionary b) p q h = ap dictionary (all_in a b p.0 q.0 (among_in a b p.1 q.1 h.1) (omega (arith, h.0)))
+  same_is (struct a) (struct b) p q h = ap struct (each_same a b p q h)
   same_is a b p q h = absurd h
 
   each_same : (a b : Trees) → EachOrdered a → EachOrdered b → SameEach a b → a ≡ b
@@ -160,6 +169,7 @@ mutual
   same_self (text a) = refl
   same_self (sequence a) = each_self a
   same_self (dictionary a) = (refl, among_self a)
+  same_self (struct a) = each_self a
 
   each_self : (vs : Trees) → SameEach vs vs
   each_self none = tt

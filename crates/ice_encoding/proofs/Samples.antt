@@ -5,18 +5,24 @@ use Rattle.std.specs.Str.{is_utf8, chars}
 use lib.Utf8.{encode}
 use Rattle.ice_types.specs.declared.kind.TypeRef.{TypeRef}
 use Rattle.ice_types.specs.declared.kind.TypeRef.TheVariants as kinds
+use Rattle.ice_types.specs.declared.declarations.Member.{Member}
 use Rattle.ice_types.specs.Tables.{Tables}
 use Rattle.ice_prims.specs.declared.fault.Fault.{Fault}
-use Rattle.ice_prims.specs.declared.fault.Kind.TheVariants.{Short, TooLarge, BadSize, BadVersion, BadBool, BadText, LeftOver}
+use Rattle.ice_prims.specs.declared.fault.Kind.TheVariants.{Short, TooLarge, BadSize, BadVersion, BadBool, BadText, EqualKey, LeftOver}
 use Rattle.ice_prims.specs.Rest.{fault, whole}
 use Rattle.ice_prims.specs.Bytes.{size_bytes}
-use Rattle.ice_encoding.specs.Tree.{Tree, short, int, long, text, sequence, none, tree}
+use Rattle.ice_encoding.specs.Tree.{Tree, byte, short, int, long, text, sequence, dictionary, struct, none, tree, no_entry, entry}
 use Rattle.ice_encoding.specs.Value.{plain_value_at}
 use Rattle.ice_encoding.specs.Encapsulation.{encapsulation_at, encapsulation_bytes}
 
--- a sequence of bytes, one of ints, and one of strings
+-- a member of a struct
+abbrev member : TypeRef → Member
+member kind = record { name = []; kind = kind }
+
+-- A sequence of bytes, one of ints, and one of strings. A struct of two bytes, one of a short, that struct and a string.
+-- A dictionary of bytes by the struct of two bytes.
 abbrev tables : Tables
-tables = record { seqs = record { id = []; element = kinds.Byte } ∷ record { id = []; element = kinds.Int } ∷ record { id = []; element = kinds.Text } ∷ []; dicts = [] }
+tables = record { seqs = record { id = []; element = kinds.Byte } ∷ record { id = []; element = kinds.Int } ∷ record { id = []; element = kinds.Text } ∷ []; dicts = record { id = []; key = kinds.Struct 0; value = kinds.Byte } ∷ []; structs = record { id = []; members = member kinds.Byte ∷ member kinds.Byte ∷ [] } ∷ record { id = []; members = member kinds.Short ∷ member (kinds.Struct 0) ∷ member kinds.Text ∷ [] } ∷ [] }
 
 -- what an input is read as
 abbrev reads : TypeRef → List ℕ → Result Tree Fault
@@ -51,6 +57,25 @@ greatest_long = refl
 euro : reads kinds.Text (headed 10 (3 ∷ 226 ∷ 130 ∷ 172 ∷ [])) ≡ Ok (text (226 ∷ 130 ∷ 172 ∷ []))
 unfolding plain_value_at is_utf8 chars encode
 euro = refl
+
+struct_in_struct : reads (kinds.Struct 1) (headed 12 (1 ∷ 2 ∷ 7 ∷ 8 ∷ 1 ∷ 104 ∷ [])) ≡ Ok (struct (tree (short (pos 513)) (tree (struct (tree (byte 7) (tree (byte 8) none))) (tree (text (104 ∷ [])) none))))
+unfolding plain_value_at is_utf8 chars encode
+struct_in_struct = refl
+
+-- keys that differ in their last members, in falling order
+struct_keys : reads (kinds.Dict 0) (headed 13 (2 ∷ 1 ∷ 9 ∷ 70 ∷ 1 ∷ 3 ∷ 80 ∷ [])) ≡ Ok (dictionary (entry (struct (tree (byte 1) (tree (byte 3) none))) (byte 80) (entry (struct (tree (byte 1) (tree (byte 9) none))) (byte 70) no_entry)))
+unfolding plain_value_at
+struct_keys = refl
+
+-- the place is that of the key's first byte
+equal_struct_keys : reads (kinds.Dict 0) (headed 12 (2 ∷ 1 ∷ 9 ∷ 70 ∷ 1 ∷ 9 ∷ [])) ≡ fault 10 EqualKey
+unfolding plain_value_at
+equal_struct_keys = refl
+
+-- the second member is cut short
+struct_cut_short : reads (kinds.Struct 0) (headed 7 (1 ∷ [])) ≡ fault 7 Short
+unfolding plain_value_at
+struct_cut_short = refl
 
 one_byte : size_bytes 254 ≡ 254 ∷ []
 one_byte = refl

@@ -1,14 +1,15 @@
 -- What bytes spell has sizes.
-use Rattle.std.proofs.Common.{◌≡◌, ℕ, zero, suc, ◌+◌, ◌<◌, ◌^◌, Bool, true, false, cond, List, length, refl, ap, arith, inl, inr}
+use Rattle.std.proofs.Common.{◌≡◌, ℕ, zero, suc, ◌+◌, ◌<◌, ◌^◌, Bool, true, false, cond, List, [], ◌∷◌, length, refl, ap, arith, inl, inr}
 use Rattle.std.specs.Ordering.{is_lt}
 use Rattle.ice_types.specs.declared.kind.TypeRef.{TypeRef}
 use Rattle.ice_types.specs.declared.kind.TypeRef.TheVariants as kinds
+use Rattle.ice_types.specs.declared.declarations.Member.{Member}
 use Rattle.ice_types.specs.Tables.{Tables}
 use Rattle.ice_prims.specs.Number.{SpellsSize}
 use Rattle.ice_encoding.specs.Tree.{Tree, Trees, tree_count, Entries, no_entry, entry, entry_count}
 use Rattle.ice_encoding.specs.Order.{tree_cmp, insert}
 use Rattle.ice_encoding.specs.Port.{Speller, no_references}
-use Rattle.ice_encoding.specs.Spelling.{Each, Pairs, SpellsValue}
+use Rattle.ice_encoding.specs.Spelling.{Each, Members, Pairs, SpellsValue}
 use Rattle.ice_encoding.specs.Canonical.{HasSizes, EachHasSizes, PairsHaveSizes}
 
 each_count : (One : Speller (Unit {0}) Tree) (n : ℕ) (bytes : List ℕ) (items : Trees) → Each One n bytes items tt tt → tree_count items ≡ n
@@ -22,6 +23,11 @@ size_fits front n (inr h) = h.1
 each_sizes : (One : Speller (Unit {0}) Tree) → ((bytes : List ℕ) (v : Tree) → One bytes v tt tt → HasSizes v) → (n : ℕ) (bytes : List ℕ) (items : Trees) → Each One n bytes items tt tt → EachHasSizes items
 each_sizes One sizes zero bytes items h = rw h.1 tt
 each_sizes One sizes (suc n) bytes items h = rw h.5 (sizes h.2 h.0 h.7, each_sizes One sizes n h.3 h.1 h.8)
+
+members_sizes : (One : TypeRef → Speller (Unit {0}) Tree) → ((kind : TypeRef) (bytes : List ℕ) (v : Tree) → One kind bytes v tt tt → HasSizes v)
+    → (ms : List Member) (bytes : List ℕ) (items : Trees) → Members One ms bytes items tt tt → EachHasSizes items
+members_sizes One sizes [] bytes items h = rw h.1 tt
+members_sizes One sizes (m ∷ ms) bytes items h = rw h.5 (sizes m.kind h.2 h.0 h.7, members_sizes One sizes ms h.3 h.1 h.8)
 
 insert_sizes : (k v : Tree) (ps : Entries) → HasSizes k → HasSizes v → PairsHaveSizes ps → PairsHaveSizes (insert k v ps)
 insert_sizes k v no_entry p q h = (p, q, tt)
@@ -68,3 +74,5 @@ value_sizes t (suc levels) (kinds.Dict at) bytes v h =
     let sizes = pairs_sizes (SpellsValue no_references t levels h.0.key) (SpellsValue no_references t levels h.0.value) (value_sizes t levels h.0.key) (value_sizes t levels h.0.value) parts.0 no_entry parts.2 pairs tt parts.5 in
     let count : entry_count pairs ≡ parts.0 = omega (arith, sizes.1) in
     rw made.1 (rw count (size_fits parts.1 parts.0 parts.4), sizes.0)
+value_sizes t (suc levels) (kinds.Struct at) bytes v h =
+    rw h.2.1 (members_sizes (SpellsValue no_references t levels) (value_sizes t levels) h.0.members bytes h.2.0 h.2.2)

@@ -1,10 +1,11 @@
 -- The laws of values: each way of joining keeps them.
-use Rattle.std.proofs.Common.{◌≡◌, ℕ, ℤ, zero, suc, ◌+◌, List, [], ◌++◌, length, take, Option, Some, None, Result, Ok, refl, sym, ap, subst, ◌∙◌, inl, inr, zero-add}
+use Rattle.std.proofs.Common.{◌≡◌, ℕ, ℤ, zero, suc, ◌+◌, List, [], ◌∷◌, ◌++◌, length, take, Option, Some, None, Result, Ok, refl, sym, ap, subst, ◌∙◌, inl, inr, zero-add}
 use Rattle.std.specs.Prelude.{slice_get}
 use Rattle.std.specs.Int.{Width, w16, w32, w64}
 use Rattle.std.proofs.lemmas.List.{take_at}
 use Rattle.ice_types.specs.declared.kind.TypeRef.{TypeRef}
 use Rattle.ice_types.specs.declared.kind.TypeRef.TheVariants as kinds
+use Rattle.ice_types.specs.declared.declarations.Member.{Member}
 use Rattle.ice_types.specs.Tables.{Tables}
 use Rattle.ice_prims.specs.declared.fault.Fault.{Fault}
 use Rattle.ice_prims.specs.declared.fault.Kind.TheVariants.{EqualKey}
@@ -13,12 +14,12 @@ use Rattle.ice_prims.specs.Number.{SpellsBool, SpellsByte, SpellsSigned, SpellsT
 use Rattle.ice_prims.specs.Laws.{FoundPart, OnlyPart}
 use Rattle.ice_prims.proofs.Parts.{chosen, then_ok, ok_is, Took-none, Took-none-is, Took-then, between, Took-fits}
 use Rattle.ice_prims.proofs.Numbers.{bool_found, bool_only, byte_found, byte_only, signed_found, signed_only, size_found, size_only, text_found, text_only}
-use Rattle.ice_encoding.specs.Tree.{Tree, boolean, byte, short, int, long, text, sequence, dictionary, tree, Entries, no_entry}
+use Rattle.ice_encoding.specs.Tree.{Tree, boolean, byte, short, int, long, text, sequence, dictionary, struct, tree, Entries, no_entry}
 use Rattle.ice_encoding.specs.Port.{Reader, Speller, Found, Only, Port, IsLawful, no_references}
 use Rattle.ice_encoding.specs.Order.{has_key, insert, LacksKey}
 use Rattle.ice_encoding.proofs.Order.{is_new, has_none}
-use Rattle.ice_encoding.specs.Reading.{new_key, pairs_at, each_at, plain, made, sized, listed, value_at}
-use Rattle.ice_encoding.specs.Spelling.{Plain, Made, Sized, Each, Pairs, SpellsValue}
+use Rattle.ice_encoding.specs.Reading.{new_key, pairs_at, each_at, members_at, plain, made, sized, listed, value_at}
+use Rattle.ice_encoding.specs.Spelling.{Plain, Made, Sized, Each, Members, Pairs, SpellsValue}
 
 -- a reading and what it is to spell, and both laws
 pub record Lawful {S A : Type 0} (read : Reader S A) (Spells : Speller S A) : Type 0 where
@@ -94,6 +95,23 @@ each_lawful {S} read Spells one (suc n) = record {
       rw (one.only s h.4 r m.0 h.2 h.0 m.1 h.7, (each_lawful read Spells one n).only h.4 to m.0 after h.3 h.1 m.2 h.8, h.5) refl;
 }
 
+members_lawful : {S : Type 0} (read : TypeRef → Reader S Tree) (Spells : TypeRef → Speller S Tree) → ((kind : TypeRef) → Lawful (read kind) (Spells kind)) → (ms : List Member) → Lawful (members_at read ms) (Members Spells ms)
+members_lawful {S} read Spells one [] = record {
+  found = λ s r x fits e. lands (Members Spells []) s r _ x [] (Took-none r) (refl, refl, refl) e;
+  only = λ s to r after bytes v k h. rw (Took-none-is r after (rw (← h.0) k), h.1, h.2) refl;
+}
+members_lawful {S} read Spells one (m ∷ ms) = record {
+  found = λ s r x fits e.
+      then_ok (read m.kind s r) (λ first. members_at read ms first.1 first.2 >>= λ others. Ok (tree first.0 others.0, others.1, others.2)) x e λ first first_is later.
+      then_ok (members_at read ms first.1 first.2) (λ others. Ok (tree first.0 others.0, others.1, others.2)) x later λ others others_is last.
+      let f = (one m.kind).found s r first fits first_is in
+      let g = (members_lawful read Spells one ms).found first.1 first.2 others ((Took-fits r first.2 f.0 fits f.1).1) others_is in
+      lands (Members Spells (m ∷ ms)) s r _ x (f.0 ++ g.0) (Took-then r first.2 others.2 f.0 g.0 f.1 g.1) (first.0, others.0, f.0, g.0, first.1, refl, refl, f.2, g.2) last;
+  only = λ s to r after bytes v k h.
+      let n = between r after h.2 h.3 (rw (← h.6) k) in
+      rw ((one m.kind).only s h.4 r n.0 h.2 h.0 n.1 h.7, (members_lawful read Spells one ms).only h.4 to n.0 after h.3 h.1 n.2 h.8, h.5) refl;
+}
+
 pairs_lawful : {S : Type 0} (key value : Reader S Tree) (Key Held : Speller S Tree) → Lawful key Key → Lawful value Held → (n : ℕ) (before : Entries) → Lawful (pairs_at key value n before) (Pairs Key Held n before)
 pairs_lawful key value Key Held one two zero before = record {
   found = λ s r x fits e. lands (Pairs Key Held 0 before) s r _ x [] (Took-none r) (refl, refl, refl) e;
@@ -138,6 +156,7 @@ module _ {S : Type 0} (port : Port S) (lawful : IsLawful port) (t : Tables) wher
   value_lawful (suc n) kinds.Text = made_lawful text (plain text_at) (Plain SpellsText) (plain_lawful text_at SpellsText text_lawful)
   value_lawful (suc n) (kinds.Seq at) = listed_lawful (slice_get t.seqs at) _ _ λ q. made_lawful sequence _ _ (sized_lawful _ _ (each_lawful _ _ (value_lawful n q.element)))
   value_lawful (suc n) (kinds.Dict at) = listed_lawful (slice_get t.dicts at) _ _ λ d. made_lawful dictionary _ _ (sized_lawful _ _ (λ m. pairs_lawful _ _ _ _ (value_lawful n d.key) (value_lawful n d.value) m no_entry))
+  value_lawful (suc n) (kinds.Struct at) = listed_lawful (slice_get t.structs at) _ _ λ d. made_lawful struct _ _ (members_lawful _ _ (value_lawful n) d.members)
 
   -- No spelling begins another: bytes begin with one spelling at most.
   pub value_apart : (levels : ℕ) (kind : TypeRef) (a b x y : List ℕ) (v w : Tree) (s to end : S) → SpellsValue port t levels kind a v s to → SpellsValue port t levels kind b w s end → a ++ x ≡ b ++ y → (a ≡ b) × (v ≡ w) × (to ≡ end)

@@ -2,7 +2,7 @@
 use Rattle.std.specs.Prelude.{ℕ, ◌<◌, ◌^◌, List, [], ◌∷◌, ◌++◌, length}
 use Rattle.std.specs.Int.{w16, w32, w64}
 use Rattle.ice_prims.specs.Bytes.{bool_bytes, signed_bytes, size_bytes, text_bytes}
-use Rattle.ice_encoding.specs.Tree.{Tree, boolean, byte, short, int, long, text, sequence, dictionary, Trees, none, tree, tree_count, Entries, no_entry, entry, entry_count}
+use Rattle.ice_encoding.specs.Tree.{Tree, boolean, byte, short, int, long, text, sequence, dictionary, struct, Trees, none, tree, tree_count, Entries, no_entry, entry, entry_count}
 
 abbrev mutual
   pub canonical : Tree → List ℕ
@@ -14,6 +14,7 @@ abbrev mutual
   canonical (text s) = text_bytes s
   canonical (sequence items) = size_bytes (tree_count items) ++ canonical_each items
   canonical (dictionary pairs) = size_bytes (entry_count pairs) ++ canonical_pairs pairs
+  canonical (struct members) = canonical_each members
 
   pub canonical_each : Trees → List ℕ
   canonical_each none = []
@@ -34,6 +35,7 @@ abbrev mutual
   HasSizes (text s) = length s < 2 ^ 31
   HasSizes (sequence items) = (tree_count items < 2 ^ 31) × EachHasSizes items
   HasSizes (dictionary pairs) = (entry_count pairs < 2 ^ 31) × PairsHaveSizes pairs
+  HasSizes (struct members) = EachHasSizes members
 
   pub EachHasSizes : Trees → Type 0
   EachHasSizes none = Unit {0}

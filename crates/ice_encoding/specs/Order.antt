@@ -1,10 +1,11 @@
--- The rising order of dictionary keys: false before true, numbers by value, strings by their UTF-8 bytes.
+-- The rising order of dictionary keys: false before true, numbers by value, strings by their UTF-8 bytes, structs member
+-- by member.
 use Rattle.std.specs.Prelude.{ℕ, ◌≡◌, ◌≢◌, Bool, false, ◌||◌, if◌then◌else◌}
 use Rattle.std.specs.Ordering.{ordering_then, nat_cmp, int_cmp, bool_cmp, is_lt, is_eq}
 use Rattle.std.specs.Cmp.Lexicographic.{slice_cmp}
 use Rattle.std.specs.declared.cmp.Ordering.{Ordering}
 use Rattle.std.specs.declared.cmp.Ordering.TheVariants.{Less, Equal, Greater}
-use Rattle.ice_encoding.specs.Tree.{Tree, boolean, byte, short, int, long, text, sequence, dictionary, Trees, none, tree, Entries, no_entry, entry}
+use Rattle.ice_encoding.specs.Tree.{Tree, boolean, byte, short, int, long, text, sequence, dictionary, struct, Trees, none, tree, Entries, no_entry, entry}
 
 -- The keys of a dictionary are of one sort. So that the order has all values, the sorts stand in an order too.
 abbrev pub rank : Tree → ℕ
@@ -16,6 +17,7 @@ rank (long z) = 4
 rank (text s) = 5
 rank (sequence vs) = 6
 rank (dictionary ps) = 7
+rank (struct vs) = 8
 
 abbrev mutual
   pub tree_cmp : Tree → Tree → Ordering
@@ -27,6 +29,7 @@ abbrev mutual
   tree_cmp (text a) (text b) = slice_cmp nat_cmp a b
   tree_cmp (sequence a) (sequence b) = trees_cmp a b
   tree_cmp (dictionary a) (dictionary b) = entries_cmp a b
+  tree_cmp (struct a) (struct b) = trees_cmp a b
   tree_cmp a b = nat_cmp (rank a) (rank b)
 
   pub trees_cmp : Trees → Trees → Ordering

@@ -1,14 +1,15 @@
 -- Reading a value from the left, with the first fault.
-use Rattle.std.specs.Prelude.{ℕ, zero, suc, Option, None, Some, Result, Ok, slice_get, if◌then◌else◌}
+use Rattle.std.specs.Prelude.{ℕ, zero, suc, List, [], ◌∷◌, Option, None, Some, Result, Ok, slice_get, if◌then◌else◌}
 use Rattle.std.specs.Int.{w16, w32, w64}
 use Rattle.ice_types.specs.declared.kind.TypeRef.{TypeRef}
 use Rattle.ice_types.specs.declared.kind.TypeRef.TheVariants as kinds
+use Rattle.ice_types.specs.declared.declarations.Member.{Member}
 use Rattle.ice_types.specs.Tables.{Tables}
 use Rattle.ice_prims.specs.declared.fault.Fault.{Fault}
 use Rattle.ice_prims.specs.declared.fault.Kind.TheVariants.{EqualKey}
 use Rattle.ice_prims.specs.Rest.{Rest, fault, ◌>>=◌}
 use Rattle.ice_prims.specs.Number.{bool_at, byte_at, signed_at, size_at, text_at}
-use Rattle.ice_encoding.specs.Tree.{Tree, boolean, byte, short, int, long, text, sequence, dictionary, Trees, none, tree, Entries, no_entry}
+use Rattle.ice_encoding.specs.Tree.{Tree, boolean, byte, short, int, long, text, sequence, dictionary, struct, Trees, none, tree, Entries, no_entry}
 use Rattle.ice_encoding.specs.Order.{has_key, insert}
 use Rattle.ice_encoding.specs.Port.{Port, Reader, nowhere}
 
@@ -30,6 +31,14 @@ each_at one zero s r = Ok (none, s, r)
 each_at one (suc n) s r = do
   first ← one s r
   others ← each_at one n first.1 first.2
+  Ok (tree first.0 others.0, others.1, others.2)
+
+-- the members of a struct, one after the other
+abbrev pub members_at : {S : Type 0} → (TypeRef → Reader S Tree) → List Member → Reader S Trees
+members_at read [] s r = Ok (none, s, r)
+members_at read (m ∷ ms) s r = do
+  first ← read m.kind s r
+  others ← members_at read ms first.1 first.2
   Ok (tree first.0 others.0, others.1, others.2)
 
 -- a key that none of those before is; known when the key has been read whole
@@ -60,6 +69,7 @@ module _ {S : Type 0} (port : Port S) (t : Tables) where
   value_step read kinds.Text = made text (plain text_at)
   value_step read (kinds.Seq at) = λ s r. listed (slice_get t.seqs at) r (λ q. made sequence (sized (each_at (read q.element))) s r)
   value_step read (kinds.Dict at) = λ s r. listed (slice_get t.dicts at) r (λ d. made dictionary (sized (λ n. pairs_at (read d.key) (read d.value) n no_entry)) s r)
+  value_step read (kinds.Struct at) = λ s r. listed (slice_get t.structs at) r (λ d. made struct (members_at read d.members) s r)
 
   -- No type of a schema nests deeper than a hundred levels, so it is read within them.
   abbrev pub value_at : ℕ → TypeRef → Reader S Tree

@@ -1,6 +1,6 @@
 -- When two values are the same one: the pairs of a dictionary may stand in any order.
 use Rattle.std.specs.Prelude.{◌≡◌, ◌⊎◌}
-use Rattle.ice_encoding.specs.Tree.{Tree, boolean, byte, short, int, long, text, sequence, dictionary, Trees, none, tree, Entries, no_entry, entry, entry_count}
+use Rattle.ice_encoding.specs.Tree.{Tree, boolean, byte, short, int, long, text, sequence, dictionary, struct, Trees, none, tree, Entries, no_entry, entry, entry_count}
 use Rattle.ice_encoding.specs.Order.{IsRising}
 
 -- some pair has such a key and such a value
@@ -18,6 +18,7 @@ abbrev mutual
   Same (text a) (text b) = a ≡ b
   Same (sequence a) (sequence b) = SameEach a b
   Same (dictionary a) (dictionary b) = (entry_count a ≡ entry_count b) × AreAmong a b
+  Same (struct a) (struct b) = SameEach a b
   Same a b = ⊥
 
   pub SameEach : Trees → Trees → Type 0
@@ -41,6 +42,7 @@ abbrev mutual
   IsOrdered (text s) = Unit {0}
   IsOrdered (sequence items) = EachOrdered items
   IsOrdered (dictionary pairs) = IsRising pairs × PairsOrdered pairs
+  IsOrdered (struct members) = EachOrdered members
 
   pub EachOrdered : Trees → Type 0
   EachOrdered none = Unit {0}

@@ -1,13 +1,15 @@
 -- Which bytes spell a value of a type that nests at most so deep, from a state to a state.
-use Rattle.std.specs.Prelude.{ℕ, zero, suc, ◌≡◌, List, [], ◌++◌, Some, slice_get}
+use Rattle.std.specs.Prelude.{ℕ, zero, suc, ◌≡◌, List, [], ◌∷◌, ◌++◌, Some, slice_get}
 use Rattle.std.specs.Int.{w16, w32, w64}
 use Rattle.ice_types.specs.declared.kind.TypeRef.{TypeRef}
 use Rattle.ice_types.specs.declared.kind.TypeRef.TheVariants as kinds
 use Rattle.ice_types.specs.declared.declarations.SeqDecl.{SeqDecl}
 use Rattle.ice_types.specs.declared.declarations.DictDecl.{DictDecl}
+use Rattle.ice_types.specs.declared.declarations.Member.{Member}
+use Rattle.ice_types.specs.declared.declarations.StructDecl.{StructDecl}
 use Rattle.ice_types.specs.Tables.{Tables}
 use Rattle.ice_prims.specs.Number.{SpellsBool, SpellsByte, SpellsSigned, SpellsSize, SpellsText}
-use Rattle.ice_encoding.specs.Tree.{Tree, boolean, byte, short, int, long, text, sequence, dictionary, Trees, none, tree, Entries, no_entry}
+use Rattle.ice_encoding.specs.Tree.{Tree, boolean, byte, short, int, long, text, sequence, dictionary, struct, Trees, none, tree, Entries, no_entry}
 use Rattle.ice_encoding.specs.Order.{LacksKey, insert}
 use Rattle.ice_encoding.specs.Port.{Port, Speller}
 
@@ -29,6 +31,12 @@ Each {S} One zero bytes items from to = (bytes ≡ []) × (items ≡ none) × (t
 Each {S} One (suc n) bytes items from to = (v : Tree) × (vs : Trees) × (a b : List ℕ) × (mid : S)
     × (items ≡ tree v vs) × (bytes ≡ a ++ b) × One a v from mid × Each One n b vs mid to
 
+-- the members of a struct, one after the other
+abbrev pub Members : {S : Type 0} → (TypeRef → Speller S Tree) → List Member → Speller S Trees
+Members {S} One [] bytes items from to = (bytes ≡ []) × (items ≡ none) × (to ≡ from)
+Members {S} One (m ∷ ms) bytes items from to = (v : Tree) × (vs : Trees) × (a b : List ℕ) × (mid : S)
+    × (items ≡ tree v vs) × (bytes ≡ a ++ b) × One m.kind a v from mid × Members One ms b vs mid to
+
 -- So many pairs beside those before, in any order. No key is one of those before.
 abbrev pub Pairs : {S : Type 0} → Speller S Tree → Speller S Tree → ℕ → Entries → Speller S Entries
 Pairs {S} Key Held zero before bytes pairs from to = (bytes ≡ []) × (pairs ≡ before) × (to ≡ from)
@@ -47,6 +55,7 @@ module _ {S : Type 0} (port : Port S) (t : Tables) where
   SpellsParts One (kinds.Seq at) = λ bytes v from to. (q : SeqDecl) × (slice_get t.seqs at ≡ Some q) × Made sequence (Sized (Each (One q.element))) bytes v from to
   SpellsParts One (kinds.Dict at) = λ bytes v from to. (d : DictDecl) × (slice_get t.dicts at ≡ Some d)
       × Made dictionary (Sized (λ n. Pairs (One d.key) (One d.value) n no_entry)) bytes v from to
+  SpellsParts One (kinds.Struct at) = λ bytes v from to. (d : StructDecl) × (slice_get t.structs at ≡ Some d) × Made struct (Members One d.members) bytes v from to
 
   abbrev pub SpellsValue : ℕ → TypeRef → Speller S Tree
   SpellsValue zero kind = λ bytes v from to. ⊥

@@ -12,6 +12,8 @@ mutual
     sequence : Trees → Tree
     -- pairs in rising order of their keys
     dictionary : Entries → Tree
+    -- the values of a struct's members
+    struct : Trees → Tree
 
   pub data Trees : Type 0 where
     none : Trees

@@ -78,10 +78,17 @@ pub fn encapsulations_apart()
         → SpellsEncapsulation t kind bytes v → SpellsEncapsulation t kind bytes w → v ≡ w }
 {}
 
-/// The canonical encapsulation of a value holds it, and is as long as any encapsulation of it. So
-/// relaying what was relayed changes nothing.
+/// The canonical encapsulation of a value holds it, and is as long as any encapsulation of it.
 pub fn encapsulations_canonical()
     ensures { (t : Tables) (kind : TypeRef) (bytes : List ℕ) (v : Tree)
         → IsBytes bytes → SpellsEncapsulation t kind bytes v
         → SpellsEncapsulation t kind (encapsulation_bytes v) v × (length (encapsulation_bytes v) ≡ length bytes) }
+{}
+
+/// Relaying what was relayed changes nothing: it holds a value, and the canonical encapsulation of
+/// that value is the same bytes.
+pub fn relaying_again()
+    ensures { (t : Tables) (kind : TypeRef) (bytes : List ℕ) (v w : Tree)
+        → IsBytes bytes → SpellsEncapsulation t kind bytes v
+        → SpellsEncapsulation t kind (encapsulation_bytes v) w → encapsulation_bytes w ≡ encapsulation_bytes v }
 {}
