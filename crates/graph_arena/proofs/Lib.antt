@@ -1,4 +1,5 @@
 pub mod Shapes
+pub mod Comparisons
 pub mod Rising
 pub mod Sorting
 pub mod SortedLaws

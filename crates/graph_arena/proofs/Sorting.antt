@@ -12,67 +12,53 @@ use Rattle.ice_encoding.specs.Order.{tree_cmp, insert, has_key}
 use Rattle.ice_encoding.proofs.Order.{turns}
 use Rattle.graph_arena.specs.declared.value.Value.{Value}
 use Rattle.graph_arena.specs.declared.value.Value.TheVariants as variants
-use Rattle.graph_arena.specs.declared.key.KeyRef.{KeyRef}
-use Rattle.graph_arena.specs.declared.key.KeyRef.TheVariants as keys
-use Rattle.graph_arena.specs.contracts.key.KeyRefOrd.TheImpl.{cmp-value}
-use Rattle.graph_arena.specs.Keys.{key_tree}
-use Rattle.graph_arena.specs.Sorted.{sorted, sorted_each, sorted_onto, has_equal_keys, some_has_equal_keys, have_equal_keys}
-use Rattle.graph_arena.specs.Sorting.{view_map, UnlessEqual, Puts}
+use Rattle.graph_arena.specs.Sorted.{sorted, sorted_each, sorted_onto, has_sorted_key, has_equal_keys, some_has_equal_keys, have_equal_keys}
+use Rattle.graph_arena.specs.Sorting.{UnlessEqual, Puts}
 use Rattle.graph_arena.proofs.Shapes.{view_dict}
 use Rattle.graph_arena.specs.View.{view, view_all, view_pairs, trees_of}
 
 -- ---- what a map of keys holds
 
-module _ (cmp : KeyRef → KeyRef → Ordering) (agrees : (a b : KeyRef) → cmp a b ≡ tree_cmp (key_tree a) (key_tree b)) where
+module _ (cmp : Value → Value → Ordering) (agrees : (a b : Value) → cmp a b ≡ tree_cmp (view a) (view b)) where
   -- whether the key is among those of the map
-  pub found_is : (k : KeyRef) (es : List (KeyRef × Value)) → is_some (lookup (is_at (cmp k)) es) ≡ has_key (key_tree k) (view_map es)
+  pub found_is : (k : Value) (es : List (Value × Value)) → is_some (lookup (is_at (cmp k)) es) ≡ has_key (view k) (view_pairs es)
   found_is k [] = refl
-  found_is k (e ∷ es) = rw agrees (by_test (is_eq (tree_cmp (key_tree k) (key_tree e.0))) (found_is k es))
+  found_is k (e ∷ es) = rw agrees (by_test (is_eq (tree_cmp (view k) (view e.0))) (found_is k es))
     where
-      by_test : (b : Bool) → is_some (lookup (is_at (cmp k)) es) ≡ has_key (key_tree k) (view_map es) → is_some (cond b (Some e.1) (lookup (is_at (cmp k)) es)) ≡ (b || has_key (key_tree k) (view_map es))
+      by_test : (b : Bool) → is_some (lookup (is_at (cmp k)) es) ≡ has_key (view k) (view_pairs es) → is_some (cond b (Some e.1) (lookup (is_at (cmp k)) es)) ≡ (b || has_key (view k) (view_pairs es))
       by_test true h = refl
       by_test false h = h
 
   -- a new key goes to its place
-  pub put_is : (k : KeyRef) (v : Value) (es : List (KeyRef × Value)) → has_key (key_tree k) (view_map es) ≡ false → view_map (insert_entry cmp es k v) ≡ insert (key_tree k) (view v) (view_map es)
+  pub put_is : (k : Value) (v : Value) (es : List (Value × Value)) → has_key (view k) (view_pairs es) ≡ false → view_pairs (insert_entry cmp es k v) ≡ insert (view k) (view v) (view_pairs es)
   put_is k v [] h = refl
-  put_is k v (e ∷ es) h = rw agrees (by_order (tree_cmp (key_tree k) (key_tree e.0)) h (put_is k v es))
+  put_is k v (e ∷ es) h = rw agrees (by_order (tree_cmp (view k) (view e.0)) h (put_is k v es))
     where
-      by_order : (o : Ordering) → (is_eq o || has_key (key_tree k) (view_map es)) ≡ false → (has_key (key_tree k) (view_map es) ≡ false → view_map (insert_entry cmp es k v) ≡ insert (key_tree k) (view v) (view_map es))
-          → view_map (match_ordering o ((k, v) ∷ e ∷ es) ((e.0, v) ∷ es) (e ∷ insert_entry cmp es k v)) ≡ cond (is_lt o) (entry (key_tree k) (view v) (entry (key_tree e.0) (view e.1) (view_map es))) (entry (key_tree e.0) (view e.1) (insert (key_tree k) (view v) (view_map es)))
+      by_order : (o : Ordering) → (is_eq o || has_key (view k) (view_pairs es)) ≡ false → (has_key (view k) (view_pairs es) ≡ false → view_pairs (insert_entry cmp es k v) ≡ insert (view k) (view v) (view_pairs es))
+          → view_pairs (match_ordering o ((k, v) ∷ e ∷ es) ((e.0, v) ∷ es) (e ∷ insert_entry cmp es k v)) ≡ cond (is_lt o) (entry (view k) (view v) (entry (view e.0) (view e.1) (view_pairs es))) (entry (view e.0) (view e.1) (insert (view k) (view v) (view_pairs es)))
       by_order Less h g = refl
       by_order Equal h g = absurd cc
-      by_order Greater h g = ap (entry (key_tree e.0) (view e.1)) (g h)
+      by_order Greater h g = ap (entry (view e.0) (view e.1)) (g h)
 
 -- what the map's own call answers
-pub puts : (cmp : KeyRef → KeyRef → Ordering) → ((a b : KeyRef) → cmp a b ≡ tree_cmp (key_tree a) (key_tree b)) → (k : KeyRef) (v : Value) (es new : List (KeyRef × Value)) (old : Option Value) (fresh : Bool)
-    → old ≡ lookup (is_at (cmp k)) es → new ≡ insert_entry cmp es k v → is_some old ≡ not fresh → Puts (key_tree k) (view v) (view_map es) (view_map new) fresh
+pub puts : (cmp : Value → Value → Ordering) → ((a b : Value) → cmp a b ≡ tree_cmp (view a) (view b)) → (k : Value) (v : Value) (es new : List (Value × Value)) (old : Option Value) (fresh : Bool)
+    → old ≡ lookup (is_at (cmp k)) es → new ≡ insert_entry cmp es k v → is_some old ≡ not fresh → Puts (view k) (view v) (view_pairs es) (view_pairs new) fresh
 puts cmp agrees k v es new old true was is test =
-    let lacks : has_key (key_tree k) (view_map es) ≡ false = sym (found_is cmp agrees k es) ∙ ap is_some (sym was) ∙ test in
-    (lacks, ap view_map is ∙ put_is cmp agrees k v es lacks)
+    let lacks : has_key (view k) (view_pairs es) ≡ false = sym (found_is cmp agrees k es) ∙ ap is_some (sym was) ∙ test in
+    (lacks, ap view_pairs is ∙ put_is cmp agrees k v es lacks)
 puts cmp agrees k v es new old false was is test = sym (found_is cmp agrees k es) ∙ ap is_some (sym was) ∙ test
-
--- the derived order of keys is the order of their values
-pub key_order : (a b : KeyRef) → cmp-value.it a b ≡ tree_cmp (key_tree a) (key_tree b)
-key_order (keys.Bool a) (keys.Bool b) = refl
-key_order (keys.Byte a) (keys.Byte b) = refl
-key_order (keys.Short a) (keys.Short b) = refl
-key_order (keys.Int a) (keys.Int b) = refl
-key_order (keys.Long a) (keys.Long b) = refl
-key_order (keys.Text a) (keys.Text b) = refl
-key_order a b = refl
 
 -- ---- which keys are equal
 
 -- two keys are equal, of those before or of what follows
 abbrev pub equal_onto : Entries → Entries → Bool
 equal_onto before no_entry = false
-equal_onto before (entry k v rest) = has_key k before || (has_equal_keys v || equal_onto (insert k (sorted v) before) rest)
+equal_onto before (entry k v rest) = has_key (sorted k) before || (has_equal_keys k || (has_equal_keys v || equal_onto (insert (sorted k) (sorted v) before) rest))
 
 -- one key stands in both
 abbrev meets : Entries → Entries → Bool
 meets before no_entry = false
-meets before (entry k v rest) = has_key k before || meets before rest
+meets before (entry k v rest) = has_key (sorted k) before || meets before rest
 
 eq_turns : (k l : Tree) → is_eq (tree_cmp k l) ≡ is_eq (tree_cmp l k)
 eq_turns k l = ap is_eq (turns k l) ∙ at (tree_cmp l k)
@@ -102,25 +88,29 @@ or_middle false true true d = refl
 or_middle false true false d = refl
 or_middle false false c d = refl
 
-meets_inserted : (k v : Tree) (before rest : Entries) → meets (insert k v before) rest ≡ (has_key k rest || meets before rest)
+meets_inserted : (k v : Tree) (before rest : Entries) → meets (insert k v before) rest ≡ (has_sorted_key k rest || meets before rest)
 meets_inserted k v before no_entry = refl
 meets_inserted k v before (entry l w rest) =
-    rw (has_inserted l k v before, meets_inserted k v before rest, eq_turns l k) (or_middle (is_eq (tree_cmp k l)) (has_key l before) (has_key k rest) (meets before rest))
+    rw (has_inserted (sorted l) k v before, meets_inserted k v before rest, eq_turns (sorted l) k) (or_middle (is_eq (tree_cmp k (sorted l))) (has_key (sorted l) before) (has_sorted_key k rest) (meets before rest))
 
-or_apart : (a b m r h : Bool) → (a || (b || ((r || m) || h))) ≡ ((a || m) || (r || (b || h)))
-or_apart true b m r h = refl
-or_apart false true true r h = refl
-or_apart false true false true h = refl
-or_apart false true false false h = refl
-or_apart false false true true h = refl
-or_apart false false true false h = refl
-or_apart false false false true h = refl
-or_apart false false false false h = refl
+or_apart : (a x b m r h : Bool) → (a || (x || (b || ((r || m) || h)))) ≡ ((a || m) || (r || (x || (b || h))))
+or_apart true x b m r h = refl
+or_apart false true b true r h = refl
+or_apart false true b false true h = refl
+or_apart false true b false false h = refl
+or_apart false false true true r h = refl
+or_apart false false true false true h = refl
+or_apart false false true false false h = refl
+or_apart false false false true true h = refl
+or_apart false false false true false h = refl
+or_apart false false false false true h = refl
+or_apart false false false false false h = refl
 
 equal_apart : (before rest : Entries) → equal_onto before rest ≡ (meets before rest || have_equal_keys rest)
 equal_apart before no_entry = refl
 equal_apart before (entry k v rest) =
-    rw (equal_apart (insert k (sorted v) before) rest, meets_inserted k (sorted v) before rest) (or_apart (has_key k before) (has_equal_keys v) (meets before rest) (has_key k rest) (have_equal_keys rest))
+    rw (equal_apart (insert (sorted k) (sorted v) before) rest, meets_inserted (sorted k) (sorted v) before rest)
+    (or_apart (has_key (sorted k) before) (has_equal_keys k) (has_equal_keys v) (meets before rest) (has_sorted_key (sorted k) rest) (have_equal_keys rest))
 
 meets_none : (rest : Entries) → meets no_entry rest ≡ false
 meets_none no_entry = refl
@@ -139,23 +129,6 @@ pub join_none : (ps : Entries) → join ps no_entry ≡ ps
 join_none no_entry = refl
 join_none (entry k v rest) = ap (entry k v) (join_none rest)
 
-pub pushed : (ps : List (Value × Value)) (p : Value × Value) (others : Entries) → join (view_pairs (ps ++ p ∷ [])) others ≡ join (view_pairs ps) (entry (view p.0) (view p.1) others)
-pushed [] p others = refl
-pushed (q ∷ ps) p others = ap (entry (view q.0) (view q.1)) (pushed ps p others)
-
-pub out_more : (ps qs : List (Value × Value)) (es fs : List (KeyRef × Value)) (k : KeyRef) (v key : Value) (total : Entries) → es ≡ (k, v) ∷ fs → view key ≡ key_tree k → qs ≡ ps ++ (key, v) ∷ []
-    → join (view_pairs ps) (view_map es) ≡ total → join (view_pairs qs) (view_map fs) ≡ total
-out_more ps qs es fs k v key total first same more h =
-    ap (λ (l : List (Value × Value)). join (view_pairs l) (view_map fs)) more ∙ pushed ps (key, v) (view_map fs)
-    ∙ ap (λ (t : Tree). join (view_pairs ps) (entry t (view v) (view_map fs))) same ∙ ap (λ (l : List (KeyRef × Value)). join (view_pairs ps) (view_map l)) (sym first) ∙ h
-
-pub all_out : (ps : List (Value × Value)) (es : List (KeyRef × Value)) (total : Entries) → (0 < length es → false ≡ true) → join (view_pairs ps) (view_map es) ≡ total → view_pairs ps ≡ total
-all_out ps [] total left h = sym (join_none (view_pairs ps)) ∙ h
-all_out ps (e ∷ es) total left h = absurd (at (left (omega arith)))
-  where
-    at : false ≡ true → ⊥
-    at e = cc
-
 -- ---- what is copied whole
 
 copied_each : (vs : List Tree) → trees_of (map sorted vs) ≡ sorted_each (trees_of vs)
@@ -173,10 +146,10 @@ items_copied items copies i last copied equal =
     let all : take i items ≡ items = ap (λ (n : ℕ). take n items) last ∙ take-length items in
     (sym equal ∙ none_left, ap trees_of (copied ∙ ap (λ (l : List Value). map (λ v. sorted (view v)) l) all ∙ map_sorted items) ∙ copied_each (map view items))
 
-pub pairs_copied : (value : Value) (pairs slice copies : List (Value × Value)) (answer : Option (BTreeMap KeyRef Value)) (m : BTreeMap KeyRef Value) → value ≡ variants.Pairs pairs → slice ≡ pairs → answer ≡ Some m
-    → UnlessEqual (λ m. view_map m.entries) (have_equal_keys (view_pairs slice)) (sorted_onto no_entry (view_pairs slice)) answer → view_pairs copies ≡ view_map m.entries
+pub pairs_copied : (value : Value) (pairs slice copies : List (Value × Value)) (answer : Option (BTreeMap Value Value)) (m : BTreeMap Value Value) → value ≡ variants.Pairs pairs → slice ≡ pairs → answer ≡ Some m
+    → UnlessEqual (λ m. view_pairs m.entries) (have_equal_keys (view_pairs slice)) (sorted_onto no_entry (view_pairs slice)) answer → view_pairs copies ≡ view_pairs m.entries
     → (has_equal_keys (view value) ≡ false) × (view (variants.Pairs copies) ≡ sorted (view value))
 pairs_copied value pairs slice copies answer m is same found h out =
     let shape : view value ≡ dictionary (view_pairs slice) = ap view is ∙ view_dict pairs ∙ ap (λ (l : List (Value × Value)). dictionary (view_pairs l)) (sym same) in
-    let here : (have_equal_keys (view_pairs slice) ≡ false) × (view_map m.entries ≡ sorted_onto no_entry (view_pairs slice)) = subst (UnlessEqual (λ m. view_map m.entries) (have_equal_keys (view_pairs slice)) (sorted_onto no_entry (view_pairs slice))) found h in
+    let here : (have_equal_keys (view_pairs slice) ≡ false) × (view_pairs m.entries ≡ sorted_onto no_entry (view_pairs slice)) = subst (UnlessEqual (λ m. view_pairs m.entries) (have_equal_keys (view_pairs slice)) (sorted_onto no_entry (view_pairs slice))) found h in
     (ap has_equal_keys shape ∙ here.0, view_dict copies ∙ ap dictionary (out ∙ here.1) ∙ sym (ap sorted shape))

@@ -1,4 +1,4 @@
 pub mod View
+pub mod Comparing
 pub mod Sorted
-pub mod Keys
 pub mod Sorting

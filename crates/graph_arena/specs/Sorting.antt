@@ -1,11 +1,9 @@
 -- What sorting answers and leaves.
-use Rattle.std.specs.Prelude.{Bool, true, false, ◌≡◌, List, [], ◌∷◌, Option, None, Some, Result, Ok, Err}
+use Rattle.std.specs.Prelude.{Bool, true, false, ◌≡◌, Option, None, Some, Result, Ok, Err}
 use Rattle.std.specs.declared.alloc.AllocError.{AllocError}
 use Rattle.ice_encoding.specs.Order.{insert, has_key}
-use Rattle.ice_encoding.specs.Tree.{Tree, Entries, no_entry, entry}
-use Rattle.graph_arena.specs.declared.key.KeyRef.{KeyRef}
+use Rattle.ice_encoding.specs.Tree.{Tree, Entries}
 use Rattle.graph_arena.specs.declared.value.Value.{Value}
-use Rattle.graph_arena.specs.Keys.{key_tree}
 use Rattle.graph_arena.specs.Sorted.{sorted, has_equal_keys}
 use Rattle.graph_arena.specs.View.{view}
 
@@ -19,11 +17,6 @@ Sorts old new (Err e) = new ≡ old
 abbrev pub UnlessEqual : {X Y : Type 0} → (X → Y) → Bool → Y → Option X → Type 0
 UnlessEqual view equal wanted (Some x) = (equal ≡ false) × (view x ≡ wanted)
 UnlessEqual view equal wanted None = equal ≡ true
-
--- the entries of a map by key, as pairs of a dictionary
-abbrev pub view_map : List (KeyRef × Value) → Entries
-view_map [] = no_entry
-view_map (e ∷ es) = entry (key_tree e.0) (view e.1) (view_map es)
 
 -- whether the key was new, and where it was, the pair among the others
 abbrev pub Puts : Tree → Tree → Entries → Entries → Bool → Type 0

@@ -1,14 +1,13 @@
-//! Values of types that are known at run time alone.
+//! Values of types that are known at run time alone, and the order in which they stand as keys.
 #![tactic(auto)]
 
-mod key;
+mod compare;
 mod order;
 mod sort;
 #[cfg(test)]
 mod tests;
 mod value;
 
-pub use key::KeyRef;
 pub use order::is_sorted;
 pub use sort::{in_order, sort_pairs};
 pub use value::Value;

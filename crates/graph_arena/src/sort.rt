@@ -2,23 +2,20 @@
 
 ghost use Rattle.std.specs.Prelude.{◌≡◌, IfOk};
 ghost use Rattle.ice_encoding.specs.Tree.{no_entry};
-ghost use Rattle.graph_arena.specs.Keys.{key_tree};
-ghost use Rattle.graph_arena.specs.Sorted.{HasPlainKeys, EachHasPlainKeys, HavePlainKeys, sorted, sorted_each, sorted_onto, has_equal_keys, some_has_equal_keys, have_equal_keys};
-ghost use Rattle.graph_arena.specs.Sorting.{Sorts, UnlessEqual, Puts, view_map};
+ghost use Rattle.graph_arena.specs.Sorted.{sorted, sorted_each, sorted_onto, has_equal_keys, some_has_equal_keys, have_equal_keys};
+ghost use Rattle.graph_arena.specs.Sorting.{Sorts, UnlessEqual, Puts};
 ghost use Rattle.graph_arena.specs.View.{view, view_all, view_pairs};
 
 use crate::Value;
-use crate::key::{KeyRef, key_of, value_of};
 use crate::order::is_sorted;
 use ice_types::{List, Name};
 use std::alloc::{AllocError, Global};
 use std::collections::BTreeMap;
 
-/// Puts the pairs of every dictionary inside the value into rising key order, where all keys are of
-/// built-in types. False, with the value as it was, where two keys of one dictionary are equal. Want
-/// of memory leaves the value as it was; a value in order takes none.
+/// Puts the pairs of every dictionary inside the value into rising key order. False, with the value
+/// as it was, where two keys of one dictionary are equal. Want of memory leaves the value as it was;
+/// a value in order takes none.
 pub fn sort_pairs(alloc: Global, value: &mut Value) -> Result<bool, AllocError>
-    requires { HasPlainKeys (view value.old) }
     ensures { Sorts value.old value.new result }
 {
     if is_sorted(value) {
@@ -36,7 +33,6 @@ pub fn sort_pairs(alloc: Global, value: &mut Value) -> Result<bool, AllocError>
 /// The value with its dictionaries in order, or None where keys are equal.
 #[cycle(copies)]
 fn sorted_copy(alloc: Global, value: &Value) -> Result<Option<Value>, AllocError>
-    requires { HasPlainKeys (view value.now) }
     ensures { IfOk result (UnlessEqual view (has_equal_keys (view value.now)) (sorted (view value.now))) }
 {
     match value {
@@ -50,6 +46,10 @@ fn sorted_copy(alloc: Global, value: &Value) -> Result<Option<Value>, AllocError
             Some(items) => Ok(Some(Value::Seq(items))),
             None => Ok(None),
         },
+        Value::Members(items) => match sorted_items(alloc, items.as_slice())? {
+            Some(items) => Ok(Some(Value::Members(items))),
+            None => Ok(None),
+        },
         Value::Pairs(pairs) => match by_key(alloc, pairs.as_slice())? {
             Some(map) => Ok(Some(Value::Pairs(in_order(alloc, map)?))),
             None => Ok(None),
@@ -60,7 +60,6 @@ fn sorted_copy(alloc: Global, value: &Value) -> Result<Option<Value>, AllocError
 /// The items, each with its dictionaries in order, or None where keys are equal.
 #[cycle(copies)]
 fn sorted_items(alloc: Global, items: &[Value]) -> Result<Option<List<Value>>, AllocError>
-    requires { EachHasPlainKeys (view_all items.now) }
     ensures { IfOk result (UnlessEqual view_all (some_has_equal_keys (view_all items.now)) (sorted_each (view_all items.now))) }
 {
     let mut copies = List::new(alloc);
@@ -75,19 +74,21 @@ fn sorted_items(alloc: Global, items: &[Value]) -> Result<Option<List<Value>>, A
 
 /// The values by their keys, each with its dictionaries in order, or None where keys are equal.
 #[cycle(copies)]
-fn by_key<'a>(
+fn by_key(
     alloc: Global,
-    pairs: &'a [(Value, Value)],
-) -> Result<Option<BTreeMap<KeyRef<'a>, Value>>, AllocError>
-    requires { HavePlainKeys (view_pairs pairs.now) }
-    ensures { IfOk result (UnlessEqual (λ m. view_map m.entries) (have_equal_keys (view_pairs pairs.now)) (sorted_onto no_entry (view_pairs pairs.now))) }
+    pairs: &[(Value, Value)],
+) -> Result<Option<BTreeMap<Value, Value>>, AllocError>
+    ensures { IfOk result (UnlessEqual (λ m. view_pairs m.entries) (have_equal_keys (view_pairs pairs.now)) (sorted_onto no_entry (view_pairs pairs.now))) }
 {
     let mut map = BTreeMap::new(alloc);
     for pair in pairs {
+        let Some(key) = sorted_copy(alloc, &pair.0)? else {
+            return Ok(None);
+        };
         let Some(value) = sorted_copy(alloc, &pair.1)? else {
             return Ok(None);
         };
-        if !put(&mut map, key_of(&pair.0), value)? {
+        if !put(&mut map, key, value)? {
             return Ok(None);
         }
     }
@@ -95,12 +96,8 @@ fn by_key<'a>(
 }
 
 /// Puts a value at a new key. False where the key is not new.
-fn put<'a>(
-    map: &mut BTreeMap<KeyRef<'a>, Value>,
-    key: KeyRef<'a>,
-    value: Value,
-) -> Result<bool, AllocError>
-    ensures { IfOk result (Puts (key_tree key.entry) (view value) (view_map map.old.entries) (view_map map.new.entries)) }
+fn put(map: &mut BTreeMap<Value, Value>, key: Value, value: Value) -> Result<bool, AllocError>
+    ensures { IfOk result (Puts (view key) (view value) (view_pairs map.old.entries) (view_pairs map.new.entries)) }
 {
     Ok(map.insert(key, value)?.is_none())
 }
@@ -108,14 +105,13 @@ fn put<'a>(
 /// The pairs of a map, in the order of their keys.
 pub fn in_order(
     alloc: Global,
-    mut map: BTreeMap<KeyRef<'_>, Value>,
+    mut map: BTreeMap<Value, Value>,
 ) -> Result<List<(Value, Value)>, AllocError>
-    ensures { IfOk result (λ pairs. view_pairs pairs ≡ view_map map.entry.entries) }
+    ensures { IfOk result (λ pairs. pairs ≡ map.entries) }
 {
     let mut pairs = List::new(alloc);
-    while let Some((key, value)) = map.pop_first() {
-        let key = value_of(alloc, key)?;
-        pairs.push((key, value))?;
+    while let Some(pair) = map.pop_first() {
+        pairs.push(pair)?;
     }
     Ok(pairs)
 }

@@ -1,16 +1,25 @@
-ghost use Rattle.std.specs.Prelude.{◌≡◌, IfOk};
-ghost use Rattle.graph_arena.specs.Sorted.{HasPlainKeys, HavePlainKeys};
-ghost use Rattle.graph_arena.specs.View.{view, view_pairs};
-
-use crate::key::KeyRef::{self, Bool, Byte, Int, Long, Short, Text};
-use crate::key::value_of;
 use crate::{Value, is_sorted, sort_pairs};
-use ice_types::List;
+use ice_types::{List, Name};
 use std::alloc::{AllocError, Global};
 use std::test::Fail;
 
+/// A key, as a table can hold it.
+#[derive(Clone, Copy)]
+enum Key {
+    Bool(bool),
+    Byte(u8),
+    Short(i16),
+    Int(i32),
+    Long(i64),
+    Text(&'static str),
+    /// A struct of a text and a number.
+    Both(&'static str, i32),
+}
+
+use Key::{Bool, Both, Byte, Int, Long, Short, Text};
+
 /// Keys as they stand, and in rising order.
-const ORDERS: [(&[KeyRef], &[KeyRef]); 9] = [
+const ORDERS: [(&[Key], &[Key]); 11] = [
     (&[], &[]),
     (&[Bool(true), Bool(false)], &[Bool(false), Bool(true)]),
     (
@@ -41,35 +50,59 @@ const ORDERS: [(&[KeyRef], &[KeyRef]); 9] = [
         &[Text("\u{10000}"), Text("\u{fffd}")],
         &[Text("\u{fffd}"), Text("\u{10000}")],
     ),
+    (
+        &[Both("a", 2), Both("a", 1), Both("a", -1)],
+        &[Both("a", -1), Both("a", 1), Both("a", 2)],
+    ),
+    (
+        &[Both("ab", 1), Both("b", 0), Both("a", 9)],
+        &[Both("a", 9), Both("ab", 1), Both("b", 0)],
+    ),
 ];
 
 /// Keys of which two are equal.
-const EQUALS: [&[KeyRef]; 4] = [
+const EQUALS: [&[Key]; 5] = [
     &[Int(1), Int(1), Int(2), Int(3)],
     &[Int(1), Int(2), Int(2), Int(3)],
     &[Int(1), Int(2), Int(3), Int(3)],
     &[Text("b"), Text("a"), Text("c"), Text("b")],
+    &[Both("a", 1), Both("b", 1), Both("a", 1)],
 ];
 
+fn value_of(alloc: Global, key: Key) -> Result<Value, AllocError> {
+    match key {
+        Bool(b) => Ok(Value::Bool(b)),
+        Byte(n) => Ok(Value::Byte(n)),
+        Short(n) => Ok(Value::Short(n)),
+        Int(n) => Ok(Value::Int(n)),
+        Long(n) => Ok(Value::Long(n)),
+        Text(text) => Ok(Value::Text(Name::of(alloc, text)?)),
+        Both(text, n) => {
+            let mut members = List::new(alloc);
+            members.push(Value::Text(Name::of(alloc, text)?))?;
+            members.push(Value::Int(n))?;
+            Ok(Value::Members(members))
+        }
+    }
+}
+
 /// A dictionary of these keys, each with itself as its value.
-fn pairs_of(alloc: Global, keys: &[KeyRef<'_>]) -> Result<List<(Value, Value)>, AllocError>
-    ensures { IfOk result (λ pairs. HavePlainKeys (view_pairs pairs)) }
-{
+fn pairs_of(alloc: Global, keys: &[Key]) -> Result<Value, AllocError> {
     let mut pairs = List::new(alloc);
     for key in keys {
         pairs.push((value_of(alloc, *key)?, value_of(alloc, *key)?))?;
     }
-    Ok(pairs)
+    Ok(Value::Pairs(pairs))
 }
 
-/// The dictionary inside a dictionary's value inside a sequence.
-fn nested(alloc: Global, keys: &[KeyRef<'_>]) -> Result<Value, AllocError>
-    ensures { IfOk result (λ value. HasPlainKeys (view value)) }
-{
+/// The dictionary inside a dictionary's value inside a struct inside a sequence.
+fn nested(alloc: Global, keys: &[Key]) -> Result<Value, AllocError> {
     let mut pairs = List::new(alloc);
-    pairs.push((Value::Byte(0), Value::Pairs(pairs_of(alloc, keys)?)))?;
+    pairs.push((Value::Byte(0), pairs_of(alloc, keys)?))?;
+    let mut members = List::new(alloc);
+    members.push(Value::Pairs(pairs))?;
     let mut items = List::new(alloc);
-    items.push(Value::Pairs(pairs))?;
+    items.push(Value::Members(members))?;
     Ok(Value::Seq(items))
 }
 

@@ -15,4 +15,6 @@ pub enum Value {
     Seq(List<Value>),
     /// The pairs of a dictionary.
     Pairs(List<(Value, Value)>),
+    /// The values of a struct's members, in order.
+    Members(List<Value>),
 }

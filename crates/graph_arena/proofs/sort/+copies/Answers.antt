@@ -1,19 +1,18 @@
-use Rattle.std.proofs.Common.{refl, arith}
+use Rattle.std.proofs.Common.{refl, ap, arith}
 use Rattle.graph_arena.specs.View.{view_pairs}
 use Rattle.graph_arena.proofs.Sorting.{equal_is, items_copied, pairs_copied}
 use Rattle.graph_arena.proofs.sort.+copies.Goals as goal
 
 pub by_key-loop-pair-init : goal.by_key-loop-pair-init
 by_key-loop-pair-init t c = record {
-  plain = c.requires;
   put = rw c.new-map.ensures.empty refl;
   equal = rw c.new-map.ensures.empty (equal_is (view_pairs c.args.pairs.now));
 }
 
-pub sorted_copy-returns-in_ok-in_order-in-Some-2 :
-    goal.sorted_copy-returns-in_ok-in_order-in-Some-2
-sorted_copy-returns-in_ok-in_order-in-Some-2 t c =
-    pairs_copied c.args.value.now c.in-Pairs.pairs c.as_slice-in-Pairs.result.now c.in_ok-in_order-in-Some-2.field-0 c.in_ok-map-in-Pairs.field-0 c.in-Some-2.map c.in-Pairs.is c.as_slice-in-Pairs.ensures c.in-Some-2.is c.in_ok-map-in-Pairs.ensures c.in_ok-in_order-in-Some-2.ensures
+pub sorted_copy-returns-in_ok-in_order-in-Some-3 :
+    goal.sorted_copy-returns-in_ok-in_order-in-Some-3
+sorted_copy-returns-in_ok-in_order-in-Some-3 t c =
+    pairs_copied c.args.value.now c.in-Pairs.pairs c.as_slice-in-Pairs.result.now c.in_ok-in_order-in-Some-3.field-0 c.in_ok-map-in-Pairs.field-0 c.in-Some-3.map c.in-Pairs.is c.as_slice-in-Pairs.ensures c.in-Some-3.is c.in_ok-map-in-Pairs.ensures (ap view_pairs c.in_ok-in_order-in-Some-3.ensures)
 
 pub sorted_items-returns : goal.sorted_items-returns
 sorted_items-returns t c =

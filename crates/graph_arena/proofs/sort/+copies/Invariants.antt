@@ -1,21 +1,18 @@
 use Rattle.std.proofs.Common.{◌≡◌, map, take, drop}
 use Rattle.ice_encoding.specs.Tree.{no_entry}
-use Rattle.graph_arena.specs.Sorted.{EachHasPlainKeys, HavePlainKeys, sorted, sorted_onto, some_has_equal_keys, have_equal_keys}
-use Rattle.graph_arena.specs.Sorting.{view_map}
+use Rattle.graph_arena.specs.Sorted.{sorted, sorted_onto, some_has_equal_keys, have_equal_keys}
 use Rattle.graph_arena.specs.View.{view, view_all, view_pairs}
 use Rattle.graph_arena.proofs.Sorting.{equal_onto}
 use Rattle.graph_arena.proofs.sort.+copies.Given as goal
 
 abbrev pub invariant-sorted_items-loop-item : goal.invariant-sorted_items-loop-item
 invariant-sorted_items-loop-item l = record {
-  plain : EachHasPlainKeys (view_all (drop l.item-index l.items));
   copied : map view l.copies ≡ map (λ v. sorted (view v)) (take l.item-index l.items);
   equal : some_has_equal_keys (view_all (drop l.item-index l.items)) ≡ some_has_equal_keys (view_all l.items);
 }
 
 abbrev pub invariant-by_key-loop-pair : goal.invariant-by_key-loop-pair
 invariant-by_key-loop-pair l = record {
-  plain : HavePlainKeys (view_pairs (drop l.pair-index l.pairs));
-  put : sorted_onto (view_map l.map.entries) (view_pairs (drop l.pair-index l.pairs)) ≡ sorted_onto no_entry (view_pairs l.pairs);
-  equal : equal_onto (view_map l.map.entries) (view_pairs (drop l.pair-index l.pairs)) ≡ have_equal_keys (view_pairs l.pairs);
+  put : sorted_onto (view_pairs l.map.entries) (view_pairs (drop l.pair-index l.pairs)) ≡ sorted_onto no_entry (view_pairs l.pairs);
+  equal : equal_onto (view_pairs l.map.entries) (view_pairs (drop l.pair-index l.pairs)) ≡ have_equal_keys (view_pairs l.pairs);
 }

@@ -1,7 +1,10 @@
-use Rattle.graph_arena.specs.contracts.key.KeyRefOrd.TheImpl.{cmp-value}
-use Rattle.graph_arena.proofs.Sorting.{puts, key_order}
+use Rattle.std.proofs.Common.{refl}
+use Rattle.std.specs.Ordering.{on}
+use Rattle.ice_encoding.specs.Order.{tree_cmp}
+use Rattle.graph_arena.specs.View.{view}
+use Rattle.graph_arena.proofs.Sorting.{puts}
 use Rattle.graph_arena.proofs.sort.put.Goals as goal
 
 pub returns : goal.returns
 returns c =
-    puts cmp-value.it key_order c.args.key c.args.value c.args.map.now.entries c.insert.new.self.entries c.in_ok-insert.field-0 c.is_none.result c.in_ok-insert.ensures.old c.in_ok-insert.ensures.entries c.is_none.ensures
+    puts (on view tree_cmp) (λ a b. refl) c.args.key c.args.value c.args.map.now.entries c.insert.new.self.entries c.in_ok-insert.field-0 c.is_none.result c.in_ok-insert.ensures.old c.in_ok-insert.ensures.entries c.is_none.ensures
