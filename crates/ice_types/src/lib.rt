@@ -6,6 +6,7 @@ mod kind;
 mod list;
 mod measure;
 mod name;
+mod rows;
 mod schema;
 #[cfg(test)]
 mod tests;
@@ -15,4 +16,5 @@ pub use kind::TypeRef;
 pub use list::{Bytes, List};
 pub use measure::Measure;
 pub use name::Name;
-pub use schema::{MOST_DEPTH, MOST_ROWS, Schema};
+pub use rows::MOST_ROWS;
+pub use schema::{MOST_DEPTH, MOST_SMALLEST, Schema};
