@@ -85,15 +85,15 @@ module _ {A : Type 0} (rows : List A) (found : List Measure) (says later : ℕ �
 
 -- ---- what is said of a row
 
-seq_says : (t : Tables) (levels at : ℕ) (q : SeqDecl) (m : Measure) → slice_get t.seqs at ≡ Some q → sequence_of (measure t levels q.element) ≡ Some m → measure t (suc levels) (kinds.Seq at) ≡ Some m
+pub seq_says : (t : Tables) (levels at : ℕ) (q : SeqDecl) (m : Measure) → slice_get t.seqs at ≡ Some q → sequence_of (measure t levels q.element) ≡ Some m → measure t (suc levels) (kinds.Seq at) ≡ Some m
 unfolding measure
 seq_says t levels at q m row e = rw row e
 
-dict_says : (t : Tables) (levels at : ℕ) (d : DictDecl) (m : Measure) → slice_get t.dicts at ≡ Some d → dictionary_of (measure t levels d.key) (measure t levels d.value) ≡ Some m → measure t (suc (suc levels)) (kinds.Dict at) ≡ Some m
+pub dict_says : (t : Tables) (levels at : ℕ) (d : DictDecl) (m : Measure) → slice_get t.dicts at ≡ Some d → dictionary_of (measure t levels d.key) (measure t levels d.value) ≡ Some m → measure t (suc (suc levels)) (kinds.Dict at) ≡ Some m
 unfolding measure
 dict_says t levels at d m row e = rw row e
 
-struct_says : (t : Tables) (levels at : ℕ) (d : StructDecl) (m : Measure) → slice_get t.structs at ≡ Some d → struct_of (measure_members (measure t levels) d.members) ≡ Some m → measure t (suc levels) (kinds.Struct at) ≡ Some m
+pub struct_says : (t : Tables) (levels at : ℕ) (d : StructDecl) (m : Measure) → slice_get t.structs at ≡ Some d → struct_of (measure_members (measure t levels) d.members) ≡ Some m → measure t (suc levels) (kinds.Struct at) ≡ Some m
 unfolding measure
 struct_says t levels at d m row e = rw row e
 

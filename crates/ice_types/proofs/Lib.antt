@@ -2,3 +2,4 @@ pub mod Lookups
 pub mod Levels
 pub mod Added
 pub mod Naming
+pub mod Leading

@@ -3,6 +3,7 @@
 
 mod declarations;
 mod kind;
+mod laws;
 mod list;
 mod measure;
 mod name;
@@ -13,6 +14,7 @@ mod tests;
 
 pub use declarations::{DictDecl, Member, SeqDecl, StructDecl};
 pub use kind::TypeRef;
+pub use laws::no_type_in_itself;
 pub use list::{Bytes, List};
 pub use measure::Measure;
 pub use name::Name;
