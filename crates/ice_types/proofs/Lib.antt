@@ -1,3 +1,5 @@
-pub mod Rows
-pub mod Naming
 pub mod Lookups
+pub mod Levels
+pub mod Added
+pub mod Naming
+pub mod Leading

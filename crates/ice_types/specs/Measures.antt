@@ -1,5 +1,5 @@
 -- How deep a type nests, and how long its spellings are at least.
-use Rattle.std.specs.Prelude.{ℕ, zero, suc, ◌≡◌, ◌≤◌, ◌+◌, max, Bool, true, false, ◌&&◌, List, [], ◌∷◌, Option, None, Some, slice_get, if◌then◌else◌}
+use Rattle.std.specs.Prelude.{ℕ, zero, suc, ◌≡◌, ◌≤◌, ◌+◌, max, Bool, true, false, ◌&&◌, List, [], ◌∷◌, Option, None, Some, slice_get, if◌then◌else◌, nat_le}
 use Rattle.ice_types.specs.declared.kind.TypeRef.{TypeRef}
 use Rattle.ice_types.specs.declared.kind.TypeRef.TheVariants as kinds
 use Rattle.ice_types.specs.declared.declarations.Member.{Member}
@@ -37,8 +37,18 @@ abbrev pub measure_members : (TypeRef → Option Measure) → List Member → Op
 measure_members of [] = Some no_members
 measure_members of (m ∷ ms) = measured (of m.kind) (λ first. measured (measure_members of ms) (λ others. Some (with_member first others)))
 
+-- a sequence, a dictionary, a struct, by what is said of their parts
+abbrev pub sequence_of : Option Measure → Option Measure
+sequence_of element = measured element (λ m. Some (container (suc m.depth)))
+
+abbrev pub dictionary_of : Option Measure → Option Measure → Option Measure
+dictionary_of key value = measured key (λ k. measured value (λ v. Some (container (suc (suc (max k.depth v.depth))))))
+
+abbrev pub struct_of : Option Measure → Option Measure
+struct_of members = measured members (λ m. Some (structure m))
+
 -- Some where the type is of these tables and nests at most so deep.
-abbrev pub measure : Tables → ℕ → TypeRef → Option Measure
+unfoldable pub measure : Tables → ℕ → TypeRef → Option Measure
 measure t zero kind = None
 measure t (suc levels) kinds.Bool = Some (built_in 1 true)
 measure t (suc levels) kinds.Byte = Some (built_in 1 true)
@@ -46,11 +56,10 @@ measure t (suc levels) kinds.Short = Some (built_in 2 true)
 measure t (suc levels) kinds.Int = Some (built_in 4 true)
 measure t (suc levels) kinds.Long = Some (built_in 8 true)
 measure t (suc levels) kinds.Text = Some (built_in 1 false)
-measure t (suc levels) (kinds.Seq at) = measured (slice_get t.seqs at) (λ q. measured (measure t levels q.element) (λ m. Some (container (suc m.depth))))
+measure t (suc levels) (kinds.Seq at) = measured (slice_get t.seqs at) (λ q. sequence_of (measure t levels q.element))
 measure t (suc zero) (kinds.Dict at) = None
-measure t (suc (suc levels)) (kinds.Dict at) = measured (slice_get t.dicts at) (λ d.
-    measured (measure t levels d.key) (λ k. measured (measure t levels d.value) (λ v. Some (container (suc (suc (max k.depth v.depth)))))))
-measure t (suc levels) (kinds.Struct at) = measured (slice_get t.structs at) (λ d. measured (measure_members (measure t levels) d.members) (λ m. Some (structure m)))
+measure t (suc (suc levels)) (kinds.Dict at) = measured (slice_get t.dicts at) (λ d. dictionary_of (measure t levels d.key) (measure t levels d.value))
+measure t (suc levels) (kinds.Struct at) = measured (slice_get t.structs at) (λ d. struct_of (measure_members (measure t levels) d.members))
 
 -- the length of each spelling, where they are of one length
 abbrev pub fixed_size : Tables → TypeRef → Option ℕ
@@ -65,5 +74,12 @@ abbrev pub DictFits : Tables → TypeRef → TypeRef → Type 0
 DictFits t key value = (k v : Measure) × (measure t 98 key ≡ Some k) × (k.is_key ≡ true) × (measure t 98 value ≡ Some v)
 
 -- and no struct's smallest spelling is longer than 1,048,576 bytes
+abbrev pub is_small : Measure → Bool
+is_small m = nat_le m.smallest 1048576
+
+-- members together, where a struct may have them by the length of their smallest spelling
+abbrev pub small_members : Tables → List Member → Option Measure
+small_members t members = measured (measure_members (measure t 99) members) (λ m. if is_small m then Some m else None)
+
 abbrev pub StructFits : Tables → List Member → Type 0
 StructFits t members = (m : Measure) × (measure_members (measure t 99) members ≡ Some m) × (m.smallest ≤ 1048576)

@@ -1,5 +1,5 @@
 -- What every schema keeps.
-use Rattle.std.specs.Prelude.{ℕ, ◌≡◌, ◌<◌, ◌≤◌, List, length, Option, Some, true, slice_get}
+use Rattle.std.specs.Prelude.{ℕ, ◌≡◌, ◌<◌, List, length, Some, slice_get}
 use Rattle.ice_types.specs.declared.kind.TypeRef.{TypeRef}
 use Rattle.ice_types.specs.declared.kind.TypeRef.TheVariants as kinds
 use Rattle.ice_types.specs.declared.declarations.SeqDecl.{SeqDecl}
@@ -28,6 +28,12 @@ pub record IsSchema (t : Tables) : Type 0 where
   pub dicts : (at : ℕ) (d : DictDecl) → slice_get t.dicts at ≡ Some d → DictFits t d.key d.value
   pub structs : (at : ℕ) (d : StructDecl) → slice_get t.structs at ≡ Some d → StructFits t d.members
 
--- What is kept of each row beside it: what the schema says of its type.
+-- what is kept of each row beside it is what the schema says of its type
 abbrev pub AreMeasures : Tables → (ℕ → TypeRef) → List Measure → Type 0
 AreMeasures t kind found = (at : ℕ) → slice_get found at ≡ measure t 100 (kind at)
+
+pub record IsKept (t : Tables) (of_seqs of_dicts of_structs : List Measure) : Type 0 where
+  pub rules : IsSchema t
+  pub seqs : AreMeasures t kinds.Seq of_seqs
+  pub dicts : AreMeasures t kinds.Dict of_dicts
+  pub structs : AreMeasures t kinds.Struct of_structs

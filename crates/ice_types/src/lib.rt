@@ -3,16 +3,20 @@
 
 mod declarations;
 mod kind;
+mod laws;
 mod list;
 mod measure;
 mod name;
+mod rows;
 mod schema;
 #[cfg(test)]
 mod tests;
 
 pub use declarations::{DictDecl, Member, SeqDecl, StructDecl};
 pub use kind::TypeRef;
+pub use laws::no_type_in_itself;
 pub use list::{Bytes, List};
 pub use measure::Measure;
 pub use name::Name;
-pub use schema::{MOST_DEPTH, MOST_ROWS, Schema};
+pub use rows::MOST_ROWS;
+pub use schema::{MOST_DEPTH, MOST_SMALLEST, Schema};

@@ -24,7 +24,7 @@ impl<T> Model for List<T> {
 }
 
 impl<T> List<T> {
-    ghost use Rattle.std.specs.Prelude.{◌≡◌, [], ◌∷◌, ◌++◌, OnOk, OnErr, slice_get, length, IsTrue, ◌↔◌};
+    ghost use Rattle.std.specs.Prelude.{◌≡◌, [], ◌∷◌, ◌++◌, MatchOption, slice_get, length, IsTrue, ◌↔◌};
     ghost use Rattle.std.specs.Option.{option_copied};
 
     /// A list of no items, which takes no memory.
@@ -62,6 +62,13 @@ impl<T> List<T> {
         ensures { option_copied result ≡ slice_get self.now at }
     {
         self.items.get(at)
+    }
+
+    /// Takes the last item off, None from a list of no items.
+    pub fn pop(&mut self) -> Option<T>
+        ensures { MatchOption result ((self.old ≡ []) × (self.new ≡ [])) (λ last. self.old ≡ self.new ++ last ∷ []) }
+    {
+        self.items.pop()
     }
 
     /// All items, which are not copied.

@@ -1,5 +1,8 @@
 //! What a schema says of each of its types.
 
+ghost use Rattle.std.specs.Prelude.{◌≡◌, ◌+◌, ◌<◌, ◌^◌, suc};
+ghost use Rattle.ice_types.specs.Measures.{built_in, container, no_members, with_member, structure};
+
 /// What a schema says of a type.
 #[derive(Clone, Copy, Debug, PartialEq, Eq)]
 pub struct Measure {
@@ -12,4 +15,68 @@ pub struct Measure {
     pub is_fixed: bool,
     /// Whether its values may be keys of a dictionary.
     pub is_key: bool,
+}
+
+impl Measure {
+    /// Of a built-in type, whose smallest spelling has so many bytes.
+    pub(crate) fn built_in(smallest: u32, is_fixed: bool) -> Measure
+        ensures { result ≡ built_in smallest is_fixed }
+    {
+        Measure {
+            depth: 1,
+            smallest,
+            is_fixed,
+            is_key: true,
+        }
+    }
+
+    /// Of a sequence or dictionary that nests so deep.
+    pub(crate) fn container(depth: u32) -> Measure
+        ensures { result ≡ container depth }
+    {
+        Measure {
+            depth,
+            smallest: 1,
+            is_fixed: false,
+            is_key: false,
+        }
+    }
+
+    /// Of no members together.
+    pub(crate) fn no_members() -> Measure
+        ensures { result ≡ no_members }
+    {
+        Measure {
+            depth: 0,
+            smallest: 0,
+            is_fixed: true,
+            is_key: true,
+        }
+    }
+
+    /// Of these members and one more together.
+    pub(crate) fn with_member(self, member: Measure) -> Measure
+        requires { self.smallest + member.smallest < 2 ^ 32 }
+        ensures { result ≡ with_member self member }
+    {
+        Measure {
+            depth: self.depth.max(member.depth),
+            smallest: self.smallest + member.smallest,
+            is_fixed: self.is_fixed && member.is_fixed,
+            is_key: self.is_key && member.is_key,
+        }
+    }
+
+    /// Of a struct of these members.
+    pub(crate) fn structure(self) -> Measure
+        requires { self.depth + 1 < 2 ^ 32 }
+        ensures { result ≡ structure self }
+    {
+        Measure {
+            depth: self.depth + 1,
+            smallest: self.smallest,
+            is_fixed: self.is_fixed,
+            is_key: self.is_key,
+        }
+    }
 }

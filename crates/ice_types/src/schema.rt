@@ -1,20 +1,18 @@
 //! The types of a Slice text by place, under the rules that every schema keeps.
 
-ghost use Rattle.std.specs.Prelude.{◌≡◌, ◌+◌, ◌<◌, ◌↔◌, MatchOption, IfOk, IfSome, OnErr, length, map, IsTrue, Some, slice_get, ℕ};
-ghost use Rattle.ice_types.specs.Tables.{Tables, no_types, with_seq, with_dict, with_struct, IsTypeId, IsNewId, HasId, LacksId, Names};
-ghost use Rattle.ice_types.specs.Measures.{measure, fixed_size, SeqFits, DictFits, StructFits};
+ghost use Rattle.std.specs.Prelude.{◌≡◌, ◌+◌, ◌<◌, ◌≤◌, ◌↔◌, MatchOption, IfOk, IfSome, OnErr, length, IsTrue, Some};
+ghost use Rattle.ice_types.specs.Tables.{Tables, no_types, with_seq, with_dict, with_struct, IsTypeId, IsNewId, Names};
+ghost use Rattle.ice_types.specs.Measures.{measure, sequence_of, dictionary_of, struct_of, small_members, fixed_size, SeqFits, DictFits, StructFits};
+ghost use Rattle.ice_types.specs.Rules.{IsSchema, HasTypeId};
 ghost use Rattle.ice_types.specs.declared.kind.TypeRef.{TypeRef};
 
 use crate::declarations::{DictDecl, Member, SeqDecl, StructDecl};
 use crate::kind::TypeRef;
 use crate::list::List;
 use crate::measure::Measure;
-use crate::rows::Rows;
+use crate::rows::{MOST_ROWS, Rows, place_of};
 use std::alloc::{AllocError, Global};
 use std::marker::Model;
-
-/// No table has so many rows: files within the limits on Slice texts never reach that.
-pub const MOST_ROWS: usize = 100_000_000;
 
 /// How deep a type may nest.
 pub const MOST_DEPTH: u32 = 100;
@@ -32,17 +30,13 @@ pub struct Schema {
 
 impl Model for Schema {
     ghost use Rattle.ice_types.specs.Tables.{Tables};
-    ghost use Rattle.ice_types.specs.Rules.{IsSchema, AreMeasures};
-    ghost use Rattle.ice_types.specs.declared.kind.TypeRef.TheVariants as kinds;
+    ghost use Rattle.ice_types.specs.Rules.{IsKept};
 
     ghost Value = { Tables };
 
     ghost view = { λ s. record { seqs = s.seqs.decls; dicts = s.dicts.decls; structs = s.structs.decls } };
 
-    ghost invariant = { λ s. IsSchema (record { seqs = s.seqs.decls; dicts = s.dicts.decls; structs = s.structs.decls })
-        × AreMeasures (record { seqs = s.seqs.decls; dicts = s.dicts.decls; structs = s.structs.decls }) kinds.Seq s.seqs.measures
-        × AreMeasures (record { seqs = s.seqs.decls; dicts = s.dicts.decls; structs = s.structs.decls }) kinds.Dict s.dicts.measures
-        × AreMeasures (record { seqs = s.seqs.decls; dicts = s.dicts.decls; structs = s.structs.decls }) kinds.Struct s.structs.measures };
+    ghost invariant = { λ s. IsKept (record { seqs = s.seqs.decls; dicts = s.dicts.decls; structs = s.structs.decls }) s.seqs.measures s.dicts.measures s.structs.measures };
 }
 
 impl Schema {
@@ -78,6 +72,13 @@ impl Schema {
         &self.structs.decls
     }
 
+    /// What every schema keeps.
+    pub fn rules(&self)
+        ensures { IsSchema self.now }
+    {
+        let _ = &self.seqs;
+    }
+
     /// What the schema says of the type, None where it is of another schema.
     fn measure(&self, kind: TypeRef) -> Option<Measure>
         ensures { result ≡ measure self.now 100 kind }
@@ -94,22 +95,78 @@ impl Schema {
         }
     }
 
+    /// The same, None also where the type nests deeper than so many levels.
+    fn measure_within(&self, levels: u32, kind: TypeRef) -> Option<Measure>
+        requires { levels ≤ MOST_DEPTH }
+        ensures found { result ≡ measure self.now levels kind }
+        ensures depth { IfSome result (λ m. m.depth ≤ levels) }
+    {
+        let found = self.measure(kind)?;
+        if found.depth <= levels {
+            Some(found)
+        } else {
+            None
+        }
+    }
+
+    /// What the schema would say of a sequence of this element, None where it does not fit.
+    fn measure_seq(&self, element: TypeRef) -> Option<Measure>
+        ensures { result ≡ sequence_of (measure self.now 99 element) }
+    {
+        let element = self.measure_within(MOST_DEPTH - 1, element)?;
+        Some(Measure::container(element.depth + 1))
+    }
+
+    /// What the schema would say of a dictionary of these parts, None where it nests too deep.
+    fn measure_dict(&self, key: TypeRef, value: TypeRef) -> Option<Measure>
+        ensures { result ≡ dictionary_of (measure self.now 98 key) (measure self.now 98 value) }
+    {
+        let key = self.measure_within(MOST_DEPTH - 2, key)?;
+        let value = self.measure_within(MOST_DEPTH - 2, value)?;
+        Some(Measure::container(key.depth.max(value.depth) + 2))
+    }
+
+    /// What the schema would say of a struct of these members, None where it does not fit.
+    fn measure_struct(&self, members: &[Member]) -> Option<Measure>
+        ensures { result ≡ struct_of (small_members self.now members.now) }
+    {
+        let together = self.measure_members(members)?;
+        Some(together.structure())
+    }
+
+    /// What the schema says of these members together, None where a struct may not have them.
+    fn measure_members(&self, members: &[Member]) -> Option<Measure>
+        ensures found { result ≡ small_members self.now members.now }
+        ensures depth { IfSome result (λ m. m.depth < MOST_DEPTH) }
+    {
+        let mut together = Measure::no_members();
+        for member in members {
+            let found = self.measure_within(MOST_DEPTH - 1, member.kind)?;
+            if found.smallest > MOST_SMALLEST - together.smallest {
+                return None;
+            }
+            together = together.with_member(found);
+        }
+        Some(together)
+    }
+
     /// The length in bytes of each spelling of the type, None where they differ.
     pub fn fixed_size(&self, kind: TypeRef) -> Option<u32>
         ensures { result ≡ fixed_size self.now kind }
     {
         let found = self.measure(kind)?;
-        if found.is_fixed { Some(found.smallest) } else { None }
+        if found.is_fixed {
+            Some(found.smallest)
+        } else {
+            None
+        }
     }
 
     /// Whether a sequence of this element may be added: its type nests at most so deep as a type may.
     pub fn fits_seq(&self, element: TypeRef) -> bool
         ensures { IsTrue result ↔ SeqFits self.now element }
     {
-        match self.measure(element) {
-            Some(found) => found.depth < MOST_DEPTH,
-            None => false,
-        }
+        self.measure_seq(element).is_some()
     }
 
     /// Whether a dictionary of these parts may be added: its key may be one, and its type nests at
@@ -117,11 +174,9 @@ impl Schema {
     pub fn fits_dict(&self, key: TypeRef, value: TypeRef) -> bool
         ensures { IsTrue result ↔ DictFits self.now key value }
     {
-        match (self.measure(key), self.measure(value)) {
-            (Some(key), Some(value)) => {
-                key.is_key && key.depth + 1 < MOST_DEPTH && value.depth + 1 < MOST_DEPTH
-            }
-            _ => false,
+        match self.measure_within(MOST_DEPTH - 2, key) {
+            Some(found) => found.is_key && self.measure_within(MOST_DEPTH - 2, value).is_some(),
+            None => false,
         }
     }
 
@@ -130,10 +185,7 @@ impl Schema {
     pub fn fits_struct(&self, members: &List<Member>) -> bool
         ensures { IsTrue result ↔ StructFits self.now members.now }
     {
-        match self.measure_members(members.as_slice()) {
-            Some(found) => found.depth < MOST_DEPTH,
-            None => false,
-        }
+        self.measure_struct(members.as_slice()).is_some()
     }
 
     /// Adds a sequence and answers its place. Want of memory leaves the schema as it was.
@@ -145,7 +197,12 @@ impl Schema {
         ensures ok { IfOk result (λ at. (at ≡ length self.old.seqs) × (self.new ≡ with_seq self.old decl)) }
         ensures err { OnErr result (self.new ≡ self.old) }
     {
-        // TO WRITE
+        let Some(measure) = self.measure_seq(decl.element) else {
+            unreachable!()
+        };
+        let at = self.seqs.decls.len() as u32;
+        self.seqs.add(decl, measure)?;
+        Ok(at)
     }
 
     /// Adds a dictionary and answers its place. Want of memory leaves the schema as it was.
@@ -157,7 +214,12 @@ impl Schema {
         ensures ok { IfOk result (λ at. (at ≡ length self.old.dicts) × (self.new ≡ with_dict self.old decl)) }
         ensures err { OnErr result (self.new ≡ self.old) }
     {
-        // TO WRITE
+        let Some(measure) = self.measure_dict(decl.key, decl.value) else {
+            unreachable!()
+        };
+        let at = self.dicts.decls.len() as u32;
+        self.dicts.add(decl, measure)?;
+        Ok(at)
     }
 
     /// Adds a struct and answers its place. Want of memory leaves the schema as it was.
@@ -169,7 +231,12 @@ impl Schema {
         ensures ok { IfOk result (λ at. (at ≡ length self.old.structs) × (self.new ≡ with_struct self.old decl)) }
         ensures err { OnErr result (self.new ≡ self.old) }
     {
-        // TO WRITE
+        let Some(measure) = self.measure_struct(decl.members.as_slice()) else {
+            unreachable!()
+        };
+        let at = self.structs.decls.len() as u32;
+        self.structs.add(decl, measure)?;
+        Ok(at)
     }
 
     /// The type that the text names: a built-in type by its word, every other one by its type id.
@@ -178,6 +245,7 @@ impl Schema {
         ensures named { MatchOption result ((kind : TypeRef) → ¬ Names self.now text.now kind) (Names self.now text.now) }
         ensures only { IfSome result (λ kind. (other : TypeRef) → Names self.now text.now other → other ≡ kind) }
     {
+        self.rules();
         match text {
             "bool" => Some(TypeRef::Bool),
             "byte" => Some(TypeRef::Byte),
@@ -188,30 +256,17 @@ impl Schema {
             _ => self.type_of_id(text),
         }
     }
-}
 
-/// The place of the sequence with this type id.
-fn seq_named(seqs: &[SeqDecl], id: &str) -> Option<u32>
-    requires { length seqs.now < MOST_ROWS }
-    ensures { MatchOption result (LacksId (map (λ q. q.id) seqs.now) id.now) (HasId (map (λ q. q.id) seqs.now) id.now) }
-{
-    for (at, seq) in seqs.iter().enumerate() {
-        if seq.id.as_str() == id {
-            return Some(at as u32);
+    /// The type of this type id.
+    fn type_of_id(&self, id: &str) -> Option<TypeRef>
+        ensures { MatchOption result ((kind : TypeRef) → ¬ HasTypeId self.now id.now kind) (HasTypeId self.now id.now) }
+    {
+        if let Some(at) = place_of(self.seqs.decls.as_slice(), id) {
+            return Some(TypeRef::Seq(at));
         }
-    }
-    None
-}
-
-/// The place of the dictionary with this type id.
-fn dict_named(dicts: &[DictDecl], id: &str) -> Option<u32>
-    requires { length dicts.now < MOST_ROWS }
-    ensures { MatchOption result (LacksId (map (λ d. d.id) dicts.now) id.now) (HasId (map (λ d. d.id) dicts.now) id.now) }
-{
-    for (at, dict) in dicts.iter().enumerate() {
-        if dict.id.as_str() == id {
-            return Some(at as u32);
+        if let Some(at) = place_of(self.dicts.decls.as_slice(), id) {
+            return Some(TypeRef::Dict(at));
         }
+        place_of(self.structs.decls.as_slice(), id).map(TypeRef::Struct)
     }
-    None
 }

@@ -1,7 +1,9 @@
-use Rattle.ice_types.proofs.Rows.{IsSchema-seq-added}
+use Rattle.std.proofs.Common.{sym, ◌∙◌}
+use Rattle.ice_types.proofs.Added.{IsKept-seq-added}
 use Rattle.ice_types.proofs.schema.Schema.add_seq.Goals as goal
 
 pub invariant_of-self-2 : goal.invariant_of-self-2
 invariant_of-self-2 c =
-    IsSchema-seq-added c.self.inside.seqs c.push.new.self c.self.inside.dicts c.args.self.now c.args.decl c.self.invariant c.self.view_is c.in_ok-push.ensures.ok
-    c.requires.room c.requires.type_id c.requires.new_id c.requires.depth
+    IsKept-seq-added c.self.inside.seqs.decls c.add.new.self.decls c.self.inside.dicts.decls c.self.inside.structs.decls c.self.inside.seqs.measures c.add.new.self.measures c.self.inside.dicts.measures c.self.inside.structs.measures
+    c.args.self.now c.args.decl c.in-Some.measure c.self.invariant c.self.view_is c.in_ok-add.ensures.decls c.in_ok-add.ensures.measures
+    c.requires.room c.requires.type_id c.requires.new_id c.requires.fits (sym c.in-Some.is ∙ c.measure_seq.ensures)

@@ -1,21 +1,31 @@
 use Rattle.ice_types.specs.declared.kind.TypeRef.TheVariants as kinds
-use Rattle.ice_types.proofs.Naming.{names_only}
+use Rattle.ice_types.proofs.Naming.{names_only, id_named, id_only}
 use Rattle.ice_types.proofs.schema.Schema.type_named.Goals as goal
 
 pub returns-in-bool-clause-only : goal.returns-in-bool-clause-only
-returns-in-bool-clause-only c = names_only c.args.self.now (rw (← c.self.view_is) c.self.invariant) c.args.text.now kinds.Bool c.in-bool.is
+returns-in-bool-clause-only c = names_only c.args.self.now c.rules.ensures c.args.text.now kinds.Bool c.in-bool.is
 
 pub returns-in-byte-clause-only : goal.returns-in-byte-clause-only
-returns-in-byte-clause-only c = names_only c.args.self.now (rw (← c.self.view_is) c.self.invariant) c.args.text.now kinds.Byte c.in-byte.is
+returns-in-byte-clause-only c = names_only c.args.self.now c.rules.ensures c.args.text.now kinds.Byte c.in-byte.is
 
 pub returns-in-short-clause-only : goal.returns-in-short-clause-only
-returns-in-short-clause-only c = names_only c.args.self.now (rw (← c.self.view_is) c.self.invariant) c.args.text.now kinds.Short c.in-short.is
+returns-in-short-clause-only c = names_only c.args.self.now c.rules.ensures c.args.text.now kinds.Short c.in-short.is
 
 pub returns-in-int-clause-only : goal.returns-in-int-clause-only
-returns-in-int-clause-only c = names_only c.args.self.now (rw (← c.self.view_is) c.self.invariant) c.args.text.now kinds.Int c.in-int.is
+returns-in-int-clause-only c = names_only c.args.self.now c.rules.ensures c.args.text.now kinds.Int c.in-int.is
 
 pub returns-in-long-clause-only : goal.returns-in-long-clause-only
-returns-in-long-clause-only c = names_only c.args.self.now (rw (← c.self.view_is) c.self.invariant) c.args.text.now kinds.Long c.in-long.is
+returns-in-long-clause-only c = names_only c.args.self.now c.rules.ensures c.args.text.now kinds.Long c.in-long.is
 
 pub returns-in-string-clause-only : goal.returns-in-string-clause-only
-returns-in-string-clause-only c = names_only c.args.self.now (rw (← c.self.view_is) c.self.invariant) c.args.text.now kinds.Text c.in-string.is
+returns-in-string-clause-only c = names_only c.args.self.now c.rules.ensures c.args.text.now kinds.Text c.in-string.is
+
+pub returns-in_default-clause-named : goal.returns-in_default-clause-named
+returns-in_default-clause-named c =
+    let other = c.in_default in
+    id_named c.args.self.now c.args.text.now other.not-bool other.not-byte other.not-short other.not-int other.not-long other.not-string c.type_of_id.result c.type_of_id.ensures
+
+pub returns-in_default-clause-only : goal.returns-in_default-clause-only
+returns-in_default-clause-only c =
+    let other = c.in_default in
+    id_only c.args.self.now c.args.text.now other.not-bool other.not-byte other.not-short other.not-int other.not-long other.not-string c.rules.ensures c.type_of_id.result c.type_of_id.ensures
