@@ -3,3 +3,4 @@ pub mod Levels
 pub mod Added
 pub mod Naming
 pub mod Leading
+pub mod NewIds

@@ -13,7 +13,7 @@ built_in text = cond (bytes_eq text (codes "bool")) (Some kinds.Bool) (cond (byt
     (cond (bytes_eq text (codes "short")) (Some kinds.Short) (cond (bytes_eq text (codes "int")) (Some kinds.Int)
     (cond (bytes_eq text (codes "long")) (Some kinds.Long) (cond (bytes_eq text (codes "string")) (Some kinds.Text) None)))))
 
-id_no_word : (text : List ℕ) → IsTypeId text → built_in text ≡ None
+pub id_no_word : (text : List ℕ) → IsTypeId text → built_in text ≡ None
 id_no_word [] e = absurd cc
 id_no_word (a ∷ []) e = absurd cc
 id_no_word (a ∷ b ∷ more) e = let first : a ≡ 58 = cc in rw first refl

@@ -188,6 +188,13 @@ impl Schema {
         self.measure_struct(members.as_slice()).is_some()
     }
 
+    /// Whether a type of this id may be added: it is a type id, and no type of the schema has it.
+    pub fn is_new_id(&self, id: &str) -> bool
+        ensures { IsTrue result ↔ (IsTypeId id.now × IsNewId self.now id.now) }
+    {
+        is_type_id(id) && self.type_named(id).is_none()
+    }
+
     /// Adds a sequence and answers its place. Want of memory leaves the schema as it was.
     pub fn add_seq(&mut self, decl: SeqDecl) -> Result<u32, AllocError>
         requires room { length self.old.seqs + 1 < MOST_ROWS }
@@ -269,4 +276,11 @@ impl Schema {
         }
         place_of(self.structs.decls.as_slice(), id).map(TypeRef::Struct)
     }
+}
+
+fn is_type_id(id: &str) -> bool
+    ensures { IsTrue result ↔ IsTypeId id.now }
+{
+    let bytes = id.as_bytes();
+    bytes.len() >= 2 && &bytes[..2] == b"::".as_slice()
 }

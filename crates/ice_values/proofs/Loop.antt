@@ -1,14 +1,17 @@
 -- Reading values one after the other, as a loop does.
-use Rattle.std.proofs.Common.{◌≡◌, ℕ, suc, true, false, ◌-◌, ◌+◌, ◌≤◌, ◌<◌, List, [], ◌∷◌, ◌++◌, Result, Ok, Err, refl, sym, ap, ◌∙◌, arith}
+use Rattle.std.proofs.Common.{◌≡◌, ℕ, zero, suc, true, false, length, get_or, drop, ◌-◌, ◌+◌, ◌≤◌, ◌<◌, List, [], ◌∷◌, ◌++◌, Result, Ok, Err, refl, sym, ap, ◌∙◌, arith}
+use Rattle.std.proofs.lemmas.List.{drop_more}
 use Rattle.ice_prims.specs.declared.fault.Fault.{Fault}
 use Rattle.ice_prims.specs.declared.fault.ReadFault.{ReadFault}
 use Rattle.ice_prims.specs.declared.fault.ReadFault.TheVariants as faults
 use Rattle.ice_prims.specs.declared.fault.Kind.TheVariants.{EqualKey}
 use Rattle.ice_prims.specs.Rest.{Rest, fault, ◌>>=◌}
 use Rattle.ice_prims.specs.Taking.{Fails}
+use Rattle.ice_types.specs.declared.kind.TypeRef.{TypeRef}
+use Rattle.ice_types.specs.declared.declarations.Member.{Member}
 use Rattle.ice_encoding.specs.Port.{Reader}
 use Rattle.ice_encoding.specs.Order.{has_key, insert}
-use Rattle.ice_encoding.specs.Reading.{each_at, pairs_at}
+use Rattle.ice_encoding.specs.Reading.{each_at, members_at, pairs_at}
 use Rattle.ice_encoding.specs.Tree.{Tree, Trees, none, tree, Entries}
 use Rattle.graph_arena.specs.View.{trees_of}
 
@@ -60,6 +63,38 @@ module _ {S : Type 0} (one : Reader S Tree) where
       let k : count - i ≡ 0 = omega arith in
       let first : with_front front (each_at one (count - i) s r) ≡ Ok (front, s, r) = rw (k, join-none front) refl in
       sym so_far ∙ first
+
+-- ---- the members of a struct
+
+next_member : (ms : List Member) (i : ℕ) (m : Member) → i < length ms → m ≡ get_or ms i m → drop i ms ≡ m ∷ drop (i + 1) ms
+next_member ms i m lt is = drop_more ms i m lt ∙ ap (λ (x : Member). x ∷ drop (i + 1) ms) (sym is)
+
+module _ {S : Type 0} (of : TypeRef → Reader S Tree) (ms : List Member) (i : ℕ) (m : Member) (lt : i < length ms) (is : m ≡ get_or ms i m) (front : Trees) (s : S) (r : Rest)
+    (total : Result (Trees × S × Rest) Fault) (so_far : with_front front (members_at of (drop i ms) s r) ≡ total) where
+  pub members_go_on : (mid : S) (after : Rest) (t : Tree) → of m.kind s r ≡ Ok (t, mid, after) → with_front (join front (tree t none)) (members_at of (drop (i + 1) ms) mid after) ≡ total
+  members_go_on mid after t h =
+      let first : with_front front (members_at of (drop i ms) s r) ≡ with_front (join front (tree t none)) (members_at of (drop (i + 1) ms) mid after) =
+      rw (next_member ms i m lt is, h) (regroup front t (members_at of (drop (i + 1) ms) mid after)) in
+      sym first ∙ so_far
+
+  pub members_end : (e : ReadFault) → Fails e (of m.kind s r) → Fails e total
+  members_end faults.Memory h = tt
+  members_end (faults.Broken f) h =
+      let first : with_front front (members_at of (drop i ms) s r) ≡ Err f = rw (next_member ms i m lt is, h) refl in
+      sym so_far ∙ first
+
+-- where the members are at their end
+pub members_done : {S : Type 0} (of : TypeRef → Reader S Tree) (ms : List Member) (i : ℕ) (front : Trees) (s : S) (r : Rest) (total : Result (Trees × S × Rest) Fault) → length ms ≤ i
+    → with_front front (members_at of (drop i ms) s r) ≡ total → total ≡ Ok (front, s, r)
+members_done of ms i front s r total le so_far =
+    let first : with_front front (members_at of (drop i ms) s r) ≡ Ok (front, s, r) = rw (none_left ms i le, join-none front) refl in
+    sym so_far ∙ first
+  where
+    none_left : (ms : List Member) (i : ℕ) → length ms ≤ i → drop i ms ≡ []
+    none_left [] zero le = refl
+    none_left [] (suc i) le = refl
+    none_left (m ∷ ms) zero le = absurd (omega (arith, le))
+    none_left (m ∷ ms) (suc i) le = none_left ms i (omega (arith, le))
 
 -- ---- pairs, each put at its place
 

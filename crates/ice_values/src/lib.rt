@@ -1,7 +1,6 @@
 //! Values by their type: read from bytes with the first fault, and written as canonical bytes.
 #![tactic(auto)]
 
-mod key;
 mod read;
 #[cfg(test)]
 mod tests;

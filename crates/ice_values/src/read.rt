@@ -1,19 +1,17 @@
 //! A value of a type from bytes.
 
-ghost use Rattle.std.specs.Prelude.{◌≡◌, IsTrue};
-ghost use Rattle.ice_types.specs.Tables.{is_key};
+ghost use Rattle.std.specs.Prelude.{◌≡◌};
 ghost use Rattle.ice_prims.specs.Taking.{TakesUnlessMemory};
 ghost use Rattle.ice_encoding.specs.Port.{no_references};
-ghost use Rattle.ice_encoding.specs.Reading.{value_at, value_step, each_at, pairs_at};
+ghost use Rattle.ice_encoding.specs.Reading.{value_at, value_step, each_at, members_at, pairs_at};
 ghost use Rattle.ice_encoding.specs.Tree.{no_entry};
 ghost use Rattle.ice_encoding.specs.Value.{plain_value_at};
 ghost use Rattle.graph_arena.specs.View.{view, view_all, view_pairs};
 ghost use Rattle.ice_values.specs.Reads.{Reads, ReadsPlain};
 
-use crate::key::read_key;
 use graph_arena::{Value, in_order};
 use ice_prims::{Cursor, Kind, ReadFault};
-use ice_types::{List, MOST_DEPTH, Name, Schema, TypeRef};
+use ice_types::{List, MOST_DEPTH, Member, Name, Schema, TypeRef};
 use std::alloc::Global;
 use std::collections::BTreeMap;
 
@@ -101,6 +99,13 @@ fn read_parts(
             }
             None => Err(ReadFault::Broken(cursor.fault(Kind::LeftOver))),
         },
+        TypeRef::Struct(at) => match schema.structs().get(at as usize) {
+            Some(decl) => {
+                let members = decl.members.as_slice();
+                Ok(Value::Members(read_members(alloc, schema, levels, members, cursor)?))
+            }
+            None => Err(ReadFault::Broken(cursor.fault(Kind::LeftOver))),
+        },
     }
 }
 
@@ -124,6 +129,25 @@ fn read_each(
     Ok(items)
 }
 
+/// The values of the members, one after the other.
+#[cycle(values)]
+fn read_members(
+    alloc: Global,
+    schema: &Schema,
+    levels: u32,
+    members: &[Member],
+    cursor: &mut Cursor<'_>,
+) -> Result<List<Value>, ReadFault>
+    ensures { Reads view_all result cursor.new (members_at (value_at no_references schema.now levels) members.now tt cursor.old) }
+{
+    let mut items = List::new(alloc);
+    for member in members {
+        let item = read_level(alloc, schema, levels, member.kind, cursor)?;
+        items.push(item)?;
+    }
+    Ok(items)
+}
+
 /// So many pairs, each put at its place. A key that is equal to an earlier one is refused when it
 /// has been read whole.
 #[cycle(values)]
@@ -136,13 +160,12 @@ fn read_pairs(
     count: u32,
     cursor: &mut Cursor<'_>,
 ) -> Result<List<(Value, Value)>, ReadFault>
-    requires { IsTrue (is_key key) }
     ensures { Reads view_pairs result cursor.new (pairs_at (value_at no_references schema.now levels key) (value_at no_references schema.now levels value) count no_entry tt cursor.old) }
 {
     let mut pairs = BTreeMap::new(alloc);
     for _ in 0..count {
         let equal = cursor.fault(Kind::EqualKey);
-        let found = read_key(levels, key, cursor)?;
+        let found = read_level(alloc, schema, levels, key, cursor)?;
         if pairs.contains_key(&found) {
             return Err(ReadFault::Broken(equal));
         }

@@ -1,8 +1,9 @@
 use crate::{read_value, write_value};
 use ice_prims::Kind::{self, BadBool, BadSize, EqualKey, LeftOver, Short};
 use ice_prims::{Cursor, Fault, ReadFault};
-use ice_types::{DictDecl, Name, Schema, SeqDecl, TypeRef};
+use ice_types::{DictDecl, List, MOST_ROWS, Member, Name, Schema, SeqDecl, StructDecl, TypeRef};
 use std::alloc::Global;
+use std::process::Abort;
 use std::test::Fail;
 
 /// The place of `sequence<byte>`.
@@ -17,7 +18,16 @@ const COUNTS: TypeRef = TypeRef::Dict(0);
 /// The place of `dictionary<short, sequence<byte>>`.
 const BY_NUMBER: TypeRef = TypeRef::Dict(1);
 
-const ACCEPTED: [(TypeRef, &[u8]); 12] = [
+/// The place of a struct of two bytes.
+const PAIR: TypeRef = TypeRef::Struct(0);
+
+/// The place of a struct of a short, that struct and a string.
+const ROW: TypeRef = TypeRef::Struct(1);
+
+/// The place of a dictionary of bytes by that struct of two bytes.
+const BY_PAIR: TypeRef = TypeRef::Dict(2);
+
+const ACCEPTED: &[(TypeRef, &[u8])] = &[
     (TypeRef::Bool, &[1]),
     (TypeRef::Byte, &[200]),
     (TypeRef::Short, &[0xfe, 0xff]),
@@ -30,10 +40,13 @@ const ACCEPTED: [(TypeRef, &[u8]); 12] = [
     (COUNTS, &[0]),
     (COUNTS, &[2, 0, 1, 0, 0, 0, 1, 97, 2, 0, 0, 0]),
     (BY_NUMBER, &[2, 0xff, 0xff, 1, 7, 1, 0, 0]),
+    (PAIR, &[1, 0]),
+    (ROW, &[1, 2, 7, 8, 1, 97]),
+    (BY_PAIR, &[2, 1, 3, 80, 1, 9, 70]),
 ];
 
 /// Pairs out of order, and what is written for them.
-const PUT_IN_ORDER: [(TypeRef, &[u8], &[u8]); 3] = [
+const PUT_IN_ORDER: &[(TypeRef, &[u8], &[u8])] = &[
     (
         COUNTS,
         &[2, 1, 98, 1, 0, 0, 0, 1, 97, 2, 0, 0, 0],
@@ -49,9 +62,14 @@ const PUT_IN_ORDER: [(TypeRef, &[u8], &[u8]); 3] = [
         &[2, 1, 0, 0, 0xff, 0xff, 0],
         &[2, 0xff, 0xff, 0, 1, 0, 0],
     ),
+    (
+        BY_PAIR,
+        &[3, 2, 0, 1, 1, 9, 2, 1, 3, 3],
+        &[3, 1, 3, 3, 1, 9, 2, 2, 0, 1],
+    ),
 ];
 
-const REFUSED: [(TypeRef, &[u8], u64, Kind); 13] = [
+const REFUSED: &[(TypeRef, &[u8], u64, Kind)] = &[
     (TypeRef::Bool, &[2], 0, BadBool),
     (TypeRef::Text, &[2, 97], 1, Short),
     (BYTES, &[3, 7, 8], 3, Short),
@@ -60,37 +78,88 @@ const REFUSED: [(TypeRef, &[u8], u64, Kind); 13] = [
     (ROWS, &[2, 1, 5], 3, Short),
     (ROWS, &[2, 1, 5, 255], 3, Short),
     (TypeRef::Seq(2), &[0], 0, LeftOver),
-    (TypeRef::Dict(2), &[0], 0, LeftOver),
+    (TypeRef::Dict(3), &[0], 0, LeftOver),
+    (TypeRef::Struct(2), &[0], 0, LeftOver),
+    (PAIR, &[1], 1, Short),
+    (ROW, &[1, 2, 7, 8, 2, 97], 5, Short),
+    (BY_PAIR, &[2, 1, 9, 70, 1, 9, 80], 4, EqualKey),
+    (BY_PAIR, &[2, 1, 9, 70, 1], 5, Short),
     (BY_NUMBER, &[2, 1, 0, 0, 1, 0, 0], 4, EqualKey),
     (BY_NUMBER, &[2, 1, 0, 0, 1], 4, Short),
     (COUNTS, &[2, 0, 1, 0, 0, 0, 0, 9], 6, EqualKey),
     (COUNTS, &[2, 1, 97, 1, 0, 0, 0, 1], 8, Short),
 ];
 
-fn schema_of_all(alloc: Global) -> Result<Schema, Fail> {
-    let mut schema = Schema::new(alloc);
-    let bytes = SeqDecl {
-        id: Name::of(alloc, "::M::Bytes")?,
-        element: TypeRef::Byte,
-    };
-    schema.add_seq(bytes)?;
-    let rows = SeqDecl {
-        id: Name::of(alloc, "::M::Rows")?,
-        element: BYTES,
-    };
-    schema.add_seq(rows)?;
-    let counts = DictDecl {
-        id: Name::of(alloc, "::M::Counts")?,
-        key: TypeRef::Text,
-        value: TypeRef::Int,
-    };
-    schema.add_dict(counts)?;
-    let by_number = DictDecl {
-        id: Name::of(alloc, "::M::ByNumber")?,
-        key: TypeRef::Short,
-        value: BYTES,
-    };
-    schema.add_dict(by_number)?;
+fn add_seq(
+    rt: &(impl AllocGlobal + Abort),
+    schema: &mut Schema,
+    id: &str,
+    element: TypeRef,
+) -> Result<(), Fail> {
+    assert!(rt; schema.seqs().len() < MOST_ROWS - 1);
+    assert!(rt; schema.is_new_id(id) && schema.fits_seq(element), "at {id}");
+    let id = Name::of(rt.alloc(), id)?;
+    schema.add_seq(SeqDecl { id, element })?;
+    Ok(())
+}
+
+fn add_dict(
+    rt: &(impl AllocGlobal + Abort),
+    schema: &mut Schema,
+    id: &str,
+    key: TypeRef,
+    value: TypeRef,
+) -> Result<(), Fail> {
+    assert!(rt; schema.dicts().len() < MOST_ROWS - 1);
+    assert!(rt;
+        schema.is_new_id(id) && schema.fits_dict(key, value),
+        "at {id}"
+    );
+    let id = Name::of(rt.alloc(), id)?;
+    schema.add_dict(DictDecl { id, key, value })?;
+    Ok(())
+}
+
+fn add_struct(
+    rt: &(impl AllocGlobal + Abort),
+    schema: &mut Schema,
+    id: &str,
+    kinds: &[TypeRef],
+) -> Result<(), Fail> {
+    let mut members = List::new(rt.alloc());
+    for kind in kinds {
+        let name = Name::of(rt.alloc(), "member")?;
+        members.push(Member { name, kind: *kind })?;
+    }
+    assert!(rt; schema.structs().len() < MOST_ROWS - 1);
+    assert!(rt;
+        schema.is_new_id(id) && schema.fits_struct(&members),
+        "at {id}"
+    );
+    let id = Name::of(rt.alloc(), id)?;
+    schema.add_struct(StructDecl { id, members })?;
+    Ok(())
+}
+
+fn schema_of_all(rt: &(impl AllocGlobal + Abort)) -> Result<Schema, Fail> {
+    let mut schema = Schema::new(rt.alloc());
+    add_seq(rt, &mut schema, "::M::Bytes", TypeRef::Byte)?;
+    add_seq(rt, &mut schema, "::M::Rows", BYTES)?;
+    add_dict(rt, &mut schema, "::M::Counts", TypeRef::Text, TypeRef::Int)?;
+    add_dict(rt, &mut schema, "::M::ByNumber", TypeRef::Short, BYTES)?;
+    add_struct(
+        rt,
+        &mut schema,
+        "::M::Pair",
+        &[TypeRef::Byte, TypeRef::Byte],
+    )?;
+    add_struct(
+        rt,
+        &mut schema,
+        "::M::Row",
+        &[TypeRef::Short, PAIR, TypeRef::Text],
+    )?;
+    add_dict(rt, &mut schema, "::M::ByPair", PAIR, TypeRef::Byte)?;
     Ok(schema)
 }
 
@@ -110,19 +179,28 @@ fn rewritten(
 
 #[test]
 fn values_by_type(rt: HostRuntime) -> Result<(), Fail> {
-    let schema = schema_of_all(rt.alloc())?;
+    let schema = schema_of_all(&rt)?;
     for (kind, bytes) in ACCEPTED {
-        let out = rewritten(rt.alloc(), &schema, kind, bytes)?;
-        assert_eq!(rt; out.as_slice(), bytes, "at {kind:?}");
+        let out = rewritten(rt.alloc(), &schema, *kind, bytes)?;
+        assert_eq!(rt; out.as_slice(), *bytes, "at {kind:?}");
     }
     for (kind, bytes, want) in PUT_IN_ORDER {
-        let out = rewritten(rt.alloc(), &schema, kind, bytes)?;
-        assert_eq!(rt; out.as_slice(), want, "at {kind:?}");
+        let out = rewritten(rt.alloc(), &schema, *kind, bytes)?;
+        assert_eq!(rt; out.as_slice(), *want, "at {kind:?}");
     }
+    Ok(())
+}
+
+#[test]
+fn first_faults(rt: HostRuntime) -> Result<(), Fail> {
+    let schema = schema_of_all(&rt)?;
     for (kind, bytes, place, fault) in REFUSED {
         let mut cursor = Cursor::new(bytes);
-        let found = read_value(rt.alloc(), &schema, kind, &mut cursor).err();
-        let want = ReadFault::Broken(Fault { place, kind: fault });
+        let found = read_value(rt.alloc(), &schema, *kind, &mut cursor).err();
+        let want = ReadFault::Broken(Fault {
+            place: *place,
+            kind: *fault,
+        });
         assert_eq!(rt; found, Some(want), "at {bytes:?}");
         assert_eq!(rt; cursor.place(), 0, "at {bytes:?}");
     }

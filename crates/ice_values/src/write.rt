@@ -43,6 +43,7 @@ fn append(value: &Value, out: &mut Vec<u8>) -> Result<(), AllocError>
             append_each(items.as_slice(), out)?;
             Ok(())
         }
+        Value::Members(items) => append_each(items.as_slice(), out),
         Value::Pairs(pairs) => {
             put_size(out, pairs.len() as u32)?;
             append_pairs(pairs.as_slice(), out)?;

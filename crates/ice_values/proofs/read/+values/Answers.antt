@@ -1,15 +1,14 @@
 use Rattle.std.proofs.Common.{◌≡◌, ℕ, suc, true, false, ◌-◌, rules, refl, sym, ap, subst, ◌∙◌, arith}
 use Rattle.std.proofs.lemmas.List.{map_push}
 use Rattle.ice_encoding.specs.Port.{no_references}
-use Rattle.ice_encoding.specs.Reading.{value_at, each_at}
+use Rattle.ice_encoding.specs.Reading.{value_at, each_at, members_at}
 use Rattle.ice_encoding.specs.Tree.{none, tree}
-use Rattle.graph_arena.specs.View.{view, view_all}
+use Rattle.graph_arena.specs.View.{view, view_all, view_pairs}
 use Rattle.ice_values.specs.Reads.{Reads}
-use Rattle.ice_encoding.specs.Order.{has_key, insert}
-use Rattle.graph_arena.specs.Keys.{key_tree}
-use Rattle.graph_arena.specs.Sorting.{view_map}
-use Rattle.ice_values.proofs.Loop.{join, trees-push, goes_on, is_done, pairs_go_on, pairs_refused, pairs_value_fails}
-use Rattle.graph_arena.proofs.Sorting.{key_order, found_is, put_is}
+use Rattle.ice_encoding.specs.Order.{tree_cmp, has_key, insert}
+use Rattle.std.specs.Ordering.{on}
+use Rattle.ice_values.proofs.Loop.{join, trees-push, goes_on, is_done, members_go_on, members_done, pairs_go_on, pairs_refused, pairs_value_fails}
+use Rattle.graph_arena.proofs.Sorting.{found_is, put_is}
 use Rattle.ice_values.proofs.read.+values.Goals as goal
 
 pub read_each-loop-preserved : goal.read_each-loop-preserved
@@ -30,17 +29,29 @@ read_level-returns t c =
 
 pub read_pairs-returns-then-contains_key : goal.read_pairs-returns-then-contains_key
 read_pairs-returns-then-contains_key t c =
-    let old : has_key (key_tree c.in_ok-found.found) (view_map c.loop.pairs.entries) ≡ true = sym (found_is _ key_order c.in_ok-found.found c.loop.pairs.entries) ∙ sym c.contains_key.ensures ∙ c.if-contains_key.true in
-    rw (pairs_refused (value_at no_references c.args.schema.now c.args.levels c.args.key) (value_at no_references c.args.schema.now c.args.levels c.args.value) (view_map c.loop.pairs.entries) c.args.count c.loop.counter c.loop.cursor _ c.loop.invariant (key_tree c.in_ok-found.found) c.read_key.new.cursor c.loop-test.true (c.in_ok-found.ensures c.args.schema.now) old, c.fault-equal.ensures) refl
+    let old : has_key (view c.in_ok-found.found) (view_pairs c.loop.pairs.entries) ≡ true = sym (found_is (on view tree_cmp) (λ a b. refl) c.in_ok-found.found c.loop.pairs.entries) ∙ sym c.contains_key.ensures ∙ c.if-contains_key.true in
+    rw (pairs_refused (value_at no_references c.args.schema.now c.args.levels c.args.key) (value_at no_references c.args.schema.now c.args.levels c.args.value) (view_pairs c.loop.pairs.entries) c.args.count c.loop.counter c.loop.cursor _ c.loop.invariant (view c.in_ok-found.found) c.read_level.new.cursor c.loop-test.true (c.in_ok-found.ensures) old, c.fault-equal.ensures) refl
 
 pub read_pairs-returns-in_err-held : goal.read_pairs-returns-in_err-held
 read_pairs-returns-in_err-held t c =
-    let new : has_key (key_tree c.in_ok-found.found) (view_map c.loop.pairs.entries) ≡ false = sym (found_is _ key_order c.in_ok-found.found c.loop.pairs.entries) ∙ sym c.contains_key.ensures ∙ c.if-contains_key.false in
-    let fails = pairs_value_fails (value_at no_references c.args.schema.now c.args.levels c.args.key) (value_at no_references c.args.schema.now c.args.levels c.args.value) (view_map c.loop.pairs.entries) c.args.count c.loop.counter c.loop.cursor _ c.loop.invariant c.in_err-held.field-0.0 (key_tree c.in_ok-found.found) c.read_key.new.cursor c.loop-test.true (c.in_ok-found.ensures c.args.schema.now) new c.in_err-held.ensures in
+    let new : has_key (view c.in_ok-found.found) (view_pairs c.loop.pairs.entries) ≡ false = sym (found_is (on view tree_cmp) (λ a b. refl) c.in_ok-found.found c.loop.pairs.entries) ∙ sym c.contains_key.ensures ∙ c.if-contains_key.false in
+    let fails = pairs_value_fails (value_at no_references c.args.schema.now c.args.levels c.args.key) (value_at no_references c.args.schema.now c.args.levels c.args.value) (view_pairs c.loop.pairs.entries) c.args.count c.loop.counter c.loop.cursor _ c.loop.invariant c.in_err-held.field-0.0 (view c.in_ok-found.found) c.read_level.new.cursor c.loop-test.true (c.in_ok-found.ensures) new c.in_err-held.ensures in
     search (rules, fails)
 
 pub read_pairs-loop-preserved : goal.read_pairs-loop-preserved
 read_pairs-loop-preserved t c =
-    let new : has_key (key_tree c.in_ok-found.found) (view_map c.loop.pairs.entries) ≡ false = sym (found_is _ key_order c.in_ok-found.found c.loop.pairs.entries) ∙ sym c.contains_key.ensures ∙ c.if-contains_key.false in
-    let put : view_map c.insert.new.self.entries ≡ insert (key_tree c.in_ok-found.found) (view c.in_ok-held.held) (view_map c.loop.pairs.entries) = ap view_map c.in_ok-insert.ensures.entries ∙ put_is _ key_order c.in_ok-found.found c.in_ok-held.held c.loop.pairs.entries new in
-    rw put (pairs_go_on (value_at no_references c.args.schema.now c.args.levels c.args.key) (value_at no_references c.args.schema.now c.args.levels c.args.value) (view_map c.loop.pairs.entries) c.args.count c.loop.counter c.loop.cursor _ c.loop.invariant (key_tree c.in_ok-found.found) (view c.in_ok-held.held) c.read_key.new.cursor c.read_level.new.cursor c.loop-test.true (c.in_ok-found.ensures c.args.schema.now) new c.in_ok-held.ensures)
+    let new : has_key (view c.in_ok-found.found) (view_pairs c.loop.pairs.entries) ≡ false = sym (found_is (on view tree_cmp) (λ a b. refl) c.in_ok-found.found c.loop.pairs.entries) ∙ sym c.contains_key.ensures ∙ c.if-contains_key.false in
+    let put : view_pairs c.insert.new.self.entries ≡ insert (view c.in_ok-found.found) (view c.in_ok-held.held) (view_pairs c.loop.pairs.entries) = ap view_pairs c.in_ok-insert.ensures.entries ∙ put_is (on view tree_cmp) (λ a b. refl) c.in_ok-found.found c.in_ok-held.held c.loop.pairs.entries new in
+    rw put (pairs_go_on (value_at no_references c.args.schema.now c.args.levels c.args.key) (value_at no_references c.args.schema.now c.args.levels c.args.value) (view_pairs c.loop.pairs.entries) c.args.count c.loop.counter c.loop.cursor _ c.loop.invariant (view c.in_ok-found.found) (view c.in_ok-held.held) c.read_level.new.cursor c.read_level-in-loop.new.cursor c.loop-test.true (c.in_ok-found.ensures) new c.in_ok-held.ensures)
+
+pub read_members-loop-member-preserved : goal.read_members-loop-member-preserved
+read_members-loop-member-preserved t c =
+    let of = value_at no_references c.args.schema.now c.args.levels in
+    let pushed : view_all c.push.new.self ≡ join (view_all c.loop-member.items) (tree (view c.in_ok-item.item) none) = rw (c.in_ok-push.ensures.ok, map_push view c.loop-member.items c.in_ok-item.item) (trees-push _ _) in
+    rw pushed (members_go_on of c.args.members.now c.loop-member.member-index c.member-item.result c.loop-member-test.true c.member-item.is (view_all c.loop-member.items) tt c.loop-member.cursor
+    (members_at of c.args.members.now tt c.args.cursor.now) c.loop-member.invariant tt c.read_level.new.cursor (view c.in_ok-item.item) c.in_ok-item.ensures)
+
+pub read_members-returns : goal.read_members-returns
+read_members-returns t c =
+    let of = value_at no_references c.args.schema.now c.args.levels in
+    members_done of c.args.members.now c.loop-member.member-index (view_all c.loop-member.items) tt c.loop-member.cursor (members_at of c.args.members.now tt c.args.cursor.now) c.loop-member-test.false c.loop-member.invariant

@@ -1,9 +1,8 @@
-use Rattle.std.proofs.Common.{◌≡◌, ◌+◌, ◌-◌, ◌*◌}
+use Rattle.std.proofs.Common.{◌≡◌, ◌+◌, ◌-◌, ◌*◌, drop}
 use Rattle.ice_encoding.specs.Port.{no_references}
-use Rattle.ice_encoding.specs.Reading.{value_at, each_at, pairs_at}
+use Rattle.ice_encoding.specs.Reading.{value_at, each_at, members_at, pairs_at}
 use Rattle.ice_encoding.specs.Tree.{no_entry}
-use Rattle.graph_arena.specs.Sorting.{view_map}
-use Rattle.graph_arena.specs.View.{view_all}
+use Rattle.graph_arena.specs.View.{view_all, view_pairs}
 use Rattle.ice_values.proofs.Loop.{with_front}
 use Rattle.ice_values.proofs.read.+values.Given as goal
 
@@ -28,5 +27,13 @@ decreases-read_pairs l = 3 * l.levels + 1
 -- the pairs so far, and those that are still read
 abbrev pub invariant-read_pairs-loop : goal.invariant-read_pairs-loop
 invariant-read_pairs-loop l =
-    pairs_at (value_at no_references l.schema l.levels l.key) (value_at no_references l.schema l.levels l.value) (l.count - l.counter) (view_map l.pairs.entries) tt l.cursor
+    pairs_at (value_at no_references l.schema l.levels l.key) (value_at no_references l.schema l.levels l.value) (l.count - l.counter) (view_pairs l.pairs.entries) tt l.cursor
     ≡ pairs_at (value_at no_references l.schema l.levels l.key) (value_at no_references l.schema l.levels l.value) l.count no_entry tt l.fn.cursor
+
+abbrev pub decreases-read_members : goal.decreases-read_members
+decreases-read_members l = 3 * l.levels + 1
+
+abbrev pub invariant-read_members-loop-member : goal.invariant-read_members-loop-member
+invariant-read_members-loop-member l =
+    with_front (view_all l.items) (members_at (value_at no_references l.schema l.levels) (drop l.member-index l.members) tt l.cursor)
+    ≡ members_at (value_at no_references l.schema l.levels) l.members tt l.fn.cursor
