@@ -16,7 +16,7 @@ built_in text = cond (bytes_eq text (codes "bool")) (Some kinds.Bool) (cond (byt
 pub id_no_word : (text : List ℕ) → IsTypeId text → built_in text ≡ None
 id_no_word [] e = absurd cc
 id_no_word (a ∷ []) e = absurd cc
-id_no_word (a ∷ b ∷ more) e = let first : a ≡ 58 = cc in rw first refl
+id_no_word (a ∷ b ∷ more) e = let first : a ≡ 58 = cc in rw first (refl {a = None})
 
 named : (t : Tables) (text : List ℕ) (kind : TypeRef) → Names t text kind → (built_in text ≡ Some kind) ⊎ HasTypeId t text kind
 named t text kinds.Bool h = inl (rw h refl)
