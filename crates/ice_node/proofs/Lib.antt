@@ -1,11 +1,4 @@
-pub mod Samples
 pub mod CommandForms
-pub mod TokenFronts
-pub mod SliceNames
-pub mod SequenceFronts
-pub mod SequenceReading
-pub mod FileReading
-pub mod TextMeanings
 pub mod EncapsulationSteps
 pub mod KnownBytes
 pub mod Inputs

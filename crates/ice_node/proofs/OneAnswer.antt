@@ -5,10 +5,10 @@ use Rattle.ice_types.specs.Tables.{Tables, Names}
 use Rattle.ice_encoding.specs.Encapsulation.{SpellsEncapsulation, encapsulation_bytes}
 use Rattle.ice_encoding.proofs.Encapsulations.{encapsulation_apart}
 use Rattle.ice_node.specs.Words.{Word, Command, relay, help, version}
-use Rattle.ice_node.specs.SliceText.{Means}
+use Rattle.slice_check.specs.SliceText.{Means}
 use Rattle.ice_node.specs.Statuses.{Answer, done, usage, no_such_name, slice_refused, input_refused, read_failed, write_failed, no_memory, status, Files, World, FileMeans, IsNamed, Relays, Commands, Decides, Comes, Ends}
 use Rattle.ice_node.proofs.CommandForms.{forms_apart}
-use Rattle.ice_node.proofs.TextMeanings.{texts_apart}
+use Rattle.slice_check.proofs.OneReading.{texts_apart}
 
 files_apart : (files : Files) (file : Word) (t u : Tables) → FileMeans files file t → FileMeans files file u → t ≡ u
 files_apart files file t u m n = let same : m.0 ≡ n.0 = cc in texts_apart n.0 t u (subst (λ (x : List ℕ). Means x t) same m.2) n.2

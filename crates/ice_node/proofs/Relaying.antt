@@ -18,7 +18,7 @@ use Rattle.ice_encoding.proofs.Plain.{plain_sizes}
 use Rattle.ice_encoding.proofs.Encapsulations.{encapsulation_found, encapsulation_only, encapsulation_canon}
 use Rattle.ice_ports.specs.Files.{file_named}
 use Rattle.ice_node.specs.Words.{Word}
-use Rattle.ice_node.specs.SliceText.{Means}
+use Rattle.slice_check.specs.SliceText.{Means}
 use Rattle.ice_node.specs.Streams.{Claims, IsSize, ReadsInput}
 use Rattle.ice_node.specs.Statuses.{Files, FileMeans, Told}
 use Rattle.ice_node.specs.declared.outcome.Outcome.{Outcome}

@@ -1,5 +1,4 @@
 pub mod Words
-pub mod SliceText
 pub mod Steps
 pub mod Streams
 pub mod Statuses

@@ -8,7 +8,7 @@ use Rattle.ice_encoding.specs.Encapsulation.{SpellsEncapsulation, encapsulation_
 use Rattle.ice_ports.specs.Files.{file_named}
 use Rattle.ice_node.specs.declared.help.TheConstants.{HELP, VERSION}
 use Rattle.ice_node.specs.Words.{Word, Command, relay, help, version, Form}
-use Rattle.ice_node.specs.SliceText.{Means}
+use Rattle.slice_check.specs.SliceText.{Means}
 
 pub data Answer : Type 0 where
   -- these bytes were written

@@ -7,7 +7,6 @@ mod input;
 mod outcome;
 mod output;
 mod relay;
-mod slice_text;
 mod top_call;
 mod words;
 
@@ -16,7 +15,6 @@ pub use help::{HELP, VERSION};
 pub use input::{InputFault, read_input};
 pub use outcome::Outcome;
 pub use output::write_all;
-pub use slice_text::{TextFault, schema_of, texts_apart};
 pub use top_call::{answers_apart, node};
 pub use words::{Command, command_of, forms_apart};
 

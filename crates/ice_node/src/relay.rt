@@ -8,10 +8,10 @@ use crate::encapsulation::{decode, encode};
 use crate::input::{InputFault, read_input};
 use crate::outcome::Outcome;
 use crate::output::write_all;
-use crate::slice_text::{TextFault, schema_of};
 use ice_ports::{Shelf, ShelfFault, Sink, Source};
 use ice_prims::ReadFault;
 use ice_types::{Schema, TypeRef};
+use slice_check::{TextFault, schema_of};
 use std::alloc::Global;
 
 /// Relays one encapsulation of the type from the source to the sink. Nothing is written before the

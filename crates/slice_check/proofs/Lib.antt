@@ -1,0 +1,11 @@
+pub mod Samples
+pub mod TokenFronts
+pub mod SliceNames
+pub mod Fronts
+pub mod ScopeNames
+pub mod TypeIds
+pub mod KnownTypes
+pub mod OneReading
+pub mod Members
+pub mod Bodies
+pub mod FileReading

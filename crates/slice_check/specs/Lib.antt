@@ -1,0 +1,2 @@
+pub mod SliceText
+pub mod Reading

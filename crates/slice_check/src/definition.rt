@@ -1,0 +1,54 @@
+//! What a definition defines, and the schema with it.
+
+ghost use Rattle.std.specs.Prelude.{◌+◌, ◌≤◌, ◌↔◌, IsTrue, length};
+ghost use Rattle.ice_types.specs.Tables.{IsTypeId, IsNewId};
+ghost use Rattle.slice_check.specs.SliceText.{Fits};
+ghost use Rattle.slice_check.specs.Reading.{Adds};
+
+use crate::fault::TextFault;
+use ice_types::{DictDecl, List, Member, Name, Schema, SeqDecl, StructDecl, TypeRef};
+
+/// What is defined, without its name.
+#[derive(Debug, Drop)]
+pub enum Definition {
+    Struct(List<Member>),
+    Sequence(TypeRef),
+    Dictionary { key: TypeRef, value: TypeRef },
+}
+
+/// Adds the definition under this type id, and answers the type that it is. One that does not fit
+/// is refused.
+pub fn add_definition(
+    schema: &mut Schema,
+    id: Name,
+    definition: Definition,
+) -> Result<TypeRef, TextFault>
+    requires room { length schema.old.seqs + length schema.old.dicts + length schema.old.structs ≤ 1000000 }
+    requires type_id { IsTypeId id }
+    requires new_id { IsNewId schema.old id }
+    ensures { Adds schema.old schema.new id definition result }
+{
+    if !fits(schema, &definition) {
+        return Err(TextFault::Refused);
+    }
+    Ok(match definition {
+        Definition::Struct(members) => {
+            TypeRef::Struct(schema.add_struct(StructDecl { id, members })?)
+        }
+        Definition::Sequence(element) => TypeRef::Seq(schema.add_seq(SeqDecl { id, element })?),
+        Definition::Dictionary { key, value } => {
+            TypeRef::Dict(schema.add_dict(DictDecl { id, key, value })?)
+        }
+    })
+}
+
+/// Whether the definition keeps the limits of the schema.
+fn fits(schema: &Schema, definition: &Definition) -> bool
+    ensures { IsTrue result ↔ Fits schema.now definition.now }
+{
+    match definition {
+        Definition::Struct(members) => schema.fits_struct(members),
+        Definition::Sequence(element) => schema.fits_seq(*element),
+        Definition::Dictionary { key, value } => schema.fits_dict(*key, *value),
+    }
+}

@@ -1,0 +1,16 @@
+//! From a Slice text to its schema.
+#![tactic(auto)]
+
+mod definition;
+mod definition_fronts;
+mod fault;
+mod file;
+mod names;
+mod scope;
+mod tokens;
+
+pub use fault::TextFault;
+pub use file::{schema_of, texts_apart};
+
+#[cfg(test)]
+mod tests;
