@@ -52,15 +52,19 @@ def text_of(tokens, chance):
     return "".join(text).encode() + chance.choice([b"", b"\n", b" \r\n"])
 
 
+def tokens_of(module, definitions):
+    return ["module", module, "{", *(token for it in definitions for token in it), "}", ";"]
+
+
 class SchemaMaker:
-    """Makes the tokens of a text, definition by definition, and keeps the kinds of what it has made."""
+    """Makes a text definition by definition, each a list of tokens, and keeps the kinds of what it has made."""
 
     def __init__(self, chance, has_names):
         self.chance, self.has_names = chance, has_names
-        self.module, self.kinds, self.body = chance.choice(NAMES), {}, []
+        self.module, self.kinds, self.definitions = chance.choice(NAMES), {}, []
 
     def tokens(self):
-        return ["module", self.module, "{", *self.body, "}", ";"]
+        return tokens_of(self.module, self.definitions)
 
     def name(self, others):
         taken = {it.lower() for it in others}
@@ -93,18 +97,17 @@ class SchemaMaker:
             tokens += [word, members[-1], ";"]
         name = self.name(self.kinds)
         self.kinds[name] = slice_text.struct([kind for _, kind in types])
-        self.body += ["struct", name, "{", *tokens, "}", ";"]
-        return name
+        self.definitions.append(["struct", name, "{", *tokens, "}", ";"])
 
     def add_sequence(self, element):
         name = self.name(self.kinds)
         self.kinds[name] = slice_text.sequence(element[1])
-        self.body += ["sequence", "<", element[0], ">", name, ";"]
+        self.definitions.append(["sequence", "<", element[0], ">", name, ";"])
 
     def add_dictionary(self, key, value):
         name = self.name(self.kinds)
         self.kinds[name] = slice_text.dictionary(key[1], value[1])
-        self.body += ["dictionary", "<", key[0], ",", value[0], ">", name, ";"]
+        self.definitions.append(["dictionary", "<", key[0], ",", value[0], ">", name, ";"])
 
     def last(self):
         return list(self.kinds.items())[-1]
@@ -127,14 +130,52 @@ class SchemaMaker:
 
 def broken_tokens(tokens, names, chance):
     """Yields tokens in which, at each place in turn, one is dropped, doubled or replaced."""
-    others = ["{", "}", "<", ">", ",", ";", *slice_text.KEYWORDS, *names, *(swapped(it) for it in names), *STRANGE]
-    others.sort()
+    others = ["{", "}", "<", ">", ",", ";", *sorted(slice_text.KEYWORDS), *names, *(swapped(it) for it in names), *STRANGE]
     for at, token in enumerate(tokens):
         yield "a token dropped", tokens[:at] + tokens[at + 1 :]
         yield "a token doubled", tokens[: at + 1] + tokens[at:]
-        near = [swapped(token), *names, *slice_text.BUILT_IN] if is_word(token) else ["{", "}", "<", ">", ",", ";"]
-        yield "a token replaced", tokens[:at] + [chance.choice(near)] + tokens[at + 1 :]
         yield "a token replaced", tokens[:at] + [chance.choice(others)] + tokens[at + 1 :]
+        if not is_word(token):
+            yield "a symbol replaced", tokens[:at] + [chance.choice([it for it in "{}<>,;" if it != token])] + tokens[at + 1 :]
+
+
+def is_type(tokens, at):
+    """Says whether an element, a key, a value or the type of a member stands there."""
+    behind = tokens[at + 1 : at + 3]
+    return is_word(tokens[at]) and (behind[:1] in ([">"], [","]) or (len(behind) == 2 and is_word(behind[0]) and behind[1] == ";"))
+
+
+def is_name(tokens, at):
+    """Says whether the name of a module, a definition or a member stands there."""
+    return is_word(tokens[at]) and tokens[at + 1 : at + 2] in (["{"], [";"])
+
+
+def other_words(tokens, names, chance):
+    """Yields tokens in which each type is another one, later ones and the module among them, and each name one that may stand already."""
+    words = sorted({it for it in tokens if is_word(it)} - slice_text.KEYWORDS)
+    for at, token in enumerate(tokens):
+        if is_type(tokens, at):
+            types = [*names, swapped(token), chance.choice(words), chance.choice(sorted(slice_text.KEYWORDS))]
+            for it in types if len(types) <= 8 else chance.sample(types, 8):
+                yield "another type", tokens[:at] + [it] + tokens[at + 1 :]
+        if is_name(tokens, at):
+            yield "another name", tokens[:at] + [chance.choice(words)] + tokens[at + 1 :]
+            yield "another name", tokens[:at] + [swapped(chance.choice(words))] + tokens[at + 1 :]
+            yield "a keyword as a name", tokens[:at] + [chance.choice(sorted(slice_text.KEYWORDS))] + tokens[at + 1 :]
+
+
+def other_definitions(module, definitions):
+    """Yields tokens in which each definition, and each struct's member, is dropped, doubled or changes places with the next."""
+    for at, it in enumerate(definitions):
+        front, back = definitions[:at], definitions[at + 1 :]
+        yield "a definition dropped", tokens_of(module, front + back)
+        yield "a definition doubled", tokens_of(module, front + [it, it] + back)
+        yield "definitions in another order", tokens_of(module, front + back[:1] + [it] + back[1:])
+        if it[0] == "struct":
+            yield "no members", tokens_of(module, front + [it[:3] + it[-2:]] + back)
+            for place in range(3, len(it) - 2, 3):
+                yield "a member dropped", tokens_of(module, front + [it[:place] + it[place + 3 :]] + back)
+                yield "a member doubled", tokens_of(module, front + [it[: place + 3] + it[place:]] + back)
 
 
 def broken_bytes(text, chance):
@@ -289,62 +330,84 @@ def wrong_words(module, names, chance):
     )
 
 
+def trials_of(maker, chance, rooms, broken):
+    """Yields good and broken inputs of each type of a schema, and of one built-in type; `broken` is the number of broken ones."""
+    text = text_of(maker.tokens(), chance)
+    schema = slice_text.read(text, maker.has_names)
+    for word in [*(f"::{maker.module}::{name}" for name in maker.kinds), chance.choice(list(slice_text.BUILT_IN))]:
+        kind, inputs = schema.kind(word), []
+        for room in rooms:
+            for what, data, canonical in good_inputs(kind, chance, room):
+                inputs.append(data)
+                yield Trial(what, text, word, data, canonical)
+            for data in doubled_keys(kind, chance, room):
+                inputs.append(data)
+                yield Trial("a key twice", text, word, data)
+        short = [it for it in inputs if len(it) <= 64]
+        for data in chance.sample(short, min(broken, len(short))):
+            for what, changed in broken_inputs(data, chance):
+                yield Trial(what, text, word, changed)
+
+
+def text_trials(maker, chance):
+    """Yields broken texts of a schema, each with a type and an input that fit the good text."""
+    names, module = list(maker.kinds), maker.module
+    made = [*broken_tokens(maker.tokens(), names, chance), *other_words(maker.tokens(), names, chance)]
+    made += other_definitions(module, maker.definitions)
+    texts = [(what, text_of(tokens, chance)) for what, tokens in made]
+    texts += broken_bytes(text_of(maker.tokens(), chance), chance)
+    for what, text in texts:
+        name, kind = chance.choice(list(maker.kinds.items()))
+        yield Trial(what, text, f"::{module}::{name}", values.encode(ValueMaker(chance, 8).value(kind), kind))
+    for word in wrong_words(module, names, chance):
+        yield Trial("another word", text_of(maker.tokens(), chance), word, b"\x07\0\0\0\1\1\0")
+
+
 def usual_lot(chance, has_names):
     maker = SchemaMaker(chance, has_names)
     for _ in range(chance.choice([1, 2, 3, 5, 8])):
         maker.add()
-    text, names = text_of(maker.tokens(), chance), list(maker.kinds)
-    words = {f"::{maker.module}::{name}": kind for name, kind in maker.kinds.items()}
-    words[chance.choice(list(slice_text.BUILT_IN))] = None
-    schema = slice_text.read(text, has_names)
-    inputs = {}
-    for word in words:
-        kind = schema.kind(word)
-        for room in (4, 12, 40):
-            for what, data, canonical in good_inputs(kind, chance, room):
-                inputs.setdefault(word, []).append(data)
-                yield Trial(what, text, word, data, canonical)
-            for data in doubled_keys(kind, chance, room):
-                inputs[word].append(data)
-                yield Trial("a key twice", text, word, data)
-    for word, some in inputs.items():
-        short = [it for it in some if len(it) <= 64]
-        for data in chance.sample(short, min(2, len(short))):
-            for what, broken in broken_inputs(data, chance):
-                yield Trial(what, text, word, broken)
-    for word in wrong_words(maker.module, names, chance):
-        yield Trial("another word", text, word, b"\x07\0\0\0\1\1\0")
-    for what, tokens in broken_tokens(maker.tokens(), names, chance):
-        word, some = chance.choice(list(inputs.items()))
-        yield Trial(what, text_of(tokens, chance), word, chance.choice(some))
-    for what, broken in broken_bytes(text, chance):
-        word, some = chance.choice(list(inputs.items()))
-        yield Trial(what, broken, word, chance.choice(some))
+    yield from trials_of(maker, chance, (4, 12, 40), 2 if len(maker.kinds) < 4 else 1)
+    yield from text_trials(maker, chance)
 
 
-def deep_lot(chance):
-    """Types of about the greatest depth: each definition stands on the one before it."""
+def keyed_lot(chance):
+    """Structs as keys: of built-in types, of one of these structs, and a dictionary of each."""
+    maker = SchemaMaker(chance, True)
+    types = list(slice_text.BUILT_IN.items())
+    texts = [("string", slice_text.BUILT_IN["string"])] * 2
+    maker.add_struct(texts if chance.random() < 0.3 else [chance.choice(types) for _ in range(chance.choice([1, 2, 3]))])
+    key = maker.last()
+    maker.add_dictionary(key, maker.type())
+    maker.add_struct(chance.sample([key, key, *types], chance.choice([2, 3, 4])))
+    maker.add_dictionary(maker.last(), maker.type())
+    yield from trials_of(maker, chance, (3, 5, 8, 12, 20, 40), 1)
+
+
+def deep_lot(chance, wanted):
+    """A type of a depth, or of one more: each definition stands on the one before it."""
     maker = SchemaMaker(chance, True)
     maker.add()
-    wanted = chance.choice([98, 99, 100, 100, 100, 101, 101, 102])
     while maker.last()[1].depth < wanted:
         maker.deepen()
     name, kind = maker.last()
+    text, word = text_of(maker.tokens(), chance), f"::{maker.module}::{name}"
+    if kind.depth > slice_text.MOST_DEPTH:
+        yield Trial("too deep", text, word, values.encode(ValueMaker(chance, 200).value(kind), kind))
+        return
     for what, data, canonical in good_inputs(kind, chance, 200):
-        is_good = kind.depth <= slice_text.MOST_DEPTH
-        yield Trial(f"deep, {what}", text_of(maker.tokens(), chance), f"::{maker.module}::{name}", data, canonical if is_good else None)
+        yield Trial(f"deep, {what}", text, word, data, canonical)
 
 
-def big_lot(chance):
-    """Structs whose smallest spelling is about the greatest."""
+def big_lot(chance, leaf, more):
+    """A struct whose smallest spelling is that many bytes more than the most."""
     maker = SchemaMaker(chance, True)
-    word, leaf = chance.choice(list(slice_text.BUILT_IN.items()))
     base = chance.choice([2, 3, 7, 16, 100])
-    parts = [(word, leaf)]
+    parts = [(leaf, slice_text.BUILT_IN[leaf])]
     while parts[-1][1].smallest * base <= slice_text.MOST_SMALLEST:
         maker.add_struct([parts[-1]] * base)
         parts.append(maker.last())
-    left = slice_text.MOST_SMALLEST + chance.choice([-1, 0, 0, 1, 1, 2, 8, 1_000_000])
+    left = slice_text.MOST_SMALLEST + more
     members = []
     for part in [*reversed(parts), ("bool", slice_text.BUILT_IN["bool"])]:
         members += [part] * (left // part[1].smallest)
@@ -361,6 +424,9 @@ def lot(seed, number, has_names):
     chance = random.Random(f"{seed} {number}")
     trials = list(usual_lot(chance, has_names))
     if has_names:
-        trials += deep_lot(chance)
-        trials += big_lot(chance)
+        trials += keyed_lot(chance)
+        for wanted in (99, 100, 100, 101):
+            trials += deep_lot(chance, wanted)
+        for more in (-1, 0, 0, 1, 1, chance.choice([2, 8, 1_000_000])):
+            trials += big_lot(chance, chance.choice(list(slice_text.BUILT_IN)), more)
     return trials
