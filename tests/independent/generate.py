@@ -234,11 +234,24 @@ class ValueMaker:
         return keys
 
     def near(self, key, kind):
-        """Returns a key that differs from another in one member alone, the last one often."""
+        """Returns a key that differs from another in one member alone, the last one often, or in where two texts are parted."""
+        if kind.sort == "string" and self.chance.random() < 0.5:
+            return key[:-1] if key.isascii() and key and self.chance.random() < 0.5 else key + b"a"
         if kind.sort != "struct":
             return self.value(kind)
         at = len(key) - 1 if self.chance.random() < 0.6 else self.chance.randrange(len(key))
+        if at and kind.parts[at].sort == kind.parts[at - 1].sort == "string" and self.chance.random() < 0.5:
+            return (*key[: at - 1], *parted_elsewhere(key[at - 1], key[at]), *key[at + 1 :])
         return (*key[:at], self.near(key[at], kind.parts[at]), *key[at + 1 :])
+
+
+def parted_elsewhere(one, other):
+    """Returns two texts that are the same text together, as far as one of them has a letter of ASCII to give."""
+    if one and one[-1] < 128:
+        return one[:-1], one[-1:] + other
+    if other and other[0] < 128:
+        return one + other[:1], other[1:]
+    return one, other
 
 
 def shuffled(chance):
