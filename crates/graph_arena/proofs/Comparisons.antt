@@ -1,10 +1,7 @@
 -- What a loop over two lists compares.
-use Rattle.std.proofs.Common.{rules, ◌≡◌, ℕ, zero, suc, ◌<◌, ◌≤◌, nat_cmp, List, [], ◌∷◌, length, drop, Option, Some, None, IsTrue, refl, sym, ap, ◌∙◌, arith}
-use Rattle.std.specs.Prelude.{slice_get}
+use Rattle.std.proofs.Common.{rules, ◌≡◌, ℕ, zero, suc, ◌≤◌, nat_cmp, List, [], ◌∷◌, length, drop, refl, sym, ◌∙◌, arith}
 use Rattle.std.specs.declared.cmp.Ordering.{Ordering}
-use Rattle.std.specs.declared.cmp.Ordering.TheVariants.{Less, Equal, Greater}
-use Rattle.std.specs.Ordering.{ordering_then}
-use Rattle.ice_encoding.specs.Tree.{Tree, dictionary}
+use Rattle.std.specs.declared.cmp.Ordering.TheVariants.{Less}
 use Rattle.ice_encoding.specs.Order.{tree_cmp, trees_cmp, entries_cmp}
 use Rattle.graph_arena.specs.declared.value.Value.{Value}
 use Rattle.graph_arena.specs.declared.value.Value.TheVariants as variants

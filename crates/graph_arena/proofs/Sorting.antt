@@ -1,5 +1,5 @@
 -- Pairs put at their places one after the other, as a loop does, and which keys are equal.
-use Rattle.std.proofs.Common.{◌≡◌, ℕ, ◌<◌, List, [], ◌∷◌, ◌++◌, length, map, take, drop, Bool, true, false, cond, ◌||◌, Option, Some, refl, sym, ap, subst, ◌∙◌, not, arith}
+use Rattle.std.proofs.Common.{◌≡◌, ℕ, List, [], ◌∷◌, length, map, take, drop, Bool, true, false, cond, ◌||◌, Option, Some, refl, sym, ap, subst, ◌∙◌, not}
 use Rattle.std.specs.Ordering.{is_lt, is_eq, ordering_reverse, match_ordering}
 use Rattle.std.specs.declared.cmp.Ordering.{Ordering}
 use Rattle.std.specs.declared.cmp.Ordering.TheVariants.{Less, Equal, Greater}

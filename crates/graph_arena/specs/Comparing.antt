@@ -1,13 +1,11 @@
 -- The order of values is a total order.
-use Rattle.std.proofs.Common.{◌≡◌, refl, sym, ap, subst}
+use Rattle.std.proofs.Common.{refl, ap}
 use Rattle.std.specs.Prelude.{Some}
 use Rattle.std.specs.Cmp.{IsTotalOrder, IsPartialOrder, IsEquivalence, IsPartialEquivalence, eq_by_cmp_equiv, on_total, partial_equiv_from_equiv, po}
 use Rattle.std.specs.Ordering.{eq_by_cmp, on}
-use Rattle.std.specs.declared.cmp.Ordering.TheVariants.{Equal}
 use Rattle.ice_encoding.specs.Tree.{Tree}
 use Rattle.ice_encoding.specs.Order.{tree_cmp}
 use Rattle.ice_encoding.proofs.Order.{turns, less_then, equal_is}
-use Rattle.graph_arena.specs.declared.value.Value.{Value}
 use Rattle.graph_arena.specs.View.{view}
 
 trees_total : IsTotalOrder tree_cmp
