@@ -140,12 +140,12 @@ fn read_members(
 ) -> Result<List<Value>, ReadFault>
     ensures { Reads view_all result cursor.new (members_at (value_at no_references schema.now levels) members.now tt cursor.old) }
 {
-    let mut items = List::new(alloc);
+    let mut items = Vec::with_capacity(alloc, members.len())?;
     for member in members {
         let item = read_level(alloc, schema, levels, member.kind, cursor)?;
         items.push(item)?;
     }
-    Ok(items)
+    Ok(List::from_vec(items))
 }
 
 /// So many pairs, each put at its place. A key that is equal to an earlier one is refused when it

@@ -47,11 +47,11 @@ read_pairs-loop-preserved t c =
 pub read_members-loop-member-preserved : goal.read_members-loop-member-preserved
 read_members-loop-member-preserved t c =
     let of = value_at no_references c.args.schema.now c.args.levels in
-    let pushed : view_all c.push.new.self ≡ join (view_all c.loop-member.items) (tree (view c.in_ok-item.item) none) = rw (c.in_ok-push.ensures.ok, map_push view c.loop-member.items c.in_ok-item.item) (trees-push _ _) in
-    rw pushed (members_go_on of c.args.members.now c.loop-member.member-index c.member-item.result c.loop-member-test.true c.member-item.is (view_all c.loop-member.items) tt c.loop-member.cursor
+    let pushed : view_all c.push.new.self.items ≡ join (view_all c.loop-member.items.items) (tree (view c.in_ok-item.item) none) = rw (c.in_ok-push.ensures.items, map_push view c.loop-member.items.items c.in_ok-item.item) (trees-push _ _) in
+    rw pushed (members_go_on of c.args.members.now c.loop-member.member-index c.member-item.result c.loop-member-test.true c.member-item.is (view_all c.loop-member.items.items) tt c.loop-member.cursor
     (members_at of c.args.members.now tt c.args.cursor.now) c.loop-member.invariant tt c.read_level.new.cursor (view c.in_ok-item.item) c.in_ok-item.ensures)
 
 pub read_members-returns : goal.read_members-returns
 read_members-returns t c =
     let of = value_at no_references c.args.schema.now c.args.levels in
-    members_done of c.args.members.now c.loop-member.member-index (view_all c.loop-member.items) tt c.loop-member.cursor (members_at of c.args.members.now tt c.args.cursor.now) c.loop-member-test.false c.loop-member.invariant
+    rw c.from_vec.ensures (members_done of c.args.members.now c.loop-member.member-index (view_all c.loop-member.items.items) tt c.loop-member.cursor (members_at of c.args.members.now tt c.args.cursor.now) c.loop-member-test.false c.loop-member.invariant)

@@ -35,5 +35,5 @@ decreases-read_members l = 3 * l.levels + 1
 
 abbrev pub invariant-read_members-loop-member : goal.invariant-read_members-loop-member
 invariant-read_members-loop-member l =
-    with_front (view_all l.items) (members_at (value_at no_references l.schema l.levels) (drop l.member-index l.members) tt l.cursor)
+    with_front (view_all l.items.items) (members_at (value_at no_references l.schema l.levels) (drop l.member-index l.members) tt l.cursor)
     ≡ members_at (value_at no_references l.schema l.levels) l.members tt l.fn.cursor
