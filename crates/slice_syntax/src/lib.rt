@@ -1,0 +1,19 @@
+//! The grammar of Slice: from the tokens of a text to what it declares.
+#![tactic(auto)]
+
+mod classes;
+mod cursor;
+mod definitions;
+mod fault;
+mod interfaces;
+mod modules;
+mod parser;
+mod sort;
+#[cfg(test)]
+mod tests;
+mod tree;
+mod words;
+
+pub use fault::SyntaxFault;
+pub use parser::parse;
+pub use tree::{Const, Constant, Field, File, Item, OpTree, Param, Path, TypeWord, Word};
