@@ -1,5 +1,9 @@
 //! Definitions but modules, classes and interfaces.
 
+ghost use Rattle.slice_syntax.specs.Reading.{read};
+ghost use Rattle.slice_syntax.specs.Rules.{member};
+ghost use Rattle.slice_syntax.specs.Taking.{Takes};
+
 use crate::classes::{class, exception};
 use crate::cursor::Cursor;
 use crate::fault::Stop;
@@ -86,7 +90,10 @@ fn members(alloc: Global, cursor: &mut Cursor) -> Result<List<Field>, Stop> {
 }
 
 /// `meta type word [ "=" value ] ";"`
-fn member(alloc: Global, cursor: &mut Cursor) -> Result<Field, Stop> {
+#[tactic(auto, unfolding(crate::specs::Rules::member))]
+fn member(alloc: Global, cursor: &mut Cursor) -> Result<Field, Stop>
+    ensures { Takes (λ x. x) result cursor.new (read member cursor.old) }
+{
     metadata(cursor)?;
     let kind = type_word(alloc, cursor)?;
     let word = cursor.take_word(alloc)?;

@@ -4,6 +4,7 @@
 mod classes;
 mod cursor;
 mod definitions;
+mod directive;
 mod fault;
 mod interfaces;
 mod modules;

@@ -1,6 +1,12 @@
 //! From the tokens of a text to what it declares.
 
+ghost use Rattle.slice_syntax.specs.Lexemes.{Lexemes};
+ghost use Rattle.slice_syntax.specs.Grammar.{Spells};
+ghost use Rattle.slice_syntax.specs.Rules.{definition};
+ghost use Rattle.slice_syntax.specs.declared.tree.Item.{Item};
+
 use crate::cursor::Cursor;
+use crate::directive::include_name;
 use crate::fault::{Stop, SyntaxFault};
 use crate::modules::modules;
 use crate::sort::{OPEN_TWO, Sort};
@@ -44,7 +50,7 @@ fn heads(
     let mut guarded = false;
     while cursor.begins(&[Sort::Include, Sort::Guard, Sort::Aside, OPEN_TWO]) {
         match cursor.sort() {
-            Some(Sort::Include) => included.push(cursor.take_include(alloc)?)?,
+            Some(Sort::Include) => included.push(take_include(alloc, cursor)?)?,
             Some(Sort::Guard) => {
                 cursor.take(Sort::Guard)?;
                 guarded = true;
@@ -56,4 +62,18 @@ fn heads(
         }
     }
     Ok(guarded)
+}
+
+/// A law.
+pub fn law()
+    ensures { (ls : Lexemes) (x : Item) → Spells definition ls x → Spells definition ls x }
+{}
+
+/// Takes an `#include`, with the name in it.
+fn take_include(alloc: Global, cursor: &mut Cursor) -> Result<(Name, u32), Stop> {
+    let (token, bytes) = cursor.take_any(&[Sort::Include])?;
+    match include_name(bytes) {
+        Some(text) => Ok((Name::of(alloc, text)?, token.from)),
+        None => unreachable!(),
+    }
 }

@@ -1,5 +1,9 @@
 //! What a token is to the grammar.
 
+ghost use Rattle.std.specs.Prelude.{◌≡◌};
+ghost use Rattle.slice_syntax.specs.Lexemes.{name_of, sort_by, word_sort};
+
+use crate::directive::{directive_sort, if_text};
 use slice_lexer::TokenKind;
 
 /// What a token is to the grammar.
@@ -113,7 +117,9 @@ pub(crate) const PLUS: Sort = Sort::Symbol(15);
 pub(crate) const MINUS: Sort = Sort::Symbol(16);
 
 /// What a token of this kind and these bytes is.
-pub(crate) fn sort_of(kind: TokenKind, bytes: &[u8]) -> Sort {
+pub(crate) fn sort_of(kind: TokenKind, bytes: &[u8]) -> Sort
+    ensures { result ≡ sort_by kind bytes.now }
+{
     match kind {
         TokenKind::Word => word_sort(bytes),
         TokenKind::Keyword(code) => Sort::Keyword(code),
@@ -124,71 +130,23 @@ pub(crate) fn sort_of(kind: TokenKind, bytes: &[u8]) -> Sort {
     }
 }
 
-fn word_sort(bytes: &[u8]) -> Sort {
-    match std::str::from_utf8(name_of(bytes)) {
-        Ok(_) => Sort::Word,
-        Err(_) => Sort::Stray,
+#[tactic(auto, unfolding(crate::specs::Lexemes::word_sort))]
+fn word_sort(bytes: &[u8]) -> Sort
+    ensures { result ≡ word_sort bytes.now }
+{
+    if if_text(name_of(bytes)).is_some() {
+        Sort::Word
+    } else {
+        Sort::Stray
     }
 }
 
 /// The word without a `\` before it.
-pub(crate) fn name_of(bytes: &[u8]) -> &[u8] {
+pub(crate) fn name_of(bytes: &[u8]) -> &[u8]
+    ensures { result.now ≡ name_of bytes.now }
+{
     match bytes {
         [b'\\', name @ ..] => name,
         _ => bytes,
     }
-}
-
-/// What the directive is, which begins with `#`.
-fn directive_sort(bytes: &[u8]) -> Sort {
-    let (word, rest) = directive_parts(bytes);
-    match word {
-        b"include" if included_name(rest).is_some() => Sort::Include,
-        b"ifndef" if is_word(rest) => Sort::Guard,
-        b"define" if is_word(rest) => Sort::Aside,
-        b"pragma" if rest == b"once".as_slice() => Sort::Aside,
-        b"endif" if rest.is_empty() => Sort::EndGuard,
-        _ => Sort::Stray,
-    }
-}
-
-/// The first word of a directive, and what follows it, without the blanks around.
-fn directive_parts(bytes: &[u8]) -> (&[u8], &[u8]) {
-    let line = match bytes {
-        [_, line @ ..] => line.trim_ascii(),
-        [] => bytes,
-    };
-    let (word, rest) = line.split_at(word_length(line));
-    (word, rest.trim_ascii_start())
-}
-
-fn word_length(bytes: &[u8]) -> usize {
-    bytes
-        .iter()
-        .take_while(|byte| byte.is_ascii_alphanumeric() || **byte == b'_')
-        .count()
-}
-
-/// Whether the bytes are a word.
-fn is_word(bytes: &[u8]) -> bool {
-    match bytes {
-        [first, ..] => !first.is_ascii_digit() && word_length(bytes) == bytes.len(),
-        [] => false,
-    }
-}
-
-/// The name between two marks.
-fn included_name(bytes: &[u8]) -> Option<&str> {
-    let name = match bytes {
-        [b'"', name @ .., b'"'] if !name.contains(&b'"') => name,
-        [b'<', name @ .., b'>'] if !name.contains(&b'>') => name,
-        _ => return None,
-    };
-    std::str::from_utf8(name).ok()
-}
-
-/// The name that an `#include` names.
-pub(crate) fn include_of(bytes: &[u8]) -> Option<&str> {
-    let (_, rest) = directive_parts(bytes);
-    included_name(rest)
 }

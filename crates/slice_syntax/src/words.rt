@@ -1,5 +1,9 @@
 //! Names, types, values and metadata.
 
+ghost use Rattle.slice_syntax.specs.Reading.{read};
+ghost use Rattle.slice_syntax.specs.Rules.{given, value, type_word, metadata};
+ghost use Rattle.slice_syntax.specs.Taking.{Takes};
+
 use crate::cursor::Cursor;
 use crate::fault::Stop;
 use crate::sort::{
@@ -157,7 +161,10 @@ fn names(alloc: Global, cursor: &mut Cursor) -> Result<(List<Name>, u32), Stop> 
 }
 
 /// A built-in type with or without `*`, or a scoped name with or without `*`.
-pub(crate) fn type_word(alloc: Global, cursor: &mut Cursor) -> Result<TypeWord, Stop> {
+#[tactic(auto, unfolding(crate::specs::Rules::type_word))]
+pub(crate) fn type_word(alloc: Global, cursor: &mut Cursor) -> Result<TypeWord, Stop>
+    ensures { Takes (λ x. x) result cursor.new (read type_word cursor.old) }
+{
     if cursor.begins(&PLAIN_TYPES) {
         return plain_type(cursor);
     }
@@ -173,7 +180,7 @@ pub(crate) fn type_word(alloc: Global, cursor: &mut Cursor) -> Result<TypeWord, 
 }
 
 fn plain_type(cursor: &mut Cursor) -> Result<TypeWord, Stop> {
-    let token = cursor.take_any(&PLAIN_TYPES)?;
+    let token = cursor.take_any(&PLAIN_TYPES)?.0;
     Ok(TypeWord::Built {
         code: keyword_code(token.kind),
         star: false,
@@ -183,7 +190,7 @@ fn plain_type(cursor: &mut Cursor) -> Result<TypeWord, Stop> {
 
 /// `"Object" [ "*" ]`
 fn object_type(cursor: &mut Cursor) -> Result<TypeWord, Stop> {
-    let token = cursor.take_any(&[OBJECT])?;
+    let token = cursor.take_any(&[OBJECT])?.0;
     let star = cursor.take_if(STAR)?;
     Ok(TypeWord::Built {
         code: keyword_code(token.kind),
@@ -201,7 +208,10 @@ fn keyword_code(kind: TokenKind) -> u8 {
 }
 
 /// `[ "-" | "+" ] number | text | "true" | "false" | scoped`
-pub(crate) fn value(alloc: Global, cursor: &mut Cursor) -> Result<Constant, Stop> {
+#[tactic(auto, unfolding(crate::specs::Rules::value))]
+pub(crate) fn value(alloc: Global, cursor: &mut Cursor) -> Result<Constant, Stop>
+    ensures { Takes (λ x. x) result cursor.new (read value cursor.old) }
+{
     if cursor.begins(&[MINUS, PLUS]) {
         return signed_number(cursor);
     }
@@ -226,8 +236,8 @@ pub(crate) fn value(alloc: Global, cursor: &mut Cursor) -> Result<Constant, Stop
 }
 
 fn signed_number(cursor: &mut Cursor) -> Result<Constant, Stop> {
-    let sign = cursor.take_any(&[MINUS, PLUS])?;
-    let number = cursor.take_any(&[Sort::Number])?;
+    let sign = cursor.take_any(&[MINUS, PLUS])?.0;
+    let number = cursor.take_any(&[Sort::Number])?.0;
     Ok(Constant {
         place: sign.from,
         value: Const::Number {
@@ -238,7 +248,7 @@ fn signed_number(cursor: &mut Cursor) -> Result<Constant, Stop> {
 }
 
 fn number(cursor: &mut Cursor) -> Result<Constant, Stop> {
-    let number = cursor.take_any(&[Sort::Number])?;
+    let number = cursor.take_any(&[Sort::Number])?.0;
     Ok(Constant {
         place: number.from,
         value: Const::Number {
@@ -257,7 +267,7 @@ fn number_size(kind: TokenKind) -> u64 {
 }
 
 fn truth(cursor: &mut Cursor) -> Result<Constant, Stop> {
-    let token = cursor.take_any(&[TRUE, FALSE])?;
+    let token = cursor.take_any(&[TRUE, FALSE])?.0;
     Ok(Constant {
         place: token.from,
         value: Const::Truth(token.kind == TokenKind::Keyword(27)),
@@ -265,7 +275,10 @@ fn truth(cursor: &mut Cursor) -> Result<Constant, Stop> {
 }
 
 /// `[ "=" value ]`
-pub(crate) fn given_value(alloc: Global, cursor: &mut Cursor) -> Result<Option<Constant>, Stop> {
+#[tactic(auto, unfolding(crate::specs::Rules::given))]
+pub(crate) fn given_value(alloc: Global, cursor: &mut Cursor) -> Result<Option<Constant>, Stop>
+    ensures { Takes (λ x. x) result cursor.new (read given cursor.old) }
+{
     if cursor.begins(&[EQUALS]) {
         cursor.take(EQUALS)?;
         Ok(Some(value(alloc, cursor)?))

@@ -1,0 +1,68 @@
+-- The tokens from a place on.
+use Rattle.std.proofs.Common.{ℕ, zero, suc, ◌+◌, ◌≡◌, ◌≤◌, Bool, true, false, cond, IsTrue, if◌then◌else◌, length, List, [], ◌∷◌, drop, Option, Some, None, Ok, Err, slice_get, slice_range, refl, sym, ap, subst, ◌∙◌}
+use Rattle.std.proofs.lemmas.List.{drop-drop, drop_all}
+use Rattle.std.specs.Borrow.{Bor}
+use Rattle.std.specs.Option.{option_map, option_copied}
+use Rattle.slice_lexer.specs.declared.token.Token.{Token}
+use Rattle.slice_lexer.specs.declared.token.TokenKind.{TokenKind}
+use Rattle.slice_lexer.specs.declared.token.TokenKind.TheVariants as kinds
+use Rattle.slice_syntax.specs.declared.sort.Sort.{Sort}
+use Rattle.slice_syntax.specs.declared.sort.Sort.TheVariants as sorts
+use Rattle.slice_syntax.specs.Lexemes.{Lexeme, Lexemes, lexeme, lexemes, next, seen, begins, has, sort_of, sort_by, name_of, if_text, directive_sort, word_sort}
+use Rattle.slice_syntax.specs.Reading.{token_at}
+
+pub next_at : (text : List ℕ) (tokens : List Token) (at : ℕ) → next (drop at (lexemes text tokens)) ≡ option_map (lexeme text) (slice_get tokens at)
+next_at text [] zero = refl
+next_at text [] (suc at) = refl
+next_at text (token ∷ tokens) zero = refl
+next_at text (token ∷ tokens) (suc at) = next_at text tokens at
+
+pub token_found : (text : List ℕ) (tokens : List Token) (at : ℕ) (token : Token) (bytes : Bor (List ℕ)) (left : Lexemes) → left ≡ drop at (lexemes text tokens) → slice_get tokens at ≡ Some token
+    → bytes.now ≡ slice_range text token.from token.to → Some (seen (token, bytes)) ≡ next left
+token_found text tokens at token bytes left is found spelled =
+    let here = next_at text tokens at in
+    let whole : Some (seen (token, bytes)) ≡ Some (lexeme text token) = ap (λ (b : List ℕ). Some (record { kind = token.kind; from = token.from; bytes = b })) spelled in
+    whole ∙ sym (ap next is ∙ here ∙ ap (option_map (lexeme text)) found)
+
+pub token_none : (text : List ℕ) (tokens : List Token) (at : ℕ) (left : Lexemes) → left ≡ drop at (lexemes text tokens) → slice_get tokens at ≡ None → None ≡ next left
+token_none text tokens at left is found = sym (ap next is ∙ next_at text tokens at ∙ ap (option_map (lexeme text)) found)
+
+pub one_on : (all left : Lexemes) (at : ℕ) → left ≡ drop at all → drop (at + 1) all ≡ drop 1 left
+one_on all left at is = rw is (sym (drop-drop 1 at all))
+
+pub taken : (sorts : List Sort) (left after : Lexemes) (l : Lexeme) → Some l ≡ next left → begins sorts left ≡ true → after ≡ drop 1 left → token_at sorts (λ (x : Lexeme). x) left ≡ Ok (l, after)
+taken sorts [] after l found test is = absurd cc
+taken sorts (first ∷ others) after l found test is =
+    let same : l ≡ first = cc in
+    rw test (rw (same, is) refl)
+
+pub none_on : (all left : Lexemes) (at : ℕ) → left ≡ drop at all → length all ≤ at → left ≡ drop 1 left
+none_on all left at is past = let none : drop at all ≡ [] = drop_all at all past in rw (is, none) refl
+
+pub token_ok : (sorts : List Sort) (left after : Lexemes) (l : Lexeme) → token_at sorts (λ (x : Lexeme). x) left ≡ Ok (l, after) → IsTrue (has sorts (sort_of l))
+token_ok sorts [] after l e = absurd cc
+token_ok sorts (first ∷ others) after l e = at_test (has sorts (sort_of first)) refl e where
+  at_test : (b : Bool) → has sorts (sort_of first) ≡ b → cond b (Ok (first, others)) (Err (first ∷ others)) ≡ Ok (l, after) → IsTrue (has sorts (sort_of l))
+  at_test true test is = let same : first ≡ l = cc in subst (λ (x : Lexeme). IsTrue (has sorts (sort_of x))) same test
+  at_test false test is = absurd cc
+
+never_word : (a b c d e : Bool) → has (sorts.Word ∷ []) (if a then sorts.Include else if b then sorts.Guard else if c then sorts.Aside else if d then sorts.Aside else if e then sorts.EndGuard else sorts.Stray) ≡ true → ⊥
+never_word true b c d e h = absurd cc
+never_word false true c d e h = absurd cc
+never_word false false true d e h = absurd cc
+never_word false false false true e h = absurd cc
+never_word false false false false true h = absurd cc
+never_word false false false false false h = absurd cc
+
+word_kind : (kind : TokenKind) (bytes : List ℕ) → has (sorts.Word ∷ []) (sort_by kind bytes) ≡ true → None ≡ if_text (name_of bytes) → ⊥
+unfolding directive_sort word_sort
+word_kind kinds.Word bytes h none = absurd (rw (sym none) at h)
+word_kind (kinds.Keyword n) bytes h none = absurd cc
+word_kind (kinds.Number n) bytes h none = absurd cc
+word_kind kinds.Text bytes h none = absurd cc
+word_kind (kinds.Symbol n) bytes h none = absurd cc
+word_kind kinds.Directive bytes h none = never_word _ _ _ _ _ h
+
+-- a word's name is a text
+pub word_text : (left after : Lexemes) (l : Lexeme) → token_at (sorts.Word ∷ []) (λ (x : Lexeme). x) left ≡ Ok (l, after) → None ≡ if_text (name_of l.bytes) → ⊥
+word_text left after l e none = word_kind l.kind l.bytes (token_ok (sorts.Word ∷ []) left after l e) none
