@@ -5,3 +5,5 @@ mod Laws
 mod Loops
 mod Fitting
 mod Fits
+mod Nesting
+mod Breaking

@@ -1,9 +1,13 @@
 //! From the tokens of a text to what it declares.
 
+ghost use Rattle.std.specs.Prelude.{◌≡◌, List, ℕ, Result};
+ghost use Rattle.slice_lexer.specs.declared.token.Token.{Token};
+ghost use Rattle.slice_syntax.specs.declared.fault.SyntaxFault.{SyntaxFault};
+ghost use Rattle.slice_syntax.specs.declared.tree.File.{File};
 ghost use Rattle.slice_syntax.specs.Lexemes.{Lexemes};
-ghost use Rattle.slice_syntax.specs.Grammar.{Spells};
-ghost use Rattle.slice_syntax.specs.Rules.{definition};
-ghost use Rattle.slice_syntax.specs.declared.tree.Item.{Item};
+ghost use Rattle.slice_syntax.specs.Reading.{Reading};
+ghost use Rattle.slice_syntax.specs.Moving.{whole_at};
+ghost use Rattle.slice_syntax.specs.Syntax.{Answers};
 
 use crate::cursor::Cursor;
 use crate::directive::include_name;
@@ -66,7 +70,7 @@ fn heads(
 
 /// A law.
 pub fn law()
-    ensures { (ls : Lexemes) (x : Item) → Spells definition ls x → Spells definition ls x }
+    ensures { (ls : Lexemes) (text : List ℕ) (tokens : List Token) (x : Result File SyntaxFault) → whole_at ls ≡ whole_at ls → Answers text tokens x → Answers text tokens x }
 {}
 
 /// Takes an `#include`, with the name in it.
