@@ -8,8 +8,9 @@ use Rattle.slice_lexer.specs.declared.token.TokenKind.{TokenKind}
 use Rattle.slice_lexer.specs.declared.token.TokenKind.TheVariants as kinds
 use Rattle.slice_syntax.specs.declared.sort.Sort.{Sort}
 use Rattle.slice_syntax.specs.declared.sort.Sort.TheVariants as sorts
-use Rattle.slice_syntax.specs.Lexemes.{Lexeme, Lexemes, lexeme, lexemes, next, seen, begins, has, sort_of, sort_by, name_of, if_text, directive_sort, word_sort}
-use Rattle.slice_syntax.specs.Reading.{token_at}
+use Rattle.slice_syntax.specs.Lexemes.{Lexeme, Lexemes, lexeme, lexemes, next, seen, begins, has, sort_of, sort_by, name_of, if_text, directive_sort, word_sort, is_include, is_guard, is_define, is_pragma, is_end}
+use Rattle.slice_syntax.specs.Reading.{Reading, token_at}
+use Rattle.slice_syntax.proofs.Laws.{ok_parts}
 
 pub next_at : (text : List ℕ) (tokens : List Token) (at : ℕ) → next (drop at (lexemes text tokens)) ≡ option_map (lexeme text) (slice_get tokens at)
 next_at text [] zero = refl
@@ -42,8 +43,8 @@ none_on all left at is past = let none : drop at all ≡ [] = drop_all at all pa
 pub token_ok : (sorts : List Sort) (left after : Lexemes) (l : Lexeme) → token_at sorts (λ (x : Lexeme). x) left ≡ Ok (l, after) → IsTrue (has sorts (sort_of l))
 token_ok sorts [] after l e = absurd cc
 token_ok sorts (first ∷ others) after l e = at_test (has sorts (sort_of first)) refl e where
-  at_test : (b : Bool) → has sorts (sort_of first) ≡ b → cond b (Ok (first, others)) (Err (first ∷ others)) ≡ Ok (l, after) → IsTrue (has sorts (sort_of l))
-  at_test true test is = let same : first ≡ l = cc in subst (λ (x : Lexeme). IsTrue (has sorts (sort_of x))) same test
+  at_test : (b : Bool) → has sorts (sort_of first) ≡ b → cond {A = Reading Lexeme} b (Ok (first, others)) (Err (first ∷ others)) ≡ Ok (l, after) → IsTrue (has sorts (sort_of l))
+  at_test true test is = let same : first ≡ l = (ok_parts first l others after is).0 in subst (λ (x : Lexeme). IsTrue (has sorts (sort_of x))) same test
   at_test false test is = absurd cc
 
 never_word : (a b c d e : Bool) → has (sorts.Word ∷ []) (if a then sorts.Include else if b then sorts.Guard else if c then sorts.Aside else if d then sorts.Aside else if e then sorts.EndGuard else sorts.Stray) ≡ true → ⊥
@@ -56,12 +57,12 @@ never_word false false false false false h = absurd cc
 
 word_kind : (kind : TokenKind) (bytes : List ℕ) → has (sorts.Word ∷ []) (sort_by kind bytes) ≡ true → None ≡ if_text (name_of bytes) → ⊥
 unfolding directive_sort word_sort
-word_kind kinds.Word bytes h none = absurd (rw (sym none) at h)
+word_kind kinds.Word bytes h none = let bad = rw (sym none) at h in absurd cc
 word_kind (kinds.Keyword n) bytes h none = absurd cc
 word_kind (kinds.Number n) bytes h none = absurd cc
 word_kind kinds.Text bytes h none = absurd cc
 word_kind (kinds.Symbol n) bytes h none = absurd cc
-word_kind kinds.Directive bytes h none = never_word _ _ _ _ _ h
+word_kind kinds.Directive bytes h none = never_word (is_include bytes) (is_guard bytes) (is_define bytes) (is_pragma bytes) (is_end bytes) h
 
 -- a word's name is a text
 pub word_text : (left after : Lexemes) (l : Lexeme) → token_at (sorts.Word ∷ []) (λ (x : Lexeme). x) left ≡ Ok (l, after) → None ≡ if_text (name_of l.bytes) → ⊥

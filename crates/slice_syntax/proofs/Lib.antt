@@ -7,3 +7,6 @@ mod Fitting
 mod Fits
 mod Nesting
 mod Breaking
+mod Series
+mod Starts
+mod Exits

@@ -7,7 +7,7 @@ use Rattle.slice_syntax.specs.declared.tree.Item.{Item}
 use Rattle.slice_syntax.specs.Lexemes.{Lexeme, Lexemes, has, begins, sort_of}
 use Rattle.slice_syntax.specs.Grammar.{Grammar, Spells, Runs, ◌▸◌}
 use Rattle.slice_syntax.specs.Reading.{Reading, ◌>>=◌, is_empty, starts, read, runs_at}
-use Rattle.slice_syntax.specs.Rules.{word, texts, file_metadata, metadata, names, scoped, plain_type, object_type, named_type, type_word, signed_number, number, text, truth, named, value, given, tag, close, constant_item, entry, entries, enum_item, member, members, struct_item, sequence_item, dictionary_item, tagged_member, tagged_members, body, base, class_body, class_item, exception_item, paths, bases, thrown, parameter, parameters, answered, operation, operations, interface_body, interface_item, definition}
+use Rattle.slice_syntax.specs.Rules.{word, name, texts, file_metadata, metadata, names, scoped, plain_type, object_type, named_type, type_word, signed_number, number, text, truth, named, value, given, tag, close, constant_item, entry, entry_comma, entries, enum_item, member, members, struct_item, sequence_item, dictionary_item, tagged_member, tagged_members, body, base, class_body, class_item, exception_item, paths, bases, thrown, parameter, parameter_list, parameters, answered, operation, operations, interface_body, interface_item, definition}
 use Rattle.slice_syntax.specs.Files.{head, directive, directives, enters, exits, Body, none, plain, nested}
 use Rattle.slice_syntax.specs.Moving.{Move, enter, hold, leave, outer_move, inner_move, Open, move, moved, is_shut, items_of, all_items, moves_at, modules_at}
 use Rattle.slice_syntax.proofs.Sets.{disjoint, apart, begins_append}
@@ -20,31 +20,31 @@ unfolding close
 fits_close = refl
 
 pub fits_outer : fits outer_move ≡ true
-unfolding word texts file_metadata metadata names scoped plain_type object_type named_type type_word signed_number number text truth named value given tag close constant_item entry entries enum_item member members struct_item sequence_item dictionary_item tagged_member tagged_members body base class_body class_item exception_item paths bases thrown parameter parameters answered operation operations interface_body interface_item definition head outer_move
+unfolding word name texts file_metadata metadata names scoped plain_type object_type named_type type_word signed_number number text truth named value given tag close constant_item entry entry_comma entries enum_item member members struct_item sequence_item dictionary_item tagged_member tagged_members body base class_body class_item exception_item paths bases thrown parameter parameter_list parameters answered operation operations interface_body interface_item definition head outer_move
 fits_outer = refl
 
 pub fits_inner : fits inner_move ≡ true
-unfolding word texts file_metadata metadata names scoped plain_type object_type named_type type_word signed_number number text truth named value given tag close constant_item entry entries enum_item member members struct_item sequence_item dictionary_item tagged_member tagged_members body base class_body class_item exception_item paths bases thrown parameter parameters answered operation operations interface_body interface_item definition head outer_move inner_move
+unfolding word name texts file_metadata metadata names scoped plain_type object_type named_type type_word signed_number number text truth named value given tag close constant_item entry entry_comma entries enum_item member members struct_item sequence_item dictionary_item tagged_member tagged_members body base class_body class_item exception_item paths bases thrown parameter parameter_list parameters answered operation operations interface_body interface_item definition head outer_move inner_move
 fits_inner = refl
 
 outer_full : is_empty outer_move ≡ false
-unfolding word texts file_metadata metadata names scoped plain_type object_type named_type type_word signed_number number text truth named value given tag close constant_item entry entries enum_item member members struct_item sequence_item dictionary_item tagged_member tagged_members body base class_body class_item exception_item paths bases thrown parameter parameters answered operation operations interface_body interface_item definition head outer_move
+unfolding word name texts file_metadata metadata names scoped plain_type object_type named_type type_word signed_number number text truth named value given tag close constant_item entry entry_comma entries enum_item member members struct_item sequence_item dictionary_item tagged_member tagged_members body base class_body class_item exception_item paths bases thrown parameter parameter_list parameters answered operation operations interface_body interface_item definition head outer_move
 outer_full = refl
 
 inner_full : is_empty inner_move ≡ false
-unfolding word texts file_metadata metadata names scoped plain_type object_type named_type type_word signed_number number text truth named value given tag close constant_item entry entries enum_item member members struct_item sequence_item dictionary_item tagged_member tagged_members body base class_body class_item exception_item paths bases thrown parameter parameters answered operation operations interface_body interface_item definition head outer_move inner_move
+unfolding word name texts file_metadata metadata names scoped plain_type object_type named_type type_word signed_number number text truth named value given tag close constant_item entry entry_comma entries enum_item member members struct_item sequence_item dictionary_item tagged_member tagged_members body base class_body class_item exception_item paths bases thrown parameter parameter_list parameters answered operation operations interface_body interface_item definition head outer_move inner_move
 inner_full = refl
 
 outer_goes : goes outer_move ≡ []
-unfolding word texts file_metadata metadata names scoped plain_type object_type named_type type_word signed_number number text truth named value given tag close constant_item entry entries enum_item member members struct_item sequence_item dictionary_item tagged_member tagged_members body base class_body class_item exception_item paths bases thrown parameter parameters answered operation operations interface_body interface_item definition head outer_move
+unfolding word name texts file_metadata metadata names scoped plain_type object_type named_type type_word signed_number number text truth named value given tag close constant_item entry entry_comma entries enum_item member members struct_item sequence_item dictionary_item tagged_member tagged_members body base class_body class_item exception_item paths bases thrown parameter parameter_list parameters answered operation operations interface_body interface_item definition head outer_move
 outer_goes = refl
 
 inner_outer : disjoint (goes inner_move) (starts outer_move) ≡ true
-unfolding word texts file_metadata metadata names scoped plain_type object_type named_type type_word signed_number number text truth named value given tag close constant_item entry entries enum_item member members struct_item sequence_item dictionary_item tagged_member tagged_members body base class_body class_item exception_item paths bases thrown parameter parameters answered operation operations interface_body interface_item definition head outer_move inner_move
+unfolding word name texts file_metadata metadata names scoped plain_type object_type named_type type_word signed_number number text truth named value given tag close constant_item entry entry_comma entries enum_item member members struct_item sequence_item dictionary_item tagged_member tagged_members body base class_body class_item exception_item paths bases thrown parameter parameter_list parameters answered operation operations interface_body interface_item definition head outer_move inner_move
 inner_outer = refl
 
 inner_inner : disjoint (goes inner_move) (starts inner_move) ≡ true
-unfolding word texts file_metadata metadata names scoped plain_type object_type named_type type_word signed_number number text truth named value given tag close constant_item entry entries enum_item member members struct_item sequence_item dictionary_item tagged_member tagged_members body base class_body class_item exception_item paths bases thrown parameter parameters answered operation operations interface_body interface_item definition head outer_move inner_move
+unfolding word name texts file_metadata metadata names scoped plain_type object_type named_type type_word signed_number number text truth named value given tag close constant_item entry entry_comma entries enum_item member members struct_item sequence_item dictionary_item tagged_member tagged_members body base class_body class_item exception_item paths bases thrown parameter parameter_list parameters answered operation operations interface_body interface_item definition head outer_move inner_move
 inner_inner = refl
 
 abbrev Moves : Open → Lexemes → List Move → Type 0
@@ -83,14 +83,14 @@ moves_steps_end (n ∷ o) rest h = (begins_append (starts outer_move) (goes inne
 close_laws : Lawful (Spells close) (read close) (is_empty close) (starts close) (goes close)
 close_laws = lawful close fits_close
 
-left_inner : (ls : Lexemes) (place : ℕ) → Spells close ls place → Spells inner_move ls leave
+left_inner : (ls : Lexemes) → Spells close ls tt → Spells inner_move ls leave
 unfolding inner_move
-left_inner ls place h = inl (place, h, refl)
+left_inner ls h = inl (tt, h, refl)
 
 pub moves_done : (o : Open) → (ls : Lexemes) × (ms : List Move) × Moves o ls ms
 unfolding close_laws
 moves_done [] = ([], [], (refl, refl))
-moves_done (n ∷ o) = let d = moves_done o in (close_laws.some ++ d.0, leave ∷ d.1, (close_laws.some, d.0, refl, left_inner close_laws.some close_laws.value close_laws.spelled, d.2))
+moves_done (n ∷ o) = let d = moves_done o in (close_laws.some ++ d.0, leave ∷ d.1, (close_laws.some, d.0, refl, left_inner close_laws.some close_laws.spelled, d.2))
 
 pub moves_lawful : Lawful (Moves []) (moves_at []) true (starts outer_move) ending
 moves_lawful = lawful_runs (λ o. Spells (move o)) (λ o. read (move o)) moved is_shut (λ o. starts (move o)) (λ o. goes (move o)) ending moves_steps moves_clear moves_end moves_steps_end moves_done []
@@ -132,39 +132,39 @@ hold_inner : (ls : Lexemes) (item : Item) → Spells (metadata ▸ definition) l
 unfolding inner_move
 hold_inner ls item h = inr (h.0, hold h.1, h.2, h.3, h.4, h.5, inr (h.1, h.6, refl), ap (λ (i : Item). hold i) h.7)
 
-inner_leave : (ls : Lexemes) → Spells inner_move ls leave → (place : ℕ) × Spells close ls place
+inner_leave : (ls : Lexemes) → Spells inner_move ls leave → Spells close ls tt
 unfolding inner_move
-inner_leave ls (inl h) = (h.0, h.1)
+inner_leave ls (inl h) = h.1
 inner_leave ls (inr (x, y, before, behind, e, m, inl k, is)) = let a = k.2 in absurd cc
 inner_leave ls (inr (x, y, before, behind, e, m, inr k, is)) = let a = k.2 in absurd cc
 
 -- The tokens complete the modules that are open.
 abbrev Rest : Open → Lexemes → List Item → Type 0
 Rest [] ls all = Body false ls all
-Rest (n ∷ o) ls all = (inside closing behind : Lexemes) × (place : ℕ) × (held others : List Item) × (ls ≡ inside ++ (closing ++ behind)) × (all ≡ held ++ (exits n ++ others)) × Body true inside held
-    × Spells close closing place × Rest o behind others
+Rest (n ∷ o) ls all = (inside closing behind : Lexemes) × (held others : List Item) × (ls ≡ inside ++ (closing ++ behind)) × (all ≡ held ++ (exits n ++ others)) × Body true inside held
+    × Spells close closing tt × Rest o behind others
 
 move_rest : (o : Open) (m : Move) (before behind : Lexemes) (all : List Item) → Spells (move o) before m → Rest (moved o m) behind all → Rest o (before ++ behind) (items_of o m ++ all)
 move_rest [] (enter words) before behind all step h =
-    let built = nested false before h.0 h.1 h.2 words h.3 h.4 h.5 (outer_enter before words step) h.8 h.9 h.10 in
-    let tokens : before ++ (h.0 ++ (h.1 ++ h.2)) ≡ before ++ behind = ap (λ (z : Lexemes). before ++ z) (sym h.6) in
-    let leaves : enters words ++ (h.4 ++ (exits (length words) ++ h.5)) ≡ enters words ++ all = ap (λ (z : List Item). enters words ++ z) (sym h.7) in
+    let built = nested false before h.0 h.1 h.2 words h.3 h.4 (outer_enter before words step) h.7 h.8 h.9 in
+    let tokens : before ++ (h.0 ++ (h.1 ++ h.2)) ≡ before ++ behind = ap (λ (z : Lexemes). before ++ z) (sym h.5) in
+    let leaves : enters words ++ (h.3 ++ (exits (length words) ++ h.4)) ≡ enters words ++ all = ap (λ (z : List Item). enters words ++ z) (sym h.6) in
     subst (λ (z : Lexemes). Body false z (enters words ++ all)) tokens (subst (λ (z : List Item). Body false (before ++ (h.0 ++ (h.1 ++ h.2))) z) leaves built)
 move_rest [] (hold item) before behind all step h = absurd (outer_hold before item step)
 move_rest [] leave before behind all step h = absurd (outer_leave before step)
 move_rest (n ∷ o) (enter words) before behind all step h =
-    let k = h.10 in
-    let built = nested true before h.0 h.1 k.0 words h.3 h.4 k.4 (inner_enter before words step) h.8 h.9 k.8 in
-    let tail : behind ≡ h.0 ++ (h.1 ++ (k.0 ++ (k.1 ++ k.2))) = h.6 ∙ ap (λ (z : Lexemes). h.0 ++ (h.1 ++ z)) k.6 in
-    let leaves : all ≡ h.4 ++ (exits (length words) ++ (k.4 ++ (exits n ++ k.5))) = h.7 ∙ ap (λ (z : List Item). h.4 ++ (exits (length words) ++ z)) k.7 in
-    (before ++ (h.0 ++ (h.1 ++ k.0)), k.1, k.2, k.3, enters words ++ (h.4 ++ (exits (length words) ++ k.4)), k.5,
-      ap (λ (z : Lexemes). before ++ z) tail ∙ simp append_assoc, ap (λ (z : List Item). enters words ++ z) leaves ∙ simp append_assoc, built, k.9, k.10)
+    let k = h.9 in
+    let built = nested true before h.0 h.1 k.0 words h.3 k.3 (inner_enter before words step) h.7 h.8 k.7 in
+    let tail : behind ≡ h.0 ++ (h.1 ++ (k.0 ++ (k.1 ++ k.2))) = h.5 ∙ ap (λ (z : Lexemes). h.0 ++ (h.1 ++ z)) k.5 in
+    let leaves : all ≡ h.3 ++ (exits (length words) ++ (k.3 ++ (exits n ++ k.4))) = h.6 ∙ ap (λ (z : List Item). h.3 ++ (exits (length words) ++ z)) k.6 in
+    (before ++ (h.0 ++ (h.1 ++ k.0)), k.1, k.2, enters words ++ (h.3 ++ (exits (length words) ++ k.3)), k.4,
+      ap (λ (z : Lexemes). before ++ z) tail ∙ simp append_assoc, ap (λ (z : List Item). enters words ++ z) leaves ∙ simp append_assoc, built, k.8, k.9)
 move_rest (n ∷ o) (hold item) before behind all step h =
-    (before ++ h.0, h.1, h.2, h.3, item ∷ h.4, h.5, ap (λ (z : Lexemes). before ++ z) h.6 ∙ sym (append_assoc before h.0 (h.1 ++ h.2)), ap (λ (z : List Item). item ∷ z) h.7,
-      plain before h.0 item h.4 (inner_hold before item step) h.8, h.9, h.10)
+    (before ++ h.0, h.1, h.2, item ∷ h.3, h.4, ap (λ (z : Lexemes). before ++ z) h.5 ∙ sym (append_assoc before h.0 (h.1 ++ h.2)), ap (λ (z : List Item). item ∷ z) h.6,
+      plain before h.0 item h.3 (inner_hold before item step) h.7, h.8, h.9)
 move_rest (n ∷ o) leave before behind all step h =
     let closing = inner_leave before step in
-    ([], before, behind, closing.0, [], all, refl, refl, none true, closing.1, h)
+    ([], before, behind, [], all, refl, refl, none true, closing, h)
 
 pub moves_rest : (ms : List Move) (o : Open) (ls : Lexemes) → Moves o ls ms → Rest o ls (all_items o ms)
 moves_rest [] [] ls h = subst (λ (z : Lexemes). Body false z []) (sym h.0) (none false)
@@ -192,9 +192,9 @@ body_moves (none inner) o at behind ms h = (ms, h, refl)
 body_moves (plain before inside item others step body) o at behind ms h =
     let r = body_moves body o at behind ms h in
     (hold item ∷ r.0, (before, inside ++ behind, append_assoc before inside behind, hold_move o before item at step, r.1), ap (λ (z : List Item). item ∷ z) r.2)
-body_moves (nested inner opening inside closing tail words place held others step body shut rest) o at behind ms h =
+body_moves (nested inner opening inside closing tail words held others step body shut rest) o at behind ms h =
     let r = body_moves rest o at behind ms h in
-    let closed : Moves (length words ∷ o) (closing ++ (tail ++ behind)) (leave ∷ r.0) = (closing, tail ++ behind, refl, left_inner closing place shut, r.1) in
+    let closed : Moves (length words ∷ o) (closing ++ (tail ++ behind)) (leave ∷ r.0) = (closing, tail ++ behind, refl, left_inner closing shut, r.1) in
     let q = body_moves body (length words ∷ o) tt (closing ++ (tail ++ behind)) (leave ∷ r.0) closed in
     (enter words ∷ q.0, (opening, inside ++ (closing ++ (tail ++ behind)), simp append_assoc, enter_move o opening words step, q.1),
       ap (λ (z : List Item). enters words ++ z) (q.2 ∙ ap (λ (z : List Item). held ++ (exits (length words) ++ z)) r.2) ∙ simp append_assoc)

@@ -6,13 +6,13 @@ use Rattle.slice_syntax.specs.declared.tree.Item.{Item}
 use Rattle.slice_syntax.specs.declared.tree.Item.TheVariants as items
 use Rattle.slice_syntax.specs.declared.tree.File.{File}
 use Rattle.slice_syntax.specs.Lexemes.{Lexeme, Lexemes, included, directive_rest}
-use Rattle.slice_syntax.specs.Grammar.{Grammar, token, made, or, Spells, ◌▸◌, ◌◂◌, one, many}
-use Rattle.slice_syntax.specs.Sorts.{word_module, open_brace}
-use Rattle.slice_syntax.specs.Rules.{metadata, names, definition, close, file_metadata}
+use Rattle.slice_syntax.specs.Grammar.{Grammar, token, made, or, Spells, ◌▸◌, ◌◂◌, one, many, parted}
+use Rattle.slice_syntax.specs.Sorts.{word_module, open_brace, colons}
+use Rattle.slice_syntax.specs.Rules.{metadata, word, definition, close, file_metadata}
 
 -- head = "module" word { "::" word } "{"
 unfoldable pub head : Grammar (List Word)
-head = one word_module ▸ names ◂ one open_brace
+head = one word_module ▸ parted colons word ◂ one open_brace
 
 -- what a module of these words begins with
 abbrev pub enters : List Word → List Item
@@ -28,8 +28,8 @@ exits count = replicate count items.Exit
 pub data Body : Bool → Lexemes → List Item → Type 0 where
   none : (inner : Bool) → Body inner [] []
   plain : (before behind : Lexemes) (item : Item) (others : List Item) → Spells (metadata ▸ definition) before item → Body true behind others → Body true (before ++ behind) (item ∷ others)
-  nested : (inner : Bool) (opening inside closing behind : Lexemes) (words : List Word) (place : ℕ) (held others : List Item) → Spells (metadata ▸ head) opening words → Body true inside held
-    → Spells close closing place → Body inner behind others → Body inner (opening ++ (inside ++ (closing ++ behind))) (enters words ++ (held ++ (exits (length words) ++ others)))
+  nested : (inner : Bool) (opening inside closing behind : Lexemes) (words : List Word) (held others : List Item) → Spells (metadata ▸ head) opening words → Body true inside held
+    → Spells close closing tt → Body inner behind others → Body inner (opening ++ (inside ++ (closing ++ behind))) (enters words ++ (held ++ (exits (length words) ++ others)))
 
 -- what stands before the modules
 pub data Head : Type 0 where

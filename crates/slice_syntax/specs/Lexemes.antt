@@ -96,14 +96,33 @@ abbrev pub text_seen : Option (Bor (List ℕ)) → Option (List ℕ)
 text_seen (Some text) = Some text.now
 text_seen None = None
 
--- `#include` with a name, `#ifndef WORD`, `#define WORD`, `#pragma once`, `#endif`
+-- `#include` with a name
+abbrev pub is_include : List ℕ → Bool
+is_include bytes = bytes_eq (directive_word bytes) (codes "include") && is_some (included (directive_rest bytes))
+
+-- `#ifndef WORD`
+abbrev pub is_guard : List ℕ → Bool
+is_guard bytes = bytes_eq (directive_word bytes) (codes "ifndef") && is_one_word (directive_rest bytes)
+
+-- `#define WORD`
+abbrev pub is_define : List ℕ → Bool
+is_define bytes = bytes_eq (directive_word bytes) (codes "define") && is_one_word (directive_rest bytes)
+
+-- `#pragma once`
+abbrev pub is_pragma : List ℕ → Bool
+is_pragma bytes = bytes_eq (directive_word bytes) (codes "pragma") && is_once (directive_rest bytes)
+
+-- `#endif`
+abbrev pub is_end : List ℕ → Bool
+is_end bytes = bytes_eq (directive_word bytes) (codes "endif") && is_bare (directive_rest bytes)
+
 unfoldable pub directive_sort : List ℕ → Sort
 directive_sort bytes =
-    if bytes_eq (directive_word bytes) (codes "include") && is_some (included (directive_rest bytes)) then sorts.Include
-    else if bytes_eq (directive_word bytes) (codes "ifndef") && is_one_word (directive_rest bytes) then sorts.Guard
-    else if bytes_eq (directive_word bytes) (codes "define") && is_one_word (directive_rest bytes) then sorts.Aside
-    else if bytes_eq (directive_word bytes) (codes "pragma") && is_once (directive_rest bytes) then sorts.Aside
-    else if bytes_eq (directive_word bytes) (codes "endif") && is_bare (directive_rest bytes) then sorts.EndGuard
+    if is_include bytes then sorts.Include
+    else if is_guard bytes then sorts.Guard
+    else if is_define bytes then sorts.Aside
+    else if is_pragma bytes then sorts.Aside
+    else if is_end bytes then sorts.EndGuard
     else sorts.Stray
 
 -- a word's name is a text

@@ -60,3 +60,7 @@ read (made view g) ls = read g ls >>= (λ x. Ok (view x.0, x.1))
 read (both make g h) ls = read g ls >>= (λ x. read h x.1 >>= (λ y. Ok (make x.0 y.0, y.1)))
 read (or g h) ls = or_at (begins (starts g) ls) (read g) (read h) ls
 read (series more g) ls = runs_at (starts_where (starts g)) (λ s. read g) (λ s x. more x) (λ s. true) (length ls) true ls
+
+-- what is made of the values that a reading gives
+abbrev pub gather : {A B : Type 0} → (List A → B) → Reading (List A) → Reading B
+gather f r = r >>= (λ ys. Ok (f ys.0, ys.1))

@@ -54,26 +54,31 @@ constant place value = record { place = place; value = value }
 unfoldable pub word : Grammar Word
 word = token (sorts.Word ∷ []) word_of
 
+unfoldable pub name : Grammar (List ℕ)
+name = made (λ w. w.name) word
+
+abbrev pub passed : {A : Type 0} → Grammar A → Grammar (Unit {0})
+passed g = made (λ x. tt) g
+
 -- texts = text { "," text }
-unfoldable pub texts : Grammar (List ℕ)
-texts = parted comma (one sorts.Text)
+unfoldable pub texts : Grammar (Unit {0})
+texts = passed (parted comma (one sorts.Text))
 
 -- filemeta = "[[" text { "," text } "]]"
-unfoldable pub file_metadata : Grammar ℕ
-file_metadata = one open_two ▸ texts ▸ one close_two
+unfoldable pub file_metadata : Grammar (Unit {0})
+file_metadata = passed (one open_two ▸ texts ▸ one close_two)
 
 -- meta = { "[" text { "," text } "]" }
-unfoldable pub metadata : Grammar (List ℕ)
-metadata = many (one open_square ▸ texts ▸ one close_square)
+unfoldable pub metadata : Grammar (Unit {0})
+metadata = passed (many (one open_square ▸ texts ▸ one close_square))
 
--- names = word { "::" word }
-unfoldable pub names : Grammar (List Word)
-names = parted colons word
+-- names = word { "::" word }, for the names and the place of the first
+unfoldable pub names : Grammar (List (List ℕ) × ℕ)
+names = both (λ w others. (w.name ∷ others, w.place)) word (many (one colons ▸ name))
 
--- a scoped name of these words, with the place of a `::` before it
-abbrev pub path : Option ℕ → List Word → Path
-path outer [] = record { outer = is_some outer; words = []; place = unwrap_or outer 0 }
-path outer (first ∷ others) = record { outer = is_some outer; words = map (λ w. w.name) (first ∷ others); place = unwrap_or outer first.place }
+-- a scoped name of these names, with the place of a `::` before it
+abbrev pub path : Option ℕ → List (List ℕ) × ℕ → Path
+path outer held = record { outer = is_some outer; words = held.0; place = unwrap_or outer held.1 }
 
 -- scoped = [ "::" ] word { "::" word }
 unfoldable pub scoped : Grammar Path
@@ -136,8 +141,8 @@ unfoldable pub tag : Grammar (Option Constant)
 tag = optional (one word_optional ▸ one open_round ▸ value ◂ one close_round)
 
 -- close = "}" [ ";" ]
-unfoldable pub close : Grammar ℕ
-close = one close_brace ◂ optional (one semicolon)
+unfoldable pub close : Grammar (Unit {0})
+close = passed (one close_brace ▸ optional (one semicolon))
 
 -- const = "const" meta type word "=" value ";"
 unfoldable pub constant_item : Grammar Item
@@ -147,9 +152,16 @@ constant_item = made (λ kind w v. items.Const kind w v) (one word_const ▸ met
 unfoldable pub entry : Grammar (Word × Option Constant)
 entry = both (λ w v. (w, v)) word given
 
--- entries = [ entry { "," entry } [ "," ] ]: after an entry with a comma behind it one more may stand
+-- an entry, and whether a comma stands behind it
+abbrev pub Entry : Type 0
+Entry = (Word × Option Constant) × Bool
+
+unfoldable pub entry_comma : Grammar Entry
+entry_comma = both (λ e c. (e, is_some c)) entry (optional (one comma))
+
+-- entries = [ entry { "," entry } [ "," ] ]: behind a comma one more entry may stand
 unfoldable pub entries : Grammar (List (Word × Option Constant))
-entries = made (λ es. map (λ (e : (Word × Option Constant) × Bool). e.0) es) (series (λ e. e.1) (both (λ e c. (e, is_some c)) entry (optional (one comma))))
+entries = made (λ es. map (λ (e : Entry). e.0) es) (series (λ (e : Entry). e.1) entry_comma)
 
 -- enum = "enum" word "{" [ entry { "," entry } [ "," ] ] "}" [ ";" ]
 unfoldable pub enum_item : Grammar Item
@@ -219,9 +231,12 @@ thrown = none_or (one word_throws ▸ paths)
 unfoldable pub parameter : Grammar Param
 parameter = made (λ o t kind w. record { out = is_some o; field = record { tag = t; kind = kind; word = w; value = None } }) (optional (one word_out)) ⊛ metadata ▸ tag ⊛ type_word ⊛ word
 
+unfoldable pub parameter_list : Grammar (List Param)
+parameter_list = parted comma parameter
+
 -- params = [ param { "," param } ]
 unfoldable pub parameters : Grammar (List Param)
-parameters = none_or (parted comma parameter)
+parameters = none_or parameter_list
 
 -- answered = "void" | [ opt ] type
 unfoldable pub answered : Grammar (Option Constant × Option TypeWord)

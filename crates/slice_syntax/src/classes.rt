@@ -1,5 +1,9 @@
 //! Classes and exceptions.
 
+ghost use Rattle.slice_syntax.specs.Reading.{read};
+ghost use Rattle.slice_syntax.specs.Rules.{base, body, class_item, exception_item, tagged_member, tagged_members};
+ghost use Rattle.slice_syntax.specs.Taking.{Takes};
+
 use crate::cursor::Cursor;
 use crate::definitions::close;
 use crate::fault::Stop;
@@ -10,7 +14,10 @@ use ice_types::List;
 use std::alloc::Global;
 
 /// `"class" word ( ";" | [ "extends" scoped ] "{" { omember } "}" [ ";" ] )`
-pub(crate) fn class(alloc: Global, cursor: &mut Cursor) -> Result<Item, Stop> {
+#[tactic(auto, unfolding(crate::specs::Rules::class_item, crate::specs::Rules::class_body))]
+pub(crate) fn class(alloc: Global, cursor: &mut Cursor) -> Result<Item, Stop>
+    ensures { Takes (λ x. x) result cursor.new (read class_item cursor.old) }
+{
     cursor.take(CLASS)?;
     let word = cursor.take_word(alloc)?;
     if cursor.take_if(SEMICOLON)?.is_some() {
@@ -30,7 +37,10 @@ pub(crate) fn class(alloc: Global, cursor: &mut Cursor) -> Result<Item, Stop> {
 }
 
 /// `"exception" word [ "extends" scoped ] "{" { omember } "}" [ ";" ]`
-pub(crate) fn exception(alloc: Global, cursor: &mut Cursor) -> Result<Item, Stop> {
+#[tactic(auto, unfolding(crate::specs::Rules::exception_item))]
+pub(crate) fn exception(alloc: Global, cursor: &mut Cursor) -> Result<Item, Stop>
+    ensures { Takes (λ x. x) result cursor.new (read exception_item cursor.old) }
+{
     cursor.take(EXCEPTION)?;
     let word = cursor.take_word(alloc)?;
     let base = base(alloc, cursor)?;
@@ -39,7 +49,10 @@ pub(crate) fn exception(alloc: Global, cursor: &mut Cursor) -> Result<Item, Stop
 }
 
 /// `[ "extends" scoped ]`
-fn base(alloc: Global, cursor: &mut Cursor) -> Result<Option<Path>, Stop> {
+#[tactic(auto, unfolding(crate::specs::Rules::base))]
+fn base(alloc: Global, cursor: &mut Cursor) -> Result<Option<Path>, Stop>
+    ensures { Takes (λ x. x) result cursor.new (read base cursor.old) }
+{
     if cursor.begins(&[EXTENDS]) {
         cursor.take(EXTENDS)?;
         Ok(Some(scoped(alloc, cursor)?))
@@ -49,14 +62,20 @@ fn base(alloc: Global, cursor: &mut Cursor) -> Result<Option<Path>, Stop> {
 }
 
 /// `"{" { omember } "}" [ ";" ]`
-fn body(alloc: Global, cursor: &mut Cursor) -> Result<List<Field>, Stop> {
+#[tactic(auto, unfolding(crate::specs::Rules::body))]
+fn body(alloc: Global, cursor: &mut Cursor) -> Result<List<Field>, Stop>
+    ensures { Takes (λ x. x) result cursor.new (read body cursor.old) }
+{
     cursor.take(OPEN_BRACE)?;
     let fields = tagged_members(alloc, cursor)?;
     close(cursor)?;
     Ok(fields)
 }
 
-fn tagged_members(alloc: Global, cursor: &mut Cursor) -> Result<List<Field>, Stop> {
+#[tactic(auto, unfolding(crate::specs::Rules::tagged_members))]
+fn tagged_members(alloc: Global, cursor: &mut Cursor) -> Result<List<Field>, Stop>
+    ensures { Takes (λ x. x) result cursor.new (read tagged_members cursor.old) }
+{
     let mut fields = List::new(alloc);
     while cursor.begins(&TAGGED_MEMBERS) {
         fields.push(tagged_member(alloc, cursor)?)?;
@@ -65,7 +84,10 @@ fn tagged_members(alloc: Global, cursor: &mut Cursor) -> Result<List<Field>, Sto
 }
 
 /// `meta [ opt ] type word [ "=" value ] ";"`
-fn tagged_member(alloc: Global, cursor: &mut Cursor) -> Result<Field, Stop> {
+#[tactic(auto, unfolding(crate::specs::Rules::tagged_member))]
+fn tagged_member(alloc: Global, cursor: &mut Cursor) -> Result<Field, Stop>
+    ensures { Takes (λ x. x) result cursor.new (read tagged_member cursor.old) }
+{
     metadata(cursor)?;
     let tag = tag(alloc, cursor)?;
     let kind = type_word(alloc, cursor)?;

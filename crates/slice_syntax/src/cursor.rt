@@ -1,6 +1,6 @@
 //! Tokens that are taken from the left, one by one.
 
-ghost use Rattle.std.specs.Prelude.{◌≡◌, [], ◌∷◌, drop};
+ghost use Rattle.std.specs.Prelude.{◌≡◌, ◌≤◌, [], ◌∷◌, drop, length};
 ghost use Rattle.std.specs.Option.{option_map};
 ghost use Rattle.slice_lexer.specs.declared.token.Token.{Token};
 ghost use Rattle.slice_lexer.specs.Lexing.{Lexes};
@@ -38,13 +38,14 @@ impl<'a> Model for Cursor<'a> {
 
     ghost view = { λ c. drop c.at (lexemes c.text.now c.tokens.now) };
 
-    ghost invariant = { λ c. (c.at ≤ length c.tokens.now) × Lexes c.text.now c.tokens.now };
+    ghost invariant = { λ c. (c.at ≤ length c.tokens.now) × Lexes c.text.now c.tokens.now × (length c.text.now ≤ 1000000) };
 }
 
 impl<'a> Cursor<'a> {
     /// A cursor before the first token.
     pub fn new(text: &'a [u8], tokens: &'a Tokens) -> Cursor<'a>
-        requires { Lexes text.now tokens.now }
+        requires lexed { Lexes text.now tokens.now }
+        requires few { length text.now ≤ 1000000 }
         ensures { result ≡ lexemes text.now tokens.now }
     {
         Cursor {

@@ -1,7 +1,7 @@
 //! Definitions but modules, classes and interfaces.
 
 ghost use Rattle.slice_syntax.specs.Reading.{read};
-ghost use Rattle.slice_syntax.specs.Rules.{member};
+ghost use Rattle.slice_syntax.specs.Rules.{close, constant_item, definition, dictionary_item, entries, entry, entry_comma, enum_item, member, members, sequence_item, struct_item};
 ghost use Rattle.slice_syntax.specs.Taking.{Takes};
 
 use crate::classes::{class, exception};
@@ -18,21 +18,39 @@ use ice_types::List;
 use std::alloc::Global;
 
 /// `const | enum | struct | seq | dict | class | exception | interface`
-pub(crate) fn definition(alloc: Global, cursor: &mut Cursor) -> Result<Item, Stop> {
-    match cursor.sort() {
-        Some(CONST) => constant(alloc, cursor),
-        Some(ENUM) => enumeration(alloc, cursor),
-        Some(STRUCT) => structure(alloc, cursor),
-        Some(SEQUENCE) => sequence(alloc, cursor),
-        Some(DICTIONARY) => dictionary(alloc, cursor),
-        Some(CLASS) => class(alloc, cursor),
-        Some(EXCEPTION) => exception(alloc, cursor),
-        _ => interface(alloc, cursor),
+#[tactic(auto, unfolding(crate::specs::Rules::definition))]
+pub(crate) fn definition(alloc: Global, cursor: &mut Cursor) -> Result<Item, Stop>
+    ensures { Takes (λ x. x) result cursor.new (read definition cursor.old) }
+{
+    if cursor.begins(&[CONST]) {
+        return constant(alloc, cursor);
     }
+    if cursor.begins(&[ENUM]) {
+        return enumeration(alloc, cursor);
+    }
+    if cursor.begins(&[STRUCT]) {
+        return structure(alloc, cursor);
+    }
+    if cursor.begins(&[SEQUENCE]) {
+        return sequence(alloc, cursor);
+    }
+    if cursor.begins(&[DICTIONARY]) {
+        return dictionary(alloc, cursor);
+    }
+    if cursor.begins(&[CLASS]) {
+        return class(alloc, cursor);
+    }
+    if cursor.begins(&[EXCEPTION]) {
+        return exception(alloc, cursor);
+    }
+    interface(alloc, cursor)
 }
 
 /// `"const" meta type word "=" value ";"`
-fn constant(alloc: Global, cursor: &mut Cursor) -> Result<Item, Stop> {
+#[tactic(auto, unfolding(crate::specs::Rules::constant_item))]
+fn constant(alloc: Global, cursor: &mut Cursor) -> Result<Item, Stop>
+    ensures { Takes (λ x. x) result cursor.new (read constant_item cursor.old) }
+{
     cursor.take(CONST)?;
     metadata(cursor)?;
     let kind = type_word(alloc, cursor)?;
@@ -44,7 +62,10 @@ fn constant(alloc: Global, cursor: &mut Cursor) -> Result<Item, Stop> {
 }
 
 /// `"enum" word "{" [ entry { "," entry } [ "," ] ] "}" [ ";" ]`
-fn enumeration(alloc: Global, cursor: &mut Cursor) -> Result<Item, Stop> {
+#[tactic(auto, unfolding(crate::specs::Rules::enum_item))]
+fn enumeration(alloc: Global, cursor: &mut Cursor) -> Result<Item, Stop>
+    ensures { Takes (λ x. x) result cursor.new (read enum_item cursor.old) }
+{
     cursor.take(ENUM)?;
     let word = cursor.take_word(alloc)?;
     cursor.take(OPEN_BRACE)?;
@@ -54,25 +75,48 @@ fn enumeration(alloc: Global, cursor: &mut Cursor) -> Result<Item, Stop> {
 }
 
 /// `[ entry { "," entry } [ "," ] ]`
-fn entries(alloc: Global, cursor: &mut Cursor) -> Result<List<(Word, Option<Constant>)>, Stop> {
+#[tactic(auto, unfolding(crate::specs::Rules::entries))]
+fn entries(alloc: Global, cursor: &mut Cursor) -> Result<List<(Word, Option<Constant>)>, Stop>
+    ensures { Takes (λ x. x) result cursor.new (read entries cursor.old) }
+{
     let mut entries = List::new(alloc);
     let mut goes_on = true;
     while goes_on && cursor.begins(&[Sort::Word]) {
-        entries.push(entry(alloc, cursor)?)?;
-        goes_on = cursor.take_if(COMMA)?.is_some();
+        let (entry, comma) = entry_comma(alloc, cursor)?;
+        entries.push(entry)?;
+        goes_on = comma;
     }
     Ok(entries)
 }
 
+/// An entry, and whether a comma stands behind it.
+#[tactic(auto, unfolding(crate::specs::Rules::entry_comma))]
+fn entry_comma(
+    alloc: Global,
+    cursor: &mut Cursor,
+) -> Result<((Word, Option<Constant>), bool), Stop>
+    ensures { Takes (λ x. x) result cursor.new (read entry_comma cursor.old) }
+{
+    let entry = entry(alloc, cursor)?;
+    let comma = cursor.take_if(COMMA)?;
+    Ok((entry, comma.is_some()))
+}
+
 /// `word [ "=" value ]`
-fn entry(alloc: Global, cursor: &mut Cursor) -> Result<(Word, Option<Constant>), Stop> {
+#[tactic(auto, unfolding(crate::specs::Rules::entry))]
+fn entry(alloc: Global, cursor: &mut Cursor) -> Result<(Word, Option<Constant>), Stop>
+    ensures { Takes (λ x. x) result cursor.new (read entry cursor.old) }
+{
     let word = cursor.take_word(alloc)?;
     let value = given_value(alloc, cursor)?;
     Ok((word, value))
 }
 
 /// `"struct" word "{" { member } "}" [ ";" ]`
-fn structure(alloc: Global, cursor: &mut Cursor) -> Result<Item, Stop> {
+#[tactic(auto, unfolding(crate::specs::Rules::struct_item))]
+fn structure(alloc: Global, cursor: &mut Cursor) -> Result<Item, Stop>
+    ensures { Takes (λ x. x) result cursor.new (read struct_item cursor.old) }
+{
     cursor.take(STRUCT)?;
     let word = cursor.take_word(alloc)?;
     cursor.take(OPEN_BRACE)?;
@@ -81,7 +125,10 @@ fn structure(alloc: Global, cursor: &mut Cursor) -> Result<Item, Stop> {
     Ok(Item::Struct { word, fields })
 }
 
-fn members(alloc: Global, cursor: &mut Cursor) -> Result<List<Field>, Stop> {
+#[tactic(auto, unfolding(crate::specs::Rules::members))]
+fn members(alloc: Global, cursor: &mut Cursor) -> Result<List<Field>, Stop>
+    ensures { Takes (λ x. x) result cursor.new (read members cursor.old) }
+{
     let mut fields = List::new(alloc);
     while cursor.begins(&MEMBERS) {
         fields.push(member(alloc, cursor)?)?;
@@ -108,7 +155,10 @@ fn member(alloc: Global, cursor: &mut Cursor) -> Result<Field, Stop>
 }
 
 /// `"sequence" "<" meta type ">" word ";"`
-fn sequence(alloc: Global, cursor: &mut Cursor) -> Result<Item, Stop> {
+#[tactic(auto, unfolding(crate::specs::Rules::sequence_item))]
+fn sequence(alloc: Global, cursor: &mut Cursor) -> Result<Item, Stop>
+    ensures { Takes (λ x. x) result cursor.new (read sequence_item cursor.old) }
+{
     cursor.take(SEQUENCE)?;
     cursor.take(LESS)?;
     metadata(cursor)?;
@@ -120,7 +170,10 @@ fn sequence(alloc: Global, cursor: &mut Cursor) -> Result<Item, Stop> {
 }
 
 /// `"dictionary" "<" meta type "," meta type ">" word ";"`
-fn dictionary(alloc: Global, cursor: &mut Cursor) -> Result<Item, Stop> {
+#[tactic(auto, unfolding(crate::specs::Rules::dictionary_item))]
+fn dictionary(alloc: Global, cursor: &mut Cursor) -> Result<Item, Stop>
+    ensures { Takes (λ x. x) result cursor.new (read dictionary_item cursor.old) }
+{
     cursor.take(DICTIONARY)?;
     cursor.take(LESS)?;
     metadata(cursor)?;
@@ -135,7 +188,10 @@ fn dictionary(alloc: Global, cursor: &mut Cursor) -> Result<Item, Stop> {
 }
 
 /// `"}" [ ";" ]`
-pub(crate) fn close(cursor: &mut Cursor) -> Result<(), Stop> {
+#[tactic(auto, unfolding(crate::specs::Rules::close))]
+pub(crate) fn close(cursor: &mut Cursor) -> Result<(), Stop>
+    ensures { Takes (λ x. x) result cursor.new (read close cursor.old) }
+{
     cursor.take(CLOSE_BRACE)?;
     cursor.take_if(SEMICOLON)?;
     Ok(())

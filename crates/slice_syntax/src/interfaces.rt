@@ -1,5 +1,9 @@
 //! Interfaces and their operations.
 
+ghost use Rattle.slice_syntax.specs.Reading.{read};
+ghost use Rattle.slice_syntax.specs.Rules.{answered, bases, interface_item, operation, operations, parameter, parameter_list, parameters, paths, thrown};
+ghost use Rattle.slice_syntax.specs.Taking.{Takes};
+
 use crate::cursor::Cursor;
 use crate::definitions::close;
 use crate::fault::Stop;
@@ -13,7 +17,10 @@ use ice_types::List;
 use std::alloc::Global;
 
 /// `"interface" word ( ";" | [ "extends" scoped { "," scoped } ] "{" { op } "}" [ ";" ] )`
-pub(crate) fn interface(alloc: Global, cursor: &mut Cursor) -> Result<Item, Stop> {
+#[tactic(auto, unfolding(crate::specs::Rules::interface_item, crate::specs::Rules::interface_body))]
+pub(crate) fn interface(alloc: Global, cursor: &mut Cursor) -> Result<Item, Stop>
+    ensures { Takes (λ x. x) result cursor.new (read interface_item cursor.old) }
+{
     cursor.take(INTERFACE)?;
     let word = cursor.take_word(alloc)?;
     if cursor.take_if(SEMICOLON)?.is_some() {
@@ -35,7 +42,10 @@ pub(crate) fn interface(alloc: Global, cursor: &mut Cursor) -> Result<Item, Stop
 }
 
 /// `[ "extends" scoped { "," scoped } ]`
-fn bases(alloc: Global, cursor: &mut Cursor) -> Result<List<Path>, Stop> {
+#[tactic(auto, unfolding(crate::specs::Rules::bases))]
+fn bases(alloc: Global, cursor: &mut Cursor) -> Result<List<Path>, Stop>
+    ensures { Takes (λ x. x) result cursor.new (read bases cursor.old) }
+{
     if cursor.begins(&[EXTENDS]) {
         cursor.take(EXTENDS)?;
         paths(alloc, cursor)
@@ -45,7 +55,10 @@ fn bases(alloc: Global, cursor: &mut Cursor) -> Result<List<Path>, Stop> {
 }
 
 /// `[ "throws" scoped { "," scoped } ]`
-fn thrown(alloc: Global, cursor: &mut Cursor) -> Result<List<Path>, Stop> {
+#[tactic(auto, unfolding(crate::specs::Rules::thrown))]
+fn thrown(alloc: Global, cursor: &mut Cursor) -> Result<List<Path>, Stop>
+    ensures { Takes (λ x. x) result cursor.new (read thrown cursor.old) }
+{
     if cursor.begins(&[THROWS]) {
         cursor.take(THROWS)?;
         paths(alloc, cursor)
@@ -55,7 +68,10 @@ fn thrown(alloc: Global, cursor: &mut Cursor) -> Result<List<Path>, Stop> {
 }
 
 /// `scoped { "," scoped }`
-fn paths(alloc: Global, cursor: &mut Cursor) -> Result<List<Path>, Stop> {
+#[tactic(auto, unfolding(crate::specs::Rules::paths))]
+fn paths(alloc: Global, cursor: &mut Cursor) -> Result<List<Path>, Stop>
+    ensures { Takes (λ x. x) result cursor.new (read paths cursor.old) }
+{
     let mut paths = List::new(alloc);
     paths.push(scoped(alloc, cursor)?)?;
     while cursor.begins(&[COMMA]) {
@@ -65,7 +81,10 @@ fn paths(alloc: Global, cursor: &mut Cursor) -> Result<List<Path>, Stop> {
     Ok(paths)
 }
 
-fn operations(alloc: Global, cursor: &mut Cursor) -> Result<List<OpTree>, Stop> {
+#[tactic(auto, unfolding(crate::specs::Rules::operations))]
+fn operations(alloc: Global, cursor: &mut Cursor) -> Result<List<OpTree>, Stop>
+    ensures { Takes (λ x. x) result cursor.new (read operations cursor.old) }
+{
     let mut ops = List::new(alloc);
     while cursor.begins(&OPERATIONS) {
         ops.push(operation(alloc, cursor)?)?;
@@ -74,7 +93,10 @@ fn operations(alloc: Global, cursor: &mut Cursor) -> Result<List<OpTree>, Stop> 
 }
 
 /// `meta [ "idempotent" ] ( "void" | [ opt ] type ) word "(" [ param { "," param } ] ")" [ "throws" scoped { "," scoped } ] ";"`
-fn operation(alloc: Global, cursor: &mut Cursor) -> Result<OpTree, Stop> {
+#[tactic(auto, unfolding(crate::specs::Rules::operation))]
+fn operation(alloc: Global, cursor: &mut Cursor) -> Result<OpTree, Stop>
+    ensures { Takes (λ x. x) result cursor.new (read operation cursor.old) }
+{
     metadata(cursor)?;
     let idempotent = cursor.take_if(IDEMPOTENT)?;
     let (tag, result) = answered(alloc, cursor)?;
@@ -95,10 +117,13 @@ fn operation(alloc: Global, cursor: &mut Cursor) -> Result<OpTree, Stop> {
 }
 
 /// `"void" | [ opt ] type`
+#[tactic(auto, unfolding(crate::specs::Rules::answered))]
 fn answered(
     alloc: Global,
     cursor: &mut Cursor,
-) -> Result<(Option<Constant>, Option<TypeWord>), Stop> {
+) -> Result<(Option<Constant>, Option<TypeWord>), Stop>
+    ensures { Takes (λ x. x) result cursor.new (read answered cursor.old) }
+{
     if cursor.begins(&[VOID]) {
         cursor.take(VOID)?;
         return Ok((None, None));
@@ -109,20 +134,36 @@ fn answered(
 }
 
 /// `[ param { "," param } ]`
-fn parameters(alloc: Global, cursor: &mut Cursor) -> Result<List<Param>, Stop> {
-    let mut params = List::new(alloc);
+#[tactic(auto, unfolding(crate::specs::Rules::parameters))]
+fn parameters(alloc: Global, cursor: &mut Cursor) -> Result<List<Param>, Stop>
+    ensures { Takes (λ x. x) result cursor.new (read parameters cursor.old) }
+{
     if cursor.begins(&PARAMETERS) {
+        parameter_list(alloc, cursor)
+    } else {
+        Ok(List::new(alloc))
+    }
+}
+
+/// `param { "," param }`
+#[tactic(auto, unfolding(crate::specs::Rules::parameter_list))]
+fn parameter_list(alloc: Global, cursor: &mut Cursor) -> Result<List<Param>, Stop>
+    ensures { Takes (λ x. x) result cursor.new (read parameter_list cursor.old) }
+{
+    let mut params = List::new(alloc);
+    params.push(parameter(alloc, cursor)?)?;
+    while cursor.begins(&[COMMA]) {
+        cursor.take(COMMA)?;
         params.push(parameter(alloc, cursor)?)?;
-        while cursor.begins(&[COMMA]) {
-            cursor.take(COMMA)?;
-            params.push(parameter(alloc, cursor)?)?;
-        }
     }
     Ok(params)
 }
 
 /// `[ "out" ] meta [ opt ] type word`
-fn parameter(alloc: Global, cursor: &mut Cursor) -> Result<Param, Stop> {
+#[tactic(auto, unfolding(crate::specs::Rules::parameter))]
+fn parameter(alloc: Global, cursor: &mut Cursor) -> Result<Param, Stop>
+    ensures { Takes (λ x. x) result cursor.new (read parameter cursor.old) }
+{
     let out = cursor.take_if(OUT)?;
     metadata(cursor)?;
     let tag = tag(alloc, cursor)?;

@@ -1,7 +1,8 @@
 //! Names, types, values and metadata.
 
 ghost use Rattle.slice_syntax.specs.Reading.{read};
-ghost use Rattle.slice_syntax.specs.Rules.{given, value, type_word, metadata};
+ghost use Rattle.std.specs.Prelude.{◌≡◌};
+ghost use Rattle.slice_syntax.specs.Rules.{is_minus, is_true, keyword_code, number_size, file_metadata, given, metadata, named, named_type, names, number, object_type, plain_type, scoped, signed_number, tag, text, texts, truth, type_word, value};
 ghost use Rattle.slice_syntax.specs.Taking.{Takes};
 
 use crate::cursor::Cursor;
@@ -110,7 +111,10 @@ pub(crate) const PARAMETERS: [Sort; 15] = [
 ];
 
 /// `{ "[" text { "," text } "]" }`
-pub(crate) fn metadata(cursor: &mut Cursor) -> Result<(), Stop> {
+#[tactic(auto, unfolding(crate::specs::Rules::metadata))]
+pub(crate) fn metadata(cursor: &mut Cursor) -> Result<(), Stop>
+    ensures { Takes (λ x. x) result cursor.new (read metadata cursor.old) }
+{
     while cursor.begins(&[OPEN_SQUARE]) {
         cursor.take(OPEN_SQUARE)?;
         texts(cursor)?;
@@ -120,7 +124,10 @@ pub(crate) fn metadata(cursor: &mut Cursor) -> Result<(), Stop> {
 }
 
 /// `"[[" text { "," text } "]]"`
-pub(crate) fn file_metadata(cursor: &mut Cursor) -> Result<(), Stop> {
+#[tactic(auto, unfolding(crate::specs::Rules::file_metadata))]
+pub(crate) fn file_metadata(cursor: &mut Cursor) -> Result<(), Stop>
+    ensures { Takes (λ x. x) result cursor.new (read file_metadata cursor.old) }
+{
     cursor.take(OPEN_TWO)?;
     texts(cursor)?;
     cursor.take(CLOSE_TWO)?;
@@ -128,7 +135,10 @@ pub(crate) fn file_metadata(cursor: &mut Cursor) -> Result<(), Stop> {
 }
 
 /// `text { "," text }`
-fn texts(cursor: &mut Cursor) -> Result<(), Stop> {
+#[tactic(auto, unfolding(crate::specs::Rules::texts))]
+fn texts(cursor: &mut Cursor) -> Result<(), Stop>
+    ensures { Takes (λ x. x) result cursor.new (read texts cursor.old) }
+{
     cursor.take(Sort::Text)?;
     while cursor.begins(&[COMMA]) {
         cursor.take(COMMA)?;
@@ -138,7 +148,10 @@ fn texts(cursor: &mut Cursor) -> Result<(), Stop> {
 }
 
 /// `[ "::" ] word { "::" word }`
-pub(crate) fn scoped(alloc: Global, cursor: &mut Cursor) -> Result<Path, Stop> {
+#[tactic(auto, unfolding(crate::specs::Rules::scoped))]
+pub(crate) fn scoped(alloc: Global, cursor: &mut Cursor) -> Result<Path, Stop>
+    ensures { Takes (λ x. x) result cursor.new (read scoped cursor.old) }
+{
     let outer = cursor.take_if(COLONS)?;
     let (words, first) = names(alloc, cursor)?;
     Ok(Path {
@@ -149,7 +162,10 @@ pub(crate) fn scoped(alloc: Global, cursor: &mut Cursor) -> Result<Path, Stop> {
 }
 
 /// `word { "::" word }`, and the place of the first word.
-fn names(alloc: Global, cursor: &mut Cursor) -> Result<(List<Name>, u32), Stop> {
+#[tactic(auto, unfolding(crate::specs::Rules::names))]
+fn names(alloc: Global, cursor: &mut Cursor) -> Result<(List<Name>, u32), Stop>
+    ensures { Takes (λ x. x) result cursor.new (read names cursor.old) }
+{
     let first = cursor.take_word(alloc)?;
     let mut names = List::new(alloc);
     names.push(first.name)?;
@@ -161,7 +177,7 @@ fn names(alloc: Global, cursor: &mut Cursor) -> Result<(List<Name>, u32), Stop> 
 }
 
 /// A built-in type with or without `*`, or a scoped name with or without `*`.
-#[tactic(auto, unfolding(crate::specs::Rules::type_word))]
+#[tactic(auto, unfolding(crate::specs::Rules::type_word, crate::specs::Rules::plain_type, crate::specs::Rules::object_type))]
 pub(crate) fn type_word(alloc: Global, cursor: &mut Cursor) -> Result<TypeWord, Stop>
     ensures { Takes (λ x. x) result cursor.new (read type_word cursor.old) }
 {
@@ -171,6 +187,14 @@ pub(crate) fn type_word(alloc: Global, cursor: &mut Cursor) -> Result<TypeWord, 
     if cursor.begins(&[OBJECT]) {
         return object_type(cursor);
     }
+    named_type(alloc, cursor)
+}
+
+/// `scoped [ "*" ]`
+#[tactic(auto, unfolding(crate::specs::Rules::named_type))]
+fn named_type(alloc: Global, cursor: &mut Cursor) -> Result<TypeWord, Stop>
+    ensures { Takes (λ x. x) result cursor.new (read named_type cursor.old) }
+{
     let path = scoped(alloc, cursor)?;
     let star = cursor.take_if(STAR)?;
     Ok(TypeWord::Named {
@@ -179,7 +203,10 @@ pub(crate) fn type_word(alloc: Global, cursor: &mut Cursor) -> Result<TypeWord, 
     })
 }
 
-fn plain_type(cursor: &mut Cursor) -> Result<TypeWord, Stop> {
+#[tactic(auto, unfolding(crate::specs::Rules::plain_type))]
+fn plain_type(cursor: &mut Cursor) -> Result<TypeWord, Stop>
+    ensures { Takes (λ x. x) result cursor.new (read plain_type cursor.old) }
+{
     let token = cursor.take_any(&PLAIN_TYPES)?.0;
     Ok(TypeWord::Built {
         code: keyword_code(token.kind),
@@ -189,7 +216,10 @@ fn plain_type(cursor: &mut Cursor) -> Result<TypeWord, Stop> {
 }
 
 /// `"Object" [ "*" ]`
-fn object_type(cursor: &mut Cursor) -> Result<TypeWord, Stop> {
+#[tactic(auto, unfolding(crate::specs::Rules::object_type))]
+fn object_type(cursor: &mut Cursor) -> Result<TypeWord, Stop>
+    ensures { Takes (λ x. x) result cursor.new (read object_type cursor.old) }
+{
     let token = cursor.take_any(&[OBJECT])?.0;
     let star = cursor.take_if(STAR)?;
     Ok(TypeWord::Built {
@@ -200,7 +230,9 @@ fn object_type(cursor: &mut Cursor) -> Result<TypeWord, Stop> {
 }
 
 /// The code of a keyword.
-fn keyword_code(kind: TokenKind) -> u8 {
+fn keyword_code(kind: TokenKind) -> u8
+    ensures { result ≡ keyword_code kind }
+{
     match kind {
         TokenKind::Keyword(code) => code,
         _ => 0,
@@ -208,7 +240,7 @@ fn keyword_code(kind: TokenKind) -> u8 {
 }
 
 /// `[ "-" | "+" ] number | text | "true" | "false" | scoped`
-#[tactic(auto, unfolding(crate::specs::Rules::value))]
+#[tactic(auto, unfolding(crate::specs::Rules::value, crate::specs::Rules::signed_number, crate::specs::Rules::number, crate::specs::Rules::text, crate::specs::Rules::truth))]
 pub(crate) fn value(alloc: Global, cursor: &mut Cursor) -> Result<Constant, Stop>
     ensures { Takes (λ x. x) result cursor.new (read value cursor.old) }
 {
@@ -219,15 +251,29 @@ pub(crate) fn value(alloc: Global, cursor: &mut Cursor) -> Result<Constant, Stop
         return number(cursor);
     }
     if cursor.begins(&[Sort::Text]) {
-        let place = cursor.take(Sort::Text)?;
-        return Ok(Constant {
-            place,
-            value: Const::Text,
-        });
+        return text(cursor);
     }
     if cursor.begins(&[TRUE, FALSE]) {
         return truth(cursor);
     }
+    named(alloc, cursor)
+}
+
+#[tactic(auto, unfolding(crate::specs::Rules::text))]
+fn text(cursor: &mut Cursor) -> Result<Constant, Stop>
+    ensures { Takes (λ x. x) result cursor.new (read text cursor.old) }
+{
+    let place = cursor.take(Sort::Text)?;
+    Ok(Constant {
+        place,
+        value: Const::Text,
+    })
+}
+
+#[tactic(auto, unfolding(crate::specs::Rules::named))]
+fn named(alloc: Global, cursor: &mut Cursor) -> Result<Constant, Stop>
+    ensures { Takes (λ x. x) result cursor.new (read named cursor.old) }
+{
     let path = scoped(alloc, cursor)?;
     Ok(Constant {
         place: path.place,
@@ -235,19 +281,25 @@ pub(crate) fn value(alloc: Global, cursor: &mut Cursor) -> Result<Constant, Stop
     })
 }
 
-fn signed_number(cursor: &mut Cursor) -> Result<Constant, Stop> {
+#[tactic(auto, unfolding(crate::specs::Rules::signed_number))]
+fn signed_number(cursor: &mut Cursor) -> Result<Constant, Stop>
+    ensures { Takes (λ x. x) result cursor.new (read signed_number cursor.old) }
+{
     let sign = cursor.take_any(&[MINUS, PLUS])?.0;
     let number = cursor.take_any(&[Sort::Number])?.0;
     Ok(Constant {
         place: sign.from,
         value: Const::Number {
-            negative: sign.kind == TokenKind::Symbol(16),
+            negative: is_minus(sign.kind),
             size: number_size(number.kind),
         },
     })
 }
 
-fn number(cursor: &mut Cursor) -> Result<Constant, Stop> {
+#[tactic(auto, unfolding(crate::specs::Rules::number))]
+fn number(cursor: &mut Cursor) -> Result<Constant, Stop>
+    ensures { Takes (λ x. x) result cursor.new (read number cursor.old) }
+{
     let number = cursor.take_any(&[Sort::Number])?.0;
     Ok(Constant {
         place: number.from,
@@ -259,18 +311,41 @@ fn number(cursor: &mut Cursor) -> Result<Constant, Stop> {
 }
 
 /// The value of a number.
-fn number_size(kind: TokenKind) -> u64 {
+fn number_size(kind: TokenKind) -> u64
+    ensures { result ≡ number_size kind }
+{
     match kind {
         TokenKind::Number(size) => size,
         _ => 0,
     }
 }
 
-fn truth(cursor: &mut Cursor) -> Result<Constant, Stop> {
+fn is_minus(kind: TokenKind) -> bool
+    ensures { result ≡ is_minus kind }
+{
+    match kind {
+        TokenKind::Symbol(code) => code == 16,
+        _ => false,
+    }
+}
+
+fn is_true(kind: TokenKind) -> bool
+    ensures { result ≡ is_true kind }
+{
+    match kind {
+        TokenKind::Keyword(code) => code == 27,
+        _ => false,
+    }
+}
+
+#[tactic(auto, unfolding(crate::specs::Rules::truth))]
+fn truth(cursor: &mut Cursor) -> Result<Constant, Stop>
+    ensures { Takes (λ x. x) result cursor.new (read truth cursor.old) }
+{
     let token = cursor.take_any(&[TRUE, FALSE])?.0;
     Ok(Constant {
         place: token.from,
-        value: Const::Truth(token.kind == TokenKind::Keyword(27)),
+        value: Const::Truth(is_true(token.kind)),
     })
 }
 
@@ -288,7 +363,10 @@ pub(crate) fn given_value(alloc: Global, cursor: &mut Cursor) -> Result<Option<C
 }
 
 /// `[ "optional" "(" value ")" ]`
-pub(crate) fn tag(alloc: Global, cursor: &mut Cursor) -> Result<Option<Constant>, Stop> {
+#[tactic(auto, unfolding(crate::specs::Rules::tag))]
+pub(crate) fn tag(alloc: Global, cursor: &mut Cursor) -> Result<Option<Constant>, Stop>
+    ensures { Takes (λ x. x) result cursor.new (read tag cursor.old) }
+{
     if cursor.begins(&[OPTIONAL]) {
         cursor.take(OPTIONAL)?;
         cursor.take(OPEN_ROUND)?;
