@@ -4,13 +4,15 @@ use Rattle.slice_syntax.specs.declared.sort.Sort.{Sort}
 use Rattle.slice_syntax.specs.declared.sort.Sort.TheVariants as sorts
 use Rattle.slice_syntax.specs.declared.tree.Item.{Item}
 use Rattle.slice_syntax.specs.declared.tree.File.{File}
-use Rattle.slice_syntax.specs.Lexemes.{Lexeme, Lexemes, has, begins, next, sort_of}
+use Rattle.slice_syntax.specs.Lexemes.{Lexeme, Lexemes, lexemes, has, begins, next, sort_of}
 use Rattle.slice_syntax.specs.Grammar.{Grammar, Spells, one}
 use Rattle.slice_syntax.specs.Reading.{Reading, ◌>>=◌, is_empty, starts, read}
 use Rattle.slice_syntax.specs.Rules.{word, name, texts, file_metadata, metadata, names, scoped, plain_type, object_type, named_type, type_word, signed_number, number, text, truth, named, value, given, tag, close, constant_item, entry, entry_comma, entries, enum_item, member, members, struct_item, sequence_item, dictionary_item, tagged_member, tagged_members, body, base, class_body, class_item, exception_item, paths, bases, thrown, parameter, parameter_list, parameters, answered, operation, operations, interface_body, interface_item, definition}
 use Rattle.slice_syntax.specs.Files.{Head, head, directive, directives, Body, Closes, is_guarded, includes_in, Reads}
-use Rattle.slice_syntax.specs.Moving.{outer_move, inner_move, modules_at, closing_at, rest_at, file_of, file_at, at_end, whole_at}
-use Rattle.slice_syntax.specs.Syntax.{Begins, Refuses, SyntaxBreaks}
+use Rattle.slice_syntax.specs.Moving.{outer_move, inner_move, modules_at, closing_at, rest_at, file_of, file_at, end_at, whole_at}
+use Rattle.slice_lexer.specs.declared.token.Token.{Token}
+use Rattle.slice_syntax.specs.declared.fault.SyntaxFault.{SyntaxFault}
+use Rattle.slice_syntax.specs.Syntax.{Begins, Refuses, SyntaxBreaks, fault_at, FaultOf, Answers}
 use Rattle.slice_syntax.proofs.Sets.{disjoint}
 use Rattle.slice_syntax.proofs.Laws.{Took, Stopped, Lawful, lawful_nothing, lawful_made, lawful_both, then_ok, then_err, ok_parts}
 use Rattle.slice_syntax.proofs.Fitting.{goes, fits, lawful}
@@ -111,6 +113,9 @@ reads_file ls file h = ap file_at (sym (append_none ls)) ∙ file_lawful.only ls
 
 pub reads_at : (ls : Lexemes) (file : File) → Reads ls file → whole_at ls ≡ Ok (file, [])
 reads_at ls file h = let e = reads_file ls file h in rw e refl
+
+abbrev at_end : File → Lexemes → Reading File
+at_end file ls = end_at ls >>= (λ u. Ok (file, u.1))
 
 end_ok : (file found : File) (mid rest : Lexemes) → at_end file mid ≡ Ok (found, rest) → (mid ≡ []) × (file ≡ found)
 end_ok file found [] rest e = (refl, (ok_parts file found [] rest e).0)
@@ -220,3 +225,13 @@ one_break ls before behind others rest a b =
         | inr k ↦ absurd (shorter_break ls before behind others k.0 k.1 (k.1 ++ behind) a k.2 (refuses_at others rest k.0 (k.1 ++ behind) k.3 b.refused))
       ]
     ]
+
+break_answer : (text : List ℕ) (tokens : List Token) (left : Lexemes) → FaultOf (length text) (lexemes text tokens) (fault_at (length text) left) → Answers text tokens (Err (fault_at (length text) left))
+break_answer text tokens [] h = h
+break_answer text tokens (l ∷ ls) h = h
+
+-- what is answered where reading refuses a token
+pub refused_answer : (text : List ℕ) (tokens : List Token) (left : Lexemes) (fault : SyntaxFault) → whole_at (lexemes text tokens) ≡ Err left → fault ≡ fault_at (length text) left → Answers text tokens (Err fault)
+refused_answer text tokens left fault e is =
+    let b = whole_breaks (lexemes text tokens) left e in
+    subst (λ (f : SyntaxFault). Answers text tokens (Err f)) (sym is) (break_answer text tokens left (b.0, left, b.1, refl))

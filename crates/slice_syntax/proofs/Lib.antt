@@ -10,3 +10,5 @@ mod Breaking
 mod Series
 mod Starts
 mod Exits
+mod Moves
+mod Guards

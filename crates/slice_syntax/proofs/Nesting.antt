@@ -31,7 +31,7 @@ outer_full : is_empty outer_move ≡ false
 unfolding word name texts file_metadata metadata names scoped plain_type object_type named_type type_word signed_number number text truth named value given tag close constant_item entry entry_comma entries enum_item member members struct_item sequence_item dictionary_item tagged_member tagged_members body base class_body class_item exception_item paths bases thrown parameter parameter_list parameters answered operation operations interface_body interface_item definition head outer_move
 outer_full = refl
 
-inner_full : is_empty inner_move ≡ false
+pub inner_full : is_empty inner_move ≡ false
 unfolding word name texts file_metadata metadata names scoped plain_type object_type named_type type_word signed_number number text truth named value given tag close constant_item entry entry_comma entries enum_item member members struct_item sequence_item dictionary_item tagged_member tagged_members body base class_body class_item exception_item paths bases thrown parameter parameter_list parameters answered operation operations interface_body interface_item definition head outer_move inner_move
 inner_full = refl
 

@@ -75,10 +75,14 @@ file_of heads items = record { items = items; included = includes_in heads }
 abbrev pub file_at : Lexemes → Reading File
 file_at ls = read directives ls >>= (λ h. rest_at (is_guarded h.0) h.1 >>= (λ i. Ok (file_of h.0 i.0, i.1)))
 
-abbrev pub at_end : File → Lexemes → Reading File
-at_end file [] = Ok (file, [])
-at_end file (l ∷ ls) = Err (l ∷ ls)
+abbrev pub end_at : Lexemes → Reading (Unit {0})
+end_at [] = Ok (tt, [])
+end_at (l ∷ ls) = Err (l ∷ ls)
 
 -- a file, and nothing behind it
 abbrev pub whole_at : Lexemes → Reading File
-whole_at ls = file_at ls >>= (λ f. at_end f.0 f.1)
+whole_at ls = file_at ls >>= (λ f. end_at f.1 >>= (λ u. Ok (f.0, u.1)))
+
+-- what is made of the moves that a reading gives, behind items that were read
+abbrev pub resume : List Item → Open → Lexemes → Reading (List Item)
+resume items others ls = moves_at others ls >>= (λ ms. Ok (items ++ all_items others ms.0, ms.1))

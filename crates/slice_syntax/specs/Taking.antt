@@ -10,3 +10,9 @@ abbrev pub Takes : {X Y : Type 0} → (X → Y) → Result X Stop → Lexemes �
 Takes view (Ok x) new read = read ≡ Ok (view x, new)
 Takes view (Err stops.Refused) new read = read ≡ Err new
 Takes view (Err stops.Memory) new read = Unit {0}
+
+-- The call went over what reading gives, and this holds of what it answered and the value that was read.
+abbrev pub TakesWith : {X Y : Type 0} → (X → Y → Type 0) → Result X Stop → Lexemes → Reading Y → Type 0
+TakesWith {Y = Y} Holds (Ok x) new read = (y : Y) × (read ≡ Ok (y, new)) × Holds x y
+TakesWith Holds (Err stops.Refused) new read = read ≡ Err new
+TakesWith Holds (Err stops.Memory) new read = Unit {0}

@@ -1,6 +1,6 @@
 //! Tokens that are taken from the left, one by one.
 
-ghost use Rattle.std.specs.Prelude.{◌≡◌, ◌≤◌, [], ◌∷◌, drop, length};
+ghost use Rattle.std.specs.Prelude.{◌≡◌, [], ◌∷◌, drop};
 ghost use Rattle.std.specs.Option.{option_map};
 ghost use Rattle.slice_lexer.specs.declared.token.Token.{Token};
 ghost use Rattle.slice_lexer.specs.Lexing.{Lexes};
@@ -9,6 +9,7 @@ ghost use Rattle.slice_syntax.specs.Lexemes.{Lexeme, lexemes, begins, sort_of, n
 ghost use Rattle.slice_syntax.specs.Grammar.{one, optional};
 ghost use Rattle.slice_syntax.specs.Rules.{word};
 ghost use Rattle.slice_syntax.specs.Reading.{read, token_at};
+ghost use Rattle.slice_syntax.specs.Syntax.{fault_at};
 ghost use Rattle.slice_syntax.specs.Taking.{Takes};
 
 use crate::directive::if_text;
@@ -38,14 +39,13 @@ impl<'a> Model for Cursor<'a> {
 
     ghost view = { λ c. drop c.at (lexemes c.text.now c.tokens.now) };
 
-    ghost invariant = { λ c. (c.at ≤ length c.tokens.now) × Lexes c.text.now c.tokens.now × (length c.text.now ≤ 1000000) };
+    ghost invariant = { λ c. (c.at ≤ length c.tokens.now) × Lexes c.text.now c.tokens.now };
 }
 
 impl<'a> Cursor<'a> {
     /// A cursor before the first token.
     pub fn new(text: &'a [u8], tokens: &'a Tokens) -> Cursor<'a>
-        requires lexed { Lexes text.now tokens.now }
-        requires few { length text.now ≤ 1000000 }
+        requires { Lexes text.now tokens.now }
         ensures { result ≡ lexemes text.now tokens.now }
     {
         Cursor {
@@ -139,15 +139,17 @@ impl<'a> Cursor<'a> {
         }
     }
 
-    /// The fault of the next token.
-    pub fn fault(&self) -> SyntaxFault {
+    /// The fault of the next token. The text ends at a place.
+    pub fn fault(&self, end: u32) -> SyntaxFault
+        ensures { result ≡ fault_at end self.now }
+    {
         match self.next() {
             Some((token, _)) => SyntaxFault::Expected {
                 place: token.from,
                 found: Some(token.kind),
             },
             None => SyntaxFault::Expected {
-                place: self.text.len() as u32,
+                place: end,
                 found: None,
             },
         }

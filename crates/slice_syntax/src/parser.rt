@@ -1,13 +1,14 @@
 //! From the tokens of a text to what it declares.
 
-ghost use Rattle.std.specs.Prelude.{◌≡◌, List, ℕ, Result};
-ghost use Rattle.slice_lexer.specs.declared.token.Token.{Token};
-ghost use Rattle.slice_syntax.specs.declared.fault.SyntaxFault.{SyntaxFault};
-ghost use Rattle.slice_syntax.specs.declared.tree.File.{File};
+ghost use Rattle.std.specs.Prelude.{◌≡◌, ◌≤◌, ◌++◌, [], ◌∷◌, length};
+ghost use Rattle.slice_lexer.specs.Lexing.{Lexes};
+ghost use Rattle.slice_syntax.specs.declared.sort.Sort.TheVariants as sorts;
 ghost use Rattle.slice_syntax.specs.Lexemes.{Lexemes};
-ghost use Rattle.slice_syntax.specs.Reading.{Reading};
-ghost use Rattle.slice_syntax.specs.Moving.{whole_at};
+ghost use Rattle.slice_syntax.specs.Reading.{read, token_at};
+ghost use Rattle.slice_syntax.specs.Files.{directive, directives, include_of, includes_in, is_guarded};
+ghost use Rattle.slice_syntax.specs.Moving.{closing_at, end_at, whole_at};
 ghost use Rattle.slice_syntax.specs.Syntax.{Answers};
+ghost use Rattle.slice_syntax.specs.Taking.{Takes, TakesWith};
 
 use crate::cursor::Cursor;
 use crate::directive::include_name;
@@ -21,63 +22,96 @@ use slice_lexer::Tokens;
 use std::alloc::Global;
 
 /// What the text declares, or the first token after which no file can go on.
-pub fn parse(alloc: Global, text: &[u8], tokens: &Tokens) -> Result<File, SyntaxFault> {
+pub fn parse(alloc: Global, text: &[u8], tokens: &Tokens) -> Result<File, SyntaxFault>
+    requires lexed { Lexes text.now tokens.now }
+    requires few { length text.now ≤ 1000000 }
+    ensures { Answers text.now tokens.now result }
+{
     let mut cursor = Cursor::new(text, tokens);
     match file(alloc, &mut cursor) {
         Ok(found) => Ok(found),
         Err(Stop::Memory) => Err(SyntaxFault::Memory),
-        Err(Stop::Refused) => Err(cursor.fault()),
+        Err(Stop::Refused) => Err(cursor.fault(text.len() as u32)),
     }
 }
 
 /// `{ directive | filemeta } { meta module } { directive }`, and nothing behind it.
-fn file(alloc: Global, cursor: &mut Cursor) -> Result<File, Stop> {
+fn file(alloc: Global, cursor: &mut Cursor) -> Result<File, Stop>
+    ensures { Takes (λ x. x) result cursor.new (whole_at cursor.old) }
+{
     let mut included = List::new(alloc);
-    let mut items = List::new(alloc);
     let guarded = heads(alloc, cursor, &mut included)?;
-    modules(alloc, cursor, &mut items)?;
-    if guarded {
-        cursor.take(Sort::EndGuard)?;
-    }
-    match cursor.sort() {
-        None => Ok(File { items, included }),
-        Some(_) => Err(Stop::Refused),
-    }
+    let items = modules(alloc, cursor)?;
+    closing(guarded, cursor)?;
+    end(cursor)?;
+    Ok(File { items, included })
 }
 
 /// `{ directive | filemeta }`, and whether an `#ifndef` is among them.
+#[tactic(auto, unfolding(crate::specs::Files::directives))]
 fn heads(
     alloc: Global,
     cursor: &mut Cursor,
     included: &mut List<(Name, u32)>,
-) -> Result<bool, Stop> {
+) -> Result<bool, Stop>
+    ensures { TakesWith (λ guarded heads. (guarded ≡ is_guarded heads) × (included.new ≡ included.old ++ includes_in heads)) result cursor.new (read directives cursor.old) }
+{
     let mut guarded = false;
     while cursor.begins(&[Sort::Include, Sort::Guard, Sort::Aside, OPEN_TWO]) {
-        match cursor.sort() {
-            Some(Sort::Include) => included.push(take_include(alloc, cursor)?)?,
-            Some(Sort::Guard) => {
-                cursor.take(Sort::Guard)?;
-                guarded = true;
-            }
-            Some(Sort::Aside) => {
-                cursor.take(Sort::Aside)?;
-            }
-            _ => file_metadata(cursor)?,
-        }
+        let guards = head(alloc, cursor, included)?;
+        guarded = guarded || guards;
     }
     Ok(guarded)
 }
 
-/// A law.
-pub fn law()
-    ensures { (ls : Lexemes) (text : List ℕ) (tokens : List Token) (x : Result File SyntaxFault) → whole_at ls ≡ whole_at ls → Answers text tokens x → Answers text tokens x }
-{}
+/// A directive before the modules or metadata of the file, and whether it is an `#ifndef`.
+#[tactic(auto, unfolding(crate::specs::Files::directive))]
+fn head(alloc: Global, cursor: &mut Cursor, included: &mut List<(Name, u32)>) -> Result<bool, Stop>
+    ensures { TakesWith (λ guards head. (guards ≡ is_guarded (head ∷ [])) × (included.new ≡ included.old ++ includes_in (head ∷ []))) result cursor.new (read directive cursor.old) }
+{
+    if cursor.begins(&[Sort::Include]) {
+        included.push(take_include(alloc, cursor)?)?;
+        return Ok(false);
+    }
+    if cursor.begins(&[Sort::Guard]) {
+        cursor.take(Sort::Guard)?;
+        return Ok(true);
+    }
+    if cursor.begins(&[Sort::Aside]) {
+        cursor.take(Sort::Aside)?;
+        return Ok(false);
+    }
+    file_metadata(cursor)?;
+    Ok(false)
+}
 
-/// Takes an `#include`, with the name in it.
-fn take_include(alloc: Global, cursor: &mut Cursor) -> Result<(Name, u32), Stop> {
+/// `#include`, with the name in it.
+fn take_include(alloc: Global, cursor: &mut Cursor) -> Result<(Name, u32), Stop>
+    ensures { Takes (λ x. x) result cursor.new (token_at (sorts.Include ∷ []) include_of cursor.old) }
+{
     let (token, bytes) = cursor.take_any(&[Sort::Include])?;
     match include_name(bytes) {
         Some(text) => Ok((Name::of(alloc, text)?, token.from)),
         None => unreachable!(),
+    }
+}
+
+/// `#endif` where an `#ifndef` stands before the modules.
+fn closing(guarded: bool, cursor: &mut Cursor) -> Result<(), Stop>
+    ensures { Takes (λ x. x) result cursor.new (closing_at guarded cursor.old) }
+{
+    if guarded {
+        cursor.take(Sort::EndGuard)?;
+    }
+    Ok(())
+}
+
+/// Nothing.
+fn end(cursor: &mut Cursor) -> Result<(), Stop>
+    ensures { Takes (λ x. x) result cursor.new (end_at cursor.old) }
+{
+    match cursor.sort() {
+        None => Ok(()),
+        Some(_) => Err(Stop::Refused),
     }
 }
