@@ -39,3 +39,6 @@ gathered f (Err other) v left e = absurd cc
 pub gathered_err : {A B : Type 0} (f : List A → B) (r : Reading (List A)) (left : Lexemes) → gather f r ≡ Err left → r ≡ Err left
 gathered_err f (Ok ys) left e = absurd cc
 gathered_err f (Err other) left e = cc
+
+pub refused_by : {X : Type 0} (stop : Stop) (new : Lexemes) (r : Reading X) → stop ≡ stops.Refused → Takes (λ (x : X). x) (Err stop) new r → r ≡ Err new
+refused_by {X = X} stop new r e h = let k : Takes (λ (x : X). x) (Err stops.Refused) new r = subst (λ (s : Stop). Takes (λ (x : X). x) (Err s) new r) e h in k

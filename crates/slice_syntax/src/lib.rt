@@ -16,5 +16,5 @@ mod tree;
 mod words;
 
 pub use fault::SyntaxFault;
-pub use parser::parse;
+pub use parser::{one_answer, parse, words_written};
 pub use tree::{Const, Constant, Field, File, Item, OpTree, Param, Path, TypeWord, Word};

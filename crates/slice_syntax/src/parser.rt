@@ -1,13 +1,15 @@
 //! From the tokens of a text to what it declares.
 
-ghost use Rattle.std.specs.Prelude.{◌≡◌, ◌≤◌, ◌++◌, [], ◌∷◌, length};
+ghost use Rattle.std.specs.Prelude.{◌≡◌, ◌≤◌, ◌⊎◌, ◌++◌, [], ◌∷◌, length};
 ghost use Rattle.slice_lexer.specs.Lexing.{Lexes};
 ghost use Rattle.slice_syntax.specs.declared.sort.Sort.TheVariants as sorts;
 ghost use Rattle.slice_syntax.specs.Lexemes.{Lexemes};
 ghost use Rattle.slice_syntax.specs.Reading.{read, token_at};
-ghost use Rattle.slice_syntax.specs.Files.{directive, directives, include_of, includes_in, is_guarded};
+ghost use Rattle.slice_syntax.specs.declared.tree.File.{File};
+ghost use Rattle.slice_syntax.specs.Sorts.{AreWritten, written};
+ghost use Rattle.slice_syntax.specs.Files.{Reads, directive, directives, include_of, includes_in, is_guarded};
 ghost use Rattle.slice_syntax.specs.Moving.{closing_at, end_at, whole_at};
-ghost use Rattle.slice_syntax.specs.Syntax.{Answers};
+ghost use Rattle.slice_syntax.specs.Syntax.{Answers, SyntaxBreaks};
 ghost use Rattle.slice_syntax.specs.Taking.{Takes, TakesWith};
 
 use crate::cursor::Cursor;
@@ -34,6 +36,19 @@ pub fn parse(alloc: Global, text: &[u8], tokens: &Tokens) -> Result<File, Syntax
         Err(Stop::Refused) => Err(cursor.fault(text.len() as u32)),
     }
 }
+
+/// Tokens are a file, and one alone, or have a first one that no file goes on with, and never both.
+pub fn one_answer()
+    ensures either { (ls : Lexemes) → ((file : File) × Reads ls file) ⊎ ((before behind : Lexemes) × SyntaxBreaks ls before behind) }
+    ensures one_file { (ls : Lexemes) (file other : File) → Reads ls file → Reads ls other → file ≡ other }
+    ensures one_break { (ls before behind others rest : Lexemes) → SyntaxBreaks ls before behind → SyntaxBreaks ls others rest → behind ≡ rest }
+    ensures never_both { (ls : Lexemes) (file : File) (before behind : Lexemes) → Reads ls file → SyntaxBreaks ls before behind → ⊥ }
+{}
+
+/// The codes that the grammar goes by are those of the words and symbols that they are called after.
+pub fn words_written()
+    ensures { AreWritten written }
+{}
 
 /// `{ directive | filemeta } { meta module } { directive }`, and nothing behind it.
 fn file(alloc: Global, cursor: &mut Cursor) -> Result<File, Stop>
