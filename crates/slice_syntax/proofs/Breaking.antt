@@ -1,20 +1,20 @@
 -- A whole file, and the first token that no file goes on with.
-use Rattle.std.proofs.Common.{ℕ, ◌≡◌, Bool, true, false, cond, ◌&&◌, List, [], ◌∷◌, ◌++◌, length, Option, Some, None, Ok, Err, Result, inl, inr, ◌⊎◌, refl, sym, ap, subst, ◌∙◌, append_assoc}
+use Rattle.std.proofs.Common.{ℕ, ◌≡◌, Bool, true, false, cond, ◌&&◌, List, [], ◌∷◌, ◌++◌, length, Some, Ok, Err, inl, inr, ◌⊎◌, refl, sym, ap, subst, ◌∙◌, append_assoc}
 use Rattle.slice_syntax.specs.declared.sort.Sort.{Sort}
 use Rattle.slice_syntax.specs.declared.sort.Sort.TheVariants as sorts
 use Rattle.slice_syntax.specs.declared.tree.Item.{Item}
 use Rattle.slice_syntax.specs.declared.tree.File.{File}
-use Rattle.slice_syntax.specs.Lexemes.{Lexeme, Lexemes, lexemes, has, begins, next, sort_of}
-use Rattle.slice_syntax.specs.Grammar.{Grammar, Spells, one}
+use Rattle.slice_syntax.specs.Lexemes.{Lexeme, Lexemes, lexemes, has, next, sort_of}
+use Rattle.slice_syntax.specs.Grammar.{Spells, one}
 use Rattle.slice_syntax.specs.Reading.{Reading, ◌>>=◌, is_empty, starts, read}
 use Rattle.slice_syntax.specs.Rules.{word, name, texts, file_metadata, metadata, names, scoped, plain_type, object_type, named_type, type_word, signed_number, number, text, truth, named, value, given, tag, close, constant_item, entry, entry_comma, entries, enum_item, member, members, struct_item, sequence_item, dictionary_item, tagged_member, tagged_members, body, base, class_body, class_item, exception_item, paths, bases, thrown, parameter, parameter_list, parameters, answered, operation, operations, interface_body, interface_item, definition}
-use Rattle.slice_syntax.specs.Files.{Head, head, directive, directives, Body, Closes, is_guarded, includes_in, Reads}
+use Rattle.slice_syntax.specs.Files.{Head, head, directive, directives, Body, Closes, is_guarded, Reads}
 use Rattle.slice_syntax.specs.Moving.{outer_move, inner_move, modules_at, closing_at, rest_at, file_of, file_at, end_at, whole_at}
 use Rattle.slice_lexer.specs.declared.token.Token.{Token}
 use Rattle.slice_syntax.specs.declared.fault.SyntaxFault.{SyntaxFault}
 use Rattle.slice_syntax.specs.Syntax.{Begins, Refuses, SyntaxBreaks, fault_at, FaultOf, Answers}
 use Rattle.slice_syntax.proofs.Sets.{disjoint}
-use Rattle.slice_syntax.proofs.Laws.{Took, Stopped, Lawful, lawful_nothing, lawful_made, lawful_both, then_ok, then_err, ok_parts}
+use Rattle.slice_syntax.proofs.Laws.{Lawful, lawful_nothing, lawful_made, lawful_both, then_ok, then_err, ok_parts}
 use Rattle.slice_syntax.proofs.Fitting.{goes, fits, lawful}
 use Rattle.slice_syntax.proofs.Nesting.{lawful_same, modules_lawful, ending, append_none}
 
@@ -40,7 +40,12 @@ loose : {A : Type 0} (P : Lexemes → A → Type 0) (r : Lexemes → Reading A) 
 loose P r bare set others g wide more = record {
   empty = λ x h. refl;
   first = λ l ls x h. more (sort_of l) (g.first l ls x h);
-  some = g.some; value = g.value; spelled = g.spelled; found = g.found; stopped = g.stopped; only = g.only
+  some = g.some;
+  value = g.value;
+  spelled = g.spelled;
+  found = g.found;
+  stopped = g.stopped;
+  only = g.only;
 }
 
 abbrev Made : Lexemes → Unit {0} → Type 0
@@ -90,12 +95,15 @@ whole_reads : (ls : Lexemes) (file : File) → Whole ls file → Reads ls file
 whole_reads ls file h =
     let t = h.6 in
     record {
-      heads = h.0; front = h.2; inner = t.2; last = t.3;
+      heads = h.0;
+      front = h.2;
+      inner = t.2;
+      last = t.3;
       parts = h.4 ∙ ap (λ (z : Lexemes). h.2 ++ z) t.4;
       opening = h.5;
       modules = subst (λ (z : List Item). Body false t.2 z) (sym (ap (λ (f : File). f.items) h.7 ∙ t.7)) t.5;
       closing = t.6;
-      includes = ap (λ (f : File). f.included) h.7
+      includes = ap (λ (f : File). f.included) h.7;
     }
 
 abbrev built : File → List (List ℕ × ℕ) → File
@@ -165,12 +173,12 @@ unfolding file_lawful
 whole_breaks ls left e = then_err (Found ls left) (file_at ls) (λ f. at_end f.0 f.1) left e
     (λ d. let s = file_lawful.stopped ls left d in (s.front, record { parts = s.parts; alive = (s.more, s.value, s.spelled); refused = stuck s.front left s.kept }))
     (λ file mid d f.
-        let t = file_lawful.found ls mid file d in
-        let is = end_err file mid left f in
-        let parts : ls ≡ t.taken ++ left = t.parts ∙ ap (λ (z : Lexemes). t.taken ++ z) (is.2 ∙ sym is.3) in
-        let alive : Begins t.taken = ([], file, subst (λ (z : Lexemes). Reads z file) (sym (append_none t.taken)) t.spelled) in
-        let refused : Refuses t.taken (is.0 ∷ []) = over t.taken is.0 file (λ other n. t.kept other (ap next is.2 ∙ n)) in
-        (t.taken, record { parts = parts; alive = alive; refused = subst (λ (z : Lexemes). Refuses t.taken z) (sym is.3) refused }))
+    let t = file_lawful.found ls mid file d in
+    let is = end_err file mid left f in
+    let parts : ls ≡ t.taken ++ left = t.parts ∙ ap (λ (z : Lexemes). t.taken ++ z) (is.2 ∙ sym is.3) in
+    let alive : Begins t.taken = ([], file, subst (λ (z : Lexemes). Reads z file) (sym (append_none t.taken)) t.spelled) in
+    let refused : Refuses t.taken (is.0 ∷ []) = over t.taken is.0 file (λ other n. t.kept other (ap next is.2 ∙ n)) in
+    (t.taken, record { parts = parts; alive = alive; refused = subst (λ (z : Lexemes). Refuses t.taken z) (sym is.3) refused }))
 
 -- each list of tokens is a file or has a break
 pub file_or_break : (ls : Lexemes) → ((file : File) × Reads ls file) ⊎ ((before behind : Lexemes) × SyntaxBreaks ls before behind)
@@ -201,9 +209,9 @@ fronts (x ∷ a) b (y ∷ c) d e =
     let first : x ≡ y = cc in
     let rest : a ++ b ≡ c ++ d = cc in
     elim (fronts a b c d rest) [
-      inl h ↦ let one = h.0 in inl (cc, h.1)
+      | inl h ↦ let one = h.0 in inl (cc, h.1)
       | inr h ↦ elim h [
-        inl k ↦ let one = k.2 in inr (inl (k.0, k.1, cc, k.3))
+        | inl k ↦ let one = k.2 in inr (inl (k.0, k.1, cc, k.3))
         | inr k ↦ let one = k.2 in inr (inr (k.0, k.1, cc, k.3))
       ]
     ]
@@ -219,9 +227,9 @@ refuses_at before behind l m e h = subst (λ (z : Lexemes). Refuses before z) e 
 pub one_break : (ls before behind others rest : Lexemes) → SyntaxBreaks ls before behind → SyntaxBreaks ls others rest → behind ≡ rest
 one_break ls before behind others rest a b =
     elim (fronts before behind others rest (sym a.parts ∙ b.parts)) [
-      inl h ↦ h.1
+      | inl h ↦ h.1
       | inr h ↦ elim h [
-        inl k ↦ absurd (shorter_break ls others rest before k.0 k.1 (k.1 ++ rest) b k.2 (refuses_at before behind k.0 (k.1 ++ rest) k.3 a.refused))
+        | inl k ↦ absurd (shorter_break ls others rest before k.0 k.1 (k.1 ++ rest) b k.2 (refuses_at before behind k.0 (k.1 ++ rest) k.3 a.refused))
         | inr k ↦ absurd (shorter_break ls before behind others k.0 k.1 (k.1 ++ behind) a k.2 (refuses_at others rest k.0 (k.1 ++ behind) k.3 b.refused))
       ]
     ]

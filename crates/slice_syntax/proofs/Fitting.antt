@@ -1,5 +1,5 @@
 -- Which rules are read with one token ahead, and that they are.
-use Rattle.std.proofs.Common.{ℕ, zero, suc, ◌≡◌, ◌<◌, arith, Bool, true, false, IsTrue, cond, not, ◌&&◌, nat_eq, codes, List, [], ◌∷◌, ◌++◌, refl, sym, ap, subst, ◌∙◌}
+use Rattle.std.proofs.Common.{ℕ, zero, suc, ◌≡◌, ◌<◌, arith, Bool, true, false, cond, not, ◌&&◌, codes, List, [], ◌∷◌, ◌++◌, refl, subst}
 use Rattle.std.proofs.lemmas.Bool.{eq-eqb, false≢true}
 use Rattle.std.specs.List.{slice_index}
 use Rattle.std.specs.Str.{is_utf8}
@@ -95,7 +95,7 @@ stepping P p set others g = record {
   first = g.first;
   found = λ ls rest x begun e. g.found ls rest x e;
   stopped = λ ls left begun e. g.stopped ls left e;
-  only = g.only
+  only = g.only;
 }
 
 never_begins : (ls : Lexemes) → begins [] ls ≡ true → ⊥
@@ -110,7 +110,7 @@ module _ {A : Type 0} (more : A → Bool) (g : Grammar A) (laws : Lawful (Spells
     first = λ l ls x h. absurd h;
     found = λ ls rest x begun e. absurd (never_begins ls begun);
     stopped = λ ls left begun e. absurd (never_begins ls begun);
-    only = λ taken rest x h none. absurd h
+    only = λ taken rest x h none. absurd h;
   }
 
   pub series_clear : (s : Bool) (x : A) (l : Lexeme) → has (goes g) (sort_of l) ≡ true → has (starts_where (starts g) (more x)) (sort_of l) ≡ false
@@ -149,7 +149,7 @@ lawful (or g k) h =
     let two = both_true (disjoint (starts g) (starts k)) (fits g && fits k) one.1 in
     let three = both_true (fits g) (fits k) two.1 in
     lawful_or (Spells g) (read g) (Spells k) (read k) (starts g) (goes g) (is_empty k) (starts k) (goes k)
-        (full (Spells g) (read g) (is_empty g) (starts g) (goes g) (not_true (is_empty g) one.0) (lawful g three.0)) (lawful k three.1) two.0
+    (full (Spells g) (read g) (is_empty g) (starts g) (goes g) (not_true (is_empty g) one.0) (lawful g three.0)) (lawful k three.1) two.0
 lawful (series more g) h =
     let one = both_true (not (is_empty g)) (disjoint (goes g) (starts g) && fits g) h in
     let two = both_true (disjoint (goes g) (starts g)) (fits g) one.1 in

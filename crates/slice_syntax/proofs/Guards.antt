@@ -1,5 +1,5 @@
 -- What stands before the modules, one by one.
-use Rattle.std.proofs.Common.{ℕ, ◌≡◌, Bool, true, false, ◌||◌, List, [], ◌∷◌, ◌++◌, refl, sym, ap, ◌∙◌, append_assoc}
+use Rattle.std.proofs.Common.{ℕ, ◌≡◌, Bool, true, false, ◌||◌, List, [], ◌∷◌, ◌++◌, refl, ap, ◌∙◌, append_assoc}
 use Rattle.slice_syntax.specs.declared.sort.Sort.TheVariants as sorts
 use Rattle.slice_syntax.specs.Grammar.{many}
 use Rattle.slice_syntax.specs.Reading.{starts}
@@ -20,6 +20,7 @@ pair : (g d : Bool) (a b : List (List ℕ × ℕ)) → g ≡ d → a ≡ b → �
 pair g d a b e f = ap (λ (x : Bool). first x) e ∙ ap (λ (y : List (List ℕ × ℕ)). second y) f where
   first : Bool → Told
   first x = (x, a)
+
   second : List (List ℕ × ℕ) → Told
   second y = (d, y)
 

@@ -1,5 +1,5 @@
 -- What reading by a rule and its spellings have to do with one another, and how that passes from the parts of a rule to the rule.
-use Rattle.std.proofs.Common.{ℕ, zero, suc, ◌≡◌, Bool, true, false, IsTrue, cond, not, ◌&&◌, ◌||◌, List, [], ◌∷◌, ◌++◌, Option, Some, None, Result, Ok, Err, ◌⊎◌, inl, inr, refl, sym, ap, subst, ◌∙◌, append_assoc}
+use Rattle.std.proofs.Common.{◌≡◌, Bool, true, false, IsTrue, cond, ◌&&◌, ◌||◌, List, [], ◌∷◌, ◌++◌, Some, None, Ok, Err, ◌⊎◌, inl, inr, refl, sym, ap, subst, ◌∙◌, append_assoc}
 use Rattle.std.proofs.lemmas.Bool.{false≢true}
 use Rattle.std.proofs.lemmas.List.Folds.{list_any-append}
 use Rattle.slice_syntax.specs.declared.sort.Sort.{Sort}
@@ -53,7 +53,6 @@ has_left a b s e = list_any-append (λ other. is_sort other s) a b ∙ rw e refl
 has_right : (a b : List Sort) (s : Sort) → has b s ≡ true → has (a ++ b) s ≡ true
 has_right a b s e = list_any-append (λ other. is_sort other s) a b ∙ or_right (has a s) (has b s) e
 
-
 pub ok_parts : {A : Type 0} (x y : A) (ls rest : Lexemes) → ◌≡◌ {A = Reading A} (Ok (x, ls)) (Ok (y, rest)) → (x ≡ y) × (ls ≡ rest)
 ok_parts {A = A} x y ls rest e = let p : (x, ls) ≡ (y, rest) = cc in (ap (λ (q : A × Lexemes). q.0) p, ap (λ (q : A × Lexemes). q.1) p)
 
@@ -77,7 +76,7 @@ module _ {A : Type 0} (a : A) where
     spelled = (refl, refl);
     found = λ ls rest x e. let is = ok_parts a x ls rest e in record { taken = []; parts = is.1; spelled = (refl, sym is.0); kept = λ other n. ap (λ (v : A). ok v other) is.0 };
     stopped = λ ls left e. absurd cc;
-    only = λ taken rest x h none. let same : a ≡ x = sym h.1 in rw (h.0, same) refl
+    only = λ taken rest x h none. let same : a ≡ x = sym h.1 in rw (h.0, same) refl;
   }
 
 -- One token.
@@ -101,17 +100,17 @@ module _ {A : Type 0} (sorts : List Sort) (view : Lexeme → A) where
   one_stopped sample fits l ls left false test e =
       let same : l ∷ ls ≡ left = cc in
       record { front = []; parts = same; kept = λ other n. refuse other (ap next same ∙ n); more = sample ∷ []; value = view sample; spelled = (sample, refl, fits, refl) } where
-    refuse : (other : Lexemes) → Some l ≡ next other → token_at sorts view other ≡ Err other
-    refuse [] n = absurd cc
-    refuse (o ∷ others) n = let is : l ≡ o = cc in rw (sym is, test) refl
+        refuse : (other : Lexemes) → Some l ≡ next other → token_at sorts view other ≡ Err other
+        refuse [] n = absurd cc
+        refuse (o ∷ others) n = let is : l ≡ o = cc in rw (sym is, test) refl
 
   end_stopped : (sample : Lexeme) → has sorts (sort_of sample) ≡ true → (left : Lexemes) → ◌≡◌ {A = Reading A} (Err []) (Err left) → Stopped One (token_at sorts view) [] left
   end_stopped sample fits left e =
       let same : [] ≡ left = cc in
       record { front = []; parts = same; kept = λ other n. refuse other (ap next same ∙ n); more = sample ∷ []; value = view sample; spelled = (sample, refl, fits, refl) } where
-    refuse : (other : Lexemes) → None ≡ next other → token_at sorts view other ≡ Err other
-    refuse [] n = refl
-    refuse (o ∷ others) n = absurd cc
+        refuse : (other : Lexemes) → None ≡ next other → token_at sorts view other ≡ Err other
+        refuse [] n = refl
+        refuse (o ∷ others) n = absurd cc
 
   pub lawful_token : (sample : Lexeme) → has sorts (sort_of sample) ≡ true → Lawful One (token_at sorts view) false sorts []
   lawful_token sample fits = record {
@@ -122,11 +121,12 @@ module _ {A : Type 0} (sorts : List Sort) (view : Lexeme → A) where
     spelled = (sample, refl, fits, refl);
     found = found;
     stopped = stopped;
-    only = λ taken rest x h none. let l = h.0 in let test = h.2 in let is = sym h.3 in rw (h.1, test, is) refl
+    only = λ taken rest x h none. let l = h.0 in let test = h.2 in let is = sym h.3 in rw (h.1, test, is) refl;
   } where
     found : (ls rest : Lexemes) (x : A) → token_at sorts view ls ≡ Ok (x, rest) → Took One (token_at sorts view) ls x rest
     found [] rest x e = absurd cc
     found (l ∷ ls) rest x e = one_found l ls rest x (has sorts (sort_of l)) refl e
+
     stopped : (ls left : Lexemes) → token_at sorts view ls ≡ Err left → Stopped One (token_at sorts view) ls left
     stopped [] left e = end_stopped sample fits left e
     stopped (l ∷ ls) left e = one_stopped sample fits l ls left (has sorts (sort_of l)) refl e
@@ -155,13 +155,13 @@ module _ {X A : Type 0} (view : X → A) (P : Lexemes → X → Type 0) (p : Lex
           taken = t.taken;
           parts = rw (← tail) t.parts;
           spelled = (x, t.spelled, sym same);
-          kept = λ other n. let k = t.kept other (ap next tail ∙ n) in rw (k, same) refl
+          kept = λ other n. let k = t.kept other (ap next tail ∙ n) in rw (k, same) refl;
         });
     stopped = λ ls left e. then_err (Stopped Made made_at ls left) (p ls) (λ x. Ok (view x.0, x.1)) left e (λ d.
         let s = g.stopped ls left d in
         record { front = s.front; parts = s.parts; kept = λ other n. let k = s.kept other n in rw k refl; more = s.more; value = view s.value; spelled = (s.value, s.spelled, refl) })
-      (λ x mid d f. absurd cc);
-    only = λ taken rest a h none. let k = g.only taken rest h.0 h.1 none in let is = sym h.2 in rw (k, is) refl
+        (λ x mid d f. absurd cc);
+    only = λ taken rest a h none. let k = g.only taken rest h.0 h.1 none in let is = sym h.2 in rw (k, is) refl;
   }
 
 -- One behind the other, where the second may depend on the value of the first.
@@ -177,7 +177,6 @@ module _ {X Y A : Type 0} (make : X → Y → A) (P : Lexemes → X → Type 0) 
 
   module _ (bare : Bool) (starts goes : List Sort) (bare2 : Bool) (starts2 goes2 : List Sort) (g : Lawful P p bare starts goes) (h : (x : X) → Lawful (Q x) (q x) bare2 starts2 goes2)
       (clear : disjoint goes starts2 ≡ true) where
-
     both_empty : (before behind : Lexemes) → [] ≡ before ++ behind → (before ≡ []) × (behind ≡ [])
     both_empty [] behind e = (refl, sym e)
     both_empty (l ∷ before) behind e = absurd cc
@@ -199,9 +198,9 @@ module _ {X Y A : Type 0} (make : X → Y → A) (P : Lexemes → X → Type 0) 
         let same : l ≡ b = cc in
         let here : has starts (sort_of l) ≡ true = subst (λ (z : Lexeme). has starts (sort_of z) ≡ true) (sym same) (g.first b before x s) in
         widened bare here where
-      widened : (b : Bool) → has starts (sort_of l) ≡ true → has (cond b (starts ++ starts2) starts) (sort_of l) ≡ true
-      widened true here = has_left starts starts2 (sort_of l) here
-      widened false here = here
+          widened : (b : Bool) → has starts (sort_of l) ≡ true → has (cond b (starts ++ starts2) starts) (sort_of l) ≡ true
+          widened true here = has_left starts starts2 (sort_of l) here
+          widened false here = here
 
     -- what a first part is not mistaken to go on with
     clear_of : (x : X) (y : Y) (behind rest : Lexemes) → Q x behind y → begins (goes2 ++ cond bare2 goes []) rest ≡ false → begins goes (behind ++ rest) ≡ false
@@ -240,10 +239,10 @@ module _ {X Y A : Type 0} (make : X → Y → A) (P : Lexemes → X → Type 0) 
                 let one = t.kept (u.taken ++ other) middle in
                 let two = u.kept other tails in
                 let grouped = append_assoc t.taken u.taken other in
-                rw (grouped, one, two, same) refl
+                rw (grouped, one, two, same) refl;
           }));
       stopped = λ ls left e. then_err (Stopped Both both_at ls left) (p ls) (λ x. second x.0 x.1) left e
-        (λ d.
+          (λ d.
           let s = g.stopped ls left d in
           record {
             front = s.front;
@@ -251,32 +250,32 @@ module _ {X Y A : Type 0} (make : X → Y → A) (P : Lexemes → X → Type 0) 
             kept = λ other n. let one = s.kept other n in rw one refl;
             more = s.more ++ (h s.value).some;
             value = make s.value (h s.value).value;
-            spelled = (s.value, (h s.value).value, s.front ++ s.more, (h s.value).some, sym (append_assoc s.front s.more (h s.value).some), s.spelled, (h s.value).spelled, refl)
+            spelled = (s.value, (h s.value).value, s.front ++ s.more, (h s.value).some, sym (append_assoc s.front s.more (h s.value).some), s.spelled, (h s.value).spelled, refl);
           })
-        (λ x mid d f. then_err (Stopped Both both_at ls left) (q x mid) (λ y. Ok (make x y.0, y.1)) left f
+          (λ x mid d f. then_err (Stopped Both both_at ls left) (q x mid) (λ y. Ok (make x y.0, y.1)) left f
           (λ k.
-            let t = g.found ls mid x d in
-            let s = (h x).stopped mid left k in
-            record {
-              front = t.taken ++ s.front;
-              parts = t.parts ∙ ap (λ (z : Lexemes). t.taken ++ z) s.parts ∙ sym (append_assoc t.taken s.front left);
-              kept = λ other n.
-                  let middle : next mid ≡ next (s.front ++ other) = ap next s.parts ∙ next_append s.front left other n in
-                  let one = t.kept (s.front ++ other) middle in
-                  let two = s.kept other n in
-                  let grouped = append_assoc t.taken s.front other in
-                  rw (grouped, one, two) refl;
-              more = s.more;
-              value = make x s.value;
-              spelled = (x, s.value, t.taken, s.front ++ s.more, append_assoc t.taken s.front s.more, t.spelled, s.spelled, refl)
-            })
+          let t = g.found ls mid x d in
+          let s = (h x).stopped mid left k in
+          record {
+            front = t.taken ++ s.front;
+            parts = t.parts ∙ ap (λ (z : Lexemes). t.taken ++ z) s.parts ∙ sym (append_assoc t.taken s.front left);
+            kept = λ other n.
+                let middle : next mid ≡ next (s.front ++ other) = ap next s.parts ∙ next_append s.front left other n in
+                let one = t.kept (s.front ++ other) middle in
+                let two = s.kept other n in
+                let grouped = append_assoc t.taken s.front other in
+                rw (grouped, one, two) refl;
+            more = s.more;
+            value = make x s.value;
+            spelled = (x, s.value, t.taken, s.front ++ s.more, append_assoc t.taken s.front s.more, t.spelled, s.spelled, refl);
+          })
           (λ y end k m. absurd cc));
       only = λ taken rest a s none.
           let one = g.only s.2 (s.3 ++ rest) s.0 s.5 (clear_of s.0 s.1 s.3 rest s.6 none) in
           let two = (h s.0).only s.3 rest s.1 s.6 (begins_append goes2 (cond bare2 goes []) rest none).0 in
           let grouped = append_assoc s.2 s.3 rest in
           let is = sym s.7 in
-          rw (s.4, grouped, one, two, is) refl
+          rw (s.4, grouped, one, two, is) refl;
     }
 
 -- The one or the other.
@@ -300,40 +299,52 @@ module _ {A : Type 0} (P : Lexemes → A → Type 0) (p : Lexemes → Reading A)
     or_found ls rest x true test e =
         let t = g.found ls rest x e in
         record {
-          taken = t.taken; parts = t.parts; spelled = inl t.spelled;
+          taken = t.taken;
+          parts = t.parts;
+          spelled = inl t.spelled;
           kept = λ other n.
               let same = begins_next starts (t.taken ++ other) (t.taken ++ rest) (sym (next_append t.taken rest other n)) in
               let begun : begins starts (t.taken ++ other) ≡ true = same ∙ ap (begins starts) (sym t.parts) ∙ test in
-              rw begun (t.kept other n)
+              rw begun (t.kept other n);
         }
     or_found ls rest x false test e =
         let t = h.found ls rest x e in
         record {
-          taken = t.taken; parts = t.parts; spelled = inr t.spelled;
+          taken = t.taken;
+          parts = t.parts;
+          spelled = inr t.spelled;
           kept = λ other n.
               let same = begins_next starts (t.taken ++ other) (t.taken ++ rest) (sym (next_append t.taken rest other n)) in
               let begun : begins starts (t.taken ++ other) ≡ false = same ∙ ap (begins starts) (sym t.parts) ∙ test in
-              rw begun (t.kept other n)
+              rw begun (t.kept other n);
         }
 
     or_stopped : (ls left : Lexemes) (b : Bool) → begins starts ls ≡ b → or_at b p q ls ≡ Err left → Stopped Either either_at ls left
     or_stopped ls left true test e =
         let s = g.stopped ls left e in
         record {
-          front = s.front; parts = s.parts; more = s.more; value = s.value; spelled = inl s.spelled;
+          front = s.front;
+          parts = s.parts;
+          more = s.more;
+          value = s.value;
+          spelled = inl s.spelled;
           kept = λ other n.
               let same = begins_next starts (s.front ++ other) (s.front ++ left) (sym (next_append s.front left other n)) in
               let begun : begins starts (s.front ++ other) ≡ true = same ∙ ap (begins starts) (sym s.parts) ∙ test in
-              rw begun (s.kept other n)
+              rw begun (s.kept other n);
         }
     or_stopped ls left false test e =
         let s = h.stopped ls left e in
         record {
-          front = s.front; parts = s.parts; more = s.more; value = s.value; spelled = inr s.spelled;
+          front = s.front;
+          parts = s.parts;
+          more = s.more;
+          value = s.value;
+          spelled = inr s.spelled;
           kept = λ other n.
               let same = begins_next starts (s.front ++ other) (s.front ++ left) (sym (next_append s.front left other n)) in
               let begun : begins starts (s.front ++ other) ≡ false = same ∙ ap (begins starts) (sym s.parts) ∙ test in
-              rw begun (s.kept other n)
+              rw begun (s.kept other n);
         }
 
     or_only : (taken rest : Lexemes) (x : A) → Either taken x → begins (goes ++ (goes2 ++ cond bare2 starts [])) rest ≡ false → either_at (taken ++ rest) ≡ Ok (x, rest)
@@ -347,9 +358,9 @@ module _ {A : Type 0} (P : Lexemes → A → Type 0) (p : Lexemes → Reading A)
         rw begun (h.only [] rest x t parts.0)
     or_only (l ∷ taken) rest x (inr t) none =
         other (has starts (sort_of l)) refl where
-      other : (b : Bool) → has starts (sort_of l) ≡ b → either_at (l ∷ taken ++ rest) ≡ Ok (x, rest)
-      other true e = let f = apart starts starts2 (sort_of l) clear e in let t2 = h.first l taken x t in absurd cc
-      other false e = rw e (h.only (l ∷ taken) rest x t (begins_append goes2 (cond bare2 starts []) rest (begins_append goes (goes2 ++ cond bare2 starts []) rest none).1).0)
+          other : (b : Bool) → has starts (sort_of l) ≡ b → either_at (l ∷ taken ++ rest) ≡ Ok (x, rest)
+          other true e = let f = apart starts starts2 (sort_of l) clear e in let t2 = h.first l taken x t in absurd cc
+          other false e = rw e (h.only (l ∷ taken) rest x t (begins_append goes2 (cond bare2 starts []) rest (begins_append goes (goes2 ++ cond bare2 starts []) rest none).1).0)
 
     pub lawful_or : Lawful Either either_at bare2 (starts ++ starts2) (goes ++ (goes2 ++ cond bare2 starts []))
     lawful_or = record {
@@ -360,5 +371,5 @@ module _ {A : Type 0} (P : Lexemes → A → Type 0) (p : Lexemes → Reading A)
       spelled = inl g.spelled;
       found = λ ls rest x e. or_found ls rest x (begins starts ls) refl e;
       stopped = λ ls left e. or_stopped ls left (begins starts ls) refl e;
-      only = or_only
+      only = or_only;
     }

@@ -1,5 +1,5 @@
 -- Reading parts one behind the other, and their spellings.
-use Rattle.std.proofs.Common.{ℕ, zero, suc, ◌+◌, ◌≡◌, ◌<◌, ◌≤◌, Bool, true, false, IsTrue, cond, List, [], ◌∷◌, ◌++◌, length, Option, Some, None, Result, Ok, Err, refl, sym, ap, subst, ◌∙◌, append_assoc, arith}
+use Rattle.std.proofs.Common.{ℕ, zero, suc, ◌≡◌, ◌<◌, ◌≤◌, Bool, true, false, cond, List, [], ◌∷◌, ◌++◌, length, Ok, Err, refl, sym, ap, subst, ◌∙◌, append_assoc, arith}
 use Rattle.std.proofs.lemmas.List.{length-append}
 use Rattle.slice_syntax.specs.declared.sort.Sort.{Sort}
 use Rattle.slice_syntax.specs.Lexemes.{Lexeme, Lexemes, has, begins, next, sort_of}
@@ -68,7 +68,6 @@ module _ {S X : Type 0} (Step : S → Lexemes → X → Type 0) (r : S → Lexem
       (ends : (s : S) → may_end s ≡ true → (rest : Lexemes) → begins ending rest ≡ false → begins (starts s) rest ≡ false)
       (steps_end : (s : S) (rest : Lexemes) → begins ending rest ≡ false → begins (goes s) rest ≡ false)
       (done : (s : S) → (ls : Lexemes) × (xs : List X) × Run s ls xs) where
-
     -- what a part takes is not empty
     shorter : (s : S) (x : X) (taken ls mid : Lexemes) → ls ≡ taken ++ mid → Step s taken x → length mid < length ls
     shorter s x [] ls mid e h = absurd ((laws s).empty x h)
@@ -83,10 +82,10 @@ module _ {S X : Type 0} (Step : S → Lexemes → X → Type 0) (r : S → Lexem
           spelled = subst (λ (ys : List X). Run s [] ys) is.0 (refl, end);
           kept = λ other m enough n.
               let bare : begins (starts s) other ≡ false = sym (begins_next (starts s) ls other (ap next is.1 ∙ n)) ∙ none in
-              at_stop m s other bare ∙ rw end (ap (λ (ys : List X). ok ys other) is.0)
+              at_stop m s other bare ∙ rw end (ap (λ (ys : List X). ok ys other) is.0);
         } where
-      ok : List X → Lexemes → Reading (List X)
-      ok ys other = Ok (ys, other)
+          ok : List X → Lexemes → Reading (List X)
+          ok ys other = Ok (ys, other)
     stop_found s ls rest xs false end none e = absurd cc
 
     stop_stopped : (s : S) (ls left : Lexemes) (b : Bool) → may_end s ≡ b → begins (starts s) ls ≡ false → cond {A = Reading (List X)} b (Ok ([], ls)) (Err ls) ≡ Err left → RunStopped s ls left
@@ -101,7 +100,7 @@ module _ {S X : Type 0} (Step : S → Lexemes → X → Type 0) (r : S → Lexem
               at_stop m s other bare ∙ rw end refl;
           more = (done s).0;
           values = (done s).1;
-          spelled = (done s).2
+          spelled = (done s).2;
         }
 
     zero_begins : (set : List Sort) (ls : Lexemes) → length ls ≤ 0 → begins set ls ≡ false
@@ -117,27 +116,26 @@ module _ {S X : Type 0} (Step : S → Lexemes → X → Type 0) (r : S → Lexem
         let opened : (r s ls >>= (λ x. at n (after s x.0) x.1 >>= more x.0)) ≡ Ok (xs, rest) = rw begun at e in
         then_ok (RunTook s ls xs rest) (r s ls) (λ x. at n (after s x.0) x.1 >>= more x.0) (xs, rest) opened (λ x mid d f.
         then_ok (RunTook s ls xs rest) (at n (after s x) mid) (more x) (xs, rest) f (λ ys end k m.
-          let t = (laws s).found ls mid x begun d in
-          let less = shorter s x t.taken ls mid t.parts t.spelled in
-          let u = ih (after s x) mid end ys (omega arith) k in
-          let is = ok_parts (x ∷ ys) xs end rest m in
-          record {
-            taken = t.taken ++ u.taken;
-            parts = t.parts ∙ ap (λ (z : Lexemes). t.taken ++ z) u.parts ∙ sym (append_assoc t.taken u.taken end) ∙ ap (λ (z : Lexemes). (t.taken ++ u.taken) ++ z) is.1;
-            spelled = subst (λ (zs : List X). Run s (t.taken ++ u.taken) zs) is.0 (t.taken, u.taken, refl, t.spelled, u.spelled);
-            kept = λ other p long n2.
-                let tails : next end ≡ next other = ap next is.1 ∙ n2 in
-                let middle : next mid ≡ next (u.taken ++ other) = ap next u.parts ∙ next_append u.taken end other tails in
-                let grouped = append_assoc t.taken u.taken other in
-                let all : Lexemes = t.taken ++ (u.taken ++ other) in
-                let fits : length all ≤ p = subst (λ (z : Lexemes). length z ≤ p) grouped long in
-                let stepped = at_step p s all (u.taken ++ other) x (Ok (ys, other)) (begun_again s t.taken mid (u.taken ++ other) ls t.parts middle begun) (t.kept (u.taken ++ other) middle)
-                    (shorter s x t.taken all (u.taken ++ other) refl t.spelled) fits (λ q h. u.kept other q h tails) in
-                ap (at p s) grouped ∙ stepped ∙ ap (λ (zs : List X). ok zs other) is.0
-          })) where
-      ok : List X → Lexemes → Reading (List X)
-      ok ys other = Ok (ys, other)
-
+        let t = (laws s).found ls mid x begun d in
+        let less = shorter s x t.taken ls mid t.parts t.spelled in
+        let u = ih (after s x) mid end ys (omega arith) k in
+        let is = ok_parts (x ∷ ys) xs end rest m in
+        record {
+          taken = t.taken ++ u.taken;
+          parts = t.parts ∙ ap (λ (z : Lexemes). t.taken ++ z) u.parts ∙ sym (append_assoc t.taken u.taken end) ∙ ap (λ (z : Lexemes). (t.taken ++ u.taken) ++ z) is.1;
+          spelled = subst (λ (zs : List X). Run s (t.taken ++ u.taken) zs) is.0 (t.taken, u.taken, refl, t.spelled, u.spelled);
+          kept = λ other p long n2.
+              let tails : next end ≡ next other = ap next is.1 ∙ n2 in
+              let middle : next mid ≡ next (u.taken ++ other) = ap next u.parts ∙ next_append u.taken end other tails in
+              let grouped = append_assoc t.taken u.taken other in
+              let all : Lexemes = t.taken ++ (u.taken ++ other) in
+              let fits : length all ≤ p = subst (λ (z : Lexemes). length z ≤ p) grouped long in
+              let stepped = at_step p s all (u.taken ++ other) x (Ok (ys, other)) (begun_again s t.taken mid (u.taken ++ other) ls t.parts middle begun) (t.kept (u.taken ++ other) middle)
+              (shorter s x t.taken all (u.taken ++ other) refl t.spelled) fits (λ q h. u.kept other q h tails) in
+              ap (at p s) grouped ∙ stepped ∙ ap (λ (zs : List X). ok zs other) is.0;
+        })) where
+          ok : List X → Lexemes → Reading (List X)
+          ok ys other = Ok (ys, other)
 
     pub run_found : (n : ℕ) (s : S) (ls rest : Lexemes) (xs : List X) → length ls ≤ n → at n s ls ≡ Ok (xs, rest) → RunTook s ls xs rest
     run_found zero s ls rest xs enough e = stop_found s ls rest xs (may_end s) refl (zero_begins (starts s) ls enough) e
@@ -149,37 +147,37 @@ module _ {S X : Type 0} (Step : S → Lexemes → X → Type 0) (r : S → Lexem
         let opened : (r s ls >>= (λ x. at n (after s x.0) x.1 >>= more x.0)) ≡ Err left = rw begun at e in
         then_err (RunStopped s ls left) (r s ls) (λ x. at n (after s x.0) x.1 >>= more x.0) left opened
         (λ d.
-          let t = (laws s).stopped ls left begun d in
-          let rest = done (after s t.value) in
-          record {
-            front = t.front;
-            parts = t.parts;
-            kept = λ other p long n2. at_err p s (t.front ++ other) other (begun_again s t.front left other ls t.parts n2 begun) (t.kept other n2) long;
-            more = t.more ++ rest.0;
-            values = t.value ∷ rest.1;
-            spelled = (t.front ++ t.more, rest.0, sym (append_assoc t.front t.more rest.0), t.spelled, rest.2)
-          })
+        let t = (laws s).stopped ls left begun d in
+        let rest = done (after s t.value) in
+        record {
+          front = t.front;
+          parts = t.parts;
+          kept = λ other p long n2. at_err p s (t.front ++ other) other (begun_again s t.front left other ls t.parts n2 begun) (t.kept other n2) long;
+          more = t.more ++ rest.0;
+          values = t.value ∷ rest.1;
+          spelled = (t.front ++ t.more, rest.0, sym (append_assoc t.front t.more rest.0), t.spelled, rest.2);
+        })
         (λ x mid d f. then_err (RunStopped s ls left) (at n (after s x) mid) (more x) left f
-          (λ k.
-            let t = (laws s).found ls mid x begun d in
-            let less = shorter s x t.taken ls mid t.parts t.spelled in
-            let u = ih (after s x) mid left (omega arith) k in
-            record {
-              front = t.taken ++ u.front;
-              parts = t.parts ∙ ap (λ (z : Lexemes). t.taken ++ z) u.parts ∙ sym (append_assoc t.taken u.front left);
-              kept = λ other p long n2.
-                  let middle : next mid ≡ next (u.front ++ other) = ap next u.parts ∙ next_append u.front left other n2 in
-                  let grouped = append_assoc t.taken u.front other in
-                  let all : Lexemes = t.taken ++ (u.front ++ other) in
-                  let fits : length all ≤ p = subst (λ (z : Lexemes). length z ≤ p) grouped long in
-                  let stepped = at_step p s all (u.front ++ other) x (Err other) (begun_again s t.taken mid (u.front ++ other) ls t.parts middle begun) (t.kept (u.front ++ other) middle)
-                      (shorter s x t.taken all (u.front ++ other) refl t.spelled) fits (λ q h. u.kept other q h n2) in
-                  ap (at p s) grouped ∙ stepped;
-              more = u.more;
-              values = x ∷ u.values;
-              spelled = (t.taken, u.front ++ u.more, append_assoc t.taken u.front u.more, t.spelled, u.spelled)
-            })
-          (λ y end k m. absurd cc))
+        (λ k.
+        let t = (laws s).found ls mid x begun d in
+        let less = shorter s x t.taken ls mid t.parts t.spelled in
+        let u = ih (after s x) mid left (omega arith) k in
+        record {
+          front = t.taken ++ u.front;
+          parts = t.parts ∙ ap (λ (z : Lexemes). t.taken ++ z) u.parts ∙ sym (append_assoc t.taken u.front left);
+          kept = λ other p long n2.
+              let middle : next mid ≡ next (u.front ++ other) = ap next u.parts ∙ next_append u.front left other n2 in
+              let grouped = append_assoc t.taken u.front other in
+              let all : Lexemes = t.taken ++ (u.front ++ other) in
+              let fits : length all ≤ p = subst (λ (z : Lexemes). length z ≤ p) grouped long in
+              let stepped = at_step p s all (u.front ++ other) x (Err other) (begun_again s t.taken mid (u.front ++ other) ls t.parts middle begun) (t.kept (u.front ++ other) middle)
+              (shorter s x t.taken all (u.front ++ other) refl t.spelled) fits (λ q h. u.kept other q h n2) in
+              ap (at p s) grouped ∙ stepped;
+          more = u.more;
+          values = x ∷ u.values;
+          spelled = (t.taken, u.front ++ u.more, append_assoc t.taken u.front u.more, t.spelled, u.spelled);
+        })
+        (λ y end k m. absurd cc))
 
     pub run_stopped : (n : ℕ) (s : S) (ls left : Lexemes) → length ls ≤ n → at n s ls ≡ Err left → RunStopped s ls left
     run_stopped zero s ls left enough e = stop_stopped s ls left (may_end s) refl (zero_begins (starts s) ls enough) e
@@ -219,10 +217,10 @@ module _ {S X : Type 0} (Step : S → Lexemes → X → Type 0) (r : S → Lexem
         let fits : length all ≤ m = subst (λ (z : Lexemes). length z ≤ m) grouped enough in
         let read_one = (laws s).only h.0 (h.1 ++ rest) x h.3 (clear_of s x xs h.1 rest h.4 none) in
         ap (at m s) grouped ∙ at_step m s all (h.1 ++ rest) x (Ok (xs, rest)) (begun all h.0 (h.1 ++ rest) refl h.3) read_one (shorter s x h.0 all (h.1 ++ rest) refl h.3) fits
-            (λ k long. run_only xs (after s x) h.1 rest k h.4 none long) where
-      begun : (all before behind : Lexemes) → all ≡ before ++ behind → Step s before x → begins (starts s) all ≡ true
-      begun all [] behind e k = absurd ((laws s).empty x k)
-      begun all (b ∷ before) behind e k = ap (begins (starts s)) e ∙ (laws s).first b before x k
+        (λ k long. run_only xs (after s x) h.1 rest k h.4 none long) where
+          begun : (all before behind : Lexemes) → all ≡ before ++ behind → Step s before x → begins (starts s) all ≡ true
+          begun all [] behind e k = absurd ((laws s).empty x k)
+          begun all (b ∷ before) behind e k = ap (begins (starts s)) e ∙ (laws s).first b before x k
 
     pub lawful_runs : (s : S) → Lawful (Run s) (whole s) (may_end s) (starts s) ending
     lawful_runs s = record {
@@ -235,7 +233,7 @@ module _ {S X : Type 0} (Step : S → Lexemes → X → Type 0) (r : S → Lexem
           record { taken = t.taken; parts = t.parts; spelled = t.spelled; kept = λ other n. t.kept other (length (t.taken ++ other)) (omega arith) n };
       stopped = λ ls left e. let t = run_stopped (length ls) s ls left (omega arith) e in
           record { front = t.front; parts = t.parts; kept = λ other n. t.kept other (length (t.front ++ other)) (omega arith) n; more = t.more; value = t.values; spelled = t.spelled };
-      only = λ taken rest xs h none. run_only xs s taken rest (length (taken ++ rest)) h none (omega arith)
+      only = λ taken rest xs h none. run_only xs s taken rest (length (taken ++ rest)) h none (omega arith);
     }
 
     -- reading does not depend on how many steps are allowed

@@ -1,24 +1,23 @@
 -- Reading modules, move by move.
-use Rattle.std.proofs.Common.{ℕ, ◌≡◌, ◌<◌, Bool, true, false, OnOk, OnErr, List, [], ◌∷◌, ◌++◌, length, reverse, take, Result, Ok, Err, refl, sym, ap, subst, ◌∙◌, append_assoc}
+use Rattle.std.proofs.Common.{ℕ, ◌≡◌, ◌<◌, Bool, true, false, OnOk, OnErr, List, [], ◌∷◌, ◌++◌, length, reverse, Result, Ok, Err, refl, sym, ap, subst, ◌∙◌, append_assoc}
 use Rattle.std.proofs.lemmas.Bool.{false≢true}
 use Rattle.std.proofs.lemmas.List.{reverse-append}
 use Rattle.slice_syntax.specs.declared.fault.Stop.{Stop}
 use Rattle.slice_syntax.specs.declared.fault.Stop.TheVariants as stops
 use Rattle.slice_syntax.specs.declared.sort.Sort.{Sort}
-use Rattle.slice_syntax.specs.declared.sort.Sort.TheVariants as sorts
 use Rattle.slice_syntax.specs.declared.tree.Word.{Word}
 use Rattle.slice_syntax.specs.declared.tree.Item.{Item}
-use Rattle.slice_syntax.specs.Lexemes.{Lexeme, Lexemes, begins, has, sort_of}
+use Rattle.slice_syntax.specs.Lexemes.{Lexemes, begins}
 use Rattle.slice_syntax.specs.Grammar.{Spells, ◌▸◌}
 use Rattle.slice_syntax.specs.Reading.{Reading, ◌>>=◌, is_empty, starts, read}
 use Rattle.slice_syntax.specs.Sorts.{word_module, open_square, close_brace}
 use Rattle.slice_syntax.specs.Rules.{word, name, texts, file_metadata, metadata, names, scoped, plain_type, object_type, named_type, type_word, signed_number, number, text, truth, named, value, given, tag, close, constant_item, entry, entry_comma, entries, enum_item, member, members, struct_item, sequence_item, dictionary_item, tagged_member, tagged_members, body, base, class_body, class_item, exception_item, paths, bases, thrown, parameter, parameter_list, parameters, answered, operation, operations, interface_body, interface_item, definition}
-use Rattle.slice_syntax.specs.Files.{head, enters, exits}
+use Rattle.slice_syntax.specs.Files.{head}
 use Rattle.slice_syntax.specs.Moving.{Move, enter, hold, leave, outer_move, inner_move, Open, move, moved, is_shut, items_of, all_items, moves_at, modules_at, resume}
 use Rattle.slice_syntax.specs.Taking.{TakesWith}
-use Rattle.slice_syntax.proofs.Laws.{Took, Stopped, Lawful}
+use Rattle.slice_syntax.proofs.Laws.{Lawful}
 use Rattle.slice_syntax.proofs.Loops.{whole_more, whole_err, whole_end, whole_less}
-use Rattle.slice_syntax.proofs.Fitting.{goes, fits, lawful, full}
+use Rattle.slice_syntax.proofs.Fitting.{goes, lawful, full}
 use Rattle.slice_syntax.proofs.Nesting.{fits_inner, inner_full, ending, moves_steps, moves_clear, moves_end, moves_steps_end, moves_done, append_none}
 use Rattle.slice_syntax.proofs.Starts.{begun, not_begun}
 
@@ -40,9 +39,11 @@ refused_at_once {A = A} P r set others g ls none = by (r ls) refl where
   front_none : (front rest : Lexemes) (x : A) → ls ≡ front ++ rest → P front x → ⊥
   front_none [] rest x e h = false≢true (g.empty x h)
   front_none (l ∷ front) rest x e h = let one = g.first l front x h in let two : begins set (l ∷ front ++ rest) ≡ false = ap (begins set) (sym e) ∙ none in absurd cc
+
   stop_none : (front left more : Lexemes) (x : A) → ls ≡ front ++ left → P (front ++ more) x → left ≡ ls
   stop_none [] left more x e h = sym e
   stop_none (l ∷ front) left more x e h = let one = g.first l (front ++ more) x h in let two : begins set (l ∷ front ++ left) ≡ false = ap (begins set) (sym e) ∙ none in absurd cc
+
   by : (q : Reading A) → r ls ≡ q → r ls ≡ Err ls
   by (Ok x) e = let t = g.found ls x.1 x.0 e in absurd (front_none t.taken x.1 x.0 t.parts t.spelled)
   by (Err left) e = let s = g.stopped ls left e in e ∙ ap (λ (z : Lexemes). stop z) (stop_none s.front left s.more s.value s.parts s.spelled) where
@@ -88,6 +89,7 @@ inner_stop : (n : ℕ) (o : Open) (ls left : Lexemes) → read inner_move ls ≡
 inner_stop n o ls left e = by (begins (starts inner_move) ls) refl where
   ended : begins (starts inner_move) ls ≡ false → moves_at (n ∷ o) ls ≡ Err ls
   ended h = whole_end (λ p. Spells (move p)) (λ p. read (move p)) moved is_shut (λ p. starts (move p)) (λ p. goes (move p)) ending moves_steps moves_clear moves_end moves_steps_end moves_done (n ∷ o) ls h
+
   by : (b : Bool) → begins (starts inner_move) ls ≡ b → moves_at (n ∷ o) ls ≡ Err left
   by true h = moves_err (n ∷ o) ls left h e
   by false h = let f = refused_at_once (Spells inner_move) (read inner_move) (starts inner_move) (goes inner_move) inner_laws ls h in let g = ended h in cc
@@ -99,10 +101,10 @@ resume_stop items n o ls left e = ap (λ (q : Reading (List Move)). q >>= (λ ms
 pub resume_end : (items : List Item) (ls : Lexemes) → begins (starts outer_move) ls ≡ false → resume items [] ls ≡ Ok (items, ls)
 resume_end items ls h =
     ap (λ (q : Reading (List Move)). q >>= (λ ms. Ok (items ++ all_items [] ms.0, ms.1)))
-        (whole_end (λ p. Spells (move p)) (λ p. read (move p)) moved is_shut (λ p. starts (move p)) (λ p. goes (move p)) ending moves_steps moves_clear moves_end moves_steps_end moves_done [] ls h)
+    (whole_end (λ p. Spells (move p)) (λ p. read (move p)) moved is_shut (λ p. starts (move p)) (λ p. goes (move p)) ending moves_steps moves_clear moves_end moves_steps_end moves_done [] ls h)
     ∙ ap (λ (z : List Item). ok z) (append_none items) where
-  ok : List Item → Reading (List Item)
-  ok z = Ok (z, ls)
+      ok : List Item → Reading (List Item)
+      ok z = Ok (z, ls)
 
 pub resume_none : (ls : Lexemes) → resume [] [] ls ≡ modules_at ls
 resume_none ls = refl

@@ -1,17 +1,16 @@
 -- Reading modules by moves, and their spellings.
-use Rattle.std.proofs.Common.{ℕ, zero, suc, ◌≡◌, Bool, true, false, cond, List, [], ◌∷◌, ◌++◌, length, Ok, Err, inl, inr, ◌⊎◌, refl, sym, ap, subst, ◌∙◌, append_assoc}
+use Rattle.std.proofs.Common.{◌≡◌, Bool, true, false, List, [], ◌∷◌, ◌++◌, length, inl, inr, refl, sym, ap, subst, ◌∙◌, append_assoc}
 use Rattle.slice_syntax.specs.declared.sort.Sort.{Sort}
-use Rattle.slice_syntax.specs.declared.sort.Sort.TheVariants as sorts
 use Rattle.slice_syntax.specs.declared.tree.Word.{Word}
 use Rattle.slice_syntax.specs.declared.tree.Item.{Item}
 use Rattle.slice_syntax.specs.Lexemes.{Lexeme, Lexemes, has, begins, sort_of}
-use Rattle.slice_syntax.specs.Grammar.{Grammar, Spells, Runs, ◌▸◌}
-use Rattle.slice_syntax.specs.Reading.{Reading, ◌>>=◌, is_empty, starts, read, runs_at}
+use Rattle.slice_syntax.specs.Grammar.{Spells, Runs, ◌▸◌}
+use Rattle.slice_syntax.specs.Reading.{Reading, is_empty, starts, read}
 use Rattle.slice_syntax.specs.Rules.{word, name, texts, file_metadata, metadata, names, scoped, plain_type, object_type, named_type, type_word, signed_number, number, text, truth, named, value, given, tag, close, constant_item, entry, entry_comma, entries, enum_item, member, members, struct_item, sequence_item, dictionary_item, tagged_member, tagged_members, body, base, class_body, class_item, exception_item, paths, bases, thrown, parameter, parameter_list, parameters, answered, operation, operations, interface_body, interface_item, definition}
-use Rattle.slice_syntax.specs.Files.{head, directive, directives, enters, exits, Body, none, plain, nested}
+use Rattle.slice_syntax.specs.Files.{head, enters, exits, Body, none, plain, nested}
 use Rattle.slice_syntax.specs.Moving.{Move, enter, hold, leave, outer_move, inner_move, Open, move, moved, is_shut, items_of, all_items, moves_at, modules_at}
 use Rattle.slice_syntax.proofs.Sets.{disjoint, apart, begins_append}
-use Rattle.slice_syntax.proofs.Laws.{Took, Stopped, Lawful, lawful_made}
+use Rattle.slice_syntax.proofs.Laws.{Lawful, lawful_made}
 use Rattle.slice_syntax.proofs.Loops.{Stepping, lawful_runs}
 use Rattle.slice_syntax.proofs.Fitting.{goes, fits, lawful, full, stepping}
 
@@ -156,12 +155,30 @@ move_rest (n ∷ o) (enter words) before behind all step h =
     let k = h.9 in
     let built = nested true before h.0 h.1 k.0 words h.3 k.3 (inner_enter before words step) h.7 h.8 k.7 in
     let tail : behind ≡ h.0 ++ (h.1 ++ (k.0 ++ (k.1 ++ k.2))) = h.5 ∙ ap (λ (z : Lexemes). h.0 ++ (h.1 ++ z)) k.5 in
-    let leaves : all ≡ h.3 ++ (exits (length words) ++ (k.3 ++ (exits n ++ k.4))) = h.6 ∙ ap (λ (z : List Item). h.3 ++ (exits (length words) ++ z)) k.6 in
-    (before ++ (h.0 ++ (h.1 ++ k.0)), k.1, k.2, enters words ++ (h.3 ++ (exits (length words) ++ k.3)), k.4,
-      ap (λ (z : Lexemes). before ++ z) tail ∙ simp append_assoc, ap (λ (z : List Item). enters words ++ z) leaves ∙ simp append_assoc, built, k.8, k.9)
-move_rest (n ∷ o) (hold item) before behind all step h =
-    (before ++ h.0, h.1, h.2, item ∷ h.3, h.4, ap (λ (z : Lexemes). before ++ z) h.5 ∙ sym (append_assoc before h.0 (h.1 ++ h.2)), ap (λ (z : List Item). item ∷ z) h.6,
-      plain before h.0 item h.3 (inner_hold before item step) h.7, h.8, h.9)
+    let leaves : all ≡ h.3 ++ (exits (length words) ++ (k.3 ++ (exits n ++ k.4))) = h.6 ∙ ap (λ (z : List Item). h.3 ++ (exits (length words) ++ z)) k.6 in (
+      before ++ (h.0 ++ (h.1 ++ k.0)),
+      k.1,
+      k.2,
+      enters words ++ (h.3 ++ (exits (length words) ++ k.3)),
+      k.4,
+      ap (λ (z : Lexemes). before ++ z) tail ∙ simp append_assoc,
+      ap (λ (z : List Item). enters words ++ z) leaves ∙ simp append_assoc,
+      built,
+      k.8,
+      k.9,
+    )
+move_rest (n ∷ o) (hold item) before behind all step h = (
+  before ++ h.0,
+  h.1,
+  h.2,
+  item ∷ h.3,
+  h.4,
+  ap (λ (z : Lexemes). before ++ z) h.5 ∙ sym (append_assoc before h.0 (h.1 ++ h.2)),
+  ap (λ (z : List Item). item ∷ z) h.6,
+  plain before h.0 item h.3 (inner_hold before item step) h.7,
+  h.8,
+  h.9,
+)
 move_rest (n ∷ o) leave before behind all step h =
     let closing = inner_leave before step in
     ([], before, behind, [], all, refl, refl, none true, closing, h)
@@ -195,9 +212,11 @@ body_moves (plain before inside item others step body) o at behind ms h =
 body_moves (nested inner opening inside closing tail words held others step body shut rest) o at behind ms h =
     let r = body_moves rest o at behind ms h in
     let closed : Moves (length words ∷ o) (closing ++ (tail ++ behind)) (leave ∷ r.0) = (closing, tail ++ behind, refl, left_inner closing shut, r.1) in
-    let q = body_moves body (length words ∷ o) tt (closing ++ (tail ++ behind)) (leave ∷ r.0) closed in
-    (enter words ∷ q.0, (opening, inside ++ (closing ++ (tail ++ behind)), simp append_assoc, enter_move o opening words step, q.1),
-      ap (λ (z : List Item). enters words ++ z) (q.2 ∙ ap (λ (z : List Item). held ++ (exits (length words) ++ z)) r.2) ∙ simp append_assoc)
+    let q = body_moves body (length words ∷ o) tt (closing ++ (tail ++ behind)) (leave ∷ r.0) closed in (
+      enter words ∷ q.0,
+      (opening, inside ++ (closing ++ (tail ++ behind)), simp append_assoc, enter_move o opening words step, q.1),
+      ap (λ (z : List Item). enters words ++ z) (q.2 ∙ ap (λ (z : List Item). held ++ (exits (length words) ++ z)) r.2) ∙ simp append_assoc,
+    )
 
 -- the laws of other spellings that are the same
 pub lawful_same : {A : Type 0} (P Q : Lexemes → A → Type 0) (r : Lexemes → Reading A) (bare : Bool) (set others : List Sort) → ((ls : Lexemes) (x : A) → P ls x → Q ls x) → ((ls : Lexemes) (x : A) → Q ls x → P ls x)
@@ -210,7 +229,7 @@ lawful_same P Q r bare set others to back g = record {
   spelled = to g.some g.value g.spelled;
   found = λ ls rest x e. let t = g.found ls rest x e in record { taken = t.taken; parts = t.parts; spelled = to t.taken x t.spelled; kept = t.kept };
   stopped = λ ls left e. let s = g.stopped ls left e in record { front = s.front; parts = s.parts; kept = s.kept; more = s.more; value = s.value; spelled = to (s.front ++ s.more) s.value s.spelled };
-  only = λ taken rest x h none. g.only taken rest x (back taken x h) none
+  only = λ taken rest x h none. g.only taken rest x (back taken x h) none;
 }
 
 abbrev Left : Lexemes → List Item → Type 0

@@ -1,6 +1,5 @@
 -- Reading a series, step by step.
-use Rattle.std.proofs.Common.{ℕ, ◌≡◌, ◌<◌, Bool, true, false, not, ◌&&◌, List, [], ◌∷◌, ◌++◌, length, Ok, Err, refl, sym, ap, ◌∙◌, append_assoc}
-use Rattle.slice_syntax.specs.declared.sort.Sort.{Sort}
+use Rattle.std.proofs.Common.{◌≡◌, ◌<◌, Bool, true, false, not, ◌&&◌, List, [], ◌∷◌, ◌++◌, length, Ok, Err, refl, sym, ap, ◌∙◌}
 use Rattle.slice_syntax.specs.Lexemes.{Lexemes, begins}
 use Rattle.slice_syntax.specs.Grammar.{Grammar, series, Spells, Where, ◌▸◌}
 use Rattle.slice_syntax.specs.Reading.{Reading, ◌>>=◌, is_empty, starts, starts_where, read, runs_at, gather}
@@ -8,7 +7,6 @@ use Rattle.slice_syntax.proofs.Sets.{disjoint, both_true}
 use Rattle.slice_syntax.proofs.Laws.{Lawful}
 use Rattle.slice_syntax.proofs.Loops.{whole_more, whole_err, whole_end, whole_less}
 use Rattle.slice_syntax.proofs.Fitting.{goes, fits, lawful, full, not_true, series_steps, series_clear, series_ends, series_steps_end, series_done}
-use Rattle.slice_syntax.proofs.Nesting.{append_none}
 
 module _ {A : Type 0} (more : A → Bool) (g : Grammar A) (h : fits (series more g) ≡ true) where
   parts : (not (is_empty g) ≡ true) × (disjoint (goes g) (starts g) ≡ true) × (fits g ≡ true)

@@ -1,6 +1,5 @@
 -- Sets of sorts, and which token is next.
-use Rattle.std.proofs.Common.{ℕ, zero, suc, ◌≡◌, Bool, true, false, not, ◌&&◌, ◌||◌, ◌⊎◌, inl, inr, nat_eq, List, [], ◌∷◌, ◌++◌, Option, Some, None, refl, sym, ap, ◌∙◌}
-use Rattle.std.specs.List.{list_any}
+use Rattle.std.proofs.Common.{ℕ, zero, suc, ◌≡◌, Bool, true, false, not, ◌&&◌, ◌||◌, ◌⊎◌, inl, inr, nat_eq, List, [], ◌∷◌, ◌++◌, refl, sym, ap, ◌∙◌}
 use Rattle.std.proofs.lemmas.Bool.{eqb-true}
 use Rattle.std.proofs.lemmas.List.Folds.{list_any-append}
 use Rattle.slice_syntax.specs.declared.sort.Sort.{Sort}
@@ -66,7 +65,7 @@ apart [] others s d h = absurd cc
 apart (first ∷ set) others s d h =
     let parts = both_true (not (has others first)) (disjoint set others) d in
     elim (split_or (is_sort first s) (has set s) h) [
-      inl same ↦ let is : first ≡ s = exact first s same in ap (has others) (sym is) ∙ not_true (has others first) parts.0
+      | inl same ↦ let is : first ≡ s = exact first s same in ap (has others) (sym is) ∙ not_true (has others first) parts.0
       | inr other ↦ apart set others s parts.1 other
     ]
 

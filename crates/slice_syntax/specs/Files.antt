@@ -1,5 +1,5 @@
 -- The grammar of modules and whole files.
-use Rattle.std.specs.Prelude.{ℕ, ◌≡◌, Bool, true, false, ◌||◌, List, [], ◌∷◌, ◌++◌, map, length, replicate, unwrap_or}
+use Rattle.std.specs.Prelude.{ℕ, ◌≡◌, Bool, true, false, List, [], ◌∷◌, ◌++◌, map, length, replicate, unwrap_or}
 use Rattle.slice_syntax.specs.declared.sort.Sort.TheVariants as sorts
 use Rattle.slice_syntax.specs.declared.tree.Word.{Word}
 use Rattle.slice_syntax.specs.declared.tree.Item.{Item}
@@ -29,7 +29,7 @@ pub data Body : Bool → Lexemes → List Item → Type 0 where
   none : (inner : Bool) → Body inner [] []
   plain : (before behind : Lexemes) (item : Item) (others : List Item) → Spells (metadata ▸ definition) before item → Body true behind others → Body true (before ++ behind) (item ∷ others)
   nested : (inner : Bool) (opening inside closing behind : Lexemes) (words : List Word) (held others : List Item) → Spells (metadata ▸ head) opening words → Body true inside held
-    → Spells close closing tt → Body inner behind others → Body inner (opening ++ (inside ++ (closing ++ behind))) (enters words ++ (held ++ (exits (length words) ++ others)))
+      → Spells close closing tt → Body inner behind others → Body inner (opening ++ (inside ++ (closing ++ behind))) (enters words ++ (held ++ (exits (length words) ++ others)))
 
 -- what stands before the modules
 pub data Head : Type 0 where

@@ -1,9 +1,8 @@
 -- The grammar of Slice, but for modules and whole files. A word is one that is no keyword, or any behind a `\`.
-use Rattle.std.specs.Prelude.{ℕ, Bool, true, false, List, [], ◌∷◌, map, Option, Some, None, unwrap_or, ◌==◌}
+use Rattle.std.specs.Prelude.{ℕ, Bool, false, List, [], ◌∷◌, map, Option, Some, None, unwrap_or, ◌==◌}
 use Rattle.std.specs.Option.{is_some}
 use Rattle.slice_lexer.specs.declared.token.TokenKind.{TokenKind}
 use Rattle.slice_lexer.specs.declared.token.TokenKind.TheVariants as kinds
-use Rattle.slice_syntax.specs.declared.sort.Sort.{Sort}
 use Rattle.slice_syntax.specs.declared.sort.Sort.TheVariants as sorts
 use Rattle.slice_syntax.specs.declared.tree.Word.{Word}
 use Rattle.slice_syntax.specs.declared.tree.Path.{Path}
@@ -19,7 +18,7 @@ use Rattle.slice_syntax.specs.declared.tree.Item.{Item}
 use Rattle.slice_syntax.specs.declared.tree.Item.TheVariants as items
 use Rattle.slice_syntax.specs.Lexemes.{Lexeme, name_of}
 use Rattle.slice_syntax.specs.Grammar.{Grammar, nothing, token, made, both, or, series, ◌▸◌, ◌◂◌, ◌⊛◌, one, optional, many, parted}
-use Rattle.slice_syntax.specs.Sorts.{word_bool, word_byte, word_class, word_const, word_dictionary, word_double, word_enum, word_exception, word_extends, word_false, word_float, word_idempotent, word_int, word_interface, word_long, word_module, word_object, word_optional, word_out, word_sequence, word_short, word_string, word_struct, word_throws, word_true, word_value, word_void, open_brace, close_brace, open_round, close_round, less, greater, open_square, close_square, open_two, close_two, comma, semicolon, colons, equals, star, plus, minus}
+use Rattle.slice_syntax.specs.Sorts.{word_bool, word_byte, word_class, word_const, word_dictionary, word_double, word_enum, word_exception, word_extends, word_false, word_float, word_idempotent, word_int, word_interface, word_long, word_object, word_optional, word_out, word_sequence, word_short, word_string, word_struct, word_throws, word_true, word_value, word_void, open_brace, close_brace, open_round, close_round, less, greater, open_square, close_square, open_two, close_two, comma, semicolon, colons, equals, star, plus, minus}
 
 -- What single tokens stand for.
 

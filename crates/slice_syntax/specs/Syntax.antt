@@ -1,7 +1,6 @@
 -- Which tokens are a file, and which token is the first that no file goes on with.
-use Rattle.std.specs.Prelude.{ℕ, ◌≡◌, List, [], ◌∷◌, ◌++◌, length, Option, Some, None, Result, Ok, Err}
+use Rattle.std.specs.Prelude.{ℕ, ◌≡◌, List, [], ◌∷◌, ◌++◌, length, Some, None, Result, Ok, Err}
 use Rattle.slice_lexer.specs.declared.token.Token.{Token}
-use Rattle.slice_lexer.specs.declared.token.TokenKind.{TokenKind}
 use Rattle.slice_syntax.specs.declared.tree.File.{File}
 use Rattle.slice_syntax.specs.declared.fault.SyntaxFault.{SyntaxFault}
 use Rattle.slice_syntax.specs.declared.fault.SyntaxFault.TheVariants as faults

@@ -91,10 +91,7 @@ fn entries(alloc: Global, cursor: &mut Cursor) -> Result<List<(Word, Option<Cons
 
 /// An entry, and whether a comma stands behind it.
 #[tactic(auto, unfolding(crate::specs::Rules::entry_comma))]
-fn entry_comma(
-    alloc: Global,
-    cursor: &mut Cursor,
-) -> Result<((Word, Option<Constant>), bool), Stop>
+fn entry_comma(alloc: Global, cursor: &mut Cursor) -> Result<((Word, Option<Constant>), bool), Stop>
     ensures { Takes (λ x. x) result cursor.new (read entry_comma cursor.old) }
 {
     let entry = entry(alloc, cursor)?;

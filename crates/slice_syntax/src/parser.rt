@@ -64,11 +64,7 @@ fn file(alloc: Global, cursor: &mut Cursor) -> Result<File, Stop>
 
 /// `{ directive | filemeta }`, and whether an `#ifndef` is among them.
 #[tactic(auto, unfolding(crate::specs::Files::directives))]
-fn heads(
-    alloc: Global,
-    cursor: &mut Cursor,
-    included: &mut List<(Name, u32)>,
-) -> Result<bool, Stop>
+fn heads(alloc: Global, cursor: &mut Cursor, included: &mut List<(Name, u32)>) -> Result<bool, Stop>
     ensures { TakesWith (λ guarded heads. (guarded ≡ is_guarded heads) × (included.new ≡ included.old ++ includes_in heads)) result cursor.new (read directives cursor.old) }
 {
     let mut guarded = false;

@@ -1,4 +1,4 @@
-use Rattle.std.proofs.Common.{◌≡◌, true, false, refl, sym, ap, ◌∙◌, Bool, List, [], ◌∷◌, ◌++◌, map, Ok, Err, append_assoc}
+use Rattle.std.proofs.Common.{◌≡◌, true, false, sym, ap, ◌∙◌, Bool, List, [], ◌∷◌, ◌++◌, map, Ok, append_assoc}
 use Rattle.slice_syntax.specs.declared.tree.Word.{Word}
 use Rattle.slice_syntax.specs.declared.tree.Constant.{Constant}
 use Rattle.std.proofs.Common.{Option}
@@ -40,22 +40,22 @@ loop-goes_on-smaller c =
 pub loop-goes_on-preserved : goal.loop-goes_on-preserved
 loop-goes_on-preserved c =
     more_left c.loop-goes_on.entries c.push.new.self c.loop-goes_on.cursor c.entry_comma.new.cursor (c.in_ok-entry.entry, c.in_ok-entry.comma) (read entries c.args.cursor.now) c.in_ok-push.ensures.ok
-        (begun entry_comma _ c.loop-goes_on.cursor starts_entry_comma (sym c.begins.ensures ∙ c.if-begins.true)) c.in_ok-entry.ensures
-        (as_tested c.loop-goes_on.entries c.loop-goes_on.cursor c.loop-goes_on.goes_on true (read entries c.args.cursor.now) c.loop-goes_on-test.true c.loop-goes_on.invariant)
+    (begun entry_comma _ c.loop-goes_on.cursor starts_entry_comma (sym c.begins.ensures ∙ c.if-begins.true)) c.in_ok-entry.ensures
+    (as_tested c.loop-goes_on.entries c.loop-goes_on.cursor c.loop-goes_on.goes_on true (read entries c.args.cursor.now) c.loop-goes_on-test.true c.loop-goes_on.invariant)
 
 pub returns-in_err-entry : goal.returns-in_err-entry
 returns-in_err-entry c =
     err_takes (λ x. x) c.in_err-entry.field-0.0 c.from_residual.result c.entry_comma.new.cursor (read entry_comma c.loop-goes_on.cursor) (read entries c.args.cursor.now) c.from_residual.ensures.1 c.in_err-entry.ensures
-        (λ stop e. sym (as_tested c.loop-goes_on.entries c.loop-goes_on.cursor c.loop-goes_on.goes_on true (read entries c.args.cursor.now) c.loop-goes_on-test.true c.loop-goes_on.invariant)
-            ∙ gather_err comes entry_comma fits_entries (joined c.loop-goes_on.entries) c.loop-goes_on.cursor stop (begun entry_comma _ c.loop-goes_on.cursor starts_entry_comma (sym c.begins.ensures ∙ c.if-begins.true)) e)
+    (λ stop e. sym (as_tested c.loop-goes_on.entries c.loop-goes_on.cursor c.loop-goes_on.goes_on true (read entries c.args.cursor.now) c.loop-goes_on-test.true c.loop-goes_on.invariant)
+    ∙ gather_err comes entry_comma fits_entries (joined c.loop-goes_on.entries) c.loop-goes_on.cursor stop (begun entry_comma _ c.loop-goes_on.cursor starts_entry_comma (sym c.begins.ensures ∙ c.if-begins.true)) e)
 
 pub returns : goal.returns
 returns c = elim c.loop-goes_on-test.branch [
-  then-loop-goes_on-test+else-begins w ↦
-    sym (as_tested c.loop-goes_on.entries c.loop-goes_on.cursor c.loop-goes_on.goes_on true (read entries c.args.cursor.now) w.loop-goes_on-test.true c.loop-goes_on.invariant)
-    ∙ gather_end comes entry_comma fits_entries (joined c.loop-goes_on.entries) c.loop-goes_on.entries c.loop-goes_on.cursor (append_none c.loop-goes_on.entries)
-        (not_begun entry_comma _ c.loop-goes_on.cursor starts_entry_comma (sym w.begins.ensures ∙ w.if-begins.false))
+  | then-loop-goes_on-test+else-begins w ↦
+      sym (as_tested c.loop-goes_on.entries c.loop-goes_on.cursor c.loop-goes_on.goes_on true (read entries c.args.cursor.now) w.loop-goes_on-test.true c.loop-goes_on.invariant)
+      ∙ gather_end comes entry_comma fits_entries (joined c.loop-goes_on.entries) c.loop-goes_on.entries c.loop-goes_on.cursor (append_none c.loop-goes_on.entries)
+      (not_begun entry_comma _ c.loop-goes_on.cursor starts_entry_comma (sym w.begins.ensures ∙ w.if-begins.false))
   | else-loop-goes_on-test w ↦
-    sym (as_tested c.loop-goes_on.entries c.loop-goes_on.cursor c.loop-goes_on.goes_on false (read entries c.args.cursor.now) w.loop-goes_on-test.false c.loop-goes_on.invariant)
-    ∙ gather_shut comes entry_comma fits_entries (joined c.loop-goes_on.entries) c.loop-goes_on.entries c.loop-goes_on.cursor (append_none c.loop-goes_on.entries)
+      sym (as_tested c.loop-goes_on.entries c.loop-goes_on.cursor c.loop-goes_on.goes_on false (read entries c.args.cursor.now) w.loop-goes_on-test.false c.loop-goes_on.invariant)
+      ∙ gather_shut comes entry_comma fits_entries (joined c.loop-goes_on.entries) c.loop-goes_on.entries c.loop-goes_on.cursor (append_none c.loop-goes_on.entries)
 ]

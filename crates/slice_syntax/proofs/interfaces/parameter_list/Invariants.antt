@@ -1,8 +1,7 @@
-use Rattle.std.proofs.Common.{◌≡◌, List, [], ◌∷◌, ◌++◌, length, map, Ok}
-use Rattle.slice_syntax.specs.declared.sort.Sort.TheVariants as sorts
-use Rattle.slice_syntax.specs.Grammar.{many, series, one, ◌▸◌}
+use Rattle.std.proofs.Common.{◌≡◌, ◌++◌, length}
+use Rattle.slice_syntax.specs.Grammar.{many, one, ◌▸◌}
 use Rattle.slice_syntax.specs.Reading.{read, gather}
-use Rattle.slice_syntax.specs.Sorts.{comma, colons, open_square, close_square}
+use Rattle.slice_syntax.specs.Sorts.{comma}
 use Rattle.slice_syntax.specs.Rules.{parameter, parameter_list}
 use Rattle.slice_syntax.proofs.interfaces.parameter_list.Given as goal
 

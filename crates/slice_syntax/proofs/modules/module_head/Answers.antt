@@ -1,10 +1,10 @@
-use Rattle.std.proofs.Common.{ℕ, ◌≡◌, ◌+◌, ◌-◌, ◌++◌, List, length, map, Ok, Err, refl, sym, ap, ◌∙◌, arith}
+use Rattle.std.proofs.Common.{ℕ, ◌≡◌, ◌-◌, ◌++◌, List, length, Ok, Err, refl, ap, ◌∙◌, arith}
 use Rattle.std.proofs.lemmas.List.{length-append, length-map}
 use Rattle.slice_syntax.specs.declared.tree.Word.{Word}
 use Rattle.slice_syntax.specs.declared.tree.Item.{Item}
 use Rattle.slice_syntax.specs.declared.tree.Item.TheVariants as items
 use Rattle.slice_syntax.specs.Lexemes.{Lexemes}
-use Rattle.slice_syntax.specs.Grammar.{one, parted, ◌▸◌}
+use Rattle.slice_syntax.specs.Grammar.{one, parted}
 use Rattle.slice_syntax.specs.Reading.{read}
 use Rattle.slice_syntax.specs.Sorts.{word_module, colons, open_brace}
 use Rattle.slice_syntax.specs.Rules.{word}
@@ -33,8 +33,8 @@ counted old new words before after is b a =
     let size = ap length is ∙ length-append old (enters words) in
     let same = length-map words (λ (w : Word). enter w) in
     omega arith where
-  enter : Word → Item
-  enter w = items.Enter w
+      enter : Word → Item
+      enter w = items.Enter w
 
 pub returns-in_err-take : goal.returns-in_err-take
 returns-in_err-take c =
@@ -43,15 +43,17 @@ returns-in_err-take c =
 pub returns-in_err-module_words : goal.returns-in_err-module_words
 returns-in_err-module_words c =
     err_with _ c.in_err-module_words.field-0.0 c.from_residual-in_err-module_words.result c.module_words.new.cursor (read (parted colons word) c.take.new.self) (read head c.args.cursor.now) c.from_residual-in_err-module_words.ensures.1 c.in_err-module_words.ensures
-        (λ left e. words_stop c.args.cursor.now c.take.new.self left c.in_ok-take.field-0 c.in_ok-take.ensures e)
+    (λ left e. words_stop c.args.cursor.now c.take.new.self left c.in_ok-take.field-0 c.in_ok-take.ensures e)
 
 pub returns-in_err-take-2 : goal.returns-in_err-take-2
 returns-in_err-take-2 c =
     err_with _ c.in_err-take-2.field-0.0 c.from_residual-in_err-take-2.result c.take-2.new.self (read (one open_brace) c.module_words.new.cursor) (read head c.args.cursor.now) c.from_residual-in_err-take-2.ensures.1 c.in_err-take-2.ensures
-        (λ left e. brace_stop c.args.cursor.now c.take.new.self c.module_words.new.cursor left c.in_ok-take.field-0 c.in_ok-module_words.ensures.0 c.in_ok-take.ensures c.in_ok-module_words.ensures.1 e)
+    (λ left e. brace_stop c.args.cursor.now c.take.new.self c.module_words.new.cursor left c.in_ok-take.field-0 c.in_ok-module_words.ensures.0 c.in_ok-take.ensures c.in_ok-module_words.ensures.1 e)
 
 pub returns : goal.returns
 returns c =
-    let held = c.in_ok-module_words.ensures in
-    (held.0, head_read c.args.cursor.now c.take.new.self c.module_words.new.cursor c.take-2.new.self c.in_ok-take.field-0 c.in_ok-take-2.field-0 held.0 c.in_ok-take.ensures held.1 c.in_ok-take-2.ensures,
-      (counted c.args.items.now c.module_words.new.items held.0 c.len-before.result c.len.result held.2 c.len-before.ensures c.len.ensures, held.2))
+    let held = c.in_ok-module_words.ensures in (
+      held.0,
+      head_read c.args.cursor.now c.take.new.self c.module_words.new.cursor c.take-2.new.self c.in_ok-take.field-0 c.in_ok-take-2.field-0 held.0 c.in_ok-take.ensures held.1 c.in_ok-take-2.ensures,
+      (counted c.args.items.now c.module_words.new.items held.0 c.len-before.result c.len.result held.2 c.len-before.ensures c.len.ensures, held.2),
+    )

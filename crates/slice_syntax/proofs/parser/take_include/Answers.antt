@@ -1,4 +1,3 @@
-use Rattle.std.proofs.Common.{sym, ◌∙◌}
 use Rattle.slice_syntax.specs.Lexemes.{seen}
 use Rattle.slice_syntax.proofs.Cursors.{include_text}
 use Rattle.slice_syntax.proofs.parser.take_include.Goals as goal
