@@ -9,9 +9,13 @@ mod fault;
 mod interfaces;
 mod modules;
 mod parser;
+#[cfg(test)]
+mod refusals;
 mod sort;
 #[cfg(test)]
 mod tests;
+#[cfg(test)]
+mod texts;
 mod tree;
 mod words;
 

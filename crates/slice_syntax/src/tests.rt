@@ -5,7 +5,7 @@ use std::alloc::AllocError;
 use std::test::Fail;
 
 /// What the text declares or why it is no file.
-fn written(rt: &impl AllocGlobal, text: &[u8]) -> Result<String, Fail> {
+pub(crate) fn written(rt: &impl AllocGlobal, text: &[u8]) -> Result<String, Fail> {
     let found = tokens(rt.alloc(), text)?;
     let mut all = String::new(rt.alloc());
     match parse(rt.alloc(), text, &found) {
