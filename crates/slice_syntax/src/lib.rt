@@ -1,6 +1,8 @@
 //! The grammar of Slice: from the tokens of a text to what it declares.
 #![tactic(auto)]
 
+#[cfg(test)]
+mod accepted;
 mod classes;
 mod cursor;
 mod definitions;
@@ -14,8 +16,6 @@ mod refusals;
 mod sort;
 #[cfg(test)]
 mod tests;
-#[cfg(test)]
-mod texts;
 mod tree;
 mod words;
 
