@@ -12,7 +12,7 @@ use Rattle.slice_syntax.specs.Files.{Head, head, directive, directives, Body, Cl
 use Rattle.slice_syntax.specs.Moving.{outer_move, inner_move, modules_at, closing_at, rest_at, file_of, file_at, end_at, whole_at}
 use Rattle.slice_lexer.specs.declared.token.Token.{Token}
 use Rattle.slice_syntax.specs.declared.fault.SyntaxFault.{SyntaxFault}
-use Rattle.slice_syntax.specs.Syntax.{Begins, Refuses, SyntaxBreaks, fault_at, FaultOf, Answers}
+use Rattle.slice_syntax.specs.Syntax.{Begins, GoesOn, Refuses, SyntaxBreaks, fault_at, FaultOf, Answers}
 use Rattle.slice_syntax.proofs.Sets.{disjoint}
 use Rattle.slice_syntax.proofs.Laws.{Lawful, lawful_nothing, lawful_made, lawful_both, then_ok, then_err, ok_parts}
 use Rattle.slice_syntax.proofs.Fitting.{goes, fits, lawful}
@@ -41,6 +41,7 @@ loose P r bare set others g wide more = record {
   empty = λ x h. refl;
   first = λ l ls x h. more (sort_of l) (g.first l ls x h);
   some = g.some;
+  real = g.real;
   value = g.value;
   spelled = g.spelled;
   found = g.found;
@@ -171,12 +172,12 @@ Found ls left = (before : Lexemes) × SyntaxBreaks ls before left
 pub whole_breaks : (ls left : Lexemes) → whole_at ls ≡ Err left → (before : Lexemes) × SyntaxBreaks ls before left
 unfolding file_lawful
 whole_breaks ls left e = then_err (Found ls left) (file_at ls) (λ f. at_end f.0 f.1) left e
-    (λ d. let s = file_lawful.stopped ls left d in (s.front, record { parts = s.parts; alive = (s.more, s.value, s.spelled); refused = stuck s.front left s.kept }))
+    (λ d. let s = file_lawful.stopped ls left d in (s.front, record { parts = s.parts; alive = (s.more, s.value, s.real, s.spelled); refused = stuck s.front left s.kept }))
     (λ file mid d f.
     let t = file_lawful.found ls mid file d in
     let is = end_err file mid left f in
     let parts : ls ≡ t.taken ++ left = t.parts ∙ ap (λ (z : Lexemes). t.taken ++ z) (is.2 ∙ sym is.3) in
-    let alive : Begins t.taken = ([], file, subst (λ (z : Lexemes). Reads z file) (sym (append_none t.taken)) t.spelled) in
+    let alive : GoesOn t.taken = ([], file, tt, subst (λ (z : Lexemes). Reads z file) (sym (append_none t.taken)) t.spelled) in
     let refused : Refuses t.taken (is.0 ∷ []) = over t.taken is.0 file (λ other n. t.kept other (ap next is.2 ∙ n)) in
     (t.taken, record { parts = parts; alive = alive; refused = subst (λ (z : Lexemes). Refuses t.taken z) (sym is.3) refused }))
 
@@ -218,7 +219,7 @@ fronts (x ∷ a) b (y ∷ c) d e =
 
 -- a break with fewer tokens before it is none
 shorter_break : (ls before behind front : Lexemes) (l : Lexeme) (m : Lexemes) (rest : Lexemes) → SyntaxBreaks ls before behind → before ≡ front ++ l ∷ m → Refuses front (l ∷ rest) → ⊥
-shorter_break ls before behind front l m rest b e refused = refused (begins_front (front ++ l ∷ []) m (subst Begins (e ∙ sym (regroup front l m)) b.alive))
+shorter_break ls before behind front l m rest b e refused = refused (begins_front (front ++ l ∷ []) m (subst Begins (e ∙ sym (regroup front l m)) (b.alive.0, b.alive.1, b.alive.3)))
 
 refuses_at : (before behind : Lexemes) (l : Lexeme) (m : Lexemes) → behind ≡ l ∷ m → Refuses before behind → Refuses before (l ∷ m)
 refuses_at before behind l m e h = subst (λ (z : Lexemes). Refuses before z) e h
@@ -234,12 +235,12 @@ one_break ls before behind others rest a b =
       ]
     ]
 
-break_answer : (text : List ℕ) (tokens : List Token) (left : Lexemes) → FaultOf (length text) (lexemes text tokens) (fault_at (length text) left) → Answers text tokens (Err (fault_at (length text) left))
-break_answer text tokens [] h = h
-break_answer text tokens (l ∷ ls) h = h
+break_answer : (bytes : List ℕ) (tokens : List Token) (left : Lexemes) → FaultOf (length bytes) (lexemes bytes tokens) (fault_at (length bytes) left) → Answers bytes tokens (Err (fault_at (length bytes) left))
+break_answer bytes tokens [] h = h
+break_answer bytes tokens (l ∷ ls) h = h
 
 -- what is answered where reading refuses a token
-pub refused_answer : (text : List ℕ) (tokens : List Token) (left : Lexemes) (fault : SyntaxFault) → whole_at (lexemes text tokens) ≡ Err left → fault ≡ fault_at (length text) left → Answers text tokens (Err fault)
-refused_answer text tokens left fault e is =
-    let b = whole_breaks (lexemes text tokens) left e in
-    subst (λ (f : SyntaxFault). Answers text tokens (Err f)) (sym is) (break_answer text tokens left (b.0, left, b.1, refl))
+pub refused_answer : (bytes : List ℕ) (tokens : List Token) (left : Lexemes) (fault : SyntaxFault) → whole_at (lexemes bytes tokens) ≡ Err left → fault ≡ fault_at (length bytes) left → Answers bytes tokens (Err fault)
+refused_answer bytes tokens left fault e is =
+    let b = whole_breaks (lexemes bytes tokens) left e in
+    subst (λ (f : SyntaxFault). Answers bytes tokens (Err f)) (sym is) (break_answer bytes tokens left (b.0, left, b.1, refl))

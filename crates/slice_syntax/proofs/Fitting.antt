@@ -1,13 +1,16 @@
 -- Which rules are read with one token ahead, and that they are.
-use Rattle.std.proofs.Common.{ℕ, zero, suc, ◌≡◌, ◌<◌, arith, Bool, true, false, cond, not, ◌&&◌, codes, List, [], ◌∷◌, ◌++◌, refl, subst}
+use Rattle.std.proofs.Common.{ℕ, zero, suc, ◌≡◌, ◌<◌, arith, Bool, true, false, cond, not, ◌&&◌, codes, List, [], ◌∷◌, ◌++◌, refl, subst, nat_lt, get_or}
 use Rattle.std.proofs.lemmas.Bool.{eq-eqb, false≢true}
 use Rattle.std.specs.List.{slice_index}
 use Rattle.std.specs.Str.{is_utf8}
 use Rattle.std.proofs.lemmas.Str.{IsUtf8-from_ascii, is_utf8-from_IsUtf8}
+use borrow.Author.Tests.{ltb-true}
+use Rattle.case_tables.specs.Tables.{keyword_names}
+use Rattle.slice_lexer.specs.Pieces.{front, word_kind, number_at, string_at, directive_at, symbol_at, symbols}
 use Rattle.slice_lexer.specs.declared.token.TokenKind.TheVariants as kinds
 use Rattle.slice_syntax.specs.declared.sort.Sort.{Sort}
 use Rattle.slice_syntax.specs.declared.sort.Sort.TheVariants as sorts
-use Rattle.slice_syntax.specs.Lexemes.{Lexeme, Lexemes, has, begins, sort_of, is_sort, group, code, word_sort, directive_sort}
+use Rattle.slice_syntax.specs.Lexemes.{IsAlone, AreTokens, Lexeme, Lexemes, has, begins, sort_of, is_sort, group, code, word_sort, directive_sort}
 use Rattle.slice_syntax.specs.Grammar.{Grammar, nothing, token, made, both, or, series, Spells, Where, Runs}
 use Rattle.slice_syntax.specs.Reading.{Reading, is_empty, starts, starts_where, read}
 use Rattle.slice_syntax.proofs.Sets.{disjoint, apart, begins_append, both_true}
@@ -17,10 +20,10 @@ use Rattle.slice_syntax.proofs.Loops.{Stepping, lawful_runs}
 -- a token of each sort
 sample_of : Sort → Lexeme
 sample_of sorts.Word = record { kind = kinds.Word; from = 0; bytes = codes "a" }
-sample_of (sorts.Keyword n) = record { kind = kinds.Keyword n; from = 0; bytes = [] }
+sample_of (sorts.Keyword n) = record { kind = kinds.Keyword n; from = 0; bytes = get_or keyword_names n [] }
 sample_of sorts.Number = record { kind = kinds.Number 0; from = 0; bytes = codes "0" }
-sample_of sorts.Text = record { kind = kinds.Text; from = 0; bytes = [] }
-sample_of (sorts.Symbol n) = record { kind = kinds.Symbol n; from = 0; bytes = [] }
+sample_of sorts.Text = record { kind = kinds.Text; from = 0; bytes = 34 ∷ 34 ∷ [] }
+sample_of (sorts.Symbol n) = record { kind = kinds.Symbol n; from = 0; bytes = get_or symbols n [] }
 sample_of sorts.Include = record { kind = kinds.Directive; from = 0; bytes = codes "#include<a>" }
 sample_of sorts.Guard = record { kind = kinds.Directive; from = 0; bytes = codes "#ifndef a" }
 sample_of sorts.Aside = record { kind = kinds.Directive; from = 0; bytes = codes "#pragma once" }
@@ -50,9 +53,22 @@ sampled sorts.Stray = refl
 pub same_sort : (s : Sort) → is_sort s s ≡ true
 same_sort s = let a = eq-eqb (group s) (group s) refl in let b = eq-eqb (code s) (code s) refl in rw (a, b) refl
 
+-- sorts that some token has
+abbrev pub is_known : Sort → Bool
+is_known sorts.Word = true
+is_known (sorts.Keyword n) = nat_lt n 30
+is_known sorts.Number = true
+is_known sorts.Text = true
+is_known (sorts.Symbol n) = nat_lt n 17
+is_known sorts.Include = true
+is_known sorts.Guard = true
+is_known sorts.Aside = true
+is_known sorts.EndGuard = true
+is_known sorts.Stray = false
+
 abbrev pub any_sort : List Sort → Bool
 any_sort [] = false
-any_sort (s ∷ set) = true
+any_sort (s ∷ set) = is_known s
 
 sample : List Sort → Lexeme
 sample [] = sample_of sorts.Stray
@@ -62,6 +78,79 @@ sample_fits : (set : List Sort) → any_sort set ≡ true → has set (sort_of (
 unfolding sample
 sample_fits [] h = absurd cc
 sample_fits (s ∷ set) h = let is = sampled s in let same = same_sort s in rw (is, same) refl
+
+keyword_alone : (n : ℕ) → nat_lt n 30 ≡ true → IsAlone (sample_of (sorts.Keyword n))
+unfolding sample_of front word_kind
+keyword_alone zero h = refl
+keyword_alone (suc zero) h = refl
+keyword_alone (suc (suc zero)) h = refl
+keyword_alone (suc (suc (suc zero))) h = refl
+keyword_alone (suc (suc (suc (suc zero)))) h = refl
+keyword_alone (suc (suc (suc (suc (suc zero))))) h = refl
+keyword_alone (suc (suc (suc (suc (suc (suc zero)))))) h = refl
+keyword_alone (suc (suc (suc (suc (suc (suc (suc zero))))))) h = refl
+keyword_alone (suc (suc (suc (suc (suc (suc (suc (suc zero)))))))) h = refl
+keyword_alone (suc (suc (suc (suc (suc (suc (suc (suc (suc zero))))))))) h = refl
+keyword_alone (suc (suc (suc (suc (suc (suc (suc (suc (suc (suc zero)))))))))) h = refl
+keyword_alone (suc (suc (suc (suc (suc (suc (suc (suc (suc (suc (suc zero))))))))))) h = refl
+keyword_alone (suc (suc (suc (suc (suc (suc (suc (suc (suc (suc (suc (suc zero)))))))))))) h = refl
+keyword_alone (suc (suc (suc (suc (suc (suc (suc (suc (suc (suc (suc (suc (suc zero))))))))))))) h = refl
+keyword_alone (suc (suc (suc (suc (suc (suc (suc (suc (suc (suc (suc (suc (suc (suc zero)))))))))))))) h = refl
+keyword_alone (suc (suc (suc (suc (suc (suc (suc (suc (suc (suc (suc (suc (suc (suc (suc zero))))))))))))))) h = refl
+keyword_alone (suc (suc (suc (suc (suc (suc (suc (suc (suc (suc (suc (suc (suc (suc (suc (suc zero)))))))))))))))) h = refl
+keyword_alone (suc (suc (suc (suc (suc (suc (suc (suc (suc (suc (suc (suc (suc (suc (suc (suc (suc zero))))))))))))))))) h = refl
+keyword_alone (suc (suc (suc (suc (suc (suc (suc (suc (suc (suc (suc (suc (suc (suc (suc (suc (suc (suc zero)))))))))))))))))) h = refl
+keyword_alone (suc (suc (suc (suc (suc (suc (suc (suc (suc (suc (suc (suc (suc (suc (suc (suc (suc (suc (suc zero))))))))))))))))))) h = refl
+keyword_alone (suc (suc (suc (suc (suc (suc (suc (suc (suc (suc (suc (suc (suc (suc (suc (suc (suc (suc (suc (suc zero)))))))))))))))))))) h = refl
+keyword_alone (suc (suc (suc (suc (suc (suc (suc (suc (suc (suc (suc (suc (suc (suc (suc (suc (suc (suc (suc (suc (suc zero))))))))))))))))))))) h = refl
+keyword_alone (suc (suc (suc (suc (suc (suc (suc (suc (suc (suc (suc (suc (suc (suc (suc (suc (suc (suc (suc (suc (suc (suc zero)))))))))))))))))))))) h = refl
+keyword_alone (suc (suc (suc (suc (suc (suc (suc (suc (suc (suc (suc (suc (suc (suc (suc (suc (suc (suc (suc (suc (suc (suc (suc zero))))))))))))))))))))))) h = refl
+keyword_alone (suc (suc (suc (suc (suc (suc (suc (suc (suc (suc (suc (suc (suc (suc (suc (suc (suc (suc (suc (suc (suc (suc (suc (suc zero)))))))))))))))))))))))) h = refl
+keyword_alone (suc (suc (suc (suc (suc (suc (suc (suc (suc (suc (suc (suc (suc (suc (suc (suc (suc (suc (suc (suc (suc (suc (suc (suc (suc zero))))))))))))))))))))))))) h = refl
+keyword_alone (suc (suc (suc (suc (suc (suc (suc (suc (suc (suc (suc (suc (suc (suc (suc (suc (suc (suc (suc (suc (suc (suc (suc (suc (suc (suc zero)))))))))))))))))))))))))) h = refl
+keyword_alone (suc (suc (suc (suc (suc (suc (suc (suc (suc (suc (suc (suc (suc (suc (suc (suc (suc (suc (suc (suc (suc (suc (suc (suc (suc (suc (suc zero))))))))))))))))))))))))))) h = refl
+keyword_alone (suc (suc (suc (suc (suc (suc (suc (suc (suc (suc (suc (suc (suc (suc (suc (suc (suc (suc (suc (suc (suc (suc (suc (suc (suc (suc (suc (suc zero)))))))))))))))))))))))))))) h = refl
+keyword_alone (suc (suc (suc (suc (suc (suc (suc (suc (suc (suc (suc (suc (suc (suc (suc (suc (suc (suc (suc (suc (suc (suc (suc (suc (suc (suc (suc (suc (suc zero))))))))))))))))))))))))))))) h = refl
+keyword_alone (suc (suc (suc (suc (suc (suc (suc (suc (suc (suc (suc (suc (suc (suc (suc (suc (suc (suc (suc (suc (suc (suc (suc (suc (suc (suc (suc (suc (suc (suc n)))))))))))))))))))))))))))))) h = absurd (omega (arith, ltb-true _ _ h))
+
+symbol_alone : (n : ℕ) → nat_lt n 17 ≡ true → IsAlone (sample_of (sorts.Symbol n))
+unfolding sample_of front symbol_at
+symbol_alone zero h = refl
+symbol_alone (suc zero) h = refl
+symbol_alone (suc (suc zero)) h = refl
+symbol_alone (suc (suc (suc zero))) h = refl
+symbol_alone (suc (suc (suc (suc zero)))) h = refl
+symbol_alone (suc (suc (suc (suc (suc zero))))) h = refl
+symbol_alone (suc (suc (suc (suc (suc (suc zero)))))) h = refl
+symbol_alone (suc (suc (suc (suc (suc (suc (suc zero))))))) h = refl
+symbol_alone (suc (suc (suc (suc (suc (suc (suc (suc zero)))))))) h = refl
+symbol_alone (suc (suc (suc (suc (suc (suc (suc (suc (suc zero))))))))) h = refl
+symbol_alone (suc (suc (suc (suc (suc (suc (suc (suc (suc (suc zero)))))))))) h = refl
+symbol_alone (suc (suc (suc (suc (suc (suc (suc (suc (suc (suc (suc zero))))))))))) h = refl
+symbol_alone (suc (suc (suc (suc (suc (suc (suc (suc (suc (suc (suc (suc zero)))))))))))) h = refl
+symbol_alone (suc (suc (suc (suc (suc (suc (suc (suc (suc (suc (suc (suc (suc zero))))))))))))) h = refl
+symbol_alone (suc (suc (suc (suc (suc (suc (suc (suc (suc (suc (suc (suc (suc (suc zero)))))))))))))) h = refl
+symbol_alone (suc (suc (suc (suc (suc (suc (suc (suc (suc (suc (suc (suc (suc (suc (suc zero))))))))))))))) h = refl
+symbol_alone (suc (suc (suc (suc (suc (suc (suc (suc (suc (suc (suc (suc (suc (suc (suc (suc zero)))))))))))))))) h = refl
+symbol_alone (suc (suc (suc (suc (suc (suc (suc (suc (suc (suc (suc (suc (suc (suc (suc (suc (suc n))))))))))))))))) h = absurd (omega (arith, ltb-true _ _ h))
+
+alone_of : (s : Sort) → is_known s ≡ true → IsAlone (sample_of s)
+unfolding sample_of front word_kind number_at string_at directive_at
+alone_of sorts.Word h = refl
+alone_of (sorts.Keyword n) h = keyword_alone n h
+alone_of sorts.Number h = refl
+alone_of sorts.Text h = refl
+alone_of (sorts.Symbol n) h = symbol_alone n h
+alone_of sorts.Include h = refl
+alone_of sorts.Guard h = refl
+alone_of sorts.Aside h = refl
+alone_of sorts.EndGuard h = refl
+alone_of sorts.Stray h = absurd cc
+
+sample_alone : (set : List Sort) → any_sort set ≡ true → IsAlone (sample set)
+unfolding sample
+sample_alone [] h = absurd cc
+sample_alone (s ∷ set) h = alone_of s h
 
 -- what a whole spelling may go on with
 abbrev pub goes : {A : Type 0} → Grammar A → List Sort
@@ -130,15 +219,15 @@ module _ {A : Type 0} (more : A → Bool) (g : Grammar A) (laws : Lawful (Spells
   abbrev Rows : Bool → Lexemes → List A → Type 0
   Rows = Runs (Where (Spells g)) (λ s x. more x) (λ s. true)
 
-  pub series_done : (s : Bool) → (ls : Lexemes) × (xs : List A) × Rows s ls xs
-  series_done s = ([], [], (refl, refl))
+  pub series_done : (s : Bool) → (ls : Lexemes) × (xs : List A) × Rows s ls xs × AreTokens ls
+  series_done s = ([], [], (refl, refl), tt)
 
   pub lawful_series : Lawful (Rows true) (read (series more g)) true (starts g) (goes g ++ starts g)
   lawful_series = lawful_runs (Where (Spells g)) (λ s. read g) (λ s x. more x) (λ s. true) (starts_where (starts g)) (λ s. goes g) (goes g ++ starts g) series_steps series_clear series_ends series_steps_end series_done true
 
 pub lawful : {A : Type 0} (g : Grammar A) → fits g ≡ true → Lawful (Spells g) (read g) (is_empty g) (starts g) (goes g)
 lawful (nothing x) h = lawful_nothing x
-lawful (token set view) h = lawful_token set view (sample set) (sample_fits set h)
+lawful (token set view) h = lawful_token set view (sample set) (sample_alone set h) (sample_fits set h)
 lawful (made view g) h = lawful_made view (Spells g) (read g) (is_empty g) (starts g) (goes g) (lawful g h)
 lawful (both make g k) h =
     let one = both_true (fits g) (fits k && disjoint (goes g) (starts k)) h in

@@ -3,7 +3,7 @@ use Rattle.std.proofs.Common.{◌≡◌, Bool, true, false, IsTrue, cond, ◌&&�
 use Rattle.std.proofs.lemmas.Bool.{false≢true}
 use Rattle.std.proofs.lemmas.List.Folds.{list_any-append}
 use Rattle.slice_syntax.specs.declared.sort.Sort.{Sort}
-use Rattle.slice_syntax.specs.Lexemes.{Lexeme, Lexemes, has, begins, next, sort_of, is_sort}
+use Rattle.slice_syntax.specs.Lexemes.{IsAlone, AreTokens, Lexeme, Lexemes, has, begins, next, sort_of, is_sort}
 use Rattle.slice_syntax.specs.Reading.{Reading, ◌>>=◌, token_at, or_at}
 use Rattle.slice_syntax.proofs.Sets.{disjoint, apart, begins_append, begins_next, next_append}
 
@@ -20,6 +20,7 @@ pub record Stopped {A : Type 0} (P : Lexemes → A → Type 0) (r : Lexemes → 
   pub parts : ls ≡ front ++ left
   pub kept : (other : Lexemes) → next left ≡ next other → r (front ++ other) ≡ Err other
   pub more : Lexemes
+  pub real : AreTokens more
   pub value : A
   pub spelled : P (front ++ more) value
 
@@ -28,11 +29,16 @@ pub record Lawful {A : Type 0} (P : Lexemes → A → Type 0) (r : Lexemes → R
   pub empty : (x : A) → P [] x → bare ≡ true
   pub first : (l : Lexeme) (ls : Lexemes) (x : A) → P (l ∷ ls) x → has starts (sort_of l) ≡ true
   pub some : Lexemes
+  pub real : AreTokens some
   pub value : A
   pub spelled : P some value
   pub found : (ls rest : Lexemes) (x : A) → r ls ≡ Ok (x, rest) → Took P r ls x rest
   pub stopped : (ls left : Lexemes) → r ls ≡ Err left → Stopped P r ls left
   pub only : (taken rest : Lexemes) (x : A) → P taken x → begins goes rest ≡ false → r (taken ++ rest) ≡ Ok (x, rest)
+
+pub are_append : (a b : Lexemes) → AreTokens a → AreTokens b → AreTokens (a ++ b)
+are_append [] b h k = k
+are_append (l ∷ a) b h k = (h.0, are_append a b h.1 k)
 
 -- What reading of two parts gives.
 pub then_ok : {A B : Type 0} (C : Type 0) (r : Reading A) (f : A × Lexemes → Reading B) (y : B × Lexemes) → (r >>= f) ≡ Ok y → ((x : A) (mid : Lexemes) → r ≡ Ok (x, mid) → f (x, mid) ≡ Ok y → C) → C
@@ -72,6 +78,7 @@ module _ {A : Type 0} (a : A) where
     empty = λ x h. refl;
     first = λ l ls x h. absurd cc;
     some = [];
+    real = tt;
     value = a;
     spelled = (refl, refl);
     found = λ ls rest x e. let is = ok_parts a x ls rest e in record { taken = []; parts = is.1; spelled = (refl, sym is.0); kept = λ other n. ap (λ (v : A). ok v other) is.0 };
@@ -94,29 +101,30 @@ module _ {A : Type 0} (sorts : List Sort) (view : Lexeme → A) where
       record { taken = l ∷ []; parts = ap (λ (t : Lexemes). l ∷ t) is.1; spelled = (l, refl, test, sym same); kept = λ other n. rw (test, same) refl }
   one_found l ls rest x false test e = absurd cc
 
-  one_stopped : (sample : Lexeme) → has sorts (sort_of sample) ≡ true → (l : Lexeme) (ls left : Lexemes) (b : Bool) → has sorts (sort_of l) ≡ b → cond {A = Reading A} b (Ok (view l, ls)) (Err (l ∷ ls)) ≡ Err left
+  one_stopped : (sample : Lexeme) → IsAlone sample → has sorts (sort_of sample) ≡ true → (l : Lexeme) (ls left : Lexemes) (b : Bool) → has sorts (sort_of l) ≡ b → cond {A = Reading A} b (Ok (view l, ls)) (Err (l ∷ ls)) ≡ Err left
       → Stopped One (token_at sorts view) (l ∷ ls) left
-  one_stopped sample fits l ls left true test e = absurd cc
-  one_stopped sample fits l ls left false test e =
+  one_stopped sample alone fits l ls left true test e = absurd cc
+  one_stopped sample alone fits l ls left false test e =
       let same : l ∷ ls ≡ left = cc in
-      record { front = []; parts = same; kept = λ other n. refuse other (ap next same ∙ n); more = sample ∷ []; value = view sample; spelled = (sample, refl, fits, refl) } where
+      record { front = []; parts = same; kept = λ other n. refuse other (ap next same ∙ n); more = sample ∷ []; real = (alone, tt); value = view sample; spelled = (sample, refl, fits, refl) } where
         refuse : (other : Lexemes) → Some l ≡ next other → token_at sorts view other ≡ Err other
         refuse [] n = absurd cc
         refuse (o ∷ others) n = let is : l ≡ o = cc in rw (sym is, test) refl
 
-  end_stopped : (sample : Lexeme) → has sorts (sort_of sample) ≡ true → (left : Lexemes) → ◌≡◌ {A = Reading A} (Err []) (Err left) → Stopped One (token_at sorts view) [] left
-  end_stopped sample fits left e =
+  end_stopped : (sample : Lexeme) → IsAlone sample → has sorts (sort_of sample) ≡ true → (left : Lexemes) → ◌≡◌ {A = Reading A} (Err []) (Err left) → Stopped One (token_at sorts view) [] left
+  end_stopped sample alone fits left e =
       let same : [] ≡ left = cc in
-      record { front = []; parts = same; kept = λ other n. refuse other (ap next same ∙ n); more = sample ∷ []; value = view sample; spelled = (sample, refl, fits, refl) } where
+      record { front = []; parts = same; kept = λ other n. refuse other (ap next same ∙ n); more = sample ∷ []; real = (alone, tt); value = view sample; spelled = (sample, refl, fits, refl) } where
         refuse : (other : Lexemes) → None ≡ next other → token_at sorts view other ≡ Err other
         refuse [] n = refl
         refuse (o ∷ others) n = absurd cc
 
-  pub lawful_token : (sample : Lexeme) → has sorts (sort_of sample) ≡ true → Lawful One (token_at sorts view) false sorts []
-  lawful_token sample fits = record {
+  pub lawful_token : (sample : Lexeme) → IsAlone sample → has sorts (sort_of sample) ≡ true → Lawful One (token_at sorts view) false sorts []
+  lawful_token sample alone fits = record {
     empty = λ x h. let e = h.1 in absurd cc;
     first = one_first;
     some = sample ∷ [];
+    real = (alone, tt);
     value = view sample;
     spelled = (sample, refl, fits, refl);
     found = found;
@@ -128,8 +136,8 @@ module _ {A : Type 0} (sorts : List Sort) (view : Lexeme → A) where
     found (l ∷ ls) rest x e = one_found l ls rest x (has sorts (sort_of l)) refl e
 
     stopped : (ls left : Lexemes) → token_at sorts view ls ≡ Err left → Stopped One (token_at sorts view) ls left
-    stopped [] left e = end_stopped sample fits left e
-    stopped (l ∷ ls) left e = one_stopped sample fits l ls left (has sorts (sort_of l)) refl e
+    stopped [] left e = end_stopped sample alone fits left e
+    stopped (l ∷ ls) left e = one_stopped sample alone fits l ls left (has sorts (sort_of l)) refl e
 
 -- The same spellings for other values.
 module _ {X A : Type 0} (view : X → A) (P : Lexemes → X → Type 0) (p : Lexemes → Reading X) where
@@ -144,6 +152,7 @@ module _ {X A : Type 0} (view : X → A) (P : Lexemes → X → Type 0) (p : Lex
     empty = λ a h. g.empty h.0 h.1;
     first = λ l ls a h. g.first l ls h.0 h.1;
     some = g.some;
+    real = g.real;
     value = view g.value;
     spelled = (g.value, g.spelled, refl);
     found = λ ls rest a e. then_ok (Took Made made_at ls a rest) (p ls) (λ x. Ok (view x.0, x.1)) (a, rest) e (λ x mid d f.
@@ -159,7 +168,7 @@ module _ {X A : Type 0} (view : X → A) (P : Lexemes → X → Type 0) (p : Lex
         });
     stopped = λ ls left e. then_err (Stopped Made made_at ls left) (p ls) (λ x. Ok (view x.0, x.1)) left e (λ d.
         let s = g.stopped ls left d in
-        record { front = s.front; parts = s.parts; kept = λ other n. let k = s.kept other n in rw k refl; more = s.more; value = view s.value; spelled = (s.value, s.spelled, refl) })
+        record { front = s.front; parts = s.parts; kept = λ other n. let k = s.kept other n in rw k refl; more = s.more; real = s.real; value = view s.value; spelled = (s.value, s.spelled, refl) })
         (λ x mid d f. absurd cc);
     only = λ taken rest a h none. let k = g.only taken rest h.0 h.1 none in let is = sym h.2 in rw (k, is) refl;
   }
@@ -220,6 +229,7 @@ module _ {X Y A : Type 0} (make : X → Y → A) (P : Lexemes → X → Type 0) 
       empty = empty;
       first = λ l ls a s. first_of l s.0 s.1 s.2 s.3 ls s.4 s.5 s.6;
       some = g.some ++ (h g.value).some;
+      real = are_append g.some (h g.value).some g.real (h g.value).real;
       value = make g.value (h g.value).value;
       spelled = (g.value, (h g.value).value, g.some, (h g.value).some, refl, g.spelled, (h g.value).spelled, refl);
       found = λ ls rest a e. then_ok (Took Both both_at ls a rest) (p ls) (λ x. second x.0 x.1) (a, rest) e (λ x mid d f.
@@ -249,6 +259,7 @@ module _ {X Y A : Type 0} (make : X → Y → A) (P : Lexemes → X → Type 0) 
             parts = s.parts;
             kept = λ other n. let one = s.kept other n in rw one refl;
             more = s.more ++ (h s.value).some;
+            real = are_append s.more (h s.value).some s.real (h s.value).real;
             value = make s.value (h s.value).value;
             spelled = (s.value, (h s.value).value, s.front ++ s.more, (h s.value).some, sym (append_assoc s.front s.more (h s.value).some), s.spelled, (h s.value).spelled, refl);
           })
@@ -266,6 +277,7 @@ module _ {X Y A : Type 0} (make : X → Y → A) (P : Lexemes → X → Type 0) 
                 let grouped = append_assoc t.taken s.front other in
                 rw (grouped, one, two) refl;
             more = s.more;
+            real = s.real;
             value = make x s.value;
             spelled = (x, s.value, t.taken, s.front ++ s.more, append_assoc t.taken s.front s.more, t.spelled, s.spelled, refl);
           })
@@ -326,6 +338,7 @@ module _ {A : Type 0} (P : Lexemes → A → Type 0) (p : Lexemes → Reading A)
           front = s.front;
           parts = s.parts;
           more = s.more;
+          real = s.real;
           value = s.value;
           spelled = inl s.spelled;
           kept = λ other n.
@@ -339,6 +352,7 @@ module _ {A : Type 0} (P : Lexemes → A → Type 0) (p : Lexemes → Reading A)
           front = s.front;
           parts = s.parts;
           more = s.more;
+          real = s.real;
           value = s.value;
           spelled = inr s.spelled;
           kept = λ other n.
@@ -367,6 +381,7 @@ module _ {A : Type 0} (P : Lexemes → A → Type 0) (p : Lexemes → Reading A)
       empty = or_empty;
       first = or_first;
       some = g.some;
+      real = g.real;
       value = g.value;
       spelled = inl g.spelled;
       found = λ ls rest x e. or_found ls rest x (begins starts ls) refl e;

@@ -2,11 +2,11 @@
 use Rattle.std.proofs.Common.{ℕ, zero, suc, ◌≡◌, ◌<◌, ◌≤◌, Bool, true, false, cond, List, [], ◌∷◌, ◌++◌, length, Ok, Err, refl, sym, ap, subst, ◌∙◌, append_assoc, arith}
 use Rattle.std.proofs.lemmas.List.{length-append}
 use Rattle.slice_syntax.specs.declared.sort.Sort.{Sort}
-use Rattle.slice_syntax.specs.Lexemes.{Lexeme, Lexemes, has, begins, next, sort_of}
+use Rattle.slice_syntax.specs.Lexemes.{AreTokens, Lexeme, Lexemes, has, begins, next, sort_of}
 use Rattle.slice_syntax.specs.Grammar.{Runs}
 use Rattle.slice_syntax.specs.Reading.{Reading, ◌>>=◌, runs_at}
 use Rattle.slice_syntax.proofs.Sets.{begins_next, next_append}
-use Rattle.slice_syntax.proofs.Laws.{Took, Stopped, Lawful, then_ok, then_err, ok_parts}
+use Rattle.slice_syntax.proofs.Laws.{are_append, Took, Stopped, Lawful, then_ok, then_err, ok_parts}
 
 -- The laws of one part, which is read where it begins.
 pub record Stepping {X : Type 0} (P : Lexemes → X → Type 0) (p : Lexemes → Reading X) (starts goes : List Sort) : Type 0 where
@@ -43,6 +43,7 @@ module _ {S X : Type 0} (Step : S → Lexemes → X → Type 0) (r : S → Lexem
     pub parts : ls ≡ front ++ left
     pub kept : (other : Lexemes) (m : ℕ) → length (front ++ other) ≤ m → next left ≡ next other → at m s (front ++ other) ≡ Err other
     pub more : Lexemes
+    pub real : AreTokens more
     pub values : List X
     pub spelled : Run s (front ++ more) values
 
@@ -67,7 +68,7 @@ module _ {S X : Type 0} (Step : S → Lexemes → X → Type 0) (r : S → Lexem
       (clear : (s : S) (x : X) (l : Lexeme) → has (goes s) (sort_of l) ≡ true → has (starts (after s x)) (sort_of l) ≡ false)
       (ends : (s : S) → may_end s ≡ true → (rest : Lexemes) → begins ending rest ≡ false → begins (starts s) rest ≡ false)
       (steps_end : (s : S) (rest : Lexemes) → begins ending rest ≡ false → begins (goes s) rest ≡ false)
-      (done : (s : S) → (ls : Lexemes) × (xs : List X) × Run s ls xs) where
+      (done : (s : S) → (ls : Lexemes) × (xs : List X) × Run s ls xs × AreTokens ls) where
     -- what a part takes is not empty
     shorter : (s : S) (x : X) (taken ls mid : Lexemes) → ls ≡ taken ++ mid → Step s taken x → length mid < length ls
     shorter s x [] ls mid e h = absurd ((laws s).empty x h)
@@ -99,6 +100,7 @@ module _ {S X : Type 0} (Step : S → Lexemes → X → Type 0) (r : S → Lexem
               let bare : begins (starts s) other ≡ false = sym (begins_next (starts s) ls other (ap next same ∙ n)) ∙ none in
               at_stop m s other bare ∙ rw end refl;
           more = (done s).0;
+          real = (done s).3;
           values = (done s).1;
           spelled = (done s).2;
         }
@@ -154,6 +156,7 @@ module _ {S X : Type 0} (Step : S → Lexemes → X → Type 0) (r : S → Lexem
           parts = t.parts;
           kept = λ other p long n2. at_err p s (t.front ++ other) other (begun_again s t.front left other ls t.parts n2 begun) (t.kept other n2) long;
           more = t.more ++ rest.0;
+          real = are_append t.more rest.0 t.real rest.3;
           values = t.value ∷ rest.1;
           spelled = (t.front ++ t.more, rest.0, sym (append_assoc t.front t.more rest.0), t.spelled, rest.2);
         })
@@ -174,6 +177,7 @@ module _ {S X : Type 0} (Step : S → Lexemes → X → Type 0) (r : S → Lexem
               (shorter s x t.taken all (u.front ++ other) refl t.spelled) fits (λ q h. u.kept other q h n2) in
               ap (at p s) grouped ∙ stepped;
           more = u.more;
+          real = u.real;
           values = x ∷ u.values;
           spelled = (t.taken, u.front ++ u.more, append_assoc t.taken u.front u.more, t.spelled, u.spelled);
         })
@@ -227,12 +231,13 @@ module _ {S X : Type 0} (Step : S → Lexemes → X → Type 0) (r : S → Lexem
       empty = λ xs h. run_empty s xs h;
       first = λ l ls xs h. run_first s l ls xs h;
       some = (done s).0;
+      real = (done s).3;
       value = (done s).1;
       spelled = (done s).2;
       found = λ ls rest xs e. let t = run_found (length ls) s ls rest xs (omega arith) e in
           record { taken = t.taken; parts = t.parts; spelled = t.spelled; kept = λ other n. t.kept other (length (t.taken ++ other)) (omega arith) n };
       stopped = λ ls left e. let t = run_stopped (length ls) s ls left (omega arith) e in
-          record { front = t.front; parts = t.parts; kept = λ other n. t.kept other (length (t.front ++ other)) (omega arith) n; more = t.more; value = t.values; spelled = t.spelled };
+          record { front = t.front; parts = t.parts; kept = λ other n. t.kept other (length (t.front ++ other)) (omega arith) n; more = t.more; real = t.real; value = t.values; spelled = t.spelled };
       only = λ taken rest xs h none. run_only xs s taken rest (length (taken ++ rest)) h none (omega arith);
     }
 

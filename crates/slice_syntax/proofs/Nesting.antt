@@ -3,14 +3,14 @@ use Rattle.std.proofs.Common.{◌≡◌, Bool, true, false, List, [], ◌∷◌,
 use Rattle.slice_syntax.specs.declared.sort.Sort.{Sort}
 use Rattle.slice_syntax.specs.declared.tree.Word.{Word}
 use Rattle.slice_syntax.specs.declared.tree.Item.{Item}
-use Rattle.slice_syntax.specs.Lexemes.{Lexeme, Lexemes, has, begins, sort_of}
+use Rattle.slice_syntax.specs.Lexemes.{AreTokens, Lexeme, Lexemes, has, begins, sort_of}
 use Rattle.slice_syntax.specs.Grammar.{Spells, Runs, ◌▸◌}
 use Rattle.slice_syntax.specs.Reading.{Reading, is_empty, starts, read}
 use Rattle.slice_syntax.specs.Rules.{word, name, texts, file_metadata, metadata, names, scoped, plain_type, object_type, named_type, type_word, signed_number, number, text, truth, named, value, given, tag, close, constant_item, entry, entry_comma, entries, enum_item, member, members, struct_item, sequence_item, dictionary_item, tagged_member, tagged_members, body, base, class_body, class_item, exception_item, paths, bases, thrown, parameter, parameter_list, parameters, answered, operation, operations, interface_body, interface_item, definition}
 use Rattle.slice_syntax.specs.Files.{head, enters, exits, Body, none, plain, nested}
 use Rattle.slice_syntax.specs.Moving.{Move, enter, hold, leave, outer_move, inner_move, Open, move, moved, is_shut, items_of, all_items, moves_at, modules_at}
 use Rattle.slice_syntax.proofs.Sets.{disjoint, apart, begins_append}
-use Rattle.slice_syntax.proofs.Laws.{Lawful, lawful_made}
+use Rattle.slice_syntax.proofs.Laws.{are_append, Lawful, lawful_made}
 use Rattle.slice_syntax.proofs.Loops.{Stepping, lawful_runs}
 use Rattle.slice_syntax.proofs.Fitting.{goes, fits, lawful, full, stepping}
 
@@ -86,10 +86,10 @@ left_inner : (ls : Lexemes) → Spells close ls tt → Spells inner_move ls leav
 unfolding inner_move
 left_inner ls h = inl (tt, h, refl)
 
-pub moves_done : (o : Open) → (ls : Lexemes) × (ms : List Move) × Moves o ls ms
+pub moves_done : (o : Open) → (ls : Lexemes) × (ms : List Move) × Moves o ls ms × AreTokens ls
 unfolding close_laws
-moves_done [] = ([], [], (refl, refl))
-moves_done (n ∷ o) = let d = moves_done o in (close_laws.some ++ d.0, leave ∷ d.1, (close_laws.some, d.0, refl, left_inner close_laws.some close_laws.spelled, d.2))
+moves_done [] = ([], [], (refl, refl), tt)
+moves_done (n ∷ o) = let d = moves_done o in (close_laws.some ++ d.0, leave ∷ d.1, (close_laws.some, d.0, refl, left_inner close_laws.some close_laws.spelled, d.2), are_append close_laws.some d.0 close_laws.real d.3)
 
 pub moves_lawful : Lawful (Moves []) (moves_at []) true (starts outer_move) ending
 moves_lawful = lawful_runs (λ o. Spells (move o)) (λ o. read (move o)) moved is_shut (λ o. starts (move o)) (λ o. goes (move o)) ending moves_steps moves_clear moves_end moves_steps_end moves_done []
@@ -225,10 +225,11 @@ lawful_same P Q r bare set others to back g = record {
   empty = λ x h. g.empty x (back [] x h);
   first = λ l ls x h. g.first l ls x (back (l ∷ ls) x h);
   some = g.some;
+  real = g.real;
   value = g.value;
   spelled = to g.some g.value g.spelled;
   found = λ ls rest x e. let t = g.found ls rest x e in record { taken = t.taken; parts = t.parts; spelled = to t.taken x t.spelled; kept = t.kept };
-  stopped = λ ls left e. let s = g.stopped ls left e in record { front = s.front; parts = s.parts; kept = s.kept; more = s.more; value = s.value; spelled = to (s.front ++ s.more) s.value s.spelled };
+  stopped = λ ls left e. let s = g.stopped ls left e in record { front = s.front; parts = s.parts; kept = s.kept; more = s.more; real = s.real; value = s.value; spelled = to (s.front ++ s.more) s.value s.spelled };
   only = λ taken rest x h none. g.only taken rest x (back taken x h) none;
 }
 

@@ -4,12 +4,16 @@ use Rattle.slice_lexer.specs.declared.token.Token.{Token}
 use Rattle.slice_syntax.specs.declared.tree.File.{File}
 use Rattle.slice_syntax.specs.declared.fault.SyntaxFault.{SyntaxFault}
 use Rattle.slice_syntax.specs.declared.fault.SyntaxFault.TheVariants as faults
-use Rattle.slice_syntax.specs.Lexemes.{Lexemes, lexemes}
+use Rattle.slice_syntax.specs.Lexemes.{Lexemes, lexemes, AreTokens}
 use Rattle.slice_syntax.specs.Files.{Reads}
 
 -- Some file begins with the tokens.
 abbrev pub Begins : Lexemes → Type 0
 Begins ls = (more : Lexemes) × (file : File) × Reads (ls ++ more) file
+
+-- Some file begins with the tokens and goes on with tokens as they stand in texts.
+abbrev pub GoesOn : Lexemes → Type 0
+GoesOn ls = (more : Lexemes) × (file : File) × AreTokens more × Reads (ls ++ more) file
 
 -- No file begins with the tokens before and the next one. At the end no file ends there.
 abbrev pub Refuses : Lexemes → Lexemes → Type 0
@@ -19,7 +23,7 @@ Refuses before (l ∷ behind) = Begins (before ++ l ∷ []) → ⊥
 -- The tokens behind some begin with the first one that no file goes on with. It may be the end.
 pub record SyntaxBreaks (ls before behind : Lexemes) : Type 0 where
   pub parts : ls ≡ before ++ behind
-  pub alive : Begins before
+  pub alive : GoesOn before
   pub refused : Refuses before behind
 
 -- The place and the kind of the next token, or the text's length and None at the end.

@@ -1,5 +1,7 @@
 //! What a Slice text declares, in the order of the text.
 
+ghost use Rattle.std.specs.Prelude.{◌≡◌};
+
 use ice_types::{List, Name};
 
 /// A name where it is declared. A `\` before it is not part of it.
@@ -139,7 +141,9 @@ pub struct File {
 
 impl File {
     /// The names in `#include` directives, each with the place of its `#`.
-    pub fn includes(&self) -> &List<(Name, u32)> {
+    pub fn includes(&self) -> &List<(Name, u32)>
+        ensures { result.now ≡ self.now.included }
+    {
         &self.included
     }
 }

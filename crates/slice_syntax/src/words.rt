@@ -20,22 +20,6 @@ use std::alloc::Global;
 /// The keywords that are types and have no `*` behind them.
 const PLAIN_TYPES: [Sort; 9] = [BOOL, BYTE, SHORT, INT, LONG, FLOAT, DOUBLE, STRING, VALUE];
 
-/// What a type may begin with.
-pub(crate) const TYPES: [Sort; 12] = [
-    BOOL,
-    BYTE,
-    SHORT,
-    INT,
-    LONG,
-    FLOAT,
-    DOUBLE,
-    STRING,
-    VALUE,
-    OBJECT,
-    COLONS,
-    Sort::Word,
-];
-
 /// What a member of a struct may begin with.
 pub(crate) const MEMBERS: [Sort; 13] = [
     OPEN_SQUARE,
