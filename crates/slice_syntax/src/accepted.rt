@@ -71,6 +71,10 @@ const FILES: &[(&str, &str)] = &[
         "#define A\n#ifndef A\n#include \"x.ice\"\n[\"a\"] module M { };\n  #endif\n// c\n",
         "enter M@50\nexit\ninclude x.ice@20\n",
     ),
+    (
+        "#include \"é.ice\"\n// é\nmodule M { /* ü */ module N { } }",
+        "enter M@31\nenter N@51\nexit\nexit\ninclude é.ice@0\n",
+    ),
 ];
 
 /// Constants, types, values and words.
@@ -130,6 +134,14 @@ const VALUES: &[(&str, &str)] = &[
     (
         "module M { const int x = \\true; const int y = ::\\a::\\false; }",
         "enter M@7\nconst 13@17 x@21 = @25 true@25\nconst 13@38 y@42 = @46 ::a::false@46\nexit\n",
+    ),
+    (
+        "module M { const string s = \"é\\\"\"; /* ü\n*/ const int x = // 1\n2; }",
+        "enter M@7\nconst 24@17 s@24 = @28 text\nconst 13@51 x@55 = @64 2\nexit\n",
+    ),
+    (
+        "module M { struct S { \\Value* x; \\Object y; ::Ice::\\Object* z; } }",
+        "enter M@7\nstruct S@18 { Value@22* x@30; Object@33 y@41; ::Ice::Object@44* z@60; }\nexit\n",
     ),
 ];
 

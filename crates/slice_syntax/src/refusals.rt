@@ -43,6 +43,10 @@ const FILES: &[Refusal] = &[
     ("module M { S }", 11, Some(Word)),
     ("local module M { }", 0, Some(Keyword(15))),
     ("module M { local interface I { } }", 11, Some(Keyword(15))),
+    ("Module M { }", 0, Some(Word)),
+    ("module M { Struct S { } }", 11, Some(Word)),
+    ("/* é */ module M { ; }", 20, Some(Symbol(11))),
+    ("module M { // é\n", 17, None),
 ];
 
 /// Metadata of a form or at a place that it does not have.
@@ -290,6 +294,28 @@ const VALUES: &[Refusal] = &[
     ("module M { struct S { A x::y; } }", 25, Some(Symbol(12))),
     ("module M { struct S { A; } }", 23, Some(Symbol(11))),
     ("module M { struct S { A B C; } }", 26, Some(Word)),
+    ("module M { sequence<Value*> S; }", 25, Some(Symbol(14))),
+    (
+        "module M { dictionary<int, Value*> D; }",
+        32,
+        Some(Symbol(14)),
+    ),
+    (
+        "module M { interface I { Value* f(); } }",
+        30,
+        Some(Symbol(14)),
+    ),
+    (
+        "module M { interface I { void f(out Value* x); } }",
+        41,
+        Some(Symbol(14)),
+    ),
+    (
+        "module M { interface I { void f(LocalObject x); } }",
+        32,
+        Some(Keyword(16)),
+    ),
+    ("module M { const Value* x = 1; }", 22, Some(Symbol(14))),
 ];
 
 /// Enums, structs, sequences, dictionaries, classes and exceptions.
