@@ -1,0 +1,14 @@
+mod Cursors
+mod Texts
+mod Sets
+mod Laws
+mod Loops
+mod Fitting
+mod Fits
+mod Nesting
+mod Breaking
+mod Series
+mod Starts
+mod Exits
+mod Moves
+mod Guards

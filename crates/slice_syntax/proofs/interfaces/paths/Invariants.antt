@@ -1,0 +1,12 @@
+use Rattle.std.proofs.Common.{◌≡◌, ◌++◌, length}
+use Rattle.slice_syntax.specs.Grammar.{many, one, ◌▸◌}
+use Rattle.slice_syntax.specs.Reading.{read, gather}
+use Rattle.slice_syntax.specs.Sorts.{comma}
+use Rattle.slice_syntax.specs.Rules.{scoped, paths}
+use Rattle.slice_syntax.proofs.interfaces.paths.Given as goal
+
+abbrev pub invariant-loop-alloc : goal.invariant-loop-alloc
+invariant-loop-alloc l = gather (λ ys. l.paths ++ ys) (read (many (one comma ▸ scoped)) l.cursor) ≡ read paths l.fn.cursor
+
+abbrev pub decreases-loop-alloc : goal.decreases-loop-alloc
+decreases-loop-alloc l = length l.cursor

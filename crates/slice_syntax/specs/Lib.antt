@@ -1,0 +1,9 @@
+pub mod Lexemes
+pub mod Grammar
+pub mod Sorts
+pub mod Rules
+pub mod Files
+pub mod Reading
+pub mod Moving
+pub mod Taking
+pub mod Syntax

@@ -1,0 +1,18 @@
+-- What a call of the parser did.
+use Rattle.std.specs.Prelude.{◌≡◌, Result, Ok, Err}
+use Rattle.slice_syntax.specs.declared.fault.Stop.{Stop}
+use Rattle.slice_syntax.specs.declared.fault.Stop.TheVariants as stops
+use Rattle.slice_syntax.specs.Lexemes.{Lexemes}
+use Rattle.slice_syntax.specs.Reading.{Reading}
+
+-- The call went over what reading gives, or stands before the token that reading refuses. Want of memory says nothing.
+abbrev pub Takes : {X Y : Type 0} → (X → Y) → Result X Stop → Lexemes → Reading Y → Type 0
+Takes view (Ok x) new read = read ≡ Ok (view x, new)
+Takes view (Err stops.Refused) new read = read ≡ Err new
+Takes view (Err stops.Memory) new read = Unit {0}
+
+-- The call went over what reading gives, and this holds of what it answered and the value that was read.
+abbrev pub TakesWith : {X Y : Type 0} → (X → Y → Type 0) → Result X Stop → Lexemes → Reading Y → Type 0
+TakesWith {Y = Y} Holds (Ok x) new read = (y : Y) × (read ≡ Ok (y, new)) × Holds x y
+TakesWith Holds (Err stops.Refused) new read = read ≡ Err new
+TakesWith Holds (Err stops.Memory) new read = Unit {0}

@@ -1,0 +1,106 @@
+//! Modules, which nest without a recursion.
+
+ghost use Rattle.std.specs.Prelude.{◌≡◌, ◌∷◌, ◌++◌, Err, OnErr, OnOk, length, reverse};
+ghost use Rattle.slice_syntax.specs.declared.fault.Stop.TheVariants as stops;
+ghost use Rattle.slice_syntax.specs.Grammar.{parted, ◌▸◌};
+ghost use Rattle.slice_syntax.specs.Sorts.{colons};
+ghost use Rattle.slice_syntax.specs.Reading.{read};
+ghost use Rattle.slice_syntax.specs.Rules.{metadata, word};
+ghost use Rattle.slice_syntax.specs.Files.{enters, exits, head};
+ghost use Rattle.slice_syntax.specs.Moving.{inner_move, items_of, modules_at, moved};
+ghost use Rattle.slice_syntax.specs.Taking.{Takes, TakesWith};
+
+use crate::cursor::Cursor;
+use crate::definitions::{close, definition};
+use crate::fault::Stop;
+use crate::sort::{CLOSE_BRACE, COLONS, MODULE, OPEN_BRACE, OPEN_SQUARE};
+use crate::tree::Item;
+use crate::words::metadata;
+use ice_types::List;
+use std::alloc::Global;
+
+/// `{ meta module }`
+pub(crate) fn modules(alloc: Global, cursor: &mut Cursor) -> Result<List<Item>, Stop>
+    ensures { Takes (λ x. x) result cursor.new (modules_at cursor.old) }
+{
+    let mut items = List::new(alloc);
+    let mut open = Vec::new(alloc);
+    loop {
+        match open.pop() {
+            Some(names) => inner_move(alloc, cursor, names, &mut open, &mut items)?,
+            None => {
+                if !cursor.begins(&[OPEN_SQUARE, MODULE]) {
+                    return Ok(items);
+                }
+                open.push(outer_move(alloc, cursor, &mut items)?)?;
+            }
+        }
+    }
+}
+
+/// The head of a module behind its metadata, and how many names it has.
+fn outer_move(alloc: Global, cursor: &mut Cursor, items: &mut List<Item>) -> Result<usize, Stop>
+    ensures { TakesWith (λ count words. (count ≡ length words) × (items.new ≡ items.old ++ enters words)) result cursor.new (read (metadata ▸ head) cursor.old) }
+{
+    metadata(cursor)?;
+    module_head(alloc, cursor, items)
+}
+
+/// The head of a module, a definition, or the end of the innermost module, which has so many names.
+/// `open` has the numbers of names of the modules that are open around it, and then of all.
+fn inner_move(
+    alloc: Global,
+    cursor: &mut Cursor,
+    names: usize,
+    open: &mut Vec<usize>,
+    items: &mut List<Item>,
+) -> Result<(), Stop>
+    ensures { TakesWith (λ u move. (reverse open.new.items ≡ moved (names ∷ reverse open.old.items) move) × (items.new ≡ items.old ++ items_of (names ∷ reverse open.old.items) move)) result cursor.new (read inner_move cursor.old) }
+{
+    if cursor.begins(&[CLOSE_BRACE]) {
+        close(cursor)?;
+        return leave(names, items);
+    }
+    open.push(names)?;
+    metadata(cursor)?;
+    if cursor.begins(&[MODULE]) {
+        open.push(module_head(alloc, cursor, items)?)?;
+    } else {
+        items.push(definition(alloc, cursor)?)?;
+    }
+    Ok(())
+}
+
+/// `"module" word { "::" word } "{"`, and how many words these are.
+fn module_head(alloc: Global, cursor: &mut Cursor, items: &mut List<Item>) -> Result<usize, Stop>
+    ensures { TakesWith (λ count words. (count ≡ length words) × (items.new ≡ items.old ++ enters words)) result cursor.new (read head cursor.old) }
+{
+    cursor.take(MODULE)?;
+    let before = items.len();
+    module_words(alloc, cursor, items)?;
+    cursor.take(OPEN_BRACE)?;
+    Ok(items.len() - before)
+}
+
+/// `word { "::" word }`
+fn module_words(alloc: Global, cursor: &mut Cursor, items: &mut List<Item>) -> Result<(), Stop>
+    ensures { TakesWith (λ u words. items.new ≡ items.old ++ enters words) result cursor.new (read (parted colons word) cursor.old) }
+{
+    items.push(Item::Enter(cursor.take_word(alloc)?))?;
+    while cursor.begins(&[COLONS]) {
+        cursor.take(COLONS)?;
+        items.push(Item::Enter(cursor.take_word(alloc)?))?;
+    }
+    Ok(())
+}
+
+/// So many ends of modules.
+fn leave(count: usize, items: &mut List<Item>) -> Result<(), Stop>
+    ensures ok { OnOk result (items.new ≡ items.old ++ exits count) }
+    ensures err { OnErr result (result ≡ Err stops.Memory) }
+{
+    for _ in 0..count {
+        items.push(Item::Exit)?;
+    }
+    Ok(())
+}

@@ -1,0 +1,128 @@
+//! From the tokens of a text to what it declares.
+
+ghost use Rattle.std.specs.Prelude.{◌≡◌, ◌≤◌, ◌⊎◌, ◌++◌, [], ◌∷◌, length};
+ghost use Rattle.slice_lexer.specs.Lexing.{Lexes};
+ghost use Rattle.slice_syntax.specs.declared.sort.Sort.TheVariants as sorts;
+ghost use Rattle.slice_syntax.specs.Lexemes.{Lexemes};
+ghost use Rattle.slice_syntax.specs.Reading.{read, token_at};
+ghost use Rattle.slice_syntax.specs.declared.tree.File.{File};
+ghost use Rattle.slice_syntax.specs.Sorts.{AreWritten, written};
+ghost use Rattle.slice_syntax.specs.Files.{Reads, directive, directives, include_of, includes_in, is_guarded};
+ghost use Rattle.slice_syntax.specs.Moving.{closing_at, end_at, whole_at};
+ghost use Rattle.slice_syntax.specs.Syntax.{Answers, SyntaxBreaks};
+ghost use Rattle.slice_syntax.specs.Taking.{Takes, TakesWith};
+
+use crate::cursor::Cursor;
+use crate::directive::include_name;
+use crate::fault::{Stop, SyntaxFault};
+use crate::modules::modules;
+use crate::sort::{OPEN_TWO, Sort};
+use crate::tree::File;
+use crate::words::file_metadata;
+use ice_types::{List, Name};
+use slice_lexer::Tokens;
+use std::alloc::Global;
+
+/// What the text declares, or the first token after which no file can go on.
+pub fn parse(alloc: Global, text: &[u8], tokens: &Tokens) -> Result<File, SyntaxFault>
+    requires lexed { Lexes text.now tokens.now }
+    requires few { length text.now ≤ 1000000 }
+    ensures { Answers text.now tokens.now result }
+{
+    let mut cursor = Cursor::new(text, tokens);
+    match file(alloc, &mut cursor) {
+        Ok(found) => Ok(found),
+        Err(Stop::Memory) => Err(SyntaxFault::Memory),
+        Err(Stop::Refused) => Err(cursor.fault(text.len() as u32)),
+    }
+}
+
+/// Tokens are a file, and one alone, or have a first one that no file goes on with, and never both.
+pub fn one_answer()
+    ensures either { (ls : Lexemes) → ((file : File) × Reads ls file) ⊎ ((before behind : Lexemes) × SyntaxBreaks ls before behind) }
+    ensures one_file { (ls : Lexemes) (file other : File) → Reads ls file → Reads ls other → file ≡ other }
+    ensures one_break { (ls before behind others rest : Lexemes) → SyntaxBreaks ls before behind → SyntaxBreaks ls others rest → behind ≡ rest }
+    ensures never_both { (ls : Lexemes) (file : File) (before behind : Lexemes) → Reads ls file → SyntaxBreaks ls before behind → ⊥ }
+{}
+
+/// The codes that the grammar goes by are those of the words and symbols that they are called after.
+pub fn words_written()
+    ensures { AreWritten written }
+{}
+
+/// `{ directive | filemeta } { meta module } { directive }`, and nothing behind it.
+fn file(alloc: Global, cursor: &mut Cursor) -> Result<File, Stop>
+    ensures { Takes (λ x. x) result cursor.new (whole_at cursor.old) }
+{
+    let mut included = List::new(alloc);
+    let guarded = heads(alloc, cursor, &mut included)?;
+    let items = modules(alloc, cursor)?;
+    closing(guarded, cursor)?;
+    end(cursor)?;
+    Ok(File { items, included })
+}
+
+/// `{ directive | filemeta }`, and whether an `#ifndef` is among them.
+#[tactic(auto, unfolding(crate::specs::Files::directives))]
+fn heads(alloc: Global, cursor: &mut Cursor, included: &mut List<(Name, u32)>) -> Result<bool, Stop>
+    ensures { TakesWith (λ guarded heads. (guarded ≡ is_guarded heads) × (included.new ≡ included.old ++ includes_in heads)) result cursor.new (read directives cursor.old) }
+{
+    let mut guarded = false;
+    while cursor.begins(&[Sort::Include, Sort::Guard, Sort::Aside, OPEN_TWO]) {
+        let guards = head(alloc, cursor, included)?;
+        guarded = guarded || guards;
+    }
+    Ok(guarded)
+}
+
+/// A directive before the modules or metadata of the file, and whether it is an `#ifndef`.
+#[tactic(auto, unfolding(crate::specs::Files::directive))]
+fn head(alloc: Global, cursor: &mut Cursor, included: &mut List<(Name, u32)>) -> Result<bool, Stop>
+    ensures { TakesWith (λ guards head. (guards ≡ is_guarded (head ∷ [])) × (included.new ≡ included.old ++ includes_in (head ∷ []))) result cursor.new (read directive cursor.old) }
+{
+    if cursor.begins(&[Sort::Include]) {
+        included.push(take_include(alloc, cursor)?)?;
+        return Ok(false);
+    }
+    if cursor.begins(&[Sort::Guard]) {
+        cursor.take(Sort::Guard)?;
+        return Ok(true);
+    }
+    if cursor.begins(&[Sort::Aside]) {
+        cursor.take(Sort::Aside)?;
+        return Ok(false);
+    }
+    file_metadata(cursor)?;
+    Ok(false)
+}
+
+/// `#include`, with the name in it.
+fn take_include(alloc: Global, cursor: &mut Cursor) -> Result<(Name, u32), Stop>
+    ensures { Takes (λ x. x) result cursor.new (token_at (sorts.Include ∷ []) include_of cursor.old) }
+{
+    let (token, bytes) = cursor.take_any(&[Sort::Include])?;
+    match include_name(bytes) {
+        Some(text) => Ok((Name::of(alloc, text)?, token.from)),
+        None => unreachable!(),
+    }
+}
+
+/// `#endif` where an `#ifndef` stands before the modules.
+fn closing(guarded: bool, cursor: &mut Cursor) -> Result<(), Stop>
+    ensures { Takes (λ x. x) result cursor.new (closing_at guarded cursor.old) }
+{
+    if guarded {
+        cursor.take(Sort::EndGuard)?;
+    }
+    Ok(())
+}
+
+/// Nothing.
+fn end(cursor: &mut Cursor) -> Result<(), Stop>
+    ensures { Takes (λ x. x) result cursor.new (end_at cursor.old) }
+{
+    match cursor.sort() {
+        None => Ok(()),
+        Some(_) => Err(Stop::Refused),
+    }
+}
