@@ -119,16 +119,6 @@ meets_none (entry k v rest) = meets_none rest
 pub equal_is : (pairs : Entries) → equal_onto no_entry pairs ≡ have_equal_keys pairs
 equal_is pairs = equal_apart no_entry pairs ∙ ap (λ (b : Bool). b || have_equal_keys pairs) (meets_none pairs)
 
--- ---- pairs taken out of the map in order
-
-abbrev pub join : Entries → Entries → Entries
-join no_entry others = others
-join (entry k v rest) others = entry k v (join rest others)
-
-pub join_none : (ps : Entries) → join ps no_entry ≡ ps
-join_none no_entry = refl
-join_none (entry k v rest) = ap (entry k v) (join_none rest)
-
 -- ---- what is copied whole
 
 copied_each : (vs : List Tree) → trees_of (map sorted vs) ≡ sorted_each (trees_of vs)

@@ -1,8 +1,8 @@
 //! Whether dictionaries stand in order.
 
 ghost use Rattle.std.specs.Prelude.{IsTrue, ◌↔◌};
-ghost use Rattle.ice_encoding.specs.Order.{IsRising};
-ghost use Rattle.ice_encoding.specs.Same.{IsOrdered, EachOrdered, PairsOrdered};
+ghost use Rattle.ice_encoding.specs.Order.{IsRising, KeysRise, IsOrdered};
+ghost use Rattle.ice_encoding.specs.Tree.{InEach, InPairs};
 ghost use Rattle.graph_arena.specs.View.{view, view_all, view_pairs};
 
 use crate::Value;
@@ -30,7 +30,7 @@ pub fn is_sorted(value: &Value) -> bool
 /// Whether each item is sorted.
 #[cycle(sorted)]
 fn are_sorted(items: &[Value]) -> bool
-    ensures { IsTrue result ↔ EachOrdered (view_all items.now) }
+    ensures { IsTrue result ↔ InEach KeysRise (view_all items.now) }
 {
     for item in items {
         if !is_sorted(item) {
@@ -43,7 +43,7 @@ fn are_sorted(items: &[Value]) -> bool
 /// Whether each pair's key and value are sorted.
 #[cycle(sorted)]
 fn have_sorted_parts(pairs: &[(Value, Value)]) -> bool
-    ensures { IsTrue result ↔ PairsOrdered (view_pairs pairs.now) }
+    ensures { IsTrue result ↔ InPairs KeysRise (view_pairs pairs.now) }
 {
     for pair in pairs {
         if !is_sorted(&pair.0) || !is_sorted(&pair.1) {

@@ -1,11 +1,9 @@
 -- Canonical bytes spell the value that any of its spellings spells, and are as long.
-use Rattle.std.proofs.Common.{◌≡◌, ℕ, zero, suc, ◌+◌, Bool, true, false, cond, List, [], ◌∷◌, ◌++◌, length, refl, sym, ap, subst, ◌∙◌, arith}
+use Rattle.std.proofs.Common.{◌≡◌, ℕ, zero, suc, ◌+◌, List, [], ◌∷◌, ◌++◌, length, map, replicate, refl, sym, ap, subst, ◌∙◌, arith}
 use Rattle.std.specs.Ordering.{is_lt}
-use Rattle.std.specs.declared.cmp.Ordering.TheVariants.{Less}
-use Rattle.std.proofs.lemmas.List.{length-append}
+use Rattle.std.proofs.lemmas.List.{length-append, length-replicate}
 use Rattle.ice_types.specs.declared.kind.TypeRef.{TypeRef}
 use Rattle.ice_types.specs.declared.kind.TypeRef.TheVariants as kinds
-use Rattle.ice_types.specs.declared.declarations.Member.{Member}
 use Rattle.ice_types.specs.Tables.{Tables}
 use Rattle.ice_prims.specs.Rest.{IsBytes}
 use Rattle.ice_prims.specs.Number.{SpellsSize}
@@ -13,32 +11,14 @@ use Rattle.ice_prims.specs.Bytes.{size_bytes}
 use Rattle.ice_prims.proofs.Parts.{IsBytes-front, IsBytes-rest}
 use Rattle.ice_prims.proofs.Once.{bool_once, short_once, int_once, long_once, size_once, text_once}
 use Rattle.ice_encoding.specs.Tree.{Tree, Trees, tree_count, Entries, no_entry, entry, entry_count}
-use Rattle.ice_encoding.specs.Order.{tree_cmp, IsRising, insert, LacksKey}
+use Rattle.ice_encoding.specs.Order.{tree_cmp, IsRising, insert}
 use Rattle.ice_encoding.specs.Port.{Speller, no_references}
-use Rattle.ice_encoding.specs.Spelling.{Each, Members, Pairs, SpellsValue}
+use Rattle.ice_encoding.specs.Spelling.{Each, Pairs, SpellsValue}
 use Rattle.ice_encoding.specs.Canonical.{canonical, canonical_each, canonical_pairs}
-use Rattle.ice_encoding.proofs.Order.{turns, less_then, insert_rising}
+use Rattle.ice_encoding.proofs.Order.{tail_rising, insert_rising}
+use Rattle.ice_encoding.proofs.Inserting.{by_test, AllPairs, insert_all, insert_count, join, join_none, join_join, AreBelow, insert_last, lacks_above, below_next}
 
 -- ---- the parts of a dictionary
-
--- what holds of each pair
-abbrev pub AllPairs : (Tree → Tree → Type 0) → Entries → Type 0
-AllPairs P no_entry = Unit {0}
-AllPairs P (entry k v rest) = P k v × AllPairs P rest
-
-by_test : (b : Bool) (P : Entries → Type 0) (x y : Entries) → P x → P y → P (cond b x y)
-by_test true P x y p q = p
-by_test false P x y p q = q
-
-insert_all : (P : Tree → Tree → Type 0) (k v : Tree) (ps : Entries) → P k v → AllPairs P ps → AllPairs P (insert k v ps)
-insert_all P k v no_entry p h = (p, tt)
-insert_all P k v (entry l w rest) p h =
-    by_test (is_lt (tree_cmp k l)) (AllPairs P) (entry k v (entry l w rest)) (entry l w (insert k v rest)) (p, h) (h.0, insert_all P k v rest p h.1)
-
-insert_count : (k v : Tree) (ps : Entries) → entry_count (insert k v ps) ≡ suc (entry_count ps)
-insert_count k v no_entry = refl
-insert_count k v (entry l w rest) =
-    by_test (is_lt (tree_cmp k l)) (λ ps. entry_count ps ≡ suc (suc (entry_count rest))) (entry k v (entry l w rest)) (entry l w (insert k v rest)) refl (ap suc (insert_count k v rest))
 
 pair_length : (k v : Tree) (ps : Entries) → length (canonical_pairs (entry k v ps)) ≡ length (canonical k) + (length (canonical v) + length (canonical_pairs ps))
 pair_length k v ps = length-append (canonical k) (canonical v ++ canonical_pairs ps) ∙ ap (λ (n : ℕ). length (canonical k) + n) (length-append (canonical v) (canonical_pairs ps))
@@ -52,49 +32,10 @@ insert_length k v (entry l w rest) =
 
 -- ---- pairs in rising order are put one behind the other
 
-abbrev join : Entries → Entries → Entries
-join no_entry others = others
-join (entry k v rest) others = entry k v (join rest others)
-
--- each key is below this one
-abbrev AreBelow : Entries → Tree → Type 0
-AreBelow no_entry k = Unit {0}
-AreBelow (entry l w rest) k = (tree_cmp l k ≡ Less) × AreBelow rest k
-
-not_lt : (k l : Tree) → tree_cmp l k ≡ Less → is_lt (tree_cmp k l) ≡ false
-not_lt k l lt = rw (turns k l, lt) refl
-
-insert_last : (k v : Tree) (ps : Entries) → AreBelow ps k → insert k v ps ≡ join ps (entry k v no_entry)
-insert_last k v no_entry h = refl
-insert_last k v (entry l w rest) h = rw (not_lt k l h.0) (ap (entry l w) (insert_last k v rest h.1))
-
-lacks_above : (k : Tree) (ps : Entries) → AreBelow ps k → LacksKey k ps
-lacks_above k no_entry h = tt
-lacks_above k (entry l w rest) h = (λ same. differ (subst (λ (z : Tree). tree_cmp z k ≡ Less) (sym same) h.0), lacks_above k rest h.1)
-  where
-    differ : tree_cmp k k ≡ Less → ⊥
-    differ lt = let other = turns k k in absurd cc
-
-join_join : (ps : Entries) (k v : Tree) (others : Entries) → join (join ps (entry k v no_entry)) others ≡ join ps (entry k v others)
-join_join no_entry k v others = refl
-join_join (entry l w rest) k v others = ap (entry l w) (join_join rest k v others)
-
-join_none : (ps : Entries) → join ps no_entry ≡ ps
-join_none no_entry = refl
-join_none (entry k v rest) = ap (entry k v) (join_none rest)
-
-below_next : (ps : Entries) (k l v : Tree) → AreBelow ps k → tree_cmp k l ≡ Less → AreBelow (join ps (entry k v no_entry)) l
-below_next no_entry k l v h lt = (lt, tt)
-below_next (entry m x rest) k l v h lt = (less_then m k l h.0 lt, below_next rest k l v h.1 lt)
-
 -- the first key is above those before
 abbrev Follows : Entries → Entries → Type 0
 Follows before no_entry = Unit {0}
 Follows before (entry k v rest) = AreBelow before k
-
-tail_rising : (k v : Tree) (rest : Entries) → IsRising (entry k v rest) → IsRising rest
-tail_rising k v no_entry h = tt
-tail_rising k v (entry l w others) h = h.1
 
 next_follows : (before : Entries) (k v : Tree) (rest : Entries) → AreBelow before k → IsRising (entry k v rest) → Follows (join before (entry k v no_entry)) rest
 next_follows before k v no_entry below h = tt
@@ -121,23 +62,15 @@ Canon Spells = (bytes : List ℕ) (v : Tree) → IsBytes bytes → Spells bytes 
 once_canon : (Spells : Speller (Unit {0}) Tree) (bytes : List ℕ) (v : Tree) → bytes ≡ canonical v → Spells bytes v tt tt → Spells (canonical v) v tt tt × (length (canonical v) ≡ length bytes)
 once_canon Spells bytes v e h = (subst (λ (l : List ℕ). Spells l v tt tt) e h, ap length (sym e))
 
-each_canon : (One : Speller (Unit {0}) Tree) → Canon One → (n : ℕ) (bytes : List ℕ) (items : Trees) → IsBytes bytes → Each One n bytes items tt tt → Each One n (canonical_each items) items tt tt × (length (canonical_each items) ≡ length bytes) × (tree_count items ≡ n)
-each_canon One canon zero bytes items fits h = rw (h.1, h.0) ((refl, refl, refl), refl, refl)
-each_canon One canon (suc n) bytes items fits h =
+each_canon : (One : TypeRef → Speller (Unit {0}) Tree) → ((kind : TypeRef) → Canon (One kind)) → (ks : List TypeRef) (bytes : List ℕ) (values : Trees) → IsBytes bytes → Each One ks bytes values tt tt
+    → Each One ks (canonical_each values) values tt tt × (length (canonical_each values) ≡ length bytes) × (tree_count values ≡ length ks)
+each_canon One canon [] bytes values fits h = rw (h.1, h.0) ((refl, refl, refl), refl, refl)
+each_canon One canon (kind ∷ ks) bytes values fits h =
     let all : IsBytes (h.2 ++ h.3) = subst IsBytes h.6 fits in
-    let first = canon h.2 h.0 (IsBytes-front h.2 h.3 all) h.7 in
-    let others = each_canon One canon n h.3 h.1 (IsBytes-rest h.2 h.3 all) h.8 in
+    let first = canon kind h.2 h.0 (IsBytes-front h.2 h.3 all) h.7 in
+    let others = each_canon One canon ks h.3 h.1 (IsBytes-rest h.2 h.3 all) h.8 in
     let long : length (canonical h.0 ++ canonical_each h.1) ≡ length (h.2 ++ h.3) = length-append (canonical h.0) (canonical_each h.1) ∙ omega (arith, first.1, others.1, length-append h.2 h.3) in
     rw (h.5, h.6) ((h.0, h.1, canonical h.0, canonical_each h.1, tt, refl, refl, first.0, others.0), long, ap suc others.2)
-
-members_canon : (One : TypeRef → Speller (Unit {0}) Tree) → ((kind : TypeRef) → Canon (One kind)) → (ms : List Member) (bytes : List ℕ) (items : Trees) → IsBytes bytes → Members One ms bytes items tt tt → Members One ms (canonical_each items) items tt tt × (length (canonical_each items) ≡ length bytes)
-members_canon One canon [] bytes items fits h = rw (h.1, h.0) ((refl, refl, refl), refl)
-members_canon One canon (m ∷ ms) bytes items fits h =
-    let all : IsBytes (h.2 ++ h.3) = subst IsBytes h.6 fits in
-    let first = canon m.kind h.2 h.0 (IsBytes-front h.2 h.3 all) h.7 in
-    let others = members_canon One canon ms h.3 h.1 (IsBytes-rest h.2 h.3 all) h.8 in
-    let long : length (canonical h.0 ++ canonical_each h.1) ≡ length (h.2 ++ h.3) = length-append (canonical h.0) (canonical_each h.1) ∙ omega (arith, first.1, others.1, length-append h.2 h.3) in
-    rw (h.5, h.6) ((h.0, h.1, canonical h.0, canonical_each h.1, tt, refl, refl, first.0, others.0), long)
 
 -- what a dictionary that was read keeps
 pub record Kept (Key Held : Speller (Unit {0}) Tree) (pairs : Entries) (count long : ℕ) : Type 0 where
@@ -182,8 +115,8 @@ value_canon t (suc levels) (kinds.Seq at) bytes v fits h =
     let parts = made.2 in
     let items = made.0 in
     let all : IsBytes (parts.1 ++ parts.2) = subst IsBytes parts.3 fits in
-    let each = each_canon (SpellsValue no_references t levels h.0.element) (value_canon t levels h.0.element) parts.0 parts.2 items (IsBytes-rest parts.1 parts.2 all) parts.5 in
-    let size = size_again parts.1 parts.0 (tree_count items) (IsBytes-front parts.1 parts.2 all) parts.4 each.2 in
+    let each = each_canon (SpellsValue no_references t levels) (value_canon t levels) (replicate parts.0 h.0.element) parts.2 items (IsBytes-rest parts.1 parts.2 all) parts.5 in
+    let size = size_again parts.1 parts.0 (tree_count items) (IsBytes-front parts.1 parts.2 all) parts.4 (each.2 ∙ length-replicate parts.0 h.0.element) in
     let long : length (size_bytes (tree_count items) ++ canonical_each items) ≡ length bytes =
     length-append (size_bytes (tree_count items)) (canonical_each items) ∙ omega (arith, size.1, each.1, ap length parts.3, length-append parts.1 parts.2) in
     rw made.1 ((h.0, h.1, (items, refl, (parts.0, size_bytes (tree_count items), canonical_each items, refl, size.0, each.0))), long)
@@ -206,5 +139,5 @@ value_canon t (suc levels) (kinds.Dict at) bytes v fits h =
     nothing_before no_entry = tt
     nothing_before (entry k v rest) = tt
 value_canon t (suc levels) (kinds.Struct at) bytes v fits h =
-    let again = members_canon (SpellsValue no_references t levels) (value_canon t levels) h.0.members bytes h.2.0 fits h.2.2 in
+    let again = each_canon (SpellsValue no_references t levels) (value_canon t levels) (map (λ m. m.kind) h.0.members) bytes h.2.0 fits h.2.2 in
     rw h.2.1 ((h.0, h.1, (h.2.0, refl, again.0)), again.1)

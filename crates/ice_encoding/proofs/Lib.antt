@@ -1,4 +1,5 @@
 pub mod Order
+pub mod Inserting
 pub mod Same
 pub mod Values
 pub mod Canonical

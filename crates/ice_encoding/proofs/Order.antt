@@ -197,12 +197,12 @@ behind l w k v no_entry lt h g = (lt, tt)
 behind l w k v (entry m x others) lt h g =
     by_test (is_lt (tree_cmp k m)) (λ ps. IsRising ps → IsRising (entry l w ps)) (entry k v (entry m x others)) (entry m x (insert k v others)) (λ e r. (lt, r)) (λ e r. (h.0, r)) g
 
-tail : (l w : Tree) (rest : Entries) → IsRising (entry l w rest) → IsRising rest
-tail l w no_entry h = tt
-tail l w (entry m x others) h = h.1
+pub tail_rising : (l w : Tree) (rest : Entries) → IsRising (entry l w rest) → IsRising rest
+tail_rising l w no_entry h = tt
+tail_rising l w (entry m x others) h = h.1
 
 pub insert_rising : (k v : Tree) (ps : Entries) → LacksKey k ps → IsRising ps → IsRising (insert k v ps)
 insert_rising k v no_entry lacks h = tt
 insert_rising k v (entry l w rest) lacks h =
     by_test (is_lt (tree_cmp k l)) IsRising (entry k v (entry l w rest)) (entry l w (insert k v rest))
-    (λ e. (below k l e, h)) (λ e. behind l w k v rest (above k l e lacks.0) h (insert_rising k v rest lacks.1 (tail l w rest h)))
+    (λ e. (below k l e, h)) (λ e. behind l w k v rest (above k l e lacks.0) h (insert_rising k v rest lacks.1 (tail_rising l w rest h)))

@@ -12,12 +12,13 @@ use Rattle.ice_encoding.specs.Port.{no_references}
 use Rattle.ice_encoding.specs.Spelling.{SpellsValue}
 use Rattle.ice_encoding.specs.Reading.{value_at}
 use Rattle.ice_encoding.specs.Canonical.{canonical, HasSizes}
-use Rattle.ice_encoding.specs.Same.{Same, IsOrdered}
+use Rattle.ice_encoding.specs.Order.{IsOrdered}
+use Rattle.ice_encoding.specs.Same.{Same}
 use Rattle.ice_encoding.specs.Value.{SpellsPlainValue, plain_value_at}
 use Rattle.ice_encoding.proofs.Values.{value_lawful, value_apart, none_lawful}
 use Rattle.ice_encoding.proofs.Canonical.{value_canon}
-use Rattle.ice_encoding.proofs.Sizes.{value_sizes}
-use Rattle.ice_encoding.proofs.Same.{value_ordered, same_is, same_self}
+use Rattle.ice_encoding.proofs.Sizes.{value_sizes, value_ordered}
+use Rattle.ice_encoding.proofs.Same.{same_is, same_self}
 
 -- the value alone, without the state
 abbrev stateless : Tree × (Unit {0}) × Rest → Result (Tree × Rest) Fault

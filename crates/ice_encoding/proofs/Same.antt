@@ -1,61 +1,12 @@
--- A value that bytes spell is ordered, and ordered values that are the same are equal.
-use Rattle.std.proofs.Common.{◌≡◌, ℕ, zero, suc, ◌≤◌, Bool, true, false, cond, List, [], ◌∷◌, refl, sym, ap, subst, arith, inl, inr}
+-- Ordered values that are the same are equal.
+use Rattle.std.proofs.Common.{◌≡◌, suc, ◌≤◌, Bool, true, false, refl, sym, ap, subst, arith, inl, inr}
 use Rattle.std.specs.Prelude.{◌≢◌}
 use Rattle.std.specs.Ordering.{is_lt}
 use Rattle.std.specs.declared.cmp.Ordering.TheVariants.{Less}
-use Rattle.ice_types.specs.declared.kind.TypeRef.{TypeRef}
-use Rattle.ice_types.specs.declared.kind.TypeRef.TheVariants as kinds
-use Rattle.ice_types.specs.declared.declarations.Member.{Member}
-use Rattle.ice_types.specs.Tables.{Tables}
-use Rattle.ice_encoding.specs.Tree.{Tree, boolean, byte, short, int, long, text, sequence, dictionary, struct, Trees, none, tree, Entries, no_entry, entry, entry_count}
-use Rattle.ice_encoding.specs.Order.{tree_cmp, IsRising, insert}
-use Rattle.ice_encoding.specs.Same.{SomePair, Same, SameEach, AreAmong, IsOrdered, EachOrdered, PairsOrdered}
-use Rattle.ice_encoding.specs.Port.{Speller, no_references}
-use Rattle.ice_encoding.specs.Spelling.{Each, Members, Pairs, SpellsValue}
-use Rattle.ice_encoding.proofs.Order.{turns, equal_self, less_then, above, below, insert_rising}
-
--- ---- what bytes spell
-
-insert_ordered : (k v : Tree) (ps : Entries) → IsOrdered k → IsOrdered v → PairsOrdered ps → PairsOrdered (insert k v ps)
-insert_ordered k v no_entry p q h = (p, q, tt)
-insert_ordered k v (entry l w rest) p q h =
-    by_test (is_lt (tree_cmp k l)) (entry k v (entry l w rest)) (entry l w (insert k v rest)) (p, q, h) (h.0, h.1, insert_ordered k v rest p q h.2)
-  where
-    by_test : (b : Bool) (x y : Entries) → PairsOrdered x → PairsOrdered y → PairsOrdered (cond b x y)
-    by_test true x y p q = p
-    by_test false x y p q = q
-
-each_ordered : (One : Speller (Unit {0}) Tree) → ((bytes : List ℕ) (v : Tree) → One bytes v tt tt → IsOrdered v) → (n : ℕ) (bytes : List ℕ) (items : Trees) → Each One n bytes items tt tt → EachOrdered items
-each_ordered One ordered zero bytes items h = rw h.1 tt
-each_ordered One ordered (suc n) bytes items h = rw h.5 (ordered h.2 h.0 h.7, each_ordered One ordered n h.3 h.1 h.8)
-
-members_ordered : (One : TypeRef → Speller (Unit {0}) Tree) → ((kind : TypeRef) (bytes : List ℕ) (v : Tree) → One kind bytes v tt tt → IsOrdered v)
-    → (ms : List Member) (bytes : List ℕ) (items : Trees) → Members One ms bytes items tt tt → EachOrdered items
-members_ordered One ordered [] bytes items h = rw h.1 tt
-members_ordered One ordered (m ∷ ms) bytes items h = rw h.5 (ordered m.kind h.2 h.0 h.7, members_ordered One ordered ms h.3 h.1 h.8)
-
-pairs_ordered : (Key Held : Speller (Unit {0}) Tree) → ((bytes : List ℕ) (v : Tree) → Key bytes v tt tt → IsOrdered v) → ((bytes : List ℕ) (v : Tree) → Held bytes v tt tt → IsOrdered v)
-    → (n : ℕ) (before : Entries) (bytes : List ℕ) (pairs : Entries) → IsRising before × PairsOrdered before → Pairs Key Held n before bytes pairs tt tt → IsRising pairs × PairsOrdered pairs
-pairs_ordered Key Held ok ov zero before bytes pairs kept h = rw h.1 kept
-pairs_ordered Key Held ok ov (suc n) before bytes pairs kept h =
-    pairs_ordered Key Held ok ov n (insert h.0 h.1 before) h.4 pairs
-    (insert_rising h.0 h.1 before h.9 kept.0, insert_ordered h.0 h.1 before (ok h.2 h.0 h.8) (ov h.3 h.1 h.10) kept.1) h.11
-
-pub value_ordered : (t : Tables) (levels : ℕ) (kind : TypeRef) (bytes : List ℕ) (v : Tree) → SpellsValue no_references t levels kind bytes v tt tt → IsOrdered v
-value_ordered t zero kind bytes v h = absurd h
-value_ordered t (suc levels) kinds.Bool bytes v h = rw h.1 tt
-value_ordered t (suc levels) kinds.Byte bytes v h = rw h.1 tt
-value_ordered t (suc levels) kinds.Short bytes v h = rw h.1 tt
-value_ordered t (suc levels) kinds.Int bytes v h = rw h.1 tt
-value_ordered t (suc levels) kinds.Long bytes v h = rw h.1 tt
-value_ordered t (suc levels) kinds.Text bytes v h = rw h.1 tt
-value_ordered t (suc levels) (kinds.Seq at) bytes v h =
-    rw h.2.1 (each_ordered (SpellsValue no_references t levels h.0.element) (value_ordered t levels h.0.element) h.2.2.0 h.2.2.2 h.2.0 h.2.2.5)
-value_ordered t (suc levels) (kinds.Dict at) bytes v h =
-    rw h.2.1 (pairs_ordered (SpellsValue no_references t levels h.0.key) (SpellsValue no_references t levels h.0.value)
-    (value_ordered t levels h.0.key) (value_ordered t levels h.0.value) h.2.2.0 no_entry h.2.2.2 h.2.0 (tt, tt) h.2.2.5)
-value_ordered t (suc levels) (kinds.Struct at) bytes v h =
-    rw h.2.1 (members_ordered (SpellsValue no_references t levels) (value_ordered t levels) h.0.members bytes h.2.0 h.2.2)
+use Rattle.ice_encoding.specs.Tree.{Tree, boolean, byte, short, int, long, text, sequence, dictionary, struct, Trees, none, tree, Entries, no_entry, entry, entry_count, InEach, InPairs}
+use Rattle.ice_encoding.specs.Order.{tree_cmp, IsRising, KeysRise, IsOrdered, insert}
+use Rattle.ice_encoding.specs.Same.{SomePair, Same, SameEach, AreAmong}
+use Rattle.ice_encoding.proofs.Order.{turns, equal_self, less_then, above, below, tail_rising}
 
 -- ---- rising pairs that are the same pairs
 
@@ -79,10 +30,6 @@ below_rest k l (entry m w rest) lt h = (less_then k l m lt h.0, below_rest k l r
 head_below : (k v : Tree) (ps : Entries) → IsRising (entry k v ps) → IsBelow k ps
 head_below k v no_entry h = tt
 head_below k v (entry l w rest) h = (h.0, below_rest k l rest h.0 (head_below l w rest h.1))
-
-tail : (k v : Tree) (ps : Entries) → IsRising (entry k v ps) → IsRising ps
-tail k v no_entry h = tt
-tail k v (entry l w rest) h = h.1
 
 not_below_self : (k : Tree) → tree_cmp k k ≡ Less → ⊥
 not_below_self k lt = let self = equal_self k in absurd cc
@@ -115,18 +62,18 @@ all_in (entry k v rest) no_entry p q h most = absurd h.0
 all_in (entry k v rest) (entry l w others) p q h most = elim h.0 [
   | inl same ↦
       let below : IsBelow l rest = subst (λ (z : Tree). IsBelow z rest) same.0 (head_below k v rest p) in
-      let again : rest ≡ others = all_in rest others (tail k v rest p) (tail l w others q) (in_rest l w others rest below h.1) (omega (arith, most)) in
+      let again : rest ≡ others = all_in rest others (tail_rising k v rest p) (tail_rising l w others q) (in_rest l w others rest below h.1) (omega (arith, most)) in
       rw (same.0, same.1, again) refl
   | inr more ↦
       let lt : tree_cmp l k ≡ Less = above_head l w others k v (head_below l w others q) more in
       let below : IsBelow l rest = below_rest l k rest lt (head_below k v rest p) in
-      let again : entry k v rest ≡ others = all_in (entry k v rest) others p (tail l w others q) (more, in_rest l w others rest below h.1) (omega (arith, most)) in
+      let again : entry k v rest ≡ others = all_in (entry k v rest) others p (tail_rising l w others q) (more, in_rest l w others rest below h.1) (omega (arith, most)) in
       let same : suc (entry_count rest) ≡ entry_count others = ap entry_count again in
       absurd (omega (arith, most, same))
 ]
 
 some_in : (k v : Tree) → IsOrdered k → IsOrdered v → ((l : Tree) → IsOrdered l → Same k l → k ≡ l) → ((w : Tree) → IsOrdered w → Same v w → v ≡ w)
-    → (ps : Entries) → PairsOrdered ps → SomePair (Same k) (Same v) ps → IsIn k v ps
+    → (ps : Entries) → InPairs KeysRise ps → SomePair (Same k) (Same v) ps → IsIn k v ps
 some_in k v o p key held no_entry q h = h
 some_in k v o p key held (entry l w others) q (inl same) = inl (key l q.0 same.0, held w q.1 same.1)
 some_in k v o p key held (entry l w others) q (inr more) = inr (some_in k v o p key held others q.2 more)
@@ -139,17 +86,17 @@ mutual
   same_is (int a) (int b) p q h = ap int h
   same_is (long a) (long b) p q h = ap long h
   same_is (text a) (text b) p q h = ap text h
-  same_is (sequence a) (sequence b) p q h = ap sequence (each_same a b p q h)
+  same_is (sequence a) (sequence b) p q h = ap sequence (each_same a b p.1 q.1 h)
   same_is (dictionary a) (dictionary b) p q h = ap dictionary (all_in a b p.0 q.0 (among_in a b p.1 q.1 h.1) (omega (arith, h.0)))
-  same_is (struct a) (struct b) p q h = ap struct (each_same a b p q h)
+  same_is (struct a) (struct b) p q h = ap struct (each_same a b p.1 q.1 h)
   same_is a b p q h = absurd h
 
-  each_same : (a b : Trees) → EachOrdered a → EachOrdered b → SameEach a b → a ≡ b
+  each_same : (a b : Trees) → InEach KeysRise a → InEach KeysRise b → SameEach a b → a ≡ b
   each_same none none p q h = refl
   each_same (tree v vs) (tree w ws) p q h = rw (same_is v w p.0 q.0 h.0, each_same vs ws p.1 q.1 h.1) refl
   each_same a b p q h = absurd h
 
-  among_in : (a b : Entries) → PairsOrdered a → PairsOrdered b → AreAmong a b → AreIn a b
+  among_in : (a b : Entries) → InPairs KeysRise a → InPairs KeysRise b → AreAmong a b → AreIn a b
   among_in no_entry b p q h = tt
   among_in (entry k v rest) b p q h = (some_in k v p.0 p.1 (λ l o e. same_is k l p.0 o e) (λ w o e. same_is v w p.1 o e) b q h.0, among_in rest b p.2 q h.1)
 

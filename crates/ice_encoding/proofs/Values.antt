@@ -1,11 +1,10 @@
 -- The laws of values: each way of joining keeps them.
-use Rattle.std.proofs.Common.{◌≡◌, ℕ, ℤ, zero, suc, ◌+◌, List, [], ◌∷◌, ◌++◌, length, take, Option, Some, None, Result, Ok, refl, sym, ap, subst, ◌∙◌, inl, inr, zero-add}
+use Rattle.std.proofs.Common.{◌≡◌, ℕ, ℤ, zero, suc, ◌+◌, List, [], ◌∷◌, ◌++◌, length, take, map, replicate, Option, Some, None, Result, Ok, refl, sym, ap, subst, ◌∙◌, inl, inr, zero-add}
 use Rattle.std.specs.Prelude.{slice_get}
 use Rattle.std.specs.Int.{Width, w16, w32, w64}
 use Rattle.std.proofs.lemmas.List.{take_at}
 use Rattle.ice_types.specs.declared.kind.TypeRef.{TypeRef}
 use Rattle.ice_types.specs.declared.kind.TypeRef.TheVariants as kinds
-use Rattle.ice_types.specs.declared.declarations.Member.{Member}
 use Rattle.ice_types.specs.Tables.{Tables}
 use Rattle.ice_prims.specs.declared.fault.Fault.{Fault}
 use Rattle.ice_prims.specs.declared.fault.Kind.TheVariants.{EqualKey}
@@ -18,8 +17,8 @@ use Rattle.ice_encoding.specs.Tree.{Tree, boolean, byte, short, int, long, text,
 use Rattle.ice_encoding.specs.Port.{Reader, Speller, Found, Only, Port, IsLawful, no_references}
 use Rattle.ice_encoding.specs.Order.{has_key, insert, LacksKey}
 use Rattle.ice_encoding.proofs.Order.{is_new, has_none}
-use Rattle.ice_encoding.specs.Reading.{new_key, pairs_at, each_at, members_at, plain, made, sized, listed, value_at}
-use Rattle.ice_encoding.specs.Spelling.{Plain, Made, Sized, Each, Members, Pairs, SpellsValue}
+use Rattle.ice_encoding.specs.Reading.{new_key, pairs_at, each_at, plain, made, sized, listed, value_at}
+use Rattle.ice_encoding.specs.Spelling.{Plain, Made, Sized, Each, Pairs, SpellsValue}
 
 -- a reading and what it is to spell, and both laws
 pub record Lawful {S A : Type 0} (read : Reader S A) (Spells : Speller S A) : Type 0 where
@@ -78,38 +77,21 @@ listed_lawful (Some a) read Spells one = record {
   only = λ s to r after bytes v k h. let a_is : h.0 ≡ a = cc in (one a).only s to r after bytes v k (rw (← a_is) h.2);
 }
 
-each_lawful : {S : Type 0} (read : Reader S Tree) (Spells : Speller S Tree) → Lawful read Spells → (n : ℕ) → Lawful (each_at read n) (Each Spells n)
-each_lawful {S} read Spells one zero = record {
-  found = λ s r x fits e. lands (Each Spells 0) s r _ x [] (Took-none r) (refl, refl, refl) e;
+each_lawful : {S : Type 0} (read : TypeRef → Reader S Tree) (Spells : TypeRef → Speller S Tree) → ((kind : TypeRef) → Lawful (read kind) (Spells kind)) → (ks : List TypeRef) → Lawful (each_at read ks) (Each Spells ks)
+each_lawful {S} read Spells one [] = record {
+  found = λ s r x fits e. lands (Each Spells []) s r _ x [] (Took-none r) (refl, refl, refl) e;
   only = λ s to r after bytes v k h. rw (Took-none-is r after (rw (← h.0) k), h.1, h.2) refl;
 }
-each_lawful {S} read Spells one (suc n) = record {
+each_lawful {S} read Spells one (kind ∷ ks) = record {
   found = λ s r x fits e.
-      then_ok (read s r) (λ first. each_at read n first.1 first.2 >>= λ others. Ok (tree first.0 others.0, others.1, others.2)) x e λ first first_is later.
-      then_ok (each_at read n first.1 first.2) (λ others. Ok (tree first.0 others.0, others.1, others.2)) x later λ others others_is last.
-      let f = one.found s r first fits first_is in
-      let g = (each_lawful read Spells one n).found first.1 first.2 others ((Took-fits r first.2 f.0 fits f.1).1) others_is in
-      lands (Each Spells (suc n)) s r _ x (f.0 ++ g.0) (Took-then r first.2 others.2 f.0 g.0 f.1 g.1) (first.0, others.0, f.0, g.0, first.1, refl, refl, f.2, g.2) last;
-  only = λ s to r after bytes v k h.
-      let m = between r after h.2 h.3 (rw (← h.6) k) in
-      rw (one.only s h.4 r m.0 h.2 h.0 m.1 h.7, (each_lawful read Spells one n).only h.4 to m.0 after h.3 h.1 m.2 h.8, h.5) refl;
-}
-
-members_lawful : {S : Type 0} (read : TypeRef → Reader S Tree) (Spells : TypeRef → Speller S Tree) → ((kind : TypeRef) → Lawful (read kind) (Spells kind)) → (ms : List Member) → Lawful (members_at read ms) (Members Spells ms)
-members_lawful {S} read Spells one [] = record {
-  found = λ s r x fits e. lands (Members Spells []) s r _ x [] (Took-none r) (refl, refl, refl) e;
-  only = λ s to r after bytes v k h. rw (Took-none-is r after (rw (← h.0) k), h.1, h.2) refl;
-}
-members_lawful {S} read Spells one (m ∷ ms) = record {
-  found = λ s r x fits e.
-      then_ok (read m.kind s r) (λ first. members_at read ms first.1 first.2 >>= λ others. Ok (tree first.0 others.0, others.1, others.2)) x e λ first first_is later.
-      then_ok (members_at read ms first.1 first.2) (λ others. Ok (tree first.0 others.0, others.1, others.2)) x later λ others others_is last.
-      let f = (one m.kind).found s r first fits first_is in
-      let g = (members_lawful read Spells one ms).found first.1 first.2 others ((Took-fits r first.2 f.0 fits f.1).1) others_is in
-      lands (Members Spells (m ∷ ms)) s r _ x (f.0 ++ g.0) (Took-then r first.2 others.2 f.0 g.0 f.1 g.1) (first.0, others.0, f.0, g.0, first.1, refl, refl, f.2, g.2) last;
+      then_ok (read kind s r) (λ first. each_at read ks first.1 first.2 >>= λ rest. Ok (tree first.0 rest.0, rest.1, rest.2)) x e λ first first_is later.
+      then_ok (each_at read ks first.1 first.2) (λ rest. Ok (tree first.0 rest.0, rest.1, rest.2)) x later λ rest rest_is last.
+      let f = (one kind).found s r first fits first_is in
+      let g = (each_lawful read Spells one ks).found first.1 first.2 rest ((Took-fits r first.2 f.0 fits f.1).1) rest_is in
+      lands (Each Spells (kind ∷ ks)) s r _ x (f.0 ++ g.0) (Took-then r first.2 rest.2 f.0 g.0 f.1 g.1) (first.0, rest.0, f.0, g.0, first.1, refl, refl, f.2, g.2) last;
   only = λ s to r after bytes v k h.
       let n = between r after h.2 h.3 (rw (← h.6) k) in
-      rw ((one m.kind).only s h.4 r n.0 h.2 h.0 n.1 h.7, (members_lawful read Spells one ms).only h.4 to n.0 after h.3 h.1 n.2 h.8, h.5) refl;
+      rw ((one kind).only s h.4 r n.0 h.2 h.0 n.1 h.7, (each_lawful read Spells one ks).only h.4 to n.0 after h.3 h.1 n.2 h.8, h.5) refl;
 }
 
 pairs_lawful : {S : Type 0} (key value : Reader S Tree) (Key Held : Speller S Tree) → Lawful key Key → Lawful value Held → (n : ℕ) (before : Entries) → Lawful (pairs_at key value n before) (Pairs Key Held n before)
@@ -154,9 +136,9 @@ module _ {S : Type 0} (port : Port S) (lawful : IsLawful port) (t : Tables) wher
   value_lawful (suc n) kinds.Int = signed_lawful int w32
   value_lawful (suc n) kinds.Long = signed_lawful long w64
   value_lawful (suc n) kinds.Text = made_lawful text (plain text_at) (Plain SpellsText) (plain_lawful text_at SpellsText text_lawful)
-  value_lawful (suc n) (kinds.Seq at) = listed_lawful (slice_get t.seqs at) _ _ λ q. made_lawful sequence _ _ (sized_lawful _ _ (each_lawful _ _ (value_lawful n q.element)))
+  value_lawful (suc n) (kinds.Seq at) = listed_lawful (slice_get t.seqs at) _ _ λ q. made_lawful sequence _ _ (sized_lawful _ _ (λ m. each_lawful _ _ (value_lawful n) (replicate m q.element)))
   value_lawful (suc n) (kinds.Dict at) = listed_lawful (slice_get t.dicts at) _ _ λ d. made_lawful dictionary _ _ (sized_lawful _ _ (λ m. pairs_lawful _ _ _ _ (value_lawful n d.key) (value_lawful n d.value) m no_entry))
-  value_lawful (suc n) (kinds.Struct at) = listed_lawful (slice_get t.structs at) _ _ λ d. made_lawful struct _ _ (members_lawful _ _ (value_lawful n) d.members)
+  value_lawful (suc n) (kinds.Struct at) = listed_lawful (slice_get t.structs at) _ _ λ d. made_lawful struct _ _ (each_lawful _ _ (value_lawful n) (map (λ m. m.kind) d.members))
 
   -- No spelling begins another: bytes begin with one spelling at most.
   pub value_apart : (levels : ℕ) (kind : TypeRef) (a b x y : List ℕ) (v w : Tree) (s to end : S) → SpellsValue port t levels kind a v s to → SpellsValue port t levels kind b w s end → a ++ x ≡ b ++ y → (a ≡ b) × (v ≡ w) × (to ≡ end)

@@ -2,7 +2,7 @@
 use Rattle.std.specs.Prelude.{ℕ, ◌<◌, ◌^◌, List, [], ◌∷◌, ◌++◌, length}
 use Rattle.std.specs.Int.{w16, w32, w64}
 use Rattle.ice_prims.specs.Bytes.{bool_bytes, signed_bytes, size_bytes, text_bytes}
-use Rattle.ice_encoding.specs.Tree.{Tree, boolean, byte, short, int, long, text, sequence, dictionary, struct, Trees, none, tree, tree_count, Entries, no_entry, entry, entry_count}
+use Rattle.ice_encoding.specs.Tree.{Tree, boolean, byte, short, int, long, text, sequence, dictionary, struct, Trees, none, tree, tree_count, Entries, no_entry, entry, entry_count, Everywhere}
 
 abbrev mutual
   pub canonical : Tree → List ℕ
@@ -24,23 +24,12 @@ abbrev mutual
   canonical_pairs no_entry = []
   canonical_pairs (entry k v rest) = canonical k ++ (canonical v ++ canonical_pairs rest)
 
--- each size in the value is at most the greatest int
-abbrev mutual
-  pub HasSizes : Tree → Type 0
-  HasSizes (boolean b) = Unit {0}
-  HasSizes (byte n) = Unit {0}
-  HasSizes (short z) = Unit {0}
-  HasSizes (int z) = Unit {0}
-  HasSizes (long z) = Unit {0}
-  HasSizes (text s) = length s < 2 ^ 31
-  HasSizes (sequence items) = (tree_count items < 2 ^ 31) × EachHasSizes items
-  HasSizes (dictionary pairs) = (entry_count pairs < 2 ^ 31) × PairsHaveSizes pairs
-  HasSizes (struct members) = EachHasSizes members
+-- the size with which a value begins, where it has one, is at most the greatest int
+abbrev pub HasSize : Tree → Type 0
+HasSize (text s) = length s < 2 ^ 31
+HasSize (sequence items) = tree_count items < 2 ^ 31
+HasSize (dictionary pairs) = entry_count pairs < 2 ^ 31
+HasSize v = Unit {0}
 
-  pub EachHasSizes : Trees → Type 0
-  EachHasSizes none = Unit {0}
-  EachHasSizes (tree v vs) = HasSizes v × EachHasSizes vs
-
-  pub PairsHaveSizes : Entries → Type 0
-  PairsHaveSizes no_entry = Unit {0}
-  PairsHaveSizes (entry k v rest) = HasSizes k × HasSizes v × PairsHaveSizes rest
+abbrev pub HasSizes : Tree → Type 0
+HasSizes v = Everywhere HasSize v

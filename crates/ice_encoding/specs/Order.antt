@@ -5,7 +5,7 @@ use Rattle.std.specs.Ordering.{ordering_then, nat_cmp, int_cmp, bool_cmp, is_lt,
 use Rattle.std.specs.Cmp.Lexicographic.{slice_cmp}
 use Rattle.std.specs.declared.cmp.Ordering.{Ordering}
 use Rattle.std.specs.declared.cmp.Ordering.TheVariants.{Less, Equal, Greater}
-use Rattle.ice_encoding.specs.Tree.{Tree, boolean, byte, short, int, long, text, sequence, dictionary, struct, Trees, none, tree, Entries, no_entry, entry}
+use Rattle.ice_encoding.specs.Tree.{Tree, boolean, byte, short, int, long, text, sequence, dictionary, struct, Trees, none, tree, Entries, no_entry, entry, Everywhere}
 
 -- The keys of a dictionary are of one sort. So that the order has all values, the sorts stand in an order too.
 abbrev pub rank : Tree → ℕ
@@ -49,6 +49,14 @@ abbrev pub IsRising : Entries → Type 0
 IsRising no_entry = Unit {0}
 IsRising (entry k v no_entry) = Unit {0}
 IsRising (entry k v (entry l w rest)) = (tree_cmp k l ≡ Less) × IsRising (entry l w rest)
+
+-- the keys of each dictionary in the value rise
+abbrev pub KeysRise : Tree → Type 0
+KeysRise (dictionary pairs) = IsRising pairs
+KeysRise v = Unit {0}
+
+abbrev pub IsOrdered : Tree → Type 0
+IsOrdered v = Everywhere KeysRise v
 
 -- the pair at its place
 abbrev pub insert : Tree → Tree → Entries → Entries

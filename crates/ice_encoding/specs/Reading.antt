@@ -1,9 +1,8 @@
 -- Reading a value from the left, with the first fault.
-use Rattle.std.specs.Prelude.{ℕ, zero, suc, List, [], ◌∷◌, Option, None, Some, Result, Ok, slice_get, if◌then◌else◌}
+use Rattle.std.specs.Prelude.{ℕ, zero, suc, List, [], ◌∷◌, map, replicate, Option, None, Some, Result, Ok, slice_get, if◌then◌else◌}
 use Rattle.std.specs.Int.{w16, w32, w64}
 use Rattle.ice_types.specs.declared.kind.TypeRef.{TypeRef}
 use Rattle.ice_types.specs.declared.kind.TypeRef.TheVariants as kinds
-use Rattle.ice_types.specs.declared.declarations.Member.{Member}
 use Rattle.ice_types.specs.Tables.{Tables}
 use Rattle.ice_prims.specs.declared.fault.Fault.{Fault}
 use Rattle.ice_prims.specs.declared.fault.Kind.TheVariants.{EqualKey}
@@ -25,21 +24,13 @@ made make read s r = read s r >>= λ x. Ok (make x.0, x.1, x.2)
 abbrev pub sized : {S A : Type 0} → (ℕ → Reader S A) → Reader S A
 sized read s r = size_at r >>= λ n. read n.0 s n.1
 
--- so many items, one after the other
-abbrev pub each_at : {S : Type 0} → Reader S Tree → ℕ → Reader S Trees
-each_at one zero s r = Ok (none, s, r)
-each_at one (suc n) s r = do
-  first ← one s r
-  others ← each_at one n first.1 first.2
-  Ok (tree first.0 others.0, others.1, others.2)
-
--- the members of a struct, one after the other
-abbrev pub members_at : {S : Type 0} → (TypeRef → Reader S Tree) → List Member → Reader S Trees
-members_at read [] s r = Ok (none, s, r)
-members_at read (m ∷ ms) s r = do
-  first ← read m.kind s r
-  others ← members_at read ms first.1 first.2
-  Ok (tree first.0 others.0, others.1, others.2)
+-- values of these types, one after the other
+abbrev pub each_at : {S : Type 0} → (TypeRef → Reader S Tree) → List TypeRef → Reader S Trees
+each_at read [] s r = Ok (none, s, r)
+each_at read (kind ∷ others) s r = do
+  first ← read kind s r
+  rest ← each_at read others first.1 first.2
+  Ok (tree first.0 rest.0, rest.1, rest.2)
 
 -- a key that none of those before is; known when the key has been read whole
 abbrev pub new_key : {A : Type 0} → Tree → Entries → ℕ → Result A Fault → Result A Fault
@@ -67,9 +58,9 @@ module _ {S : Type 0} (port : Port S) (t : Tables) where
   value_step read kinds.Int = made int (plain (signed_at w32))
   value_step read kinds.Long = made long (plain (signed_at w64))
   value_step read kinds.Text = made text (plain text_at)
-  value_step read (kinds.Seq at) = λ s r. listed (slice_get t.seqs at) r (λ q. made sequence (sized (each_at (read q.element))) s r)
+  value_step read (kinds.Seq at) = λ s r. listed (slice_get t.seqs at) r (λ q. made sequence (sized (λ n. each_at read (replicate n q.element))) s r)
   value_step read (kinds.Dict at) = λ s r. listed (slice_get t.dicts at) r (λ d. made dictionary (sized (λ n. pairs_at (read d.key) (read d.value) n no_entry)) s r)
-  value_step read (kinds.Struct at) = λ s r. listed (slice_get t.structs at) r (λ d. made struct (members_at read d.members) s r)
+  value_step read (kinds.Struct at) = λ s r. listed (slice_get t.structs at) r (λ d. made struct (each_at read (map (λ m. m.kind) d.members)) s r)
 
   -- No type of a schema nests deeper than a hundred levels, so it is read within them.
   abbrev pub value_at : ℕ → TypeRef → Reader S Tree

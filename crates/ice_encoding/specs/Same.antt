@@ -1,7 +1,6 @@
 -- When two values are the same one: the pairs of a dictionary may stand in any order.
 use Rattle.std.specs.Prelude.{◌≡◌, ◌⊎◌}
 use Rattle.ice_encoding.specs.Tree.{Tree, boolean, byte, short, int, long, text, sequence, dictionary, struct, Trees, none, tree, Entries, no_entry, entry, entry_count}
-use Rattle.ice_encoding.specs.Order.{IsRising}
 
 -- some pair has such a key and such a value
 abbrev pub SomePair : (Tree → Type 0) → (Tree → Type 0) → Entries → Type 0
@@ -30,24 +29,3 @@ abbrev mutual
   pub AreAmong : Entries → Entries → Type 0
   AreAmong no_entry pairs = Unit {0}
   AreAmong (entry k v rest) pairs = SomePair (Same k) (Same v) pairs × AreAmong rest pairs
-
--- the keys of each dictionary in the value rise
-abbrev mutual
-  pub IsOrdered : Tree → Type 0
-  IsOrdered (boolean b) = Unit {0}
-  IsOrdered (byte n) = Unit {0}
-  IsOrdered (short z) = Unit {0}
-  IsOrdered (int z) = Unit {0}
-  IsOrdered (long z) = Unit {0}
-  IsOrdered (text s) = Unit {0}
-  IsOrdered (sequence items) = EachOrdered items
-  IsOrdered (dictionary pairs) = IsRising pairs × PairsOrdered pairs
-  IsOrdered (struct members) = EachOrdered members
-
-  pub EachOrdered : Trees → Type 0
-  EachOrdered none = Unit {0}
-  EachOrdered (tree v vs) = IsOrdered v × EachOrdered vs
-
-  pub PairsOrdered : Entries → Type 0
-  PairsOrdered no_entry = Unit {0}
-  PairsOrdered (entry k v rest) = IsOrdered k × IsOrdered v × PairsOrdered rest

@@ -1,11 +1,10 @@
 -- Which bytes spell a value of a type that nests at most so deep, from a state to a state.
-use Rattle.std.specs.Prelude.{ℕ, zero, suc, ◌≡◌, List, [], ◌∷◌, ◌++◌, Some, slice_get}
+use Rattle.std.specs.Prelude.{ℕ, zero, suc, ◌≡◌, List, [], ◌∷◌, ◌++◌, map, replicate, Some, slice_get}
 use Rattle.std.specs.Int.{w16, w32, w64}
 use Rattle.ice_types.specs.declared.kind.TypeRef.{TypeRef}
 use Rattle.ice_types.specs.declared.kind.TypeRef.TheVariants as kinds
 use Rattle.ice_types.specs.declared.declarations.SeqDecl.{SeqDecl}
 use Rattle.ice_types.specs.declared.declarations.DictDecl.{DictDecl}
-use Rattle.ice_types.specs.declared.declarations.Member.{Member}
 use Rattle.ice_types.specs.declared.declarations.StructDecl.{StructDecl}
 use Rattle.ice_types.specs.Tables.{Tables}
 use Rattle.ice_prims.specs.Number.{SpellsBool, SpellsByte, SpellsSigned, SpellsSize, SpellsText}
@@ -25,17 +24,11 @@ Made {S} {A} make Spells bytes v from to = (x : A) × (v ≡ make x) × Spells b
 abbrev pub Sized : {S A : Type 0} → (ℕ → Speller S A) → Speller S A
 Sized Spells bytes x from to = (n : ℕ) × (front body : List ℕ) × (bytes ≡ front ++ body) × SpellsSize front n × Spells n body x from to
 
--- so many items, one after the other
-abbrev pub Each : {S : Type 0} → Speller S Tree → ℕ → Speller S Trees
-Each {S} One zero bytes items from to = (bytes ≡ []) × (items ≡ none) × (to ≡ from)
-Each {S} One (suc n) bytes items from to = (v : Tree) × (vs : Trees) × (a b : List ℕ) × (mid : S)
-    × (items ≡ tree v vs) × (bytes ≡ a ++ b) × One a v from mid × Each One n b vs mid to
-
--- the members of a struct, one after the other
-abbrev pub Members : {S : Type 0} → (TypeRef → Speller S Tree) → List Member → Speller S Trees
-Members {S} One [] bytes items from to = (bytes ≡ []) × (items ≡ none) × (to ≡ from)
-Members {S} One (m ∷ ms) bytes items from to = (v : Tree) × (vs : Trees) × (a b : List ℕ) × (mid : S)
-    × (items ≡ tree v vs) × (bytes ≡ a ++ b) × One m.kind a v from mid × Members One ms b vs mid to
+-- values of these types, one after the other
+abbrev pub Each : {S : Type 0} → (TypeRef → Speller S Tree) → List TypeRef → Speller S Trees
+Each {S} One [] bytes values from to = (bytes ≡ []) × (values ≡ none) × (to ≡ from)
+Each {S} One (kind ∷ others) bytes values from to = (v : Tree) × (vs : Trees) × (a b : List ℕ) × (mid : S)
+    × (values ≡ tree v vs) × (bytes ≡ a ++ b) × One kind a v from mid × Each One others b vs mid to
 
 -- So many pairs beside those before, in any order. No key is one of those before.
 abbrev pub Pairs : {S : Type 0} → Speller S Tree → Speller S Tree → ℕ → Entries → Speller S Entries
@@ -52,10 +45,10 @@ module _ {S : Type 0} (port : Port S) (t : Tables) where
   SpellsParts One kinds.Int = Made int (Plain (SpellsSigned w32))
   SpellsParts One kinds.Long = Made long (Plain (SpellsSigned w64))
   SpellsParts One kinds.Text = Made text (Plain SpellsText)
-  SpellsParts One (kinds.Seq at) = λ bytes v from to. (q : SeqDecl) × (slice_get t.seqs at ≡ Some q) × Made sequence (Sized (Each (One q.element))) bytes v from to
+  SpellsParts One (kinds.Seq at) = λ bytes v from to. (q : SeqDecl) × (slice_get t.seqs at ≡ Some q) × Made sequence (Sized (λ n. Each One (replicate n q.element))) bytes v from to
   SpellsParts One (kinds.Dict at) = λ bytes v from to. (d : DictDecl) × (slice_get t.dicts at ≡ Some d)
       × Made dictionary (Sized (λ n. Pairs (One d.key) (One d.value) n no_entry)) bytes v from to
-  SpellsParts One (kinds.Struct at) = λ bytes v from to. (d : StructDecl) × (slice_get t.structs at ≡ Some d) × Made struct (Members One d.members) bytes v from to
+  SpellsParts One (kinds.Struct at) = λ bytes v from to. (d : StructDecl) × (slice_get t.structs at ≡ Some d) × Made struct (Each One (map (λ m. m.kind) d.members)) bytes v from to
 
   abbrev pub SpellsValue : ℕ → TypeRef → Speller S Tree
   SpellsValue zero kind = λ bytes v from to. ⊥

@@ -30,3 +30,19 @@ tree_count (tree v vs) = suc (tree_count vs)
 abbrev pub entry_count : Entries → ℕ
 entry_count no_entry = 0
 entry_count (entry k v rest) = suc (entry_count rest)
+
+-- what holds of a value and of each value in it, the keys among them
+abbrev mutual
+  pub Everywhere : (Tree → Type 0) → Tree → Type 0
+  Everywhere P (sequence items) = P (sequence items) × InEach P items
+  Everywhere P (dictionary pairs) = P (dictionary pairs) × InPairs P pairs
+  Everywhere P (struct members) = P (struct members) × InEach P members
+  Everywhere P v = P v
+
+  pub InEach : (Tree → Type 0) → Trees → Type 0
+  InEach P none = Unit {0}
+  InEach P (tree v vs) = Everywhere P v × InEach P vs
+
+  pub InPairs : (Tree → Type 0) → Entries → Type 0
+  InPairs P no_entry = Unit {0}
+  InPairs P (entry k v rest) = Everywhere P k × Everywhere P v × InPairs P rest

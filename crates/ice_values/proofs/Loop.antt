@@ -1,5 +1,5 @@
 -- Reading values one after the other, as a loop does.
-use Rattle.std.proofs.Common.{◌≡◌, ℕ, zero, suc, true, false, length, get_or, drop, ◌-◌, ◌+◌, ◌≤◌, ◌<◌, List, [], ◌∷◌, ◌++◌, Result, Ok, Err, refl, sym, ap, ◌∙◌, arith}
+use Rattle.std.proofs.Common.{◌≡◌, ℕ, zero, suc, true, false, length, get_or, drop, map, replicate, ◌-◌, ◌+◌, ◌≤◌, ◌<◌, List, [], ◌∷◌, ◌++◌, Result, Ok, Err, refl, sym, ap, ◌∙◌, arith}
 use Rattle.std.proofs.lemmas.List.{drop_more}
 use Rattle.ice_prims.specs.declared.fault.Fault.{Fault}
 use Rattle.ice_prims.specs.declared.fault.ReadFault.{ReadFault}
@@ -11,7 +11,7 @@ use Rattle.ice_types.specs.declared.kind.TypeRef.{TypeRef}
 use Rattle.ice_types.specs.declared.declarations.Member.{Member}
 use Rattle.ice_encoding.specs.Port.{Reader}
 use Rattle.ice_encoding.specs.Order.{has_key, insert}
-use Rattle.ice_encoding.specs.Reading.{each_at, members_at, pairs_at}
+use Rattle.ice_encoding.specs.Reading.{each_at, pairs_at}
 use Rattle.ice_encoding.specs.Tree.{Tree, Trees, none, tree, Entries}
 use Rattle.graph_arena.specs.View.{trees_of}
 
@@ -42,59 +42,45 @@ regroup : {S : Type 0} (front : Trees) (t : Tree) (read : Result (Trees × S × 
 regroup {S} front t (Ok x) = ap (λ (ts : Trees). answer {S = S} (ts, x.1, x.2)) (join-tree front t x.0)
 regroup front t (Err f) = refl
 
-module _ {S : Type 0} (one : Reader S Tree) where
-  pub goes_on : (front : Trees) (count i : ℕ) (s mid : S) (r after : Rest) (t : Tree) (total : Result (Trees × S × Rest) Fault) → i < count → one s r ≡ Ok (t, mid, after)
-      → with_front front (each_at one (count - i) s r) ≡ total → with_front (join front (tree t none)) (each_at one (count - (i + 1)) mid after) ≡ total
-  goes_on front count i s mid r after t total lt h so_far =
-      let k : count - i ≡ suc (count - (i + 1)) = omega arith in
-      let first : with_front front (each_at one (count - i) s r) ≡ with_front (join front (tree t none)) (each_at one (count - (i + 1)) mid after) = rw (k, h) (regroup front t (each_at one (count - (i + 1)) mid after)) in
+-- Of the types that are left the first is this one, and these are behind it.
+module _ {S : Type 0} (of : TypeRef → Reader S Tree) (kind : TypeRef) (left behind : List TypeRef) (is : left ≡ kind ∷ behind) (front : Trees) (s : S) (r : Rest)
+    (total : Result (Trees × S × Rest) Fault) (so_far : with_front front (each_at of left s r) ≡ total) where
+  pub goes_on : (mid : S) (after : Rest) (t : Tree) → of kind s r ≡ Ok (t, mid, after) → with_front (join front (tree t none)) (each_at of behind mid after) ≡ total
+  goes_on mid after t h =
+      let first : with_front front (each_at of left s r) ≡ with_front (join front (tree t none)) (each_at of behind mid after) = rw (is, h) (regroup front t (each_at of behind mid after)) in
       sym first ∙ so_far
 
-  pub ends : (e : ReadFault) (front : Trees) (count i : ℕ) (s : S) (r : Rest) (total : Result (Trees × S × Rest) Fault) → i < count → Fails e (one s r)
-      → with_front front (each_at one (count - i) s r) ≡ total → Fails e total
-  ends faults.Memory front count i s r total lt h so_far = tt
-  ends (faults.Broken f) front count i s r total lt h so_far =
-      let k : count - i ≡ suc (count - (i + 1)) = omega arith in
-      let first : with_front front (each_at one (count - i) s r) ≡ Err f = rw (k, h) refl in
+  pub ends : (e : ReadFault) → Fails e (of kind s r) → Fails e total
+  ends faults.Memory h = tt
+  ends (faults.Broken f) h =
+      let first : with_front front (each_at of left s r) ≡ Err f = rw (is, h) refl in
       sym so_far ∙ first
 
-  pub is_done : (front : Trees) (count i : ℕ) (s : S) (r : Rest) (total : Result (Trees × S × Rest) Fault) → count ≤ i → with_front front (each_at one (count - i) s r) ≡ total → total ≡ Ok (front, s, r)
-  is_done front count i s r total le so_far =
-      let k : count - i ≡ 0 = omega arith in
-      let first : with_front front (each_at one (count - i) s r) ≡ Ok (front, s, r) = rw (k, join-none front) refl in
-      sym so_far ∙ first
-
--- ---- the members of a struct
-
-next_member : (ms : List Member) (i : ℕ) (m : Member) → i < length ms → m ≡ get_or ms i m → drop i ms ≡ m ∷ drop (i + 1) ms
-next_member ms i m lt is = drop_more ms i m lt ∙ ap (λ (x : Member). x ∷ drop (i + 1) ms) (sym is)
-
-module _ {S : Type 0} (of : TypeRef → Reader S Tree) (ms : List Member) (i : ℕ) (m : Member) (lt : i < length ms) (is : m ≡ get_or ms i m) (front : Trees) (s : S) (r : Rest)
-    (total : Result (Trees × S × Rest) Fault) (so_far : with_front front (members_at of (drop i ms) s r) ≡ total) where
-  pub members_go_on : (mid : S) (after : Rest) (t : Tree) → of m.kind s r ≡ Ok (t, mid, after) → with_front (join front (tree t none)) (members_at of (drop (i + 1) ms) mid after) ≡ total
-  members_go_on mid after t h =
-      let first : with_front front (members_at of (drop i ms) s r) ≡ with_front (join front (tree t none)) (members_at of (drop (i + 1) ms) mid after) =
-      rw (next_member ms i m lt is, h) (regroup front t (members_at of (drop (i + 1) ms) mid after)) in
-      sym first ∙ so_far
-
-  pub members_end : (e : ReadFault) → Fails e (of m.kind s r) → Fails e total
-  members_end faults.Memory h = tt
-  members_end (faults.Broken f) h =
-      let first : with_front front (members_at of (drop i ms) s r) ≡ Err f = rw (next_member ms i m lt is, h) refl in
-      sym so_far ∙ first
-
--- where the members are at their end
-pub members_done : {S : Type 0} (of : TypeRef → Reader S Tree) (ms : List Member) (i : ℕ) (front : Trees) (s : S) (r : Rest) (total : Result (Trees × S × Rest) Fault) → length ms ≤ i
-    → with_front front (members_at of (drop i ms) s r) ≡ total → total ≡ Ok (front, s, r)
-members_done of ms i front s r total le so_far =
-    let first : with_front front (members_at of (drop i ms) s r) ≡ Ok (front, s, r) = rw (none_left ms i le, join-none front) refl in
+pub is_done : {S : Type 0} (of : TypeRef → Reader S Tree) (left : List TypeRef) (front : Trees) (s : S) (r : Rest) (total : Result (Trees × S × Rest) Fault) → left ≡ []
+    → with_front front (each_at of left s r) ≡ total → total ≡ Ok (front, s, r)
+is_done of left front s r total is so_far =
+    let first : with_front front (each_at of left s r) ≡ Ok (front, s, r) = rw (is, join-none front) refl in
     sym so_far ∙ first
-  where
-    none_left : (ms : List Member) (i : ℕ) → length ms ≤ i → drop i ms ≡ []
-    none_left [] zero le = refl
-    none_left [] (suc i) le = refl
-    none_left (m ∷ ms) zero le = absurd (omega (arith, le))
-    none_left (m ∷ ms) (suc i) le = none_left ms i (omega (arith, le))
+
+-- ---- the types of items, and those of members
+
+pub item_left : (count i : ℕ) (kind : TypeRef) → i < count → replicate (count - i) kind ≡ kind ∷ replicate (count - (i + 1)) kind
+item_left count i kind lt = let n : count - i ≡ suc (count - (i + 1)) = omega arith in ap (λ (n : ℕ). replicate n kind) n
+
+pub no_item_left : (count i : ℕ) (kind : TypeRef) → count ≤ i → replicate (count - i) kind ≡ []
+no_item_left count i kind le = let n : count - i ≡ 0 = omega arith in ap (λ (n : ℕ). replicate n kind) n
+
+abbrev pub kinds_of : List Member → List TypeRef
+kinds_of ms = map (λ m. m.kind) ms
+
+pub member_left : (ms : List Member) (i : ℕ) (m : Member) → i < length ms → m ≡ get_or ms i m → kinds_of (drop i ms) ≡ m.kind ∷ kinds_of (drop (i + 1) ms)
+member_left ms i m lt is = ap kinds_of (drop_more ms i m lt ∙ ap (λ (x : Member). x ∷ drop (i + 1) ms) (sym is))
+
+pub no_member_left : (ms : List Member) (i : ℕ) → length ms ≤ i → kinds_of (drop i ms) ≡ []
+no_member_left [] zero le = refl
+no_member_left [] (suc i) le = refl
+no_member_left (m ∷ ms) zero le = absurd (omega (arith, le))
+no_member_left (m ∷ ms) (suc i) le = no_member_left ms i (omega (arith, le))
 
 -- ---- pairs, each put at its place
 

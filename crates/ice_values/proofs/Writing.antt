@@ -2,8 +2,8 @@
 use Rattle.std.proofs.Common.{◌≡◌, ℕ, zero, suc, ◌+◌, ◌<◌, ◌^◌, List, [], ◌∷◌, ◌++◌, length, map, get_or, take, refl, sym, ap, subst, ◌∙◌, append_assoc, arith}
 use Rattle.std.proofs.lemmas.List.{append-nil, map_push, take_more, length-map}
 use Rattle.ice_prims.specs.Bytes.{size_bytes, Grows}
-use Rattle.ice_encoding.specs.Tree.{Tree, sequence, dictionary, tree_count, entry_count}
-use Rattle.ice_encoding.specs.Canonical.{canonical, canonical_each, canonical_pairs, HasSizes, EachHasSizes, PairsHaveSizes}
+use Rattle.ice_encoding.specs.Tree.{Tree, sequence, dictionary, tree_count, entry_count, InEach, InPairs}
+use Rattle.ice_encoding.specs.Canonical.{canonical, canonical_each, canonical_pairs, HasSize, HasSizes}
 use Rattle.graph_arena.specs.declared.value.Value.{Value}
 use Rattle.graph_arena.specs.declared.value.Value.TheVariants as variants
 use Rattle.graph_arena.proofs.Shapes.{view_seq, view_dict}
@@ -32,7 +32,7 @@ seq_written vs ws n old mid new same len front body =
     body ∙ ap (λ (l : List Value). mid ++ canonical_each (view_all l)) same ∙ ap (λ (l : List ℕ). l ++ canonical_each (view_all vs)) (front ∙ ap (λ (m : ℕ). old ++ size_bytes m) size) ∙ append_assoc old (size_bytes (tree_count (view_all vs))) (canonical_each (view_all vs))
 
 -- each value of those has sizes
-pub sizes_at : (vs : List Value) (i : ℕ) (v : Value) → i < length vs → v ≡ get_or vs i v → EachHasSizes (view_all vs) → HasSizes (view v)
+pub sizes_at : (vs : List Value) (i : ℕ) (v : Value) → i < length vs → v ≡ get_or vs i v → InEach HasSize (view_all vs) → HasSizes (view v)
 sizes_at [] i v lt is h = absurd (omega arith)
 sizes_at (x ∷ vs) zero v lt is h = rw is h.0
 sizes_at (x ∷ vs) (suc i) v lt is h = sizes_at vs i v (omega arith) is h.1
@@ -42,7 +42,7 @@ pub Grows-then : (old mid new more : List ℕ) → mid ≡ old ++ more → Grows
 Grows-then old mid new more is h = (more ++ h.0, h.1 ∙ ap (λ (l : List ℕ). l ++ h.0) is ∙ append_assoc old more h.0)
 
 -- a sequence has sizes where its count and its items have
-pub seq_sizes : (value : Value) (items : List Value) → value ≡ variants.Seq items → HasSizes (view value) → (length items < 2 ^ 31) × EachHasSizes (view_all items)
+pub seq_sizes : (value : Value) (items : List Value) → value ≡ variants.Seq items → HasSizes (view value) → (length items < 2 ^ 31) × InEach HasSize (view_all items)
 seq_sizes value items is h =
     let shape : view value ≡ sequence (view_all items) = ap view is ∙ view_seq items in
     let sizes : HasSizes (sequence (view_all items)) = subst HasSizes shape h in
@@ -73,12 +73,12 @@ dict_written ps qs n old mid new same len front body =
     body ∙ ap (λ (l : List (Value × Value)). mid ++ canonical_pairs (view_pairs l)) same ∙ ap (λ (l : List ℕ). l ++ canonical_pairs (view_pairs ps)) (front ∙ ap (λ (m : ℕ). old ++ size_bytes m) size) ∙ append_assoc old (size_bytes (entry_count (view_pairs ps))) (canonical_pairs (view_pairs ps))
 
 -- the sizes of one pair
-pub pair_sizes_at : (ps : List (Value × Value)) (i : ℕ) (p : Value × Value) → i < length ps → p ≡ get_or ps i p → PairsHaveSizes (view_pairs ps) → HasSizes (view p.0) × HasSizes (view p.1)
+pub pair_sizes_at : (ps : List (Value × Value)) (i : ℕ) (p : Value × Value) → i < length ps → p ≡ get_or ps i p → InPairs HasSize (view_pairs ps) → HasSizes (view p.0) × HasSizes (view p.1)
 pair_sizes_at [] i p lt is h = absurd (omega arith)
 pair_sizes_at (x ∷ ps) zero p lt is h = rw is (h.0, h.1)
 pair_sizes_at (x ∷ ps) (suc i) p lt is h = pair_sizes_at ps i p (omega arith) is h.2
 
-pub dict_sizes : (value : Value) (pairs : List (Value × Value)) → value ≡ variants.Pairs pairs → HasSizes (view value) → (length pairs < 2 ^ 31) × PairsHaveSizes (view_pairs pairs)
+pub dict_sizes : (value : Value) (pairs : List (Value × Value)) → value ≡ variants.Pairs pairs → HasSizes (view value) → (length pairs < 2 ^ 31) × InPairs HasSize (view_pairs pairs)
 dict_sizes value pairs is h =
     let shape : view value ≡ dictionary (view_pairs pairs) = ap view is ∙ view_dict pairs in
     let sizes : HasSizes (dictionary (view_pairs pairs)) = subst HasSizes shape h in

@@ -1,9 +1,9 @@
 //! A value of a type from bytes.
 
-ghost use Rattle.std.specs.Prelude.{◌≡◌};
+ghost use Rattle.std.specs.Prelude.{◌≡◌, map, replicate};
 ghost use Rattle.ice_prims.specs.Taking.{TakesUnlessMemory};
 ghost use Rattle.ice_encoding.specs.Port.{no_references};
-ghost use Rattle.ice_encoding.specs.Reading.{value_at, value_step, each_at, members_at, pairs_at};
+ghost use Rattle.ice_encoding.specs.Reading.{value_at, value_step, each_at, pairs_at};
 ghost use Rattle.ice_encoding.specs.Tree.{no_entry};
 ghost use Rattle.ice_encoding.specs.Value.{plain_value_at};
 ghost use Rattle.graph_arena.specs.View.{view, view_all, view_pairs};
@@ -119,7 +119,7 @@ fn read_each(
     count: u32,
     cursor: &mut Cursor<'_>,
 ) -> Result<List<Value>, ReadFault>
-    ensures { Reads view_all result cursor.new (each_at (value_at no_references schema.now levels kind) count tt cursor.old) }
+    ensures { Reads view_all result cursor.new (each_at (value_at no_references schema.now levels) (replicate count kind) tt cursor.old) }
 {
     let mut items = List::new(alloc);
     for _ in 0..count {
@@ -138,7 +138,7 @@ fn read_members(
     members: &[Member],
     cursor: &mut Cursor<'_>,
 ) -> Result<List<Value>, ReadFault>
-    ensures { Reads view_all result cursor.new (members_at (value_at no_references schema.now levels) members.now tt cursor.old) }
+    ensures { Reads view_all result cursor.new (each_at (value_at no_references schema.now levels) (map (λ m. m.kind) members.now) tt cursor.old) }
 {
     let mut items = Vec::with_capacity(alloc, members.len())?;
     for member in members {

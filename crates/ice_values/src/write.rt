@@ -2,7 +2,8 @@
 
 ghost use Rattle.std.specs.Prelude.{◌≡◌, ◌++◌, OnOk, OnErr};
 ghost use Rattle.ice_prims.specs.Bytes.{Grows};
-ghost use Rattle.ice_encoding.specs.Canonical.{canonical, canonical_each, canonical_pairs, HasSizes, EachHasSizes, PairsHaveSizes};
+ghost use Rattle.ice_encoding.specs.Tree.{InEach, InPairs};
+ghost use Rattle.ice_encoding.specs.Canonical.{canonical, canonical_each, canonical_pairs, HasSize, HasSizes};
 ghost use Rattle.graph_arena.specs.View.{view, view_all, view_pairs};
 
 use graph_arena::Value;
@@ -55,7 +56,7 @@ fn append(value: &Value, out: &mut Vec<u8>) -> Result<(), AllocError>
 /// Values one after the other.
 #[cycle(values)]
 fn append_each(items: &[Value], out: &mut Vec<u8>) -> Result<(), AllocError>
-    requires { EachHasSizes (view_all items.now) }
+    requires { InEach HasSize (view_all items.now) }
     ensures ok { OnOk result (out.new.items ≡ out.old.items ++ canonical_each (view_all items.now)) }
     ensures err { OnErr result (Grows out.old.items out.new.items) }
 {
@@ -68,7 +69,7 @@ fn append_each(items: &[Value], out: &mut Vec<u8>) -> Result<(), AllocError>
 /// Pairs one after the other, each key before its value.
 #[cycle(values)]
 fn append_pairs(pairs: &[(Value, Value)], out: &mut Vec<u8>) -> Result<(), AllocError>
-    requires { PairsHaveSizes (view_pairs pairs.now) }
+    requires { InPairs HasSize (view_pairs pairs.now) }
     ensures ok { OnOk result (out.new.items ≡ out.old.items ++ canonical_pairs (view_pairs pairs.now)) }
     ensures err { OnErr result (Grows out.old.items out.new.items) }
 {

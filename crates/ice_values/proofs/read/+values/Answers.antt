@@ -1,26 +1,27 @@
-use Rattle.std.proofs.Common.{◌≡◌, ℕ, suc, true, false, ◌-◌, rules, refl, sym, ap, subst, ◌∙◌, arith}
+use Rattle.std.proofs.Common.{◌≡◌, ℕ, suc, true, false, ◌+◌, ◌-◌, drop, replicate, rules, refl, sym, ap, subst, ◌∙◌, arith}
 use Rattle.std.proofs.lemmas.List.{map_push}
 use Rattle.ice_encoding.specs.Port.{no_references}
-use Rattle.ice_encoding.specs.Reading.{value_at, each_at, members_at}
+use Rattle.ice_encoding.specs.Reading.{value_at, each_at}
 use Rattle.ice_encoding.specs.Tree.{none, tree}
 use Rattle.graph_arena.specs.View.{view, view_all, view_pairs}
 use Rattle.ice_values.specs.Reads.{Reads}
 use Rattle.ice_encoding.specs.Order.{tree_cmp, has_key, insert}
 use Rattle.std.specs.Ordering.{on}
-use Rattle.ice_values.proofs.Loop.{join, trees-push, goes_on, is_done, members_go_on, members_done, pairs_go_on, pairs_refused, pairs_value_fails}
+use Rattle.ice_values.proofs.Loop.{join, trees-push, goes_on, is_done, item_left, no_item_left, kinds_of, member_left, no_member_left, pairs_go_on, pairs_refused, pairs_value_fails}
 use Rattle.graph_arena.proofs.Sorting.{found_is, put_is}
 use Rattle.ice_values.proofs.read.+values.Goals as goal
 
 pub read_each-loop-preserved : goal.read_each-loop-preserved
 read_each-loop-preserved t c =
-    let one = value_at no_references c.args.schema.now c.args.levels c.args.kind in
+    let of = value_at no_references c.args.schema.now c.args.levels in
     let pushed : view_all c.push.new.self ≡ join (view_all c.loop.items) (tree (view c.in_ok-item.item) none) = rw (c.in_ok-push.ensures.ok, map_push view c.loop.items c.in_ok-item.item) (trees-push _ _) in
-    rw pushed (goes_on one (view_all c.loop.items) c.args.count c.loop.counter tt tt c.loop.cursor c.read_level.new.cursor (view c.in_ok-item.item) (each_at one c.args.count tt c.args.cursor.now) c.loop-test.true c.in_ok-item.ensures c.loop.invariant)
+    rw pushed (goes_on of c.args.kind (replicate (c.args.count - c.loop.counter) c.args.kind) (replicate (c.args.count - (c.loop.counter + 1)) c.args.kind) (item_left c.args.count c.loop.counter c.args.kind c.loop-test.true) (view_all c.loop.items) tt c.loop.cursor
+    (each_at of (replicate c.args.count c.args.kind) tt c.args.cursor.now) c.loop.invariant tt c.read_level.new.cursor (view c.in_ok-item.item) c.in_ok-item.ensures)
 
 pub read_each-returns : goal.read_each-returns
 read_each-returns t c =
-    let one = value_at no_references c.args.schema.now c.args.levels c.args.kind in
-    is_done one (view_all c.loop.items) c.args.count c.loop.counter tt c.loop.cursor (each_at one c.args.count tt c.args.cursor.now) c.loop-test.false c.loop.invariant
+    let of = value_at no_references c.args.schema.now c.args.levels in
+    is_done of (replicate (c.args.count - c.loop.counter) c.args.kind) (view_all c.loop.items) tt c.loop.cursor (each_at of (replicate c.args.count c.args.kind) tt c.args.cursor.now) (no_item_left c.args.count c.loop.counter c.args.kind c.loop-test.false) c.loop.invariant
 
 pub read_level-returns : goal.read_level-returns
 read_level-returns t c =
@@ -48,10 +49,11 @@ pub read_members-loop-member-preserved : goal.read_members-loop-member-preserved
 read_members-loop-member-preserved t c =
     let of = value_at no_references c.args.schema.now c.args.levels in
     let pushed : view_all c.push.new.self.items ≡ join (view_all c.loop-member.items.items) (tree (view c.in_ok-item.item) none) = rw (c.in_ok-push.ensures.items, map_push view c.loop-member.items.items c.in_ok-item.item) (trees-push _ _) in
-    rw pushed (members_go_on of c.args.members.now c.loop-member.member-index c.member-item.result c.loop-member-test.true c.member-item.is (view_all c.loop-member.items.items) tt c.loop-member.cursor
-    (members_at of c.args.members.now tt c.args.cursor.now) c.loop-member.invariant tt c.read_level.new.cursor (view c.in_ok-item.item) c.in_ok-item.ensures)
+    let left = member_left c.args.members.now c.loop-member.member-index c.member-item.result c.loop-member-test.true c.member-item.is in
+    rw pushed (goes_on of c.member-item.result.kind (kinds_of (drop c.loop-member.member-index c.args.members.now)) (kinds_of (drop (c.loop-member.member-index + 1) c.args.members.now)) left (view_all c.loop-member.items.items) tt c.loop-member.cursor
+    (each_at of (kinds_of c.args.members.now) tt c.args.cursor.now) c.loop-member.invariant tt c.read_level.new.cursor (view c.in_ok-item.item) c.in_ok-item.ensures)
 
 pub read_members-returns : goal.read_members-returns
 read_members-returns t c =
     let of = value_at no_references c.args.schema.now c.args.levels in
-    rw c.from_vec.ensures (members_done of c.args.members.now c.loop-member.member-index (view_all c.loop-member.items.items) tt c.loop-member.cursor (members_at of c.args.members.now tt c.args.cursor.now) c.loop-member-test.false c.loop-member.invariant)
+    rw c.from_vec.ensures (is_done of (kinds_of (drop c.loop-member.member-index c.args.members.now)) (view_all c.loop-member.items.items) tt c.loop-member.cursor (each_at of (kinds_of c.args.members.now) tt c.args.cursor.now) (no_member_left c.args.members.now c.loop-member.member-index c.loop-member-test.false) c.loop-member.invariant)

@@ -1,6 +1,6 @@
 use Rattle.std.proofs.Common.{◌≡◌, ℕ, ◌≤◌, take, max, rules, ap, sym, subst, arith, ◌∙◌}
 use Rattle.ice_prims.specs.Bytes.{Grows}
-use Rattle.ice_encoding.specs.Canonical.{canonical, canonical_pairs}
+use Rattle.ice_encoding.specs.Canonical.{canonical, canonical_each, canonical_pairs}
 use denote.Param.Weighed.{most, at_most}
 use Rattle.ice_encoding.specs.Tree.{sequence, dictionary}
 use Rattle.graph_arena.proofs.value.Value.TheLaws.{the_size}
@@ -26,6 +26,11 @@ append_each-append-requires t c =
 pub append_each-loop-item-preserved : goal.append_each-loop-item-preserved
 append_each-loop-item-preserved t c =
     item_more c.args.items.now c.loop-item.item-index c.item-item.result c.args.out.now.items c.loop-item.out.items c.append.new.out.items c.loop-item-test.true c.item-item.is c.loop-item.invariant c.in_ok-append.ensures.ok
+
+pub append_each-returns-in_err-append-clause-err : goal.append_each-returns-in_err-append-clause-err
+append_each-returns-in_err-append-clause-err t c =
+    let grown : Grows c.args.out.now.items c.append.new.out.items = Grows-then c.args.out.now.items c.loop-item.out.items c.append.new.out.items (canonical_each (view_all (take c.loop-item.item-index c.args.items.now))) c.loop-item.invariant c.in_err-append.ensures.err in
+    search (rules, grown)
 
 pub append-returns-in_ok-append_each-in-Seq-clause-ok : goal.append-returns-in_ok-append_each-in-Seq-clause-ok
 append-returns-in_ok-append_each-in-Seq-clause-ok t c =
