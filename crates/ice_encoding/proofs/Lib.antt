@@ -4,6 +4,7 @@ pub mod Same
 pub mod Values
 pub mod Canonical
 pub mod Sizes
+pub mod Smallest
 pub mod Plain
 pub mod Encapsulations
 pub mod Samples

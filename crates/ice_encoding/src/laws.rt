@@ -1,7 +1,9 @@
 //! What the definitions promise of each other, one law a function.
 
-ghost use Rattle.std.specs.Prelude.{◌≡◌, ◌≢◌, ◌↔◌, ◌++◌, ℕ, List, Ok, length};
+ghost use Rattle.std.specs.Prelude.{◌≡◌, ◌≢◌, ◌≤◌, ◌↔◌, ◌++◌, ℕ, List, Some, Ok, length};
 ghost use Rattle.ice_types.specs.Tables.{Tables};
+ghost use Rattle.ice_types.specs.Measures.{measure, fixed_size};
+ghost use Rattle.ice_types.specs.declared.measure.Measure.{Measure};
 ghost use Rattle.ice_types.specs.declared.kind.TypeRef.{TypeRef};
 ghost use Rattle.ice_prims.specs.Rest.{IsBytes, whole};
 ghost use Rattle.ice_prims.specs.Laws.{FoundPart, OnlyPart};
@@ -91,4 +93,19 @@ pub fn relaying_again()
     ensures { (t : Tables) (kind : TypeRef) (bytes : List ℕ) (v w : Tree)
         → IsBytes bytes → SpellsEncapsulation t kind bytes v
         → SpellsEncapsulation t kind (encapsulation_bytes v) w → encapsulation_bytes w ≡ encapsulation_bytes v }
+{}
+
+/// The smallest spelling of a type is as long as the schema says: none is shorter, and one is no
+/// longer.
+pub fn smallest_spellings()
+    ensures least { (t : Tables) (kind : TypeRef) (m : Measure) (bytes : List ℕ) (v : Tree)
+        → measure t 100 kind ≡ Some m → SpellsPlainValue t kind bytes v → m.smallest ≤ length bytes }
+    ensures met { (t : Tables) (kind : TypeRef) (m : Measure)
+        → measure t 100 kind ≡ Some m → (bytes : List ℕ) × (v : Tree) × SpellsPlainValue t kind bytes v × (length bytes ≡ m.smallest) }
+{}
+
+/// Each spelling of a type of fixed size has that size.
+pub fn fixed_sizes()
+    ensures { (t : Tables) (kind : TypeRef) (n : ℕ) (bytes : List ℕ) (v : Tree)
+        → fixed_size t kind ≡ Some n → SpellsPlainValue t kind bytes v → length bytes ≡ n }
 {}

@@ -7,6 +7,6 @@ mod laws;
 
 pub use laws::{
     encapsulations_apart, encapsulations_canonical, encapsulations_found, encapsulations_only,
-    equal_values, pairs_in_any_order, relaying_again, values_apart, values_canonical, values_found,
-    values_have_sizes, values_only, values_ordered,
+    equal_values, fixed_sizes, pairs_in_any_order, relaying_again, smallest_spellings,
+    values_apart, values_canonical, values_found, values_have_sizes, values_only, values_ordered,
 };
