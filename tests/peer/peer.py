@@ -1,0 +1,68 @@
+"""Real Ice as a peer: has Ice for Python write values of a Slice text, and read them.
+
+An operation with one parameter is invoked on an object that keeps the bytes of its arguments: one encapsulation of the
+value, as Ice wrote it. The other way, an encapsulation is sent as the arguments of that operation to a servant that keeps
+the value. Both go over a connection on this machine.
+"""
+import importlib
+import os
+import tempfile
+
+import Ice
+
+# Operations stand in a module of their own, beside that of the types.
+OPERATIONS = "PeerOperations"
+
+
+class Bytes(Ice.Blobject):
+    """Keeps the arguments of the last invocation as they came."""
+
+    def ice_invoke(self, arguments, current):
+        self.got = bytes(arguments)
+        return True, b""
+
+
+class Peer:
+    """Real Ice with the types of one Slice text. A process has one of them, since Ice keeps what it loads."""
+
+    def __init__(self, text, module, names):
+        self.names = list(names)
+        with tempfile.TemporaryDirectory(prefix="ice-peer-") as folder:
+            with open(f"{folder}/types.ice", "wb") as file:
+                file.write(text)
+            operations = " ".join(f"void put{at}(::{module}::{name} v);" for at, name in enumerate(self.names))
+            with open(f"{folder}/operations.ice", "w") as file:
+                file.write(f'#include "types.ice"\nmodule {OPERATIONS} {{ interface Values {{ {operations} }}; }};\n')
+            Ice.loadSlice("", ["-I" + folder, "--all", f"{folder}/operations.ice"])
+        self.types = importlib.import_module(module)
+        operations = importlib.import_module(OPERATIONS)
+        self.communicator = Ice.initialize(["--Ice.MessageSizeMax=0"])
+        adapter = self.communicator.createObjectAdapterWithEndpoints("peer", "tcp -h 127.0.0.1")
+        self.bytes, self.values = Bytes(), self.servant(operations.Values)
+        self.writer = operations.ValuesPrx.uncheckedCast(self.remote(adapter, self.bytes, "bytes"))
+        self.reader = self.remote(adapter, self.values, "values")
+        adapter.activate()
+
+    def servant(self, interface):
+        """Returns a servant that keeps the value of the last invocation."""
+
+        def keep(self, value, current):
+            self.got = value
+
+        return type("Keeper", (interface,), {f"put{at}": keep for at in range(len(self.names))})()
+
+    def remote(self, adapter, servant, identity):
+        return adapter.add(servant, Ice.stringToIdentity(identity)).ice_collocationOptimized(False)
+
+    def written(self, name, value):
+        """Returns the encapsulation that Ice writes for a value of the type."""
+        getattr(self.writer, f"put{self.names.index(name)}")(value)
+        return self.bytes.got
+
+    def read(self, name, encapsulation):
+        """Returns the value that Ice reads from an encapsulation of the type."""
+        self.reader.ice_invoke(f"put{self.names.index(name)}", Ice.OperationMode.Normal, encapsulation)
+        return self.values.got
+
+    def close(self):
+        self.communicator.destroy()
