@@ -1,8 +1,9 @@
 //! What the definitions promise of each other, one law a function.
 
-ghost use Rattle.std.specs.Prelude.{◌≡◌, ◌≢◌, ◌≤◌, ◌↔◌, ◌++◌, ℕ, List, Some, Ok, length};
+ghost use Rattle.std.specs.Prelude.{◌≡◌, ◌≢◌, ◌<◌, ◌≤◌, ◌↔◌, ◌++◌, ℕ, List, None, Some, Ok, length};
 ghost use Rattle.ice_types.specs.Tables.{Tables};
 ghost use Rattle.ice_types.specs.Measures.{measure, fixed_size};
+ghost use Rattle.ice_types.specs.Rules.{IsSchema};
 ghost use Rattle.ice_types.specs.declared.measure.Measure.{Measure};
 ghost use Rattle.ice_types.specs.declared.kind.TypeRef.{TypeRef};
 ghost use Rattle.ice_prims.specs.Rest.{IsBytes, whole};
@@ -104,8 +105,11 @@ pub fn smallest_spellings()
         → measure t 100 kind ≡ Some m → (bytes : List ℕ) × (v : Tree) × SpellsPlainValue t kind bytes v × (length bytes ≡ m.smallest) }
 {}
 
-/// Each spelling of a type of fixed size has that size.
+/// Each spelling of a type of fixed size has that size; of every other type of a schema one spelling
+/// is longer than the smallest.
 pub fn fixed_sizes()
-    ensures { (t : Tables) (kind : TypeRef) (n : ℕ) (bytes : List ℕ) (v : Tree)
+    ensures fixed { (t : Tables) (kind : TypeRef) (n : ℕ) (bytes : List ℕ) (v : Tree)
         → fixed_size t kind ≡ Some n → SpellsPlainValue t kind bytes v → length bytes ≡ n }
+    ensures other { (t : Tables) (kind : TypeRef) (m : Measure) → IsSchema t → measure t 100 kind ≡ Some m → fixed_size t kind ≡ None
+        → (bytes : List ℕ) × (v : Tree) × SpellsPlainValue t kind bytes v × (m.smallest < length bytes) }
 {}
