@@ -1,17 +1,21 @@
 -- What the definitions answer at inputs that are written out, byte by byte.
-use Rattle.std.proofs.Common.{◌≡◌, ℕ, List, [], ◌∷◌, Ok, refl}
+use Rattle.std.proofs.Common.{◌≡◌, ℕ, zero, suc, true, false, List, [], ◌∷◌, ◌++◌, replicate, Ok, refl, inl, inr}
 use Rattle.std.specs.Prelude.{pos, negsuc, Result}
+use Rattle.std.specs.declared.cmp.Ordering.TheVariants.{Less}
 use Rattle.std.specs.Str.{is_utf8, chars}
 use lib.Utf8.{encode}
 use Rattle.ice_types.specs.declared.kind.TypeRef.{TypeRef}
 use Rattle.ice_types.specs.declared.kind.TypeRef.TheVariants as kinds
+use Rattle.ice_types.specs.declared.declarations.SeqDecl.{SeqDecl}
 use Rattle.ice_types.specs.declared.declarations.Member.{Member}
 use Rattle.ice_types.specs.Tables.{Tables}
 use Rattle.ice_prims.specs.declared.fault.Fault.{Fault}
 use Rattle.ice_prims.specs.declared.fault.Kind.TheVariants.{Short, TooLarge, BadSize, BadVersion, BadBool, BadText, EqualKey, LeftOver}
 use Rattle.ice_prims.specs.Rest.{fault, whole}
 use Rattle.ice_prims.specs.Bytes.{size_bytes}
-use Rattle.ice_encoding.specs.Tree.{Tree, byte, short, int, long, text, sequence, dictionary, struct, none, tree, no_entry, entry}
+use Rattle.ice_encoding.specs.Tree.{Tree, boolean, byte, short, int, long, text, sequence, dictionary, struct, none, tree, no_entry, entry}
+use Rattle.ice_encoding.specs.Order.{tree_cmp, IsRising}
+use Rattle.ice_encoding.specs.Same.{Same}
 use Rattle.ice_encoding.specs.Value.{plain_value_at}
 use Rattle.ice_encoding.specs.Encapsulation.{encapsulation_at, encapsulation_bytes}
 
@@ -160,3 +164,61 @@ left_inside = refl
 left_behind : reads kinds.Bool (headed 7 (1 ∷ 1 ∷ [])) ≡ fault 7 LeftOver
 unfolding plain_value_at
 left_behind = refl
+
+-- ---- the order of keys
+
+false_first : tree_cmp (boolean false) (boolean true) ≡ Less
+false_first = refl
+
+bytes_unsigned : tree_cmp (byte 127) (byte 128) ≡ Less
+bytes_unsigned = refl
+
+negative_first : tree_cmp (int (negsuc 0)) (int (pos 0)) ≡ Less
+negative_first = refl
+
+by_bytes : tree_cmp (text (97 ∷ 98 ∷ [])) (text (98 ∷ [])) ≡ Less
+by_bytes = refl
+
+front_first : tree_cmp (text (97 ∷ [])) (text (97 ∷ 97 ∷ [])) ≡ Less
+front_first = refl
+
+first_member_first : tree_cmp (struct (tree (byte 0) (tree (byte 1) none))) (struct (tree (byte 1) (tree (byte 0) none))) ≡ Less
+first_member_first = refl
+
+key_before_value : encapsulation_bytes (dictionary (entry (byte 1) (byte 70) (entry (byte 2) (byte 60) no_entry))) ≡ headed 11 (2 ∷ 1 ∷ 70 ∷ 2 ∷ 60 ∷ [])
+key_before_value = refl
+
+-- ---- the same value
+
+in_any_order : Same (dictionary (entry (byte 1) (byte 70) (entry (byte 2) (byte 60) no_entry))) (dictionary (entry (byte 2) (byte 60) (entry (byte 1) (byte 70) no_entry)))
+in_any_order = (refl, (inr (inl (refl, refl)), (inl (refl, refl), tt)))
+
+not_both : (n : ℕ) → n ≡ 0 → n ≡ 1 → ⊥
+not_both n p q = absurd cc
+
+another_value : Same (dictionary (entry (byte 1) (byte 0) no_entry)) (dictionary (entry (byte 1) (byte 1) no_entry)) → ⊥
+another_value h = elim h.1.0 [
+  | inl same ↦ not_both 0 refl same.1
+  | inr same ↦ same
+]
+
+a_pair_more : Same (dictionary no_entry) (dictionary (entry (byte 1) (byte 60) no_entry)) → ⊥
+a_pair_more h = not_both 0 refl h.0
+
+no_key_twice : IsRising (entry (byte 1) (byte 70) (entry (byte 1) (byte 70) no_entry)) → ⊥
+no_key_twice h = absurd cc
+
+-- ---- a hundred levels
+
+-- sequences one in another, the first of bytes
+abbrev nested : ℕ → List SeqDecl
+nested zero = record { id = []; element = kinds.Byte } ∷ []
+nested (suc n) = nested n ++ record { id = []; element = kinds.Seq n } ∷ []
+
+abbrev deep : ℕ → Tree
+deep zero = sequence (tree (byte 7) none)
+deep (suc n) = sequence (tree (deep n) none)
+
+hundred_levels : plain_value_at (record { seqs = nested 98; dicts = []; structs = [] }) (kinds.Seq 98) (whole (replicate 99 1 ++ 7 ∷ [])) ≡ Ok (deep 98, record { place = 100; bytes = [] })
+unfolding plain_value_at
+hundred_levels = refl
