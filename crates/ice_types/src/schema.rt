@@ -73,7 +73,7 @@ impl Schema {
     }
 
     /// What every schema keeps.
-    pub fn rules(&self)
+    fn rules(&self)
         ensures { IsSchema self.now }
     {
         let _ = &self.seqs;
@@ -203,6 +203,7 @@ impl Schema {
         requires fits { SeqFits self.old decl.element }
         ensures ok { IfOk result (λ at. (at ≡ length self.old.seqs) × (self.new ≡ with_seq self.old decl)) }
         ensures err { OnErr result (self.new ≡ self.old) }
+        ensures rules { IsSchema self.new }
     {
         let Some(measure) = self.measure_seq(decl.element) else {
             unreachable!()
@@ -220,6 +221,7 @@ impl Schema {
         requires fits { DictFits self.old decl.key decl.value }
         ensures ok { IfOk result (λ at. (at ≡ length self.old.dicts) × (self.new ≡ with_dict self.old decl)) }
         ensures err { OnErr result (self.new ≡ self.old) }
+        ensures rules { IsSchema self.new }
     {
         let Some(measure) = self.measure_dict(decl.key, decl.value) else {
             unreachable!()
@@ -237,6 +239,7 @@ impl Schema {
         requires fits { StructFits self.old decl.members }
         ensures ok { IfOk result (λ at. (at ≡ length self.old.structs) × (self.new ≡ with_struct self.old decl)) }
         ensures err { OnErr result (self.new ≡ self.old) }
+        ensures rules { IsSchema self.new }
     {
         let Some(measure) = self.measure_struct(decl.members.as_slice()) else {
             unreachable!()

@@ -1,104 +1,103 @@
-ghost use Rattle.std.specs.Prelude.{IsTrue};
-ghost use Rattle.ice_types.specs.Tables.{IsTypeId, IsNewId};
-
 use crate::{Bytes, DictDecl, List, MOST_ROWS, Member, Name, Schema, SeqDecl, StructDecl, TypeRef};
 use std::alloc::{AllocError, Global};
 use std::process::Abort;
 use std::test::Fail;
 
-/// Whether it is a type id, and no type of the schema has it.
-fn is_new(schema: &Schema, id: &str) -> bool
-    ensures type_id { IsTrue result → IsTypeId id.now }
-    ensures new_id { IsTrue result → IsNewId schema.now id.now }
-{
-    let bytes = id.as_bytes();
-    if bytes.len() < 2 || &bytes[..2] != b"::".as_slice() {
-        return false;
-    }
-    schema.type_named(id).is_none()
+/// What stands under an id.
+#[derive(Clone, Copy)]
+enum Row {
+    Seq(TypeRef),
+    Dict(TypeRef, TypeRef),
+    Struct(&'static [TypeRef]),
 }
 
-fn seq(
+fn add_seq(
     rt: &(impl AllocGlobal + Abort),
     schema: &mut Schema,
     id: &str,
     element: TypeRef,
 ) -> Result<TypeRef, Fail> {
-    assert!(rt; is_new(schema, id));
     assert!(rt; schema.seqs().len() < MOST_ROWS - 1);
-    assert!(rt; schema.fits_seq(element), "at {id}");
-    let decl = SeqDecl {
-        id: Name::of(rt.alloc(), id)?,
-        element,
-    };
-    Ok(TypeRef::Seq(schema.add_seq(decl)?))
+    assert!(rt; schema.is_new_id(id) && schema.fits_seq(element), "at {id}");
+    let id = Name::of(rt.alloc(), id)?;
+    Ok(TypeRef::Seq(schema.add_seq(SeqDecl { id, element })?))
 }
 
-fn dict(
+fn add_dict(
     rt: &(impl AllocGlobal + Abort),
     schema: &mut Schema,
     id: &str,
     key: TypeRef,
     value: TypeRef,
 ) -> Result<TypeRef, Fail> {
-    assert!(rt; is_new(schema, id));
     assert!(rt; schema.dicts().len() < MOST_ROWS - 1);
-    assert!(rt; schema.fits_dict(key, value), "at {id}");
-    let decl = DictDecl {
-        id: Name::of(rt.alloc(), id)?,
-        key,
-        value,
-    };
-    Ok(TypeRef::Dict(schema.add_dict(decl)?))
+    assert!(rt;
+        schema.is_new_id(id) && schema.fits_dict(key, value),
+        "at {id}"
+    );
+    let id = Name::of(rt.alloc(), id)?;
+    Ok(TypeRef::Dict(schema.add_dict(DictDecl { id, key, value })?))
 }
 
 fn members(alloc: Global, kinds: &[TypeRef]) -> Result<List<Member>, AllocError> {
     let mut members = List::new(alloc);
     for kind in kinds {
-        members.push(Member {
-            name: Name::of(alloc, "member")?,
-            kind: *kind,
-        })?;
+        let name = Name::of(alloc, "member")?;
+        members.push(Member { name, kind: *kind })?;
     }
     Ok(members)
 }
 
-fn structure(
+fn add_struct(
     rt: &(impl AllocGlobal + Abort),
     schema: &mut Schema,
     id: &str,
     kinds: &[TypeRef],
 ) -> Result<TypeRef, Fail> {
     let members = members(rt.alloc(), kinds)?;
-    assert!(rt; is_new(schema, id));
     assert!(rt; schema.structs().len() < MOST_ROWS - 1);
-    assert!(rt; schema.fits_struct(&members), "at {id}");
-    let decl = StructDecl {
-        id: Name::of(rt.alloc(), id)?,
-        members,
-    };
-    Ok(TypeRef::Struct(schema.add_struct(decl)?))
+    assert!(rt;
+        schema.is_new_id(id) && schema.fits_struct(&members),
+        "at {id}"
+    );
+    let id = Name::of(rt.alloc(), id)?;
+    Ok(TypeRef::Struct(schema.add_struct(StructDecl { id, members })?))
 }
 
-/// Structs of 16 bytes, 256 bytes, and so on to 1,048,576 bytes.
-fn add_big(rt: &(impl AllocGlobal + Abort), schema: &mut Schema) -> Result<(), Fail> {
-    let mut big = TypeRef::Byte;
-    for id in ["::Big1", "::Big2", "::Big3", "::Big4", "::Big5"] {
-        big = structure(rt, schema, id, &[big; 16])?;
+/// Adds the row, whose id then names its type.
+fn add(
+    rt: &(impl AllocGlobal + Abort),
+    schema: &mut Schema,
+    id: &str,
+    row: &Row,
+) -> Result<TypeRef, Fail> {
+    let kind = match row {
+        Row::Seq(element) => add_seq(rt, schema, id, *element)?,
+        Row::Dict(key, value) => add_dict(rt, schema, id, *key, *value)?,
+        Row::Struct(kinds) => add_struct(rt, schema, id, kinds)?,
+    };
+    assert_eq!(rt; schema.type_named(id), Some(kind), "at {id}");
+    Ok(kind)
+}
+
+fn add_all(
+    rt: &(impl AllocGlobal + Abort),
+    schema: &mut Schema,
+    rows: &[(&str, Row)],
+) -> Result<(), Fail> {
+    for (id, row) in rows {
+        add(rt, schema, id, row)?;
     }
     Ok(())
 }
 
-/// Dictionaries of depths 3, 5, and so on to 97; then a struct, a sequence and a struct, to depth 100.
+/// Dictionaries of depths 3, 5, and so on to 97.
 fn add_deep(rt: &(impl AllocGlobal + Abort), schema: &mut Schema) -> Result<(), Fail> {
     let mut deep = TypeRef::Int;
     for at in 0..48 {
         let id = format!(in rt.alloc(); "::Deep{at}")?;
-        deep = dict(rt, schema, &id, TypeRef::Int, deep)?;
+        deep = add(rt, schema, &id, &Row::Dict(TypeRef::Int, deep))?;
     }
-    deep = structure(rt, schema, "::Deep98", &[TypeRef::Int, deep])?;
-    deep = seq(rt, schema, "::Deep99", deep)?;
-    structure(rt, schema, "::Deep100", &[deep])?;
     Ok(())
 }
 
@@ -113,7 +112,35 @@ fn fits(alloc: Global, schema: &Schema, kind: TypeRef) -> Result<[bool; 4], Allo
     ])
 }
 
-const NAMES: [(&str, Option<TypeRef>); 15] = [
+fn see_fits(
+    rt: &(impl AllocGlobal + Abort),
+    schema: &Schema,
+    cases: &[(TypeRef, [bool; 4])],
+) -> Result<(), Fail> {
+    for (kind, want) in cases {
+        assert_eq!(rt; fits(rt.alloc(), schema, *kind)?, *want, "at {kind:?}");
+    }
+    Ok(())
+}
+
+fn see_sizes(rt: &(impl AllocGlobal + Abort), schema: &Schema, cases: &[(TypeRef, Option<u32>)]) {
+    for (kind, want) in cases {
+        assert_eq!(rt; schema.fixed_size(*kind), *want, "at {kind:?}");
+    }
+}
+
+const NAMED: &[(&str, Row)] = &[
+    ("::M::Numbers", Row::Seq(TypeRef::Int)),
+    ("::M::Rows", Row::Seq(TypeRef::Seq(0))),
+    ("::M::Counts", Row::Dict(TypeRef::Text, TypeRef::Seq(0))),
+    ("::M::Point", Row::Struct(&[TypeRef::Int, TypeRef::Int])),
+    (
+        "::M::Line",
+        Row::Struct(&[TypeRef::Struct(0), TypeRef::Struct(0)]),
+    ),
+];
+
+const NAMES: &[(&str, Option<TypeRef>)] = &[
     ("bool", Some(TypeRef::Bool)),
     ("byte", Some(TypeRef::Byte)),
     ("short", Some(TypeRef::Short)),
@@ -134,39 +161,33 @@ const NAMES: [(&str, Option<TypeRef>); 15] = [
 #[test]
 fn types_by_name(rt: HostRuntime) -> Result<(), Fail> {
     let mut schema = Schema::new(rt.alloc());
-    let numbers = seq(&rt, &mut schema, "::M::Numbers", TypeRef::Int)?;
-    seq(&rt, &mut schema, "::M::Rows", numbers)?;
-    dict(&rt, &mut schema, "::M::Counts", TypeRef::Text, numbers)?;
-    let point = structure(
-        &rt,
-        &mut schema,
-        "::M::Point",
-        &[TypeRef::Int, TypeRef::Int],
-    )?;
-    structure(&rt, &mut schema, "::M::Line", &[point, point])?;
-    for (text, want) in &NAMES {
+    add_all(&rt, &mut schema, NAMED)?;
+    for (text, want) in NAMES {
         assert_eq!(rt; schema.type_named(text), *want, "at {text}");
     }
     Ok(())
 }
 
 /// A type of each form.
-fn add_simple(rt: &(impl AllocGlobal + Abort), schema: &mut Schema) -> Result<(), Fail> {
-    let numbers = seq(rt, schema, "::Numbers", TypeRef::Int)?;
-    let plain = structure(
-        rt,
-        schema,
+const SIMPLE: &[(&str, Row)] = &[
+    ("::Numbers", Row::Seq(TypeRef::Int)),
+    (
         "::Plain",
-        &[TypeRef::Bool, TypeRef::Int, TypeRef::Long],
-    )?;
-    let named = structure(rt, schema, "::Named", &[TypeRef::Text, plain])?;
-    let holder = structure(rt, schema, "::Holder", &[numbers, plain])?;
-    dict(rt, schema, "::ByName", named, holder)?;
-    Ok(())
-}
+        Row::Struct(&[TypeRef::Bool, TypeRef::Int, TypeRef::Long]),
+    ),
+    ("::Named", Row::Struct(&[TypeRef::Text, TypeRef::Struct(0)])),
+    (
+        "::Holder",
+        Row::Struct(&[TypeRef::Seq(0), TypeRef::Struct(0)]),
+    ),
+    (
+        "::ByName",
+        Row::Dict(TypeRef::Struct(1), TypeRef::Struct(2)),
+    ),
+];
 
-/// Types, and what fits.
-const SIMPLE: [(TypeRef, [bool; 4]); 10] = [
+/// Types of those, and what fits.
+const FITS: &[(TypeRef, [bool; 4])] = &[
     (TypeRef::Bool, [true; 4]),
     (TypeRef::Text, [true; 4]),
     (TypeRef::Seq(0), [true, true, false, true]),
@@ -179,18 +200,8 @@ const SIMPLE: [(TypeRef, [bool; 4]); 10] = [
     (TypeRef::Struct(3), [false; 4]),
 ];
 
-#[test]
-fn types_that_fit(rt: HostRuntime) -> Result<(), Fail> {
-    let mut schema = Schema::new(rt.alloc());
-    add_simple(&rt, &mut schema)?;
-    for (kind, want) in &SIMPLE {
-        assert_eq!(rt; fits(rt.alloc(), &schema, *kind)?, *want, "at {kind:?}");
-    }
-    Ok(())
-}
-
-/// Types, and the length of their spellings.
-const SIZES: [(TypeRef, Option<u32>); 12] = [
+/// Types of those, and the length of their spellings.
+const SIZES: &[(TypeRef, Option<u32>)] = &[
     (TypeRef::Bool, Some(1)),
     (TypeRef::Byte, Some(1)),
     (TypeRef::Short, Some(2)),
@@ -206,40 +217,56 @@ const SIZES: [(TypeRef, Option<u32>); 12] = [
 ];
 
 #[test]
-fn types_of_one_size(rt: HostRuntime) -> Result<(), Fail> {
+fn types_of_each_form(rt: HostRuntime) -> Result<(), Fail> {
     let mut schema = Schema::new(rt.alloc());
-    add_simple(&rt, &mut schema)?;
-    for (kind, want) in &SIZES {
-        assert_eq!(rt; schema.fixed_size(*kind), *want, "at {kind:?}");
-    }
+    add_all(&rt, &mut schema, SIMPLE)?;
+    see_fits(&rt, &schema, FITS)?;
+    see_sizes(&rt, &schema, SIZES);
     Ok(())
 }
 
+/// Structs of 16 bytes, 256 bytes, and so on to 1,048,576 bytes.
+const BIG: &[(&str, Row)] = &[
+    ("::Big1", Row::Struct(&[TypeRef::Byte; 16])),
+    ("::Big2", Row::Struct(&[TypeRef::Struct(0); 16])),
+    ("::Big3", Row::Struct(&[TypeRef::Struct(1); 16])),
+    ("::Big4", Row::Struct(&[TypeRef::Struct(2); 16])),
+    ("::Big5", Row::Struct(&[TypeRef::Struct(3); 16])),
+];
+
 /// Members of structs, and whether they fit.
-const LONG: [([TypeRef; 2], bool); 6] = [
-    ([TypeRef::Struct(3), TypeRef::Struct(3)], true),
-    ([TypeRef::Byte, TypeRef::Struct(3)], true),
-    ([TypeRef::Byte, TypeRef::Struct(4)], false),
-    ([TypeRef::Struct(4), TypeRef::Byte], false),
-    ([TypeRef::Struct(4), TypeRef::Struct(4)], false),
-    ([TypeRef::Byte, TypeRef::Struct(5)], false),
+const LONG: &[(&[TypeRef], bool)] = &[
+    (&[], false),
+    (&[TypeRef::Struct(3), TypeRef::Struct(3)], true),
+    (&[TypeRef::Byte, TypeRef::Struct(3)], true),
+    (&[TypeRef::Byte, TypeRef::Struct(4)], false),
+    (&[TypeRef::Struct(4), TypeRef::Byte], false),
+    (&[TypeRef::Struct(4), TypeRef::Struct(4)], false),
+    (&[TypeRef::Byte, TypeRef::Struct(5)], false),
 ];
 
 #[test]
 fn longest_structs(rt: HostRuntime) -> Result<(), Fail> {
     let mut schema = Schema::new(rt.alloc());
-    add_big(&rt, &mut schema)?;
-    assert_eq!(rt; schema.fixed_size(TypeRef::Struct(4)), Some(1_048_576));
-    assert_eq!(rt; fits(rt.alloc(), &schema, TypeRef::Struct(4))?, [true; 4]);
-    for (kinds, want) in &LONG {
+    add_all(&rt, &mut schema, BIG)?;
+    see_sizes(&rt, &schema, &[(TypeRef::Struct(4), Some(1_048_576))]);
+    see_fits(&rt, &schema, &[(TypeRef::Struct(4), [true; 4])])?;
+    for (kinds, want) in LONG {
         let members = members(rt.alloc(), kinds)?;
         assert_eq!(rt; schema.fits_struct(&members), *want, "at {kinds:?}");
     }
     Ok(())
 }
 
+/// A struct, a sequence and a struct of depths 98, 99 and 100, behind dictionaries up to 97.
+const DEEPEST: &[(&str, Row)] = &[
+    ("::Deep98", Row::Struct(&[TypeRef::Int, TypeRef::Dict(47)])),
+    ("::Deep99", Row::Seq(TypeRef::Struct(0))),
+    ("::Deep100", Row::Struct(&[TypeRef::Seq(0)])),
+];
+
 /// Types of depths 95, 97, 98, 99 and 100, and what fits.
-const DEEP: [(TypeRef, [bool; 4]); 5] = [
+const DEEP: &[(TypeRef, [bool; 4])] = &[
     (TypeRef::Dict(46), [true, true, false, true]),
     (TypeRef::Dict(47), [true, true, false, true]),
     (TypeRef::Struct(0), [true, true, false, true]),
@@ -251,19 +278,19 @@ const DEEP: [(TypeRef, [bool; 4]); 5] = [
 fn deepest_types(rt: HostRuntime) -> Result<(), Fail> {
     let mut schema = Schema::new(rt.alloc());
     add_deep(&rt, &mut schema)?;
-    for (kind, want) in &DEEP {
-        assert_eq!(rt; fits(rt.alloc(), &schema, *kind)?, *want, "at {kind:?}");
-    }
-    Ok(())
+    add_all(&rt, &mut schema, DEEPEST)?;
+    see_fits(&rt, &schema, DEEP)
 }
 
 #[test]
 fn bytes_in_order(rt: HostRuntime) -> Result<(), Fail> {
     let mut bytes = Bytes::from_vec(Vec::from_slice(rt.alloc(), &[7, 8])?);
+    assert!(rt; !bytes.is_empty() && Bytes::new(rt.alloc()).is_empty());
     bytes.push(9)?;
     assert_eq!(rt; bytes.as_slice(), [7, 8, 9].as_slice());
-    assert_eq!(rt; (bytes.get(2), bytes.get(3)), (Some(&9), None));
-    assert_eq!(rt; (bytes.pop(), bytes.len()), (Some(9), 2));
-    assert!(rt; !bytes.is_empty() && Bytes::new(rt.alloc()).is_empty());
+    assert_eq!(rt; bytes.get(2), Some(&9));
+    assert_eq!(rt; bytes.get(3), None);
+    assert_eq!(rt; bytes.pop(), Some(9));
+    assert_eq!(rt; bytes.len(), 2);
     Ok(())
 }
