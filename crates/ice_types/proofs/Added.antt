@@ -1,5 +1,5 @@
 -- What a schema keeps when a row is added.
-use Rattle.std.proofs.Common.{◌≡◌, ℕ, zero, suc, ◌+◌, ◌<◌, max, Bool, true, false, List, [], ◌∷◌, ◌++◌, length, map, Option, Some, None, refl, sym, ap, subst, ◌∙◌, arith, rules, tests, inl, inr, ◌⊎◌}
+use Rattle.std.proofs.Common.{◌≡◌, ◌≢◌, ℕ, zero, suc, ◌+◌, ◌<◌, max, Bool, true, false, List, [], ◌∷◌, ◌++◌, length, map, Option, Some, None, refl, sym, ap, subst, ◌∙◌, arith, rules, tests, inl, inr, ◌⊎◌}
 use Rattle.std.specs.Prelude.{slice_get, IsTrue, ◌↔◌, is_some, if◌then◌else◌}
 use Rattle.std.proofs.lemmas.List.{length-append, map-append}
 use Rattle.ice_types.specs.declared.declarations.SeqDecl.{SeqDecl}
@@ -141,7 +141,7 @@ module _ (t u : Tables) (keeps : Keeps t u) where
   dict_fits key value fits = (fits.0, fits.1, measure_kept t u keeps 98 key fits.0 fits.2, fits.3, measure_kept t u keeps 98 value fits.1 fits.4)
 
   struct_fits : (members : List Member) → StructFits t members → StructFits u members
-  struct_fits members fits = (fits.0, members_kept t u keeps 99 members fits.0 fits.1, fits.2)
+  struct_fits members fits = (fits.0, members_kept t u keeps 99 members fits.0 fits.1, fits.2, fits.3)
 
 -- ids stand in the new row, or where they stood
 abbrev IsSplit : Tables → Tables → List ℕ → TypeRef → Type 0
@@ -291,16 +291,16 @@ IsSchema-struct t new kept room type_id lacks fits =
 pub small_fits : (t : Tables) (members : List Member) → (fits : StructFits t members) → small_members t members ≡ Some fits.0
 small_fits t members fits = let small : is_small fits.0 ≡ true = search (rules, tests, fits.2) in rw (fits.1, small) refl
 
-pub fits_struct_is : (t : Tables) (members : List Member) → IsTrue (is_some (struct_of (small_members t members))) ↔ StructFits t members
-fits_struct_is t members = (fits (measure_members (measure t 99) members) refl, λ fit. rw (small_fits t members fit) refl)
+pub fits_struct_is : (t : Tables) (members : List Member) → members ≢ [] → IsTrue (is_some (struct_of (small_members t members))) ↔ StructFits t members
+fits_struct_is t members some = (fits (measure_members (measure t 99) members) refl, λ fit. rw (small_fits t members fit) refl)
   where
     fits : (found : Option Measure) → measure_members (measure t 99) members ≡ found → IsTrue (is_some (struct_of (measured found (λ m. if is_small m then Some m else None)))) → StructFits t members
     fits None e h = absurd cc
     fits (Some x) e h = by_size (is_small x) refl h
       where
         by_size : (small : Bool) → is_small x ≡ small → IsTrue (is_some (struct_of (if small then Some x else None))) → StructFits t members
-        by_size true small some = (x, e, search (rules, tests))
-        by_size false small some = absurd cc
+        by_size true small found = (x, e, search (rules, tests), some)
+        by_size false small found = absurd cc
 
 -- ---- the same with what is kept beside the rows
 

@@ -1,5 +1,5 @@
 -- How deep a type nests, and how long its spellings are at least.
-use Rattle.std.specs.Prelude.{ℕ, zero, suc, ◌≡◌, ◌≤◌, ◌+◌, max, Bool, true, false, ◌&&◌, List, [], ◌∷◌, Option, None, Some, slice_get, if◌then◌else◌, nat_le}
+use Rattle.std.specs.Prelude.{ℕ, zero, suc, ◌≡◌, ◌≢◌, ◌≤◌, ◌+◌, max, Bool, true, false, ◌&&◌, List, [], ◌∷◌, Option, None, Some, slice_get, if◌then◌else◌, nat_le}
 use Rattle.ice_types.specs.declared.kind.TypeRef.{TypeRef}
 use Rattle.ice_types.specs.declared.kind.TypeRef.TheVariants as kinds
 use Rattle.ice_types.specs.declared.declarations.Member.{Member}
@@ -81,5 +81,6 @@ is_small m = nat_le m.smallest 1048576
 abbrev pub small_members : Tables → List Member → Option Measure
 small_members t members = measured (measure_members (measure t 99) members) (λ m. if is_small m then Some m else None)
 
+-- at least one member, and together they are small
 abbrev pub StructFits : Tables → List Member → Type 0
-StructFits t members = (m : Measure) × (measure_members (measure t 99) members ≡ Some m) × (m.smallest ≤ 1048576)
+StructFits t members = (m : Measure) × (measure_members (measure t 99) members ≡ Some m) × (m.smallest ≤ 1048576) × (members ≢ [])

@@ -180,12 +180,12 @@ impl Schema {
         }
     }
 
-    /// Whether a struct of these members may be added: it nests at most so deep as a type may, and
-    /// its smallest spelling has at most 1,048,576 bytes.
+    /// Whether a struct of these members may be added: there is at least one, it nests at most so
+    /// deep as a type may, and its smallest spelling has at most 1,048,576 bytes.
     pub fn fits_struct(&self, members: &List<Member>) -> bool
         ensures { IsTrue result ↔ StructFits self.now members.now }
     {
-        self.measure_struct(members.as_slice()).is_some()
+        !members.is_empty() && self.measure_struct(members.as_slice()).is_some()
     }
 
     /// Whether a type of this id may be added: it is a type id, and no type of the schema has it.
