@@ -1,5 +1,5 @@
 //! A shelf of files in memory.
-ghost use Rattle.std.specs.Prelude.{◌≡◌, ◌≤◌, Some, IfOk, option_copied};
+ghost use Rattle.std.specs.Prelude.{◌≡◌, ◌≤◌, Some, IsSome, IfOk, option_copied};
 ghost use Rattle.ice_ports.specs.Causes.{Rose};
 ghost use Rattle.ice_ports.specs.Files.{Finds, file_named, is_failed};
 ghost use Rattle.ice_ports.specs.Plan.{new_plan, fails_now, after_call};
@@ -62,6 +62,7 @@ impl Shelf for MemShelf {
         ensures later { self.old.plan.failures ≤ self.new.plan.failures }
         ensures failed { result ≡ Err ShelfFault.Failed → Rose self.old.plan.failures self.new.plan.failures }
         ensures fails { is_failed result ≡ fails_now self.old.plan }
+        ensures memory { result ≡ Err ShelfFault.Memory → IsSome (file_named self.old.files name.now) }
         ensures plan { self.new.plan ≡ after_call self.old.plan (fails_now self.old.plan) }
     {
         let fails = self.plan.fails_now();

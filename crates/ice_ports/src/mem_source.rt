@@ -1,5 +1,5 @@
 //! A source over bytes in memory.
-ghost use Rattle.std.specs.Prelude.{◌≡◌, ◌<◌, min, length, Some, IfOk, is_err};
+ghost use Rattle.std.specs.Prelude.{◌≡◌, ◌<◌, min, length, drop, Some, IfOk, OnErr, is_err};
 ghost use Rattle.std.specs.Io.{ReadsAtMost};
 ghost use Rattle.std.specs.Io.KnownBytes.{ReadConsumes};
 ghost use Rattle.ice_ports.specs.Causes.{HasCause};
@@ -70,6 +70,8 @@ impl Source for MemSource {
         ensures cause { HasCause self.old.plan.failures self.new.plan.failures result }
         ensures fails { is_err result ≡ fails_now self.old.plan }
         ensures count { IfOk result (λ n. n ≡ min (length into.old) (min self.old.piece (length self.old.left))) }
+        ensures rest { IfOk result (λ n. drop n into.new ≡ drop n into.old) }
+        ensures untouched { OnErr result (into.new ≡ into.old) }
         ensures piece { self.new.piece ≡ self.old.piece }
         ensures plan { self.new.plan ≡ after_call self.old.plan (is_err result) }
     {

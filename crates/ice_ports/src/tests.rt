@@ -92,6 +92,8 @@ fn a_folder_has_files_and_no_others(rt: HostRuntime) -> Result<(), Fail> {
     assert!(rt; has(alloc, &mut shelf, path.as_str(), None));
     fs::write(&rt, path.as_str(), b"kept".as_slice())?;
     assert!(rt; has(alloc, &mut shelf, path.as_str(), Some(b"kept")));
+    let mut front = FolderShelf::new(rt, 3);
+    assert!(rt; has(alloc, &mut front, path.as_str(), Some(b"kep")));
     for missing in [below.as_str(), long.as_str(), "a\0b", ""] {
         assert!(rt; has(alloc, &mut shelf, missing, None), "at {missing:?}");
     }
@@ -164,4 +166,11 @@ fn only_what_was_interrupted_is_repeated(rt: HostRuntime) {
         let mut writer = Interrupted { times: 2, answer };
         assert_eq!(rt; write_once(&mut writer, b"abc"), written);
     }
+}
+
+#[test]
+fn nothing_is_written_of_an_empty_piece(rt: HostRuntime) {
+    let answer = Some(0);
+    let mut writer = Interrupted { times: 2, answer };
+    assert_eq!(rt; write_once(&mut writer, b""), Ok(0));
 }

@@ -1,9 +1,10 @@
 use super::{TextFault, schema_of};
-use ice_types::{Schema, TypeRef};
+use ice_types::{DictDecl, Member, Schema, SeqDecl, StructDecl, TypeRef};
+use std::alloc::AllocError;
 use std::test::Fail;
 
 /// Texts with what they define, as `written` puts it.
-const ACCEPTED: [(&str, &str); 27] = [
+const ACCEPTED: &[(&str, &str)] = &[
     ("module M { };", ""),
     ("module M{sequence<byte>Q;};", "Q=[byte] "),
     (
@@ -98,7 +99,8 @@ const ACCEPTED: [(&str, &str); 27] = [
     ),
 ];
 
-const REFUSED: [&str; 70] = [
+/// Texts that mean nothing.
+const REFUSED: &[&str] = &[
     "",
     " \n",
     "moduleM { };",
@@ -174,85 +176,97 @@ const REFUSED: [&str; 70] = [
     "module M { struct S { int a; }; struct S { int b; }; };",
 ];
 
-/// The name of a type, that of a definition without `::M::`.
-fn put_kind(text: &mut String, schema: &Schema, kind: TypeRef) -> Result<(), Fail> {
-    let id = match kind {
-        TypeRef::Bool => "bool",
-        TypeRef::Byte => "byte",
-        TypeRef::Short => "short",
-        TypeRef::Int => "int",
-        TypeRef::Long => "long",
-        TypeRef::Text => "string",
-        TypeRef::Seq(at) => schema.seqs().get(at as usize).ok_or("no row")?.id.as_str(),
-        TypeRef::Dict(at) => schema.dicts().get(at as usize).ok_or("no row")?.id.as_str(),
-        TypeRef::Struct(at) => schema
-            .structs()
-            .get(at as usize)
-            .ok_or("no row")?
-            .id
-            .as_str(),
-    };
-    text.push_str(last_name(id))?;
-    Ok(())
+/// The word of a built-in type or the id of another one, None where there is no such row.
+fn id_of(schema: &Schema, kind: TypeRef) -> Option<&str> {
+    match kind {
+        TypeRef::Bool => Some("bool"),
+        TypeRef::Byte => Some("byte"),
+        TypeRef::Short => Some("short"),
+        TypeRef::Int => Some("int"),
+        TypeRef::Long => Some("long"),
+        TypeRef::Text => Some("string"),
+        TypeRef::Seq(at) => Some(schema.seqs().get(at as usize)?.id.as_str()),
+        TypeRef::Dict(at) => Some(schema.dicts().get(at as usize)?.id.as_str()),
+        TypeRef::Struct(at) => Some(schema.structs().get(at as usize)?.id.as_str()),
+    }
 }
 
+/// The name of a definition without `::M::`, and each other text as it is.
 fn last_name(id: &str) -> &str {
     id.rsplit(':').next().unwrap_or(id)
 }
 
-/// What the schema has: sequences, then dictionaries, then structs.
-fn written(rt: &impl AllocGlobal, schema: &Schema) -> Result<String, Fail> {
-    let mut text = String::new(rt.alloc());
-    for seq in schema.seqs().as_slice() {
-        text.push_str(last_name(seq.id.as_str()))?;
-        text.push_str("=[")?;
-        put_kind(&mut text, schema, seq.element)?;
-        text.push_str("] ")?;
-    }
-    for dict in schema.dicts().as_slice() {
-        text.push_str(last_name(dict.id.as_str()))?;
-        text.push_str("=<")?;
-        put_kind(&mut text, schema, dict.key)?;
-        text.push_str(",")?;
-        put_kind(&mut text, schema, dict.value)?;
-        text.push_str("> ")?;
-    }
-    for row in schema.structs().as_slice() {
-        text.push_str(last_name(row.id.as_str()))?;
-        text.push_str("={")?;
-        for member in row.members.as_slice() {
-            put_kind(&mut text, schema, member.kind)?;
-            text.push_str(" ")?;
-            text.push_str(member.name.as_str())?;
-            text.push_str(";")?;
-        }
-        text.push_str("} ")?;
-    }
-    Ok(text)
+/// The name of a type.
+fn name_of(schema: &Schema, kind: TypeRef) -> &str {
+    last_name(id_of(schema, kind).unwrap_or("no row"))
 }
 
-#[test]
-fn texts_by_the_rules(rt: HostRuntime) -> Result<(), Fail> {
-    for (text, tables) in ACCEPTED {
-        match schema_of(rt.alloc(), text.as_bytes()) {
-            Ok(schema) => {
-                assert_eq!(rt; written(&rt, &schema)?.as_str(), tables, "at {text:?}");
-            }
-            Err(fault) => assert_eq!(rt; Some(fault), None, "at {text:?}"),
-        }
+fn put(text: &mut String, pieces: &[&str]) -> Result<(), AllocError> {
+    for piece in pieces {
+        text.push_str(piece)?;
     }
-    for text in REFUSED {
-        assert_eq!(rt;
-            is_accepted(&rt, text.as_bytes()),
-            Some(false),
-            "at {text:?}"
-        );
-    }
-    assert_eq!(rt;
-        is_accepted(&rt, b"module M { sequence<\xff> Q; };"),
-        Some(false)
-    );
     Ok(())
+}
+
+fn put_seq(text: &mut String, schema: &Schema, row: &SeqDecl) -> Result<(), AllocError> {
+    let element = name_of(schema, row.element);
+    put(text, &[last_name(row.id.as_str()), "=[", element, "] "])
+}
+
+fn put_dict(text: &mut String, schema: &Schema, row: &DictDecl) -> Result<(), AllocError> {
+    let key = name_of(schema, row.key);
+    let value = name_of(schema, row.value);
+    put(
+        text,
+        &[last_name(row.id.as_str()), "=<", key, ",", value, "> "],
+    )
+}
+
+fn put_member(text: &mut String, schema: &Schema, member: &Member) -> Result<(), AllocError> {
+    let kind = name_of(schema, member.kind);
+    put(text, &[kind, " ", member.name.as_str(), ";"])
+}
+
+fn put_struct(text: &mut String, schema: &Schema, row: &StructDecl) -> Result<(), AllocError> {
+    put(text, &[last_name(row.id.as_str()), "={"])?;
+    for member in row.members.as_slice() {
+        put_member(text, schema, member)?;
+    }
+    put(text, &["} "])
+}
+
+fn put_seqs(text: &mut String, schema: &Schema) -> Result<(), AllocError> {
+    for row in schema.seqs().as_slice() {
+        put_seq(text, schema, row)?;
+    }
+    Ok(())
+}
+
+fn put_dicts(text: &mut String, schema: &Schema) -> Result<(), AllocError> {
+    for row in schema.dicts().as_slice() {
+        put_dict(text, schema, row)?;
+    }
+    Ok(())
+}
+
+fn put_structs(text: &mut String, schema: &Schema) -> Result<(), AllocError> {
+    for row in schema.structs().as_slice() {
+        put_struct(text, schema, row)?;
+    }
+    Ok(())
+}
+
+/// What the text defines: sequences, then dictionaries, then structs. Where it is refused, the fault.
+fn written(rt: &impl AllocGlobal, text: &str) -> Result<String, AllocError> {
+    let schema = match schema_of(rt.alloc(), text.as_bytes()) {
+        Ok(schema) => schema,
+        Err(fault) => return format!(in rt.alloc(); "{fault:?}"),
+    };
+    let mut all = String::new(rt.alloc());
+    put_seqs(&mut all, &schema)?;
+    put_dicts(&mut all, &schema)?;
+    put_structs(&mut all, &schema)?;
+    Ok(all)
 }
 
 /// Whether the text is accepted, None where memory ran out.
@@ -265,30 +279,70 @@ fn is_accepted(rt: &impl AllocGlobal, text: &[u8]) -> Option<bool> {
 }
 
 #[test]
-fn type_ids(rt: HostRuntime) -> Result<(), Fail> {
-    let schema = schema_of(
-        rt.alloc(),
-        b"module N { sequence<byte> P; struct S { P p; }; };",
-    )?;
-    assert_eq!(rt; schema.type_named("::N::P"), Some(TypeRef::Seq(0)));
-    assert_eq!(rt; schema.type_named("::N::S"), Some(TypeRef::Struct(0)));
-    assert_eq!(rt; schema.type_named("::N::s"), None);
-    assert_eq!(rt; schema.type_named("S"), None);
+fn texts_by_the_rules(rt: HostRuntime) -> Result<(), Fail> {
+    for (text, tables) in ACCEPTED {
+        assert_eq!(rt; written(&rt, text)?.as_str(), *tables, "at {text:?}");
+    }
     Ok(())
 }
 
 #[test]
-fn longest_text(rt: HostRuntime) -> Result<(), Fail> {
+fn texts_off_the_rules(rt: HostRuntime) {
+    for text in REFUSED {
+        assert_eq!(rt;
+            is_accepted(&rt, text.as_bytes()),
+            Some(false),
+            "at {text:?}"
+        );
+    }
+}
+
+#[test]
+fn bytes_that_are_no_text(rt: HostRuntime) {
+    let accepted = is_accepted(&rt, b"module M { sequence<\xff> Q; };");
+    assert_eq!(rt; accepted, Some(false));
+}
+
+/// Type ids, each with the type that it names in the schema of `type_ids`.
+const TYPE_IDS: &[(&str, Option<TypeRef>)] = &[
+    ("::N::P", Some(TypeRef::Seq(0))),
+    ("::N::S", Some(TypeRef::Struct(0))),
+    ("::N::s", None),
+    ("S", None),
+];
+
+#[test]
+fn type_ids(rt: HostRuntime) -> Result<(), Fail> {
+    let text = b"module N { sequence<byte> P; struct S { P p; }; };";
+    let schema = schema_of(rt.alloc(), text)?;
+    for (id, kind) in TYPE_IDS {
+        assert_eq!(rt; schema.type_named(id), *kind, "at {id}");
+    }
+    Ok(())
+}
+
+/// A module without definitions in a text of this length.
+fn with_blanks(rt: &impl AllocGlobal, length: usize) -> Result<Vec<u8>, AllocError> {
     let mut text = Vec::from_slice(rt.alloc(), b"module M { };")?;
-    text.resize(1_000_000, b' ')?;
-    assert_eq!(rt; is_accepted(&rt, text.as_slice()), Some(true));
-    text.push(b' ')?;
-    assert_eq!(rt; is_accepted(&rt, text.as_slice()), Some(false));
+    text.resize(length, b' ')?;
+    Ok(text)
+}
+
+#[test]
+fn longest_text(rt: HostRuntime) -> Result<(), Fail> {
+    for (length, accepted) in &[(1_000_000, true), (1_000_001, false)] {
+        let text = with_blanks(&rt, *length)?;
+        assert_eq!(rt;
+            is_accepted(&rt, text.as_slice()),
+            Some(*accepted),
+            "at {length}"
+        );
+    }
     Ok(())
 }
 
 /// A module of sequences, each of the one before, of this depth.
-fn nested(rt: &impl AllocGlobal, depth: u32) -> Result<String, Fail> {
+fn nested(rt: &impl AllocGlobal, depth: u32) -> Result<String, AllocError> {
     let mut text = String::from_str(rt.alloc(), "module M { sequence<int> Q2; ")?;
     for level in 2..depth {
         let line = format!(in rt.alloc(); "sequence<Q{level}> Q{}; ", level + 1)?;
@@ -298,8 +352,21 @@ fn nested(rt: &impl AllocGlobal, depth: u32) -> Result<String, Fail> {
     Ok(text)
 }
 
-/// A module of structs, each of two of the one before, the first of one int; then one of the last and of a byte.
-fn doubled(rt: &impl AllocGlobal, times: u32, last: &str) -> Result<String, Fail> {
+#[test]
+fn deepest_type(rt: HostRuntime) -> Result<(), Fail> {
+    for (depth, accepted) in &[(100, true), (101, false)] {
+        let text = nested(&rt, *depth)?;
+        assert_eq!(rt;
+            is_accepted(&rt, text.as_bytes()),
+            Some(*accepted),
+            "at {depth}"
+        );
+    }
+    Ok(())
+}
+
+/// A module of structs, each of two of the one before, the first of one int; then what `last` has.
+fn doubled(rt: &impl AllocGlobal, times: u32, last: &str) -> Result<String, AllocError> {
     let mut text = String::from_str(rt.alloc(), "module M { struct S0 { int a; }; ")?;
     for time in 0..times {
         let line = format!(in rt.alloc(); "struct S{} {{ S{time} a; S{time} b; }}; ", time + 1)?;
@@ -310,25 +377,22 @@ fn doubled(rt: &impl AllocGlobal, times: u32, last: &str) -> Result<String, Fail
     Ok(text)
 }
 
+/// How often the struct of an int is doubled, to 4 * 2^18 = 1,048,576 bytes, and what follows.
+const SIZES: &[(u32, &str, bool)] = &[
+    (18, "", true),
+    (19, "", false),
+    (18, "struct T { S18 a; byte b; }; ", false),
+];
+
 #[test]
-fn limits_of_types(rt: HostRuntime) -> Result<(), Fail> {
-    assert_eq!(rt; is_accepted(&rt, nested(&rt, 100)?.as_bytes()), Some(true));
-    assert_eq!(rt; is_accepted(&rt, nested(&rt, 101)?.as_bytes()), Some(false));
-    // 4 * 2^18 = 1,048,576 bytes
-    assert_eq!(rt;
-        is_accepted(&rt, doubled(&rt, 18, "")?.as_bytes()),
-        Some(true)
-    );
-    assert_eq!(rt;
-        is_accepted(&rt, doubled(&rt, 19, "")?.as_bytes()),
-        Some(false)
-    );
-    assert_eq!(rt;
-        is_accepted(
-            &rt,
-            doubled(&rt, 18, "struct T { S18 a; byte b; }; ")?.as_bytes()
-        ),
-        Some(false)
-    );
+fn largest_struct(rt: HostRuntime) -> Result<(), Fail> {
+    for (times, last, accepted) in SIZES {
+        let text = doubled(&rt, *times, last)?;
+        assert_eq!(rt;
+            is_accepted(&rt, text.as_bytes()),
+            Some(*accepted),
+            "at {times} {last:?}"
+        );
+    }
     Ok(())
 }
