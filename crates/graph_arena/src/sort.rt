@@ -1,6 +1,7 @@
 //! Dictionaries put into order.
 
-ghost use Rattle.std.specs.Prelude.{◌≡◌, IfOk};
+ghost use Rattle.std.specs.Prelude.{◌≡◌, true, Ok, IfOk};
+ghost use Rattle.ice_encoding.specs.Order.{IsOrdered};
 ghost use Rattle.ice_encoding.specs.Tree.{no_entry};
 ghost use Rattle.graph_arena.specs.Sorted.{sorted, sorted_each, sorted_onto, has_equal_keys, some_has_equal_keys, have_equal_keys};
 ghost use Rattle.graph_arena.specs.Sorting.{Sorts, UnlessEqual, Puts};
@@ -16,7 +17,8 @@ use std::collections::BTreeMap;
 /// as it was, where two keys of one dictionary are equal. Want of memory leaves the value as it was;
 /// a value in order takes none.
 pub fn sort_pairs(alloc: Global, value: &mut Value) -> Result<bool, AllocError>
-    ensures { Sorts value.old value.new result }
+    ensures sorts { Sorts value.old value.new result }
+    ensures ordered { IsOrdered (view value.old) → result ≡ Ok true }
 {
     if is_sorted(value) {
         return Ok(true);

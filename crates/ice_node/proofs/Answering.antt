@@ -4,12 +4,12 @@ use Rattle.std.specs.List.{flat_map}
 use Rattle.std.specs.Io.KnownBytes.{Appends}
 use Rattle.std.proofs.lemmas.Grind.{flat_map-append}
 use Rattle.std.proofs.lemmas.List.{take-append-drop, drop_more}
-use Rattle.ice_node.specs.Words.{Command, Form}
+use Rattle.ice_node.specs.Words.{Word, Command, Form}
 use Rattle.ice_node.specs.Streams.{Wrote}
-use Rattle.ice_node.specs.Statuses.{World, done, Commands, AppendsFront}
+use Rattle.ice_node.specs.Statuses.{done, Files, World, Relays, Commands, AppendsFront}
 use Rattle.ice_node.specs.declared.outcome.Outcome.{Outcome}
 use Rattle.ice_node.specs.declared.outcome.Outcome.TheVariants as outcomes
-use Rattle.ice_node.specs.Outcomes.{Prints, Ran}
+use Rattle.ice_node.specs.Outcomes.{Prints, Ran, RelayRan}
 use Rattle.ice_node.proofs.KnownBytes.{Appends-then}
 
 -- a text of the program's own was written, or a front of it
@@ -23,6 +23,18 @@ ran_print w r s old new command bytes outcomes.SliceRefused form what p = absurd
 ran_print w r s old new command bytes outcomes.InputRefused form what p = absurd p
 ran_print w r s old new command bytes outcomes.ReadFailed form what p = absurd p
 ran_print w r s old new command bytes outcomes.Memory form what p = absurd p
+
+-- the canonical encapsulation was written, or a front of it
+pub relayed_print : (files : Option Files) (input : Option (List ℕ)) (file word : Word) (read_rose write_rose : Type 0) (old new : Option (List ℕ)) (bytes : List ℕ) (outcome : Outcome) → Relays files input file word (done bytes) → Prints old new write_rose bytes outcome
+    → RelayRan files input file word read_rose write_rose old new outcome
+relayed_print files input file word r s old new bytes outcomes.Done h p = (bytes, h, p)
+relayed_print files input file word r s old new bytes outcomes.WriteFailed h p = (bytes, (h, p.0), p.1)
+relayed_print files input file word r s old new bytes outcomes.Usage h p = absurd p
+relayed_print files input file word r s old new bytes (outcomes.NoSuchName unknown) h p = absurd p
+relayed_print files input file word r s old new bytes outcomes.SliceRefused h p = absurd p
+relayed_print files input file word r s old new bytes outcomes.InputRefused h p = absurd p
+relayed_print files input file word r s old new bytes outcomes.ReadFailed h p = absurd p
+relayed_print files input file word r s old new bytes outcomes.Memory h p = absurd p
 
 -- the pieces before one, a front of it, and what is left
 abbrev seen : Bor (List ℕ) → List ℕ

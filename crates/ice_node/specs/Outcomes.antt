@@ -1,7 +1,7 @@
 -- How the program's answer is seen inside it, before the bytes of an answer are told.
 use Rattle.std.specs.Prelude.{ℕ, ◌≡◌, List, Option, Result, Ok, Err, Vec}
 use Rattle.std.specs.declared.alloc.Global.{Global}
-use Rattle.std.specs.Io.KnownBytes.{Appends}
+use Rattle.std.specs.Io.KnownBytes.{Keeps, Appends}
 use Rattle.ice_types.specs.declared.kind.TypeRef.{TypeRef}
 use Rattle.ice_types.specs.Tables.{Tables}
 use Rattle.ice_prims.specs.declared.fault.ReadFault.{ReadFault}
@@ -11,6 +11,7 @@ use Rattle.ice_encoding.specs.Encapsulation.{SpellsEncapsulation, encapsulation_
 use Rattle.ice_node.specs.declared.outcome.Outcome.{Outcome}
 use Rattle.ice_node.specs.declared.outcome.Outcome.TheVariants as outcomes
 use Rattle.ice_node.specs.Words.{Word}
+use Rattle.ice_node.specs.Streams.{TakesFront}
 use Rattle.ice_node.specs.Statuses.{Answer, done, usage, no_such_name, slice_refused, input_refused, read_failed, write_failed, no_memory, Files, World, Told, Relays, Comes, Writes, AppendsFront}
 
 -- the answer, with the bytes that were to be written
@@ -84,3 +85,18 @@ RelayComes files input file word read_rose write_rose outcomes.Memory bytes = Un
 
 abbrev pub RelayRan : Option Files → Option (List ℕ) → Word → Word → (read_rose write_rose : Type 0) → Option (List ℕ) → Option (List ℕ) → Outcome → Type 0
 RelayRan files input file word read_rose write_rose old new outcome = (bytes : List ℕ) × RelayComes files input file word read_rose write_rose outcome bytes × Writes old new (answer_of outcome bytes)
+
+-- what was taken of the input for `relay FILE TYPE`
+abbrev pub Leaves : Option (List ℕ) → Option (List ℕ) → Outcome → Type 0
+Leaves old new outcomes.Done = TakesFront old new
+Leaves old new outcomes.Usage = Keeps old new
+Leaves old new (outcomes.NoSuchName word) = Keeps old new
+Leaves old new outcomes.SliceRefused = Keeps old new
+Leaves old new outcomes.InputRefused = TakesFront old new
+Leaves old new outcomes.ReadFailed = Unit {0}
+Leaves old new outcomes.WriteFailed = TakesFront old new
+Leaves old new outcomes.Memory = Unit {0}
+
+abbrev pub LeavesFound : {X : Type 0} → Option (List ℕ) → Option (List ℕ) → Result X Outcome → Type 0
+LeavesFound old new (Ok found) = TakesFront old new
+LeavesFound old new (Err outcome) = Leaves old new outcome

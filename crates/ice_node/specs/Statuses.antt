@@ -8,6 +8,7 @@ use Rattle.ice_encoding.specs.Encapsulation.{SpellsEncapsulation, encapsulation_
 use Rattle.ice_ports.specs.Files.{file_named}
 use Rattle.ice_node.specs.declared.help.TheConstants.{HELP, VERSION}
 use Rattle.ice_node.specs.Words.{Word, Command, relay, help, version, Form}
+use Rattle.ice_node.specs.Streams.{TakesFront}
 use Rattle.slice_check.specs.SliceText.{Means}
 
 pub data Answer : Type 0 where
@@ -101,7 +102,7 @@ Comes w read_rose write_rose slice_refused = Decides w slice_refused
 Comes w read_rose write_rose input_refused = Decides w input_refused
 Comes w read_rose write_rose read_failed = (file word : Word) × Form w.words (relay file word) × read_rose
 Comes w read_rose write_rose (write_failed bytes) = Decides w (done bytes) × write_rose
-Comes w read_rose write_rose no_memory = Unit {0}
+Comes w read_rose write_rose no_memory = (file word : Word) × Form w.words (relay file word)
 
 -- a front of the bytes was taken
 abbrev pub AppendsFront : Option (List ℕ) → Option (List ℕ) → List ℕ → Type 0
@@ -122,13 +123,30 @@ Writes old new read_failed = Keeps old new
 Writes old new (write_failed bytes) = AppendsFront old new bytes
 Writes old new no_memory = Keeps old new
 
+-- The input is as it was, or the words ask to relay, and no more was taken of it than the encapsulation that it claims and
+-- one byte more.
+abbrev pub TakesInput : List Word → Option (List ℕ) → Option (List ℕ) → Type 0
+TakesInput words old new = Keeps old new ⊎ ((file word : Word) × Form words (relay file word) × TakesFront old new)
+
+-- What was taken of the input: nothing where the answer comes without it. It is open after a failure.
+abbrev pub Uses : List Word → Option (List ℕ) → Option (List ℕ) → Answer → Type 0
+Uses words old new (done bytes) = TakesInput words old new
+Uses words old new usage = Keeps old new
+Uses words old new (no_such_name word) = Keeps old new
+Uses words old new slice_refused = Keeps old new
+Uses words old new input_refused = TakesInput words old new
+Uses words old new read_failed = Unit {0}
+Uses words old new (write_failed bytes) = TakesInput words old new
+Uses words old new no_memory = Unit {0}
+
 -- what the sink of faults got: the line, or a front of it where the sink failed
 abbrev pub Tells : Option (List ℕ) → Option (List ℕ) → (fault_rose : Type 0) → Answer → Type 0
 Tells old new fault_rose answer = Appends old new (fault_line answer) ⊎ (fault_rose × AppendsFront old new (fault_line answer))
 
--- The answer is this one, for its cause, and the two sinks got what it says.
-pub record Answered (w : World) (read_rose write_rose fault_rose : Type 0) (old new old_faults new_faults : Option (List ℕ)) (result : ℕ) (answer : Answer) : Type 0 where
+-- The answer is this one, for its cause, the input lost what it says, and the two sinks got what it says.
+pub record Answered (w : World) (new_input : Option (List ℕ)) (read_rose write_rose fault_rose : Type 0) (old new old_faults new_faults : Option (List ℕ)) (result : ℕ) (answer : Answer) : Type 0 where
   pub returned : result ≡ status answer
   pub cause : Comes w read_rose write_rose answer
+  pub used : Uses w.words w.input new_input answer
   pub written : Writes old new answer
   pub told : Tells old_faults new_faults fault_rose answer

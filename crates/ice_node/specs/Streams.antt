@@ -38,6 +38,10 @@ IsPastSize got = (z : ℤ) × Claims got z × ((n : ℕ) → IsSize z n → n < 
 abbrev pub IsFrugal : List ℕ → Type 0
 IsFrugal got = (length got ≤ 4) ⊎ ((z : ℤ) × (n : ℕ) × Claims got z × IsSize z n × (length got ≤ n + 1))
 
+-- that much and no more was taken
+abbrev pub TakesFront : Option (List ℕ) → Option (List ℕ) → Type 0
+TakesFront old new = (got : List ℕ) × Consumes old new got × IsFrugal got
+
 -- What was read is the whole input, or enough of it to refuse it.
 abbrev pub ReadsInput : Option (List ℕ) → Option (List ℕ) → List ℕ → Type 0
 ReadsInput old_left new_left got = Consumes old_left new_left got × (IsAtEnd new_left ⊎ IsPastSize got) × IsFrugal got

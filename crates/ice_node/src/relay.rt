@@ -2,7 +2,7 @@
 
 ghost use Rattle.std.specs.Prelude.{◌⊎◌};
 ghost use Rattle.ice_ports.specs.Causes.{Rose};
-ghost use Rattle.ice_node.specs.Outcomes.{Prints, Finds, FindsSchema, RelayRan, Canonicalizes, bytes_found};
+ghost use Rattle.ice_node.specs.Outcomes.{Prints, Finds, FindsSchema, RelayRan, Canonicalizes, Leaves, LeavesFound, bytes_found};
 
 use crate::encapsulation::{decode, encode};
 use crate::input::{InputFault, read_input};
@@ -24,9 +24,10 @@ pub fn relay<'a, H: Shelf, S: Source, K: Sink>(
     source: &mut S,
     sink: &mut K,
 ) -> Outcome<'a>
-    ensures { RelayRan (H.files shelf.old) (S.left source.old) file.now kind.now
+    ensures did { RelayRan (H.files shelf.old) (S.left source.old) file.now kind.now
         (Rose (H.faults shelf.old) (H.faults shelf.new) ⊎ Rose (S.faults source.old) (S.faults source.new))
         (Rose (K.faults sink.old) (K.faults sink.new)) (K.taken sink.old) (K.taken sink.new) result }
+    ensures used { Leaves (S.left source.old) (S.left source.new) result }
 {
     match answer(alloc, file, kind, shelf, source) {
         Ok(bytes) => print(bytes.as_slice(), sink),
@@ -52,8 +53,9 @@ fn answer<'a, H: Shelf, S: Source>(
     shelf: &mut H,
     source: &mut S,
 ) -> Result<Vec<u8>, Outcome<'a>>
-    ensures { Finds (H.files shelf.old) (S.left source.old) file.now kind.now
+    ensures found { Finds (H.files shelf.old) (S.left source.old) file.now kind.now
         (Rose (H.faults shelf.old) (H.faults shelf.new) ⊎ Rose (S.faults source.old) (S.faults source.new)) (bytes_found result) }
+    ensures used { LeavesFound (S.left source.old) (S.left source.new) result }
 {
     let schema = match load_schema(alloc, file, shelf) {
         Ok(schema) => schema,

@@ -6,42 +6,74 @@ use ice_types::{Bytes, List, Name};
 use std::alloc::{AllocError, Global};
 use std::test::Fail;
 
-/// One run: the words, what fails, and what is wanted.
+/// What is out of the ordinary in a run. Else the input comes in pieces of one byte, nothing fails,
+/// and the sinks have room for a hundred bytes.
 #[derive(Clone, Copy)]
-struct Run {
-    words: &'static [&'static str],
-    /// How many bytes a read gives at most, and which reads fail, counted from 0.
-    piece: u16,
-    failing_reads: &'static [u64],
-    failing_loads: &'static [u64],
-    /// How many bytes the two sinks take.
-    room: u16,
-    line_room: u16,
-    status: u8,
-    output: &'static [u8],
-    line: &'static str,
+enum Outside {
+    /// The input comes in pieces of so many bytes.
+    Pieces(u16),
+    /// The same, and the read of this number fails, counted from 0.
+    FailingRead(u16, u64),
+    FailingLoad,
+    /// The sink of answers and that of faults take so many bytes.
+    Room(u16, u16),
 }
 
-const TEXT: &[u8] = b"module M { sequence<byte> Q; };";
+use Outside::{FailingLoad, FailingRead, Pieces, Room};
+
+const GOOD_TEXT: &[u8] = b"module M { sequence<byte> Q; };";
+
+const BAD_TEXT: &[u8] = b"module M { sequence<byte> Q };";
 
 const INPUT: &[u8] = &[9, 0, 0, 0, 1, 1, 2, 7, 8];
 
 const RELAY: &[&str] = &["relay", "s.ice", "::M::Q"];
 
+const INT: &[&str] = &["relay", "s.ice", "int"];
+
 const NO_NAME: &[&str] = &["relay", "s.ice", "::M::Zed"];
 
-/// All goes well, in pieces of one byte.
-const GOOD: Run = Run {
-    words: RELAY,
-    piece: 1,
-    failing_reads: &[],
-    failing_loads: &[],
-    room: 100,
-    line_room: 100,
-    status: 0,
-    output: INPUT,
-    line: "",
-};
+const NO_FILE: &[&str] = &["relay", "none.ice", "int"];
+
+const BAD_FILE: &[&str] = &["relay", "bad.ice", "int"];
+
+const VERSION: &[&str] = &["--version"];
+
+const NO_NAME_LINE: &str = "ice: no such name ::M::Zed\n";
+
+const SLICE_LINE: &str = "ice: slice refused\n";
+
+const READ_LINE: &str = "ice: read failed\n";
+
+const WRITE_LINE: &str = "ice: write failed\n";
+
+/// The words and the outside, and the status, the output and the line that are wanted.
+type Run = (
+    &'static [&'static str],
+    Outside,
+    u8,
+    &'static [u8],
+    &'static str,
+);
+
+const RUNS: &[Run] = &[
+    (RELAY, Pieces(1), 0, INPUT, ""),
+    (RELAY, Pieces(4096), 0, INPUT, ""),
+    (RELAY, FailingRead(4096, 1), 5, b"", READ_LINE),
+    (RELAY, FailingLoad, 5, b"", READ_LINE),
+    (RELAY, Room(3, 100), 6, &[9, 0, 0], WRITE_LINE),
+    (RELAY, Room(0, 100), 6, b"", WRITE_LINE),
+    (RELAY, Room(3, 3), 6, &[9, 0, 0], "ice"),
+    (&["relay", "s.ice"], Pieces(1), 2, b"", "ice: usage\n"),
+    (&[], Room(100, 0), 2, b"", ""),
+    (NO_NAME, Pieces(1), 2, b"", NO_NAME_LINE),
+    (NO_NAME, Room(100, 20), 2, b"", "ice: no such name ::"),
+    (NO_FILE, Pieces(1), 3, b"", SLICE_LINE),
+    (BAD_FILE, Pieces(1), 3, b"", SLICE_LINE),
+    (INT, Pieces(1), 4, b"", "ice: input refused\n"),
+    (VERSION, Pieces(1), 0, b"ice 0.1.0\n", ""),
+    (VERSION, Room(4, 100), 6, b"ice ", WRITE_LINE),
+];
 
 fn bytes(alloc: Global, items: &[u8]) -> Result<Bytes, AllocError> {
     Ok(List::from_vec(Vec::from_slice(alloc, items)?))
@@ -59,23 +91,44 @@ fn words_of(alloc: Global, words: &[&str]) -> Result<Vec<String>, AllocError> {
     Ok(all)
 }
 
+fn shelf(alloc: Global, outside: Outside) -> Result<MemShelf, AllocError> {
+    let mut files = List::new(alloc);
+    files.push((Name::of(alloc, "s.ice")?, bytes(alloc, GOOD_TEXT)?))?;
+    files.push((Name::of(alloc, "bad.ice")?, bytes(alloc, BAD_TEXT)?))?;
+    let fails: &[u64] = match outside {
+        FailingLoad => &[0],
+        _ => &[],
+    };
+    Ok(MemShelf::new(files, calls(alloc, fails)?))
+}
+
+fn source(alloc: Global, outside: Outside) -> Result<MemSource, AllocError> {
+    let input = bytes(alloc, INPUT)?;
+    let (piece, fails) = match outside {
+        Pieces(piece) => (piece, List::new(alloc)),
+        FailingRead(piece, at) => (piece, calls(alloc, &[at])?),
+        _ => (1, List::new(alloc)),
+    };
+    Ok(MemSource::new(input, u32::from(piece).max(1), fails))
+}
+
 /// The status, and whether the sinks got what is wanted.
 fn outcome(
     alloc: Global,
-    run: &Run,
-    failing_reads: &[u64],
+    words: &[&str],
+    outside: Outside,
+    output: &[u8],
+    line: &str,
 ) -> Result<(u8, bool, bool), AllocError> {
-    let words = words_of(alloc, run.words)?;
-    let mut files = List::new(alloc);
-    files.push((Name::of(alloc, "s.ice")?, bytes(alloc, TEXT)?))?;
-    let mut shelf = MemShelf::new(files, calls(alloc, run.failing_loads)?);
-    let mut source = MemSource::new(
-        bytes(alloc, INPUT)?,
-        u32::from(run.piece).max(1),
-        calls(alloc, failing_reads)?,
-    );
-    let mut sink = MemSink::new(alloc, u32::from(run.room), List::new(alloc))?;
-    let mut faults = MemSink::new(alloc, u32::from(run.line_room), List::new(alloc))?;
+    let words = words_of(alloc, words)?;
+    let (room, line_room) = match outside {
+        Room(room, line_room) => (room, line_room),
+        _ => (100, 100),
+    };
+    let mut shelf = shelf(alloc, outside)?;
+    let mut source = source(alloc, outside)?;
+    let mut sink = MemSink::new(alloc, u32::from(room), List::new(alloc))?;
+    let mut faults = MemSink::new(alloc, u32::from(line_room), List::new(alloc))?;
     let status = node(
         alloc,
         words.as_slice(),
@@ -84,118 +137,16 @@ fn outcome(
         &mut sink,
         &mut faults,
     );
-    Ok((
-        status,
-        sink.taken() == run.output,
-        faults.taken() == run.line.as_bytes(),
-    ))
+    let wrote = sink.taken() == output;
+    Ok((status, wrote, faults.taken() == line.as_bytes()))
 }
 
 #[test]
 fn each_failure_has_its_status(rt: HostRuntime) -> Result<(), Fail> {
-    let runs = [
-        GOOD,
-        Run {
-            piece: 4096,
-            ..GOOD
-        },
-        Run {
-            piece: 4096,
-            failing_reads: &[1],
-            status: 5,
-            output: b"",
-            line: "ice: read failed\n",
-            ..GOOD
-        },
-        Run {
-            failing_loads: &[0],
-            status: 5,
-            output: b"",
-            line: "ice: read failed\n",
-            ..GOOD
-        },
-        Run {
-            room: 3,
-            status: 6,
-            output: &[9, 0, 0],
-            line: "ice: write failed\n",
-            ..GOOD
-        },
-        Run {
-            room: 0,
-            status: 6,
-            output: b"",
-            line: "ice: write failed\n",
-            ..GOOD
-        },
-        Run {
-            room: 3,
-            line_room: 3,
-            status: 6,
-            output: &[9, 0, 0],
-            line: "ice",
-            ..GOOD
-        },
-        Run {
-            words: &["relay", "s.ice"],
-            status: 2,
-            output: b"",
-            line: "ice: usage\n",
-            ..GOOD
-        },
-        Run {
-            words: &[],
-            line_room: 0,
-            status: 2,
-            output: b"",
-            ..GOOD
-        },
-        Run {
-            words: NO_NAME,
-            status: 2,
-            output: b"",
-            line: "ice: no such name ::M::Zed\n",
-            ..GOOD
-        },
-        Run {
-            words: NO_NAME,
-            line_room: 20,
-            status: 2,
-            output: b"",
-            line: "ice: no such name ::",
-            ..GOOD
-        },
-        Run {
-            words: &["relay", "t.ice", "int"],
-            status: 3,
-            output: b"",
-            line: "ice: slice refused\n",
-            ..GOOD
-        },
-        Run {
-            words: &["relay", "s.ice", "int"],
-            status: 4,
-            output: b"",
-            line: "ice: input refused\n",
-            ..GOOD
-        },
-        Run {
-            words: &["--version"],
-            output: b"ice 0.1.0\n",
-            ..GOOD
-        },
-        Run {
-            words: &["--version"],
-            room: 4,
-            status: 6,
-            output: b"ice ",
-            line: "ice: write failed\n",
-            ..GOOD
-        },
-    ];
-    for (at, run) in runs.iter().enumerate() {
-        let found = outcome(rt.alloc(), run, run.failing_reads)?;
-        assert_eq!(rt; found, (run.status, true, true), "in run {at}");
+    for (at, run) in RUNS.iter().enumerate() {
+        let (words, outside, status, output, line) = run;
+        let found = outcome(rt.alloc(), words, *outside, output, line)?;
+        assert_eq!(rt; found, (*status, true, true), "in run {at}");
     }
     Ok(())
 }
@@ -203,19 +154,15 @@ fn each_failure_has_its_status(rt: HostRuntime) -> Result<(), Fail> {
 /// Nine bytes in pieces of one byte are ten reads, the last of which finds the end.
 #[test]
 fn a_read_that_fails_is_told_wherever_it_comes(rt: HostRuntime) -> Result<(), Fail> {
-    let failed = Run {
-        status: 5,
-        output: b"",
-        line: "ice: read failed\n",
-        ..GOOD
-    };
     for at in 0..12 {
-        let run = if at < 10 { &failed } else { &GOOD };
-        assert_eq!(rt;
-            outcome(rt.alloc(), run, &[at])?,
-            (run.status, true, true),
-            "at read {at}"
-        );
+        let outside = FailingRead(1, at);
+        let found = if at < 10 {
+            outcome(rt.alloc(), RELAY, outside, b"", READ_LINE)?
+        } else {
+            outcome(rt.alloc(), RELAY, outside, INPUT, "")?
+        };
+        let status = if at < 10 { 5 } else { 0 };
+        assert_eq!(rt; found, (status, true, true), "at read {at}");
     }
     Ok(())
 }

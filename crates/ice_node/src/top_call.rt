@@ -5,8 +5,8 @@ ghost use Rattle.std.specs.List.{flat_map};
 ghost use Rattle.ice_ports.specs.Causes.{Rose, HasCause};
 ghost use Rattle.ice_node.specs.Words.{Word, words_of};
 ghost use Rattle.ice_node.specs.Streams.{Wrote};
-ghost use Rattle.ice_node.specs.Statuses.{World, Files, Answer, Answered, Decides, Ends};
-ghost use Rattle.ice_node.specs.Outcomes.{Ran};
+ghost use Rattle.ice_node.specs.Statuses.{World, Files, Answer, Answered, Decides, Ends, Uses};
+ghost use Rattle.ice_node.specs.Outcomes.{Ran, answer_of};
 
 use crate::help::{HELP, VERSION};
 use crate::outcome::Outcome;
@@ -27,9 +27,10 @@ pub fn node<H: Shelf, S: Source, K: Sink, E: Sink>(
     sink: &mut K,
     faults: &mut E,
 ) -> u8
-    // There is one answer: its status is returned, it comes for its cause, and the sinks got what it says.
+    // There is one answer: its status is returned, it comes for its cause, no more of the input was
+    // taken than it says, and the sinks got what it says.
     ensures answered { (answer : Answer) × Answered
-        (record { words = words_of words.now; files = H.files shelf.old; input = S.left source.old })
+        (record { words = words_of words.now; files = H.files shelf.old; input = S.left source.old }) (S.left source.new)
         (Rose (H.faults shelf.old) (H.faults shelf.new) ⊎ Rose (S.faults source.old) (S.faults source.new))
         (Rose (K.faults sink.old) (K.faults sink.new)) (Rose (E.faults faults.old) (E.faults faults.new))
         (K.taken sink.old) (K.taken sink.new) (E.taken faults.old) (E.taken faults.new) result answer }
@@ -52,7 +53,7 @@ fn respond<H: Shelf, S: Source, K: Sink, E: Sink>(
     faults: &mut E,
 ) -> u8
     ensures { (answer : Answer) × Answered
-        (record { words = words_of words.now; files = H.files shelf.old; input = S.left source.old })
+        (record { words = words_of words.now; files = H.files shelf.old; input = S.left source.old }) (S.left source.new)
         (Rose (H.faults shelf.old) (H.faults shelf.new) ⊎ Rose (S.faults source.old) (S.faults source.new))
         (Rose (K.faults sink.old) (K.faults sink.new)) (Rose (E.faults faults.old) (E.faults faults.new))
         (K.taken sink.old) (K.taken sink.new) (E.taken faults.old) (E.taken faults.new) result answer }
@@ -78,9 +79,10 @@ fn run<'a, H: Shelf, S: Source, K: Sink>(
     source: &mut S,
     sink: &mut K,
 ) -> Outcome<'a>
-    ensures { Ran (record { words = words_of words.now; files = H.files shelf.old; input = S.left source.old })
+    ensures did { Ran (record { words = words_of words.now; files = H.files shelf.old; input = S.left source.old })
         (Rose (H.faults shelf.old) (H.faults shelf.new) ⊎ Rose (S.faults source.old) (S.faults source.new))
         (Rose (K.faults sink.old) (K.faults sink.new)) (K.taken sink.old) (K.taken sink.new) result }
+    ensures used { (bytes : List ℕ) → Uses (words_of words.now) (S.left source.old) (S.left source.new) (answer_of result bytes) }
 {
     match command_of(words) {
         Some(Command::Relay { file, kind }) => relay(alloc, file, kind, shelf, source, sink),

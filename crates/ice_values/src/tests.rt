@@ -2,7 +2,7 @@ use crate::{read_value, write_value};
 use ice_prims::Kind::{self, BadBool, BadSize, EqualKey, LeftOver, Short};
 use ice_prims::{Cursor, Fault, ReadFault};
 use ice_types::{DictDecl, List, MOST_ROWS, Member, Name, Schema, SeqDecl, StructDecl, TypeRef};
-use std::alloc::Global;
+use std::alloc::{AllocError, Global};
 use std::process::Abort;
 use std::test::Fail;
 
@@ -90,76 +90,69 @@ const REFUSED: &[(TypeRef, &[u8], u64, Kind)] = &[
     (COUNTS, &[2, 1, 97, 1, 0, 0, 0, 1], 8, Short),
 ];
 
-fn add_seq(
-    rt: &(impl AllocGlobal + Abort),
-    schema: &mut Schema,
-    id: &str,
-    element: TypeRef,
-) -> Result<(), Fail> {
-    assert!(rt; schema.seqs().len() < MOST_ROWS - 1);
-    assert!(rt; schema.is_new_id(id) && schema.fits_seq(element), "at {id}");
-    let id = Name::of(rt.alloc(), id)?;
-    schema.add_seq(SeqDecl { id, element })?;
-    Ok(())
+/// What a definition stands on.
+#[derive(Clone, Copy)]
+enum Parts {
+    Of(TypeRef),
+    ByKey(TypeRef, TypeRef),
+    Struct(&'static [TypeRef]),
 }
 
-fn add_dict(
-    rt: &(impl AllocGlobal + Abort),
-    schema: &mut Schema,
-    id: &str,
-    key: TypeRef,
-    value: TypeRef,
-) -> Result<(), Fail> {
-    assert!(rt; schema.dicts().len() < MOST_ROWS - 1);
-    assert!(rt;
-        schema.is_new_id(id) && schema.fits_dict(key, value),
-        "at {id}"
-    );
-    let id = Name::of(rt.alloc(), id)?;
-    schema.add_dict(DictDecl { id, key, value })?;
-    Ok(())
-}
+use Parts::{ByKey, Of, Struct};
 
-fn add_struct(
-    rt: &(impl AllocGlobal + Abort),
-    schema: &mut Schema,
-    id: &str,
-    kinds: &[TypeRef],
-) -> Result<(), Fail> {
-    let mut members = List::new(rt.alloc());
+/// The definitions in the order of their places.
+const DEFINITIONS: &[(&str, Parts)] = &[
+    ("::M::Bytes", Of(TypeRef::Byte)),
+    ("::M::Rows", Of(BYTES)),
+    ("::M::Counts", ByKey(TypeRef::Text, TypeRef::Int)),
+    ("::M::ByNumber", ByKey(TypeRef::Short, BYTES)),
+    ("::M::Pair", Struct(&[TypeRef::Byte, TypeRef::Byte])),
+    ("::M::Row", Struct(&[TypeRef::Short, PAIR, TypeRef::Text])),
+    ("::M::ByPair", ByKey(PAIR, TypeRef::Byte)),
+];
+
+fn members_of(alloc: Global, kinds: &[TypeRef]) -> Result<List<Member>, AllocError> {
+    let mut members = List::new(alloc);
     for kind in kinds {
-        let name = Name::of(rt.alloc(), "member")?;
+        let name = Name::of(alloc, "member")?;
         members.push(Member { name, kind: *kind })?;
     }
+    Ok(members)
+}
+
+fn add(
+    rt: &(impl AllocGlobal + Abort),
+    schema: &mut Schema,
+    text: &str,
+    parts: Parts,
+) -> Result<u32, Fail> {
+    assert!(rt; schema.is_new_id(text), "at {text}");
+    assert!(rt; schema.seqs().len() < MOST_ROWS - 1);
+    assert!(rt; schema.dicts().len() < MOST_ROWS - 1);
     assert!(rt; schema.structs().len() < MOST_ROWS - 1);
-    assert!(rt;
-        schema.is_new_id(id) && schema.fits_struct(&members),
-        "at {id}"
-    );
-    let id = Name::of(rt.alloc(), id)?;
-    schema.add_struct(StructDecl { id, members })?;
-    Ok(())
+    let id = Name::of(rt.alloc(), text)?;
+    match parts {
+        Of(element) => {
+            assert!(rt; schema.fits_seq(element), "at {text}");
+            Ok(schema.add_seq(SeqDecl { id, element })?)
+        }
+        ByKey(key, value) => {
+            assert!(rt; schema.fits_dict(key, value), "at {text}");
+            Ok(schema.add_dict(DictDecl { id, key, value })?)
+        }
+        Struct(kinds) => {
+            let members = members_of(rt.alloc(), kinds)?;
+            assert!(rt; schema.fits_struct(&members), "at {text}");
+            Ok(schema.add_struct(StructDecl { id, members })?)
+        }
+    }
 }
 
 fn schema_of_all(rt: &(impl AllocGlobal + Abort)) -> Result<Schema, Fail> {
     let mut schema = Schema::new(rt.alloc());
-    add_seq(rt, &mut schema, "::M::Bytes", TypeRef::Byte)?;
-    add_seq(rt, &mut schema, "::M::Rows", BYTES)?;
-    add_dict(rt, &mut schema, "::M::Counts", TypeRef::Text, TypeRef::Int)?;
-    add_dict(rt, &mut schema, "::M::ByNumber", TypeRef::Short, BYTES)?;
-    add_struct(
-        rt,
-        &mut schema,
-        "::M::Pair",
-        &[TypeRef::Byte, TypeRef::Byte],
-    )?;
-    add_struct(
-        rt,
-        &mut schema,
-        "::M::Row",
-        &[TypeRef::Short, PAIR, TypeRef::Text],
-    )?;
-    add_dict(rt, &mut schema, "::M::ByPair", PAIR, TypeRef::Byte)?;
+    for (id, parts) in DEFINITIONS {
+        add(rt, &mut schema, id, *parts)?;
+    }
     Ok(schema)
 }
 

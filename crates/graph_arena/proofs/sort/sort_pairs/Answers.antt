@@ -3,7 +3,7 @@ use Rattle.graph_arena.specs.View.{view}
 use Rattle.graph_arena.proofs.SortedLaws.{stays, differ}
 use Rattle.graph_arena.proofs.sort.sort_pairs.Goals as goal
 
-pub returns-then-is_sorted : goal.returns-then-is_sorted
-returns-then-is_sorted c =
+pub returns-then-is_sorted-clause-sorts : goal.returns-then-is_sorted-clause-sorts
+returns-then-is_sorted-clause-sorts c =
     let order = c.is_sorted.ensures.0 c.if-is_sorted.true in
     (differ (view c.args.value.now) order, sym (stays (view c.args.value.now) order))
