@@ -24,15 +24,15 @@ pub(crate) fn modules(alloc: Global, cursor: &mut Cursor) -> Result<List<Item>, 
     ensures { Takes (λ x. x) result cursor.new (modules_at cursor.old) }
 {
     let mut items = List::new(alloc);
-    let mut open = Vec::new(alloc);
+    let mut open_modules = Vec::new(alloc);
     loop {
-        match open.pop() {
-            Some(names) => inner_move(alloc, cursor, names, &mut open, &mut items)?,
+        match open_modules.pop() {
+            Some(names) => inner_move(alloc, cursor, names, &mut open_modules, &mut items)?,
             None => {
                 if !cursor.begins(&[OPEN_SQUARE, MODULE]) {
                     return Ok(items);
                 }
-                open.push(outer_move(alloc, cursor, &mut items)?)?;
+                open_modules.push(outer_move(alloc, cursor, &mut items)?)?;
             }
         }
     }
@@ -47,24 +47,24 @@ fn outer_move(alloc: Global, cursor: &mut Cursor, items: &mut List<Item>) -> Res
 }
 
 /// The head of a module, a definition, or the end of the innermost module, which has so many names.
-/// `open` has the numbers of names of the modules that are open around it, and then of all.
+/// `open_modules` has the numbers of names of the modules that are open around it, and then of all.
 fn inner_move(
     alloc: Global,
     cursor: &mut Cursor,
     names: usize,
-    open: &mut Vec<usize>,
+    open_modules: &mut Vec<usize>,
     items: &mut List<Item>,
 ) -> Result<(), Stop>
-    ensures { TakesWith (λ u move. (reverse open.new.items ≡ moved (names ∷ reverse open.old.items) move) × (items.new ≡ items.old ++ items_of (names ∷ reverse open.old.items) move)) result cursor.new (read inner_move cursor.old) }
+    ensures { TakesWith (λ u move. (reverse open_modules.new.items ≡ moved (names ∷ reverse open_modules.old.items) move) × (items.new ≡ items.old ++ items_of (names ∷ reverse open_modules.old.items) move)) result cursor.new (read inner_move cursor.old) }
 {
     if cursor.begins(&[CLOSE_BRACE]) {
         close(cursor)?;
         return leave(names, items);
     }
-    open.push(names)?;
+    open_modules.push(names)?;
     metadata(cursor)?;
     if cursor.begins(&[MODULE]) {
-        open.push(module_head(alloc, cursor, items)?)?;
+        open_modules.push(module_head(alloc, cursor, items)?)?;
     } else {
         items.push(definition(alloc, cursor)?)?;
     }

@@ -36,14 +36,7 @@ fn write_item(rt: &impl AllocGlobal, all: &mut String, item: &Item) -> Result<()
             write_word(rt, all, " ", word)?;
             write_value(rt, all, value)
         }
-        Item::Enum { word, entries } => {
-            write_word(rt, all, "enum ", word)?;
-            for (word, value) in entries.as_slice() {
-                write_word(rt, all, " ", word)?;
-                write_given(rt, all, value)?;
-            }
-            Ok(())
-        }
+        Item::Enum { word, entries } => write_enum(rt, all, word, entries),
         Item::Struct { word, fields } => {
             write_word(rt, all, "struct ", word)?;
             write_fields(rt, all, fields)
@@ -57,31 +50,68 @@ fn write_item(rt: &impl AllocGlobal, all: &mut String, item: &Item) -> Result<()
             write_kind(rt, all, "", key)?;
             write_kind(rt, all, "", value)
         }
-        Item::Class { word, base, fields } => {
-            write_word(rt, all, "class ", word)?;
-            if let Some(base) = base {
-                write_path(rt, all, " extends ", base)?;
-            }
-            match fields {
-                Some(fields) => write_fields(rt, all, fields),
-                None => all.push_str(";"),
-            }
-        }
+        Item::Class { word, base, fields } => write_class(rt, all, word, base, fields),
         Item::Exception { word, base, fields } => {
             write_word(rt, all, "exception ", word)?;
-            if let Some(base) = base {
-                write_path(rt, all, " extends ", base)?;
-            }
+            write_base(rt, all, base)?;
             write_fields(rt, all, fields)
         }
-        Item::Interface { word, bases, ops } => {
-            write_word(rt, all, "interface ", word)?;
-            write_paths(rt, all, " extends ", bases)?;
-            match ops {
-                Some(ops) => write_ops(rt, all, ops),
-                None => all.push_str(";"),
-            }
-        }
+        Item::Interface { word, bases, ops } => write_interface(rt, all, word, bases, ops),
+    }
+}
+
+fn write_enum(
+    rt: &impl AllocGlobal,
+    all: &mut String,
+    word: &Word,
+    entries: &List<(Word, Option<Constant>)>,
+) -> Result<(), AllocError> {
+    write_word(rt, all, "enum ", word)?;
+    for (word, value) in entries.as_slice() {
+        write_word(rt, all, " ", word)?;
+        write_given(rt, all, value)?;
+    }
+    Ok(())
+}
+
+fn write_class(
+    rt: &impl AllocGlobal,
+    all: &mut String,
+    word: &Word,
+    base: &Option<Path>,
+    fields: &Option<List<Field>>,
+) -> Result<(), AllocError> {
+    write_word(rt, all, "class ", word)?;
+    write_base(rt, all, base)?;
+    match fields {
+        Some(fields) => write_fields(rt, all, fields),
+        None => all.push_str(";"),
+    }
+}
+
+fn write_interface(
+    rt: &impl AllocGlobal,
+    all: &mut String,
+    word: &Word,
+    bases: &List<Path>,
+    ops: &Option<List<OpTree>>,
+) -> Result<(), AllocError> {
+    write_word(rt, all, "interface ", word)?;
+    write_paths(rt, all, " extends ", bases)?;
+    match ops {
+        Some(ops) => write_ops(rt, all, ops),
+        None => all.push_str(";"),
+    }
+}
+
+fn write_base(
+    rt: &impl AllocGlobal,
+    all: &mut String,
+    base: &Option<Path>,
+) -> Result<(), AllocError> {
+    match base {
+        Some(base) => write_path(rt, all, " extends ", base),
+        None => Ok(()),
     }
 }
 
@@ -228,7 +258,7 @@ fn write_ops(
 
 /// Texts, each with what it declares or the token that no file goes on with. A type is its keyword's code or a name, and
 /// `@` stands before a place.
-const CASES: [(&str, &str); 4] = [
+const CASES: &[(&str, &str)] = &[
     (
         "module M { struct S { int } };",
         "Expected { place: 26, found: Some(Symbol(1)) }",
@@ -261,7 +291,35 @@ const CASES: [(&str, &str); 4] = [
 fn texts_by_the_grammar(rt: HostRuntime) -> Result<(), Fail> {
     for (text, expected) in CASES {
         let found = written(&rt, text.as_bytes())?;
-        assert_eq!(rt; found.as_str(), expected, "at {text:?}");
+        assert_eq!(rt; found.as_str(), *expected, "at {text:?}");
+    }
+    Ok(())
+}
+
+/// Faults, each with what is printed of it.
+const PRINTED: &[(SyntaxFault, &str)] = &[
+    (
+        SyntaxFault::Expected {
+            place: 26,
+            found: Some(TokenKind::Symbol(1)),
+        },
+        "byte 26: no file goes on like this",
+    ),
+    (
+        SyntaxFault::Expected {
+            place: 0,
+            found: None,
+        },
+        "byte 0: no file goes on like this",
+    ),
+    (SyntaxFault::Memory, "memory ran out"),
+];
+
+#[test]
+fn faults_printed(rt: HostRuntime) -> Result<(), Fail> {
+    for (fault, expected) in PRINTED {
+        let found = format!(in rt.alloc(); "{fault}")?;
+        assert_eq!(rt; found.as_str(), *expected);
     }
     Ok(())
 }
