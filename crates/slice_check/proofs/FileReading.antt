@@ -15,7 +15,7 @@ answers_as P Q to from (Err faults.Memory) h = tt
 
 module _ (found : List (Bor Token)) (name : Token) (enough : 3 ≤ length found) (keyword : token_at found 0 ≡ codes "module") (opens : token_at found 2 ≡ codes "{")
     (is : name ≡ token_at found 1) (good : IsName (token_at found 1)) where
-  parts : tokens_seen found ≡ codes "module" ∷ name ∷ codes "{" ∷ drop 3 (tokens_seen found)
+  pub parts : tokens_seen found ≡ codes "module" ∷ name ∷ codes "{" ∷ drop 3 (tokens_seen found)
   parts = rw (sym keyword, is, sym opens) (three found enough)
 
   pub file_answers : (r : Result Tables TextFault) → Answers (IsBody name (tokens_seen (take (length found - 3) (drop 3 found)))) r → Answers (IsFile (tokens_seen found)) r

@@ -1,6 +1,6 @@
 //! What a definition defines, and the schema with it.
 
-ghost use Rattle.std.specs.Prelude.{◌+◌, ◌≤◌, ◌↔◌, IsTrue, length};
+ghost use Rattle.std.specs.Prelude.{◌≡◌, ◌+◌, ◌≤◌, ◌↔◌, IsTrue, OnErr, length};
 ghost use Rattle.ice_types.specs.Tables.{IsTypeId, IsNewId};
 ghost use Rattle.slice_check.specs.SliceText.{Fits};
 ghost use Rattle.slice_check.specs.Reading.{Adds};
@@ -26,7 +26,9 @@ pub fn add_definition(
     requires room { length schema.old.seqs + length schema.old.dicts + length schema.old.structs ≤ 1000000 }
     requires type_id { IsTypeId id }
     requires new_id { IsNewId schema.old id }
-    ensures { Adds schema.old schema.new id definition result }
+    ensures adds { Adds schema.old schema.new id definition result }
+    ensures memory { result ≡ Err TextFault.Memory → Fits schema.old definition }
+    ensures err { OnErr result (schema.new ≡ schema.old) }
 {
     if !fits(schema, &definition) {
         return Err(TextFault::Refused);

@@ -1,8 +1,8 @@
 //! The schema that a whole Slice text means.
 
-ghost use Rattle.std.specs.Prelude.{ℕ, ◌≡◌, ◌≤◌, ◌↔◌, IsTrue, List, [], length};
+ghost use Rattle.std.specs.Prelude.{ℕ, ◌≡◌, ◌≤◌, ◌↔◌, IsTrue, List, [], ◌∷◌, codes, drop, length};
 ghost use Rattle.ice_types.specs.Tables.{Tables};
-ghost use Rattle.slice_check.specs.SliceText.{IsBody, IsFile, Means, closed};
+ghost use Rattle.slice_check.specs.SliceText.{IsBody, IsFile, IsName, Means, Token, closed};
 ghost use Rattle.slice_check.specs.Reading.{Answers, tokens_seen};
 
 use crate::definition_fronts::definition_at;
@@ -19,7 +19,8 @@ const MOST_BYTES: usize = 1_000_000;
 
 /// The schema that the text means. A text that means none, also one of more than 1,000,000 bytes, is refused.
 pub fn schema_of(alloc: Global, text: &[u8]) -> Result<Schema, TextFault>
-    ensures { Answers (Means text.now) result }
+    ensures meaning { Answers (Means text.now) result }
+    ensures memory { result ≡ Err TextFault.Memory → length text.now ≤ MOST_BYTES }
 {
     if text.len() > MOST_BYTES {
         return Err(TextFault::Refused);
@@ -36,7 +37,8 @@ pub fn texts_apart()
 /// The schema of a whole text's tokens.
 fn file_of(alloc: Global, tokens: &[&[u8]]) -> Result<Schema, TextFault>
     requires { length tokens.now ≤ MOST_BYTES }
-    ensures { Answers (IsFile (tokens_seen tokens.now)) result }
+    ensures meaning { Answers (IsFile (tokens_seen tokens.now)) result }
+    ensures memory { result ≡ Err TextFault.Memory → (name : Token) × (tokens_seen tokens.now ≡ codes "module" ∷ name ∷ codes "{" ∷ drop 3 (tokens_seen tokens.now)) × IsName name }
 {
     let [keyword, name, open, body @ ..] = tokens else {
         return Err(TextFault::Refused);

@@ -1,5 +1,5 @@
-use Rattle.std.proofs.Common.{◌<◌, ◌-◌, [], ◌∷◌, List, length, take, drop, refl, subst, ◌∙◌, arith}
-use Rattle.slice_check.specs.SliceText.{Token}
+use Rattle.std.proofs.Common.{◌<◌, ◌-◌, [], ◌∷◌, List, length, take, drop, refl, sym, subst, ◌∙◌, arith}
+use Rattle.slice_check.specs.SliceText.{Token, IsName}
 use Rattle.slice_check.specs.Reading.{tokens_seen}
 use Rattle.slice_check.proofs.Fronts.{behind, behind_count, seen_count, clash}
 use Rattle.slice_check.proofs.Bodies.{Reading, body_begins, body_ends, body_refused, body_unclaimed, body_unfit, body_next, fresh, count_some}
@@ -19,12 +19,18 @@ returns-in-Err-claim c =
     let i = c.loop-rest.invariant in
     body_unclaimed c.args.module_name.now c.loop-rest.scope.module_name.now i.4 (tokens_seen c.args.body.now) i.0 c.loop-rest.scope.schema (tokens_seen c.loop-rest.rest.now) i.1
     c.in-Ok.front.definition c.in-Ok.front.name.now (drop c.in-Ok.front.count (tokens_seen c.loop-rest.rest.now)) c.in-Ok.ensures.0
-    (λ is. clash _ (c.is_end.ensures.1 is) c.loop-rest-test.true) c.claim.new.names c.in-Err-claim.fault (c.in-Err-claim.ensures i.0 i.2)
+    (λ is. clash _ (c.is_end.ensures.1 is) c.loop-rest-test.true) c.claim.new.names c.in-Err-claim.fault (c.in-Err-claim.ensures.claims i.0 i.2)
+
+pub define-requires-clause-is_name : goal.define-requires-clause-is_name
+define-requires-clause-is_name c =
+    let i = c.loop-rest.invariant in
+    let claimed = c.in-Ok-claim.ensures.claims i.0 i.2 in
+    subst IsName (sym claimed.0) claimed.1.0
 
 pub define-requires-clause-new : goal.define-requires-clause-new
 define-requires-clause-new c =
     let i = c.loop-rest.invariant in
-    let claimed = c.in-Ok-claim.ensures i.0 i.2 in
+    let claimed = c.in-Ok-claim.ensures.claims i.0 i.2 in
     fresh c.args.module_name.now c.loop-rest.scope.module_name.now i.4 (tokens_seen c.args.body.now) i.0 c.loop-rest.scope.schema (tokens_seen c.loop-rest.rest.now) i.1
     c.in-Ok-claim.name.now c.in-Ok.front.name.now claimed.0 claimed.1
 
@@ -51,7 +57,7 @@ loop-rest-preserved c =
     let rest = c.loop-rest.rest.now in
     let count = c.in-Ok.front.count in
     let token = c.in-Ok.front.name.now in
-    let claimed = c.in-Ok-claim.ensures i.0 i.2 in
+    let claimed = c.in-Ok-claim.ensures.claims i.0 i.2 in
     let defined = c.in-Ok-define.ensures in (
       token ∷ i.0,
       subst (λ (text : List Token). Reading c.args.module_name.now (tokens_seen c.args.body.now) (token ∷ i.0) c.define.new.self.schema text) (behind count rest)

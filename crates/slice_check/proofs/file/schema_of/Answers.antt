@@ -11,7 +11,7 @@ file_of-requires c =
     let seen : tokens_seen c.as_slice.result.now ≡ tokens c.args.text.now = ap tokens_seen c.as_slice.ensures.value ∙ c.in_ok-tokens.ensures in
     omega (arith, ap length seen, length-map c.as_slice.result.now (λ (token : Bor Token). token.now), length-tokens c.args.text.now)
 
-pub returns : goal.returns
-returns c =
+pub returns-clause-meaning : goal.returns-clause-meaning
+returns-clause-meaning c =
     let seen : tokens_seen c.as_slice.result.now ≡ tokens c.args.text.now = ap tokens_seen c.as_slice.ensures.value ∙ c.in_ok-tokens.ensures in
-    text_answers c.args.text.now c.as_slice.result.now seen (omega arith) c.file_of.result c.file_of.ensures
+    text_answers c.args.text.now c.as_slice.result.now seen (omega arith) c.file_of.result c.file_of.ensures.meaning

@@ -5,8 +5,8 @@ use Rattle.std.proofs.lemmas.Map.Text.{btree_set_updates_text}
 use Rattle.slice_check.proofs.ScopeNames.{was_new, was_old, has_more}
 use Rattle.slice_check.proofs.names.claim.Goals as goal
 
-pub returns-then-branch : goal.returns-then-branch
-returns-then-branch c = λ before held.
+pub returns-then-branch-clause-claims : goal.returns-then-branch-clause-claims
+returns-then-branch-clause-claims c = λ before held.
     let key = string_bytes c.in_ok-lowered.lowered in
     let lower : key ≡ str_to_ascii_lowercase c.args.token.now = c.in_ok-lowered.ensures.ok ∙ ap str_to_ascii_lowercase c.in-Some.ensures.0 in (
       c.in-Some.ensures.0,
@@ -15,8 +15,8 @@ returns-then-branch c = λ before held.
           (btree_set_updates_text key c.args.names.now c.insert.new.self true c.in_ok-insert.ensures.updates lowered) (held lowered),
     )
 
-pub returns-else-branch : goal.returns-else-branch
-returns-else-branch c = λ before held new.
+pub returns-else-branch-clause-claims : goal.returns-else-branch-clause-claims
+returns-else-branch-clause-claims c = λ before held new.
     let key = string_bytes c.in_ok-lowered.lowered in
     let lower : key ≡ str_to_ascii_lowercase c.args.token.now = c.in_ok-lowered.ensures.ok ∙ ap str_to_ascii_lowercase c.in-Some.ensures.0 in
     was_old before c.args.token.now key c.in_ok-insert.field-0 (contains_text c.args.names.now key) lower c.in_ok-insert.ensures.added (held key) c.if-branch.false new.1

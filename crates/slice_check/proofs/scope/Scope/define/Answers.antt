@@ -15,10 +15,10 @@ add_definition-requires-clause-new_id c =
 pub returns : goal.returns
 returns c =
     let put : (word : Token) → known c.insert.new.self word ≡ cond (bytes_eq c.args.name.now word) (Some (place c.args.self.now.schema c.args.definition)) (known c.args.self.now.types word)
-    = λ word. rw (sym c.as_bytes.ensures.value, sym c.in_ok-kind.ensures.2) (btree_map_updates_str c.as_bytes.result.now c.args.self.now.types c.insert.new.self (Some c.in_ok-kind.kind) c.in_ok-insert.ensures.updates word) in
+    = λ word. rw (sym c.as_bytes.ensures.value, sym c.in_ok-kind.ensures.adds.2) (btree_map_updates_str c.as_bytes.result.now c.args.self.now.types c.insert.new.self (Some c.in_ok-kind.kind) c.in_ok-insert.ensures.updates word) in
     let schema : c.add_definition.new.schema ≡ with_definition c.args.self.now.schema (type_id c.args.self.now.module_name.now c.args.name.now) c.args.definition
-    = c.in_ok-kind.ensures.1 ∙ ap (λ (id : List ℕ). with_definition c.args.self.now.schema id c.args.definition) c.in_ok-id.ensures in (
-      c.in_ok-kind.ensures.0,
+    = c.in_ok-kind.ensures.adds.1 ∙ ap (λ (id : List ℕ). with_definition c.args.self.now.schema id c.args.definition) c.in_ok-id.ensures in (
+      c.in_ok-kind.ensures.adds.0,
       schema,
       refl,
       knows_on c.args.self.now (record { module_name = c.args.self.now.module_name; schema = c.add_definition.new.schema; types = c.insert.new.self }) c.args.name.now c.args.definition
