@@ -3,6 +3,7 @@ use Rattle.std.specs.Prelude.{ℕ, ◌≡◌, ◌+◌, ◌<◌, ◌≤◌, List,
 use Rattle.slice_lexer.specs.declared.fault.LexFault.{LexFault}
 use Rattle.slice_lexer.specs.declared.fault.LexFault.TheVariants as faults
 use Rattle.slice_lexer.specs.declared.token.Token.{Token}
+use Rattle.slice_lexer.specs.declared.token.TokenKind.{TokenKind}
 use Rattle.slice_lexer.specs.declared.piece.Piece.{Piece}
 use Rattle.slice_lexer.specs.declared.piece.Piece.TheVariants as pieces
 use Rattle.slice_lexer.specs.Pieces.{Front, front}
@@ -51,9 +52,13 @@ abbrev pub AreSpans : ℕ → List Token → ℕ → Type 0
 AreSpans place [] end = place ≤ end
 AreSpans place (token ∷ tokens) end = (place ≤ token.from) × (token.from < token.to) × AreSpans token.to tokens end
 
--- The answer to a text. Want of memory says nothing of it.
+-- The text is pieces up to a place where a token stands.
+abbrev pub HasToken : List ℕ → Type 0
+HasToken text = (tokens : List Token) × (place : ℕ) × (kind : TokenKind) × (size : ℕ) × Reads text tokens place × (front_at text place ≡ Ok (pieces.Token kind size))
+
+-- The answer to a text. Memory is wanted for tokens alone.
 abbrev pub Answers : List ℕ → Result (List Token) LexFault → Type 0
 Answers text (Ok tokens) = (length text ≤ 1000000) × Lexes text tokens
 Answers text (Err faults.TooLong) = 1000000 < length text
-Answers text (Err faults.Memory) = Unit {0}
+Answers text (Err faults.Memory) = (length text ≤ 1000000) × HasToken text
 Answers text (Err fault) = (length text ≤ 1000000) × LexBreaks text fault

@@ -1,9 +1,9 @@
-use super::tokens;
+use super::{LexFault, tokens};
 use std::alloc::AllocError;
 use std::test::Fail;
 
 /// Texts, each with its tokens or its first defect.
-const CASES: [(&str, &str); 92] = [
+const CASES: &[(&str, &str)] = &[
     (
         "module M{}",
         "Keyword(18) 0..6, Word 7..8, Symbol(0) 8..9, Symbol(1) 9..10, ",
@@ -136,10 +136,35 @@ fn written(rt: &impl AllocGlobal, text: &[u8]) -> Result<String, AllocError> {
 fn texts_by_the_rules(rt: HostRuntime) -> Result<(), Fail> {
     for (text, expected) in CASES {
         let found = written(&rt, text.as_bytes())?;
-        assert_eq!(rt; found.as_str(), expected, "at {text:?}");
+        assert_eq!(rt; found.as_str(), *expected, "at {text:?}");
     }
     let found = written(&rt, b"a \xff")?;
     assert_eq!(rt; found.as_str(), "BadByte(2)");
+    Ok(())
+}
+
+/// Faults, each with what is printed of it.
+const PRINTED: &[(LexFault, &str)] = &[
+    (LexFault::BadByte(0), "byte 0: no token begins like this"),
+    (
+        LexFault::OpenString(12),
+        "byte 12: the string is not closed on its line",
+    ),
+    (
+        LexFault::OpenComment(4_294_967_295),
+        "byte 4294967295: the comment is not closed",
+    ),
+    (LexFault::BadNumber(7), "byte 7: not a number"),
+    (LexFault::TooLong, "the text has more than 1,000,000 bytes"),
+    (LexFault::Memory, "memory ran out"),
+];
+
+#[test]
+fn faults_printed(rt: HostRuntime) -> Result<(), Fail> {
+    for (fault, expected) in PRINTED {
+        let found = format!(in rt.alloc(); "{fault}")?;
+        assert_eq!(rt; found.as_str(), *expected);
+    }
     Ok(())
 }
 
