@@ -5,13 +5,19 @@ use Rattle.slice_syntax.specs.declared.fault.Stop.{Stop}
 use Rattle.slice_syntax.specs.declared.fault.Stop.TheVariants as stops
 use Rattle.slice_syntax.specs.Lexemes.{Lexemes}
 use Rattle.slice_syntax.specs.Reading.{Reading, gather}
-use Rattle.slice_syntax.specs.Taking.{Takes, TakesWith}
+use Rattle.slice_syntax.specs.Taking.{Takes, TakesNoMemory, TakesWith}
 use Rattle.slice_syntax.proofs.Laws.{ok_parts}
 
 stop_takes : {X Y Z : Type 0} (stop : Stop) (result : Result Y Stop) (new : Lexemes) (inner : Reading X) (outer : Reading Z) → (view : Y → Z) → Takes (λ (x : X). x) (Err stop) new inner → ((left : Lexemes) → inner ≡ Err left → outer ≡ Err left)
     → Takes view (Err stop) new outer
 stop_takes stops.Refused result new inner outer view h pass = pass new h
 stop_takes stops.Memory result new inner outer view h pass = tt
+
+-- a call that never wants memory
+pub no_memory_takes : {X Y : Type 0} (view : X → Y) (result : Result X Stop) (new : Lexemes) (r : Reading Y) → TakesNoMemory view result new r → Takes view result new r
+no_memory_takes view (Ok x) new r h = h
+no_memory_takes view (Err stops.Refused) new r h = h
+no_memory_takes view (Err stops.Memory) new r h = tt
 
 -- what the inner call refused, the outer one refuses
 pub err_takes : {X Y Z : Type 0} (view : Y → Z) (stop : Stop) (result : Result Y Stop) (new : Lexemes) (inner : Reading X) (outer : Reading Z) → IsErrAnd result (λ e. e ≡ stop) → Takes (λ (x : X). x) (Err stop) new inner

@@ -11,6 +11,12 @@ Takes view (Ok x) new read = read ≡ Ok (view x, new)
 Takes view (Err stops.Refused) new read = read ≡ Err new
 Takes view (Err stops.Memory) new read = Unit {0}
 
+-- The same of a call that never wants memory.
+abbrev pub TakesNoMemory : {X Y : Type 0} → (X → Y) → Result X Stop → Lexemes → Reading Y → Type 0
+TakesNoMemory view (Ok x) new read = read ≡ Ok (view x, new)
+TakesNoMemory view (Err stops.Refused) new read = read ≡ Err new
+TakesNoMemory view (Err stops.Memory) new read = ⊥
+
 -- The call went over what reading gives, and this holds of what it answered and the value that was read.
 abbrev pub TakesWith : {X Y : Type 0} → (X → Y → Type 0) → Result X Stop → Lexemes → Reading Y → Type 0
 TakesWith {Y = Y} Holds (Ok x) new read = (y : Y) × (read ≡ Ok (y, new)) × Holds x y

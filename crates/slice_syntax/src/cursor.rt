@@ -10,7 +10,7 @@ ghost use Rattle.slice_syntax.specs.Grammar.{one, optional};
 ghost use Rattle.slice_syntax.specs.Rules.{word};
 ghost use Rattle.slice_syntax.specs.Reading.{read, token_at};
 ghost use Rattle.slice_syntax.specs.Syntax.{fault_at};
-ghost use Rattle.slice_syntax.specs.Taking.{Takes};
+ghost use Rattle.slice_syntax.specs.Taking.{Takes, TakesNoMemory};
 
 use crate::directive::if_text;
 use crate::fault::{Stop, SyntaxFault};
@@ -94,7 +94,7 @@ impl<'a> Cursor<'a> {
 
     /// Takes a token of one of these sorts.
     pub fn take_any(&mut self, sorts: &[Sort]) -> Result<(Token, &'a [u8]), Stop>
-        ensures { Takes seen result self.new (token_at sorts.now (λ l. l) self.old) }
+        ensures { TakesNoMemory seen result self.new (token_at sorts.now (λ l. l) self.old) }
     {
         match self.next() {
             Some(found) if self.begins(sorts) => {
@@ -107,7 +107,7 @@ impl<'a> Cursor<'a> {
 
     /// Takes a token of this sort, and answers its place.
     pub fn take(&mut self, sort: Sort) -> Result<u32, Stop>
-        ensures { Takes (λ place. place) result self.new (read (one sort) self.old) }
+        ensures { TakesNoMemory (λ place. place) result self.new (read (one sort) self.old) }
     {
         let (token, _) = self.take_any(&[sort])?;
         Ok(token.from)
@@ -115,7 +115,7 @@ impl<'a> Cursor<'a> {
 
     /// Takes a token of this sort where it is the next, and answers its place.
     pub fn take_if(&mut self, sort: Sort) -> Result<Option<u32>, Stop>
-        ensures { Takes (λ place. place) result self.new (read (optional (one sort)) self.old) }
+        ensures { TakesNoMemory (λ place. place) result self.new (read (optional (one sort)) self.old) }
     {
         if self.begins(&[sort]) {
             Ok(Some(self.take(sort)?))

@@ -2,7 +2,7 @@
 
 ghost use Rattle.slice_syntax.specs.Reading.{read};
 ghost use Rattle.slice_syntax.specs.Rules.{close, constant_item, definition, dictionary_item, entries, entry, entry_comma, enum_item, member, members, sequence_item, struct_item};
-ghost use Rattle.slice_syntax.specs.Taking.{Takes};
+ghost use Rattle.slice_syntax.specs.Taking.{Takes, TakesNoMemory};
 
 use crate::classes::{class, exception};
 use crate::cursor::Cursor;
@@ -187,7 +187,7 @@ fn dictionary(alloc: Global, cursor: &mut Cursor) -> Result<Item, Stop>
 /// `"}" [ ";" ]`
 #[tactic(auto, unfolding(crate::specs::Rules::close))]
 pub(crate) fn close(cursor: &mut Cursor) -> Result<(), Stop>
-    ensures { Takes (λ x. x) result cursor.new (read close cursor.old) }
+    ensures { TakesNoMemory (λ x. x) result cursor.new (read close cursor.old) }
 {
     cursor.take(CLOSE_BRACE)?;
     cursor.take_if(SEMICOLON)?;

@@ -10,7 +10,7 @@ ghost use Rattle.slice_syntax.specs.Sorts.{AreWritten, written};
 ghost use Rattle.slice_syntax.specs.Files.{Reads, directive, directives, include_of, includes_in, is_guarded};
 ghost use Rattle.slice_syntax.specs.Moving.{closing_at, end_at, whole_at};
 ghost use Rattle.slice_syntax.specs.Syntax.{Answers, SyntaxBreaks};
-ghost use Rattle.slice_syntax.specs.Taking.{Takes, TakesWith};
+ghost use Rattle.slice_syntax.specs.Taking.{Takes, TakesNoMemory, TakesWith};
 
 use crate::cursor::Cursor;
 use crate::directive::include_name;
@@ -109,7 +109,7 @@ fn take_include(alloc: Global, cursor: &mut Cursor) -> Result<(Name, u32), Stop>
 
 /// `#endif` where an `#ifndef` stands before the modules.
 fn closing(guarded: bool, cursor: &mut Cursor) -> Result<(), Stop>
-    ensures { Takes (λ x. x) result cursor.new (closing_at guarded cursor.old) }
+    ensures { TakesNoMemory (λ x. x) result cursor.new (closing_at guarded cursor.old) }
 {
     if guarded {
         cursor.take(Sort::EndGuard)?;
@@ -119,7 +119,7 @@ fn closing(guarded: bool, cursor: &mut Cursor) -> Result<(), Stop>
 
 /// Nothing.
 fn end(cursor: &mut Cursor) -> Result<(), Stop>
-    ensures { Takes (λ x. x) result cursor.new (end_at cursor.old) }
+    ensures { TakesNoMemory (λ x. x) result cursor.new (end_at cursor.old) }
 {
     match cursor.sort() {
         None => Ok(()),

@@ -3,7 +3,7 @@
 ghost use Rattle.slice_syntax.specs.Reading.{read};
 ghost use Rattle.std.specs.Prelude.{◌≡◌};
 ghost use Rattle.slice_syntax.specs.Rules.{is_minus, is_true, keyword_code, number_size, file_metadata, given, metadata, named, named_type, names, number, object_type, plain_type, scoped, signed_number, tag, text, texts, truth, type_word, value};
-ghost use Rattle.slice_syntax.specs.Taking.{Takes};
+ghost use Rattle.slice_syntax.specs.Taking.{Takes, TakesNoMemory};
 
 use crate::cursor::Cursor;
 use crate::fault::Stop;
@@ -97,7 +97,7 @@ pub(crate) const PARAMETERS: [Sort; 15] = [
 /// `{ "[" text { "," text } "]" }`
 #[tactic(auto, unfolding(crate::specs::Rules::metadata))]
 pub(crate) fn metadata(cursor: &mut Cursor) -> Result<(), Stop>
-    ensures { Takes (λ x. x) result cursor.new (read metadata cursor.old) }
+    ensures { TakesNoMemory (λ x. x) result cursor.new (read metadata cursor.old) }
 {
     while cursor.begins(&[OPEN_SQUARE]) {
         cursor.take(OPEN_SQUARE)?;
@@ -110,7 +110,7 @@ pub(crate) fn metadata(cursor: &mut Cursor) -> Result<(), Stop>
 /// `"[[" text { "," text } "]]"`
 #[tactic(auto, unfolding(crate::specs::Rules::file_metadata))]
 pub(crate) fn file_metadata(cursor: &mut Cursor) -> Result<(), Stop>
-    ensures { Takes (λ x. x) result cursor.new (read file_metadata cursor.old) }
+    ensures { TakesNoMemory (λ x. x) result cursor.new (read file_metadata cursor.old) }
 {
     cursor.take(OPEN_TWO)?;
     texts(cursor)?;
@@ -121,7 +121,7 @@ pub(crate) fn file_metadata(cursor: &mut Cursor) -> Result<(), Stop>
 /// `text { "," text }`
 #[tactic(auto, unfolding(crate::specs::Rules::texts))]
 fn texts(cursor: &mut Cursor) -> Result<(), Stop>
-    ensures { Takes (λ x. x) result cursor.new (read texts cursor.old) }
+    ensures { TakesNoMemory (λ x. x) result cursor.new (read texts cursor.old) }
 {
     cursor.take(Sort::Text)?;
     while cursor.begins(&[COMMA]) {
@@ -189,7 +189,7 @@ fn named_type(alloc: Global, cursor: &mut Cursor) -> Result<TypeWord, Stop>
 
 #[tactic(auto, unfolding(crate::specs::Rules::plain_type))]
 fn plain_type(cursor: &mut Cursor) -> Result<TypeWord, Stop>
-    ensures { Takes (λ x. x) result cursor.new (read plain_type cursor.old) }
+    ensures { TakesNoMemory (λ x. x) result cursor.new (read plain_type cursor.old) }
 {
     let token = cursor.take_any(&PLAIN_TYPES)?.0;
     Ok(TypeWord::Built {
@@ -202,7 +202,7 @@ fn plain_type(cursor: &mut Cursor) -> Result<TypeWord, Stop>
 /// `"Object" [ "*" ]`
 #[tactic(auto, unfolding(crate::specs::Rules::object_type))]
 fn object_type(cursor: &mut Cursor) -> Result<TypeWord, Stop>
-    ensures { Takes (λ x. x) result cursor.new (read object_type cursor.old) }
+    ensures { TakesNoMemory (λ x. x) result cursor.new (read object_type cursor.old) }
 {
     let token = cursor.take_any(&[OBJECT])?.0;
     let star = cursor.take_if(STAR)?;
@@ -245,7 +245,7 @@ pub(crate) fn value(alloc: Global, cursor: &mut Cursor) -> Result<Constant, Stop
 
 #[tactic(auto, unfolding(crate::specs::Rules::text))]
 fn text(cursor: &mut Cursor) -> Result<Constant, Stop>
-    ensures { Takes (λ x. x) result cursor.new (read text cursor.old) }
+    ensures { TakesNoMemory (λ x. x) result cursor.new (read text cursor.old) }
 {
     let place = cursor.take(Sort::Text)?;
     Ok(Constant {
@@ -267,7 +267,7 @@ fn named(alloc: Global, cursor: &mut Cursor) -> Result<Constant, Stop>
 
 #[tactic(auto, unfolding(crate::specs::Rules::signed_number))]
 fn signed_number(cursor: &mut Cursor) -> Result<Constant, Stop>
-    ensures { Takes (λ x. x) result cursor.new (read signed_number cursor.old) }
+    ensures { TakesNoMemory (λ x. x) result cursor.new (read signed_number cursor.old) }
 {
     let sign = cursor.take_any(&[MINUS, PLUS])?.0;
     let number = cursor.take_any(&[Sort::Number])?.0;
@@ -282,7 +282,7 @@ fn signed_number(cursor: &mut Cursor) -> Result<Constant, Stop>
 
 #[tactic(auto, unfolding(crate::specs::Rules::number))]
 fn number(cursor: &mut Cursor) -> Result<Constant, Stop>
-    ensures { Takes (λ x. x) result cursor.new (read number cursor.old) }
+    ensures { TakesNoMemory (λ x. x) result cursor.new (read number cursor.old) }
 {
     let number = cursor.take_any(&[Sort::Number])?.0;
     Ok(Constant {
@@ -324,7 +324,7 @@ fn is_true(kind: TokenKind) -> bool
 
 #[tactic(auto, unfolding(crate::specs::Rules::truth))]
 fn truth(cursor: &mut Cursor) -> Result<Constant, Stop>
-    ensures { Takes (λ x. x) result cursor.new (read truth cursor.old) }
+    ensures { TakesNoMemory (λ x. x) result cursor.new (read truth cursor.old) }
 {
     let token = cursor.take_any(&[TRUE, FALSE])?.0;
     Ok(Constant {

@@ -1,15 +1,15 @@
-use Rattle.std.proofs.Common.{◌≡◌, ℕ, List, ◌∷◌, ◌++◌, length, reverse, refl, sym, ap, ◌∙◌}
+use Rattle.std.proofs.Common.{◌≡◌, ℕ, List, ◌∷◌, ◌++◌, length, reverse, Err, refl, sym, ap, ◌∙◌}
 use Rattle.slice_syntax.specs.Reading.{read}
 use Rattle.slice_syntax.specs.Rules.{metadata, definition, close}
 use Rattle.slice_syntax.specs.Files.{head, exits}
 use Rattle.slice_syntax.specs.Moving.{enter, hold, leave, inner_move}
-use Rattle.slice_syntax.proofs.Exits.{err_with}
+use Rattle.slice_syntax.proofs.Exits.{err_with, no_memory_takes}
 use Rattle.slice_syntax.proofs.Moves.{leave_read, leave_stop, meta_stop, enter_read, enter_stop, hold_read, hold_stop, last_with, reverse_pushed}
 use Rattle.slice_syntax.proofs.modules.inner_move.Goals as goal
 
 pub returns-in_err-close : goal.returns-in_err-close
 returns-in_err-close c =
-    err_with _ c.in_err-close.field-0.0 c.from_residual.result c.close.new.cursor (read close c.args.cursor.now) (read inner_move c.args.cursor.now) c.from_residual.ensures.1 c.in_err-close.ensures
+    err_with _ c.in_err-close.field-0.0 c.from_residual.result c.close.new.cursor (read close c.args.cursor.now) (read inner_move c.args.cursor.now) c.from_residual.ensures.1 (no_memory_takes (λ x. x) (Err c.in_err-close.field-0.0) c.close.new.cursor (read close c.args.cursor.now) c.in_err-close.ensures)
     (λ left e. leave_stop c.args.cursor.now left (sym c.begins.ensures ∙ c.if-begins.true) e)
 
 pub returns-then-begins : goal.returns-then-begins
@@ -19,7 +19,7 @@ returns-then-begins c =
 
 pub returns-in_err-metadata : goal.returns-in_err-metadata
 returns-in_err-metadata c =
-    err_with _ c.in_err-metadata.field-0.0 c.from_residual-in_err-metadata.result c.metadata.new.cursor (read metadata c.args.cursor.now) (read inner_move c.args.cursor.now) c.from_residual-in_err-metadata.ensures.1 c.in_err-metadata.ensures
+    err_with _ c.in_err-metadata.field-0.0 c.from_residual-in_err-metadata.result c.metadata.new.cursor (read metadata c.args.cursor.now) (read inner_move c.args.cursor.now) c.from_residual-in_err-metadata.ensures.1 (no_memory_takes (λ x. x) (Err c.in_err-metadata.field-0.0) c.metadata.new.cursor (read metadata c.args.cursor.now) c.in_err-metadata.ensures)
     (λ left e. meta_stop c.args.cursor.now left (sym c.begins.ensures ∙ c.if-begins.false) e)
 
 pub returns-in_err-module_head : goal.returns-in_err-module_head

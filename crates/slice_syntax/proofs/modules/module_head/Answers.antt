@@ -9,7 +9,7 @@ use Rattle.slice_syntax.specs.Reading.{read}
 use Rattle.slice_syntax.specs.Sorts.{word_module, colons, open_brace}
 use Rattle.slice_syntax.specs.Rules.{word}
 use Rattle.slice_syntax.specs.Files.{head, enters}
-use Rattle.slice_syntax.proofs.Exits.{err_with}
+use Rattle.slice_syntax.proofs.Exits.{err_with, no_memory_takes}
 use Rattle.slice_syntax.proofs.modules.module_head.Goals as goal
 
 head_stop : (ls left : Lexemes) → read (one word_module) ls ≡ Err left → read head ls ≡ Err left
@@ -38,7 +38,7 @@ counted old new words before after is b a =
 
 pub returns-in_err-take : goal.returns-in_err-take
 returns-in_err-take c =
-    err_with _ c.in_err-take.field-0.0 c.from_residual.result c.take.new.self (read (one word_module) c.args.cursor.now) (read head c.args.cursor.now) c.from_residual.ensures.1 c.in_err-take.ensures (head_stop c.args.cursor.now)
+    err_with _ c.in_err-take.field-0.0 c.from_residual.result c.take.new.self (read (one word_module) c.args.cursor.now) (read head c.args.cursor.now) c.from_residual.ensures.1 (no_memory_takes (λ x. x) (Err c.in_err-take.field-0.0) c.take.new.self (read (one word_module) c.args.cursor.now) c.in_err-take.ensures) (head_stop c.args.cursor.now)
 
 pub returns-in_err-module_words : goal.returns-in_err-module_words
 returns-in_err-module_words c =
@@ -47,7 +47,7 @@ returns-in_err-module_words c =
 
 pub returns-in_err-take-2 : goal.returns-in_err-take-2
 returns-in_err-take-2 c =
-    err_with _ c.in_err-take-2.field-0.0 c.from_residual-in_err-take-2.result c.take-2.new.self (read (one open_brace) c.module_words.new.cursor) (read head c.args.cursor.now) c.from_residual-in_err-take-2.ensures.1 c.in_err-take-2.ensures
+    err_with _ c.in_err-take-2.field-0.0 c.from_residual-in_err-take-2.result c.take-2.new.self (read (one open_brace) c.module_words.new.cursor) (read head c.args.cursor.now) c.from_residual-in_err-take-2.ensures.1 (no_memory_takes (λ x. x) (Err c.in_err-take-2.field-0.0) c.take-2.new.self (read (one open_brace) c.module_words.new.cursor) c.in_err-take-2.ensures)
     (λ left e. brace_stop c.args.cursor.now c.take.new.self c.module_words.new.cursor left c.in_ok-take.field-0 c.in_ok-module_words.ensures.0 c.in_ok-take.ensures c.in_ok-module_words.ensures.1 e)
 
 pub returns : goal.returns
