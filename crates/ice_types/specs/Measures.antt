@@ -14,6 +14,10 @@ built_in smallest fixed = record { depth = 1; smallest = smallest; is_fixed = fi
 abbrev pub container : ℕ → Measure
 container depth = record { depth = depth; smallest = 1; is_fixed = false; is_key = false }
 
+-- a reference to a class instance, which may be null
+abbrev pub reference : Measure
+reference = record { depth = 1; smallest = 1; is_fixed = false; is_key = false }
+
 -- members together: the deepest, and the sum of the smallest
 abbrev pub no_members : Measure
 no_members = record { depth = 0; smallest = 0; is_fixed = true; is_key = true }
@@ -56,6 +60,7 @@ measure t (suc levels) kinds.Short = Some (built_in 2 true)
 measure t (suc levels) kinds.Int = Some (built_in 4 true)
 measure t (suc levels) kinds.Long = Some (built_in 8 true)
 measure t (suc levels) kinds.Text = Some (built_in 1 false)
+measure t (suc levels) (kinds.Class at) = Some reference
 measure t (suc levels) (kinds.Seq at) = measured (slice_get t.seqs at) (λ q. sequence_of (measure t levels q.element))
 measure t (suc zero) (kinds.Dict at) = None
 measure t (suc (suc levels)) (kinds.Dict at) = measured (slice_get t.dicts at) (λ d. dictionary_of (measure t levels d.key) (measure t levels d.value))

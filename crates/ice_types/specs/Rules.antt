@@ -14,7 +14,13 @@ abbrev pub HasTypeId : Tables → List ℕ → TypeRef → Type 0
 HasTypeId t id (kinds.Seq at) = HasId (seq_ids t) id at
 HasTypeId t id (kinds.Dict at) = HasId (dict_ids t) id at
 HasTypeId t id (kinds.Struct at) = HasId (struct_ids t) id at
-HasTypeId t id kind = ⊥
+HasTypeId t id kinds.Bool = ⊥
+HasTypeId t id kinds.Byte = ⊥
+HasTypeId t id kinds.Short = ⊥
+HasTypeId t id kinds.Int = ⊥
+HasTypeId t id kinds.Long = ⊥
+HasTypeId t id kinds.Text = ⊥
+HasTypeId t id (kinds.Class at) = ⊥
 
 pub record IsSchema (t : Tables) : Type 0 where
   pub seq_room : length t.seqs < 100000000

@@ -61,3 +61,4 @@ Names t text kinds.Text = text ≡ codes "string"
 Names t text (kinds.Seq at) = HasId (seq_ids t) text at
 Names t text (kinds.Dict at) = HasId (dict_ids t) text at
 Names t text (kinds.Struct at) = HasId (struct_ids t) text at
+Names t text (kinds.Class at) = ⊥

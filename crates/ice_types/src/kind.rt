@@ -12,4 +12,7 @@ pub enum TypeRef {
     Seq(u32),
     Dict(u32),
     Struct(u32),
+    /// A reference to an instance of this class or of one derived from it. None is `Object` and
+    /// `Value`, which take any.
+    Class(Option<u32>),
 }

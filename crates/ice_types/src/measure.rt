@@ -1,7 +1,7 @@
 //! What a schema says of each of its types.
 
 ghost use Rattle.std.specs.Prelude.{◌≡◌, ◌+◌, ◌<◌, ◌^◌, suc};
-ghost use Rattle.ice_types.specs.Measures.{built_in, container, no_members, with_member, structure};
+ghost use Rattle.ice_types.specs.Measures.{built_in, reference, container, no_members, with_member, structure};
 
 /// What a schema says of a type.
 #[derive(Clone, Copy, Debug, PartialEq, Eq)]
@@ -36,6 +36,18 @@ impl Measure {
     {
         Measure {
             depth,
+            smallest: 1,
+            is_fixed: false,
+            is_key: false,
+        }
+    }
+
+    /// Of a reference to a class instance, which may be null.
+    pub(crate) fn reference() -> Measure
+        ensures { result ≡ reference }
+    {
+        Measure {
+            depth: 1,
             smallest: 1,
             is_fixed: false,
             is_key: false,

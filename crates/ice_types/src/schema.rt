@@ -92,6 +92,7 @@ impl Schema {
             TypeRef::Seq(at) => self.seqs.measures.get(at as usize).copied(),
             TypeRef::Dict(at) => self.dicts.measures.get(at as usize).copied(),
             TypeRef::Struct(at) => self.structs.measures.get(at as usize).copied(),
+            TypeRef::Class(_) => Some(Measure::reference()),
         }
     }
 
