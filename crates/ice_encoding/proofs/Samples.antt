@@ -1,6 +1,6 @@
 -- What the definitions answer at inputs that are written out, byte by byte.
 use Rattle.std.proofs.Common.{◌≡◌, ℕ, zero, suc, true, false, List, [], ◌∷◌, ◌++◌, replicate, Ok, refl, inl, inr}
-use Rattle.std.specs.Prelude.{pos, negsuc, Result}
+use Rattle.std.specs.Prelude.{pos, negsuc, Result, None}
 use Rattle.std.specs.declared.cmp.Ordering.TheVariants.{Less}
 use Rattle.std.specs.Str.{is_utf8, chars}
 use lib.Utf8.{encode}
