@@ -23,7 +23,7 @@ pub enum Kind {
     BadText,
     /// A key is equal to an earlier one of its dictionary.
     EqualKey,
-    /// Bytes are left behind the last part.
+    /// Bytes are left after the last part.
     LeftOver,
 }
 
@@ -58,7 +58,7 @@ pub struct Fault {
 pub enum ReadFault {
     /// The bytes are none of the grammar.
     Broken(Fault),
-    /// Want of memory, which may come in place of any other answer.
+    /// Out of memory, which may come in place of any other answer.
     Memory,
 }
 

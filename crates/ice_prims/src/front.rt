@@ -2,14 +2,14 @@
 
 ghost use Rattle.std.specs.Prelude.{◌≡◌, ◌+◌, ◌≤◌, ◌<◌, ◌^◌, length, IfOk};
 ghost use Rattle.ice_prims.specs.Number.{bool_at, size_at, text_at};
-ghost use Rattle.ice_prims.specs.Taking.{Finds};
+ghost use Rattle.ice_prims.specs.Taking.{FindsFirst};
 
 use crate::fault::{Fault, Kind};
 
 /// The bool at the front, and how many bytes it takes.
 pub fn bool_in(place: u64, bytes: &[u8]) -> Result<(bool, usize), Fault>
     ensures taken { IfOk result (λ x. x.1 ≤ length bytes.now) }
-    ensures found { Finds (λ x. x.0) (λ x. x.1) result (record { place = place; bytes = bytes.now }) (bool_at (record { place = place; bytes = bytes.now })) }
+    ensures found { FindsFirst (λ x. x) result bool_at place bytes.now }
 {
     match bytes {
         [0, ..] => Ok((false, 1)),
@@ -28,7 +28,7 @@ pub fn bool_in(place: u64, bytes: &[u8]) -> Result<(bool, usize), Fault>
 /// The size at the front, and how many bytes it takes.
 pub fn size_in(place: u64, bytes: &[u8]) -> Result<(u32, usize), Fault>
     ensures taken { IfOk result (λ x. x.1 ≤ length bytes.now) }
-    ensures found { Finds (λ x. x.0) (λ x. x.1) result (record { place = place; bytes = bytes.now }) (size_at (record { place = place; bytes = bytes.now })) }
+    ensures found { FindsFirst (λ x. x) result size_at place bytes.now }
 {
     match bytes {
         [255, a, b, c, d, ..] => {
@@ -53,18 +53,18 @@ pub fn size_in(place: u64, bytes: &[u8]) -> Result<(u32, usize), Fault>
 pub fn text_in(place: u64, bytes: &[u8]) -> Result<(&str, usize), Fault>
     requires { place + length bytes.now < 2 ^ 64 }
     ensures taken { IfOk result (λ x. x.1 ≤ length bytes.now) }
-    ensures found { Finds (λ x. x.0.now) (λ x. x.1) result (record { place = place; bytes = bytes.now }) (text_at (record { place = place; bytes = bytes.now })) }
+    ensures found { FindsFirst (λ x. x.now) result text_at place bytes.now }
 {
     let (size, taken) = size_in(place, bytes)?;
-    let behind = &bytes[taken..];
+    let rest = &bytes[taken..];
     let place = place + taken as u64;
-    if behind.len() < size as usize {
+    if rest.len() < size as usize {
         return Err(Fault {
             place,
             kind: Kind::Short,
         });
     }
-    match std::str::from_utf8(&behind[..size as usize]) {
+    match std::str::from_utf8(&rest[..size as usize]) {
         Ok(text) => Ok((text, taken + size as usize)),
         Err(_) => Err(Fault {
             place,

@@ -5,10 +5,12 @@
 mod cursor;
 mod fault;
 mod front;
+mod laws;
 mod put;
 #[cfg(test)]
 mod tests;
 
 pub use cursor::Cursor;
 pub use fault::{Fault, Kind, ReadFault};
+pub use laws::parts_exact;
 pub use put::{put_bool, put_byte, put_int, put_long, put_short, put_size, put_str};
