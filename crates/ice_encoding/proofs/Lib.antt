@@ -2,6 +2,9 @@ pub mod Order
 pub mod Inserting
 pub mod Same
 pub mod Values
+pub mod Written
+pub mod Typed
+pub mod Deeper
 pub mod Canonical
 pub mod Sizes
 pub mod Smallest

@@ -1,6 +1,6 @@
 -- What the definitions answer at inputs that are written out, byte by byte.
-use Rattle.std.proofs.Common.{◌≡◌, ℕ, zero, suc, true, false, List, [], ◌∷◌, ◌++◌, replicate, Ok, refl, inl, inr}
-use Rattle.std.specs.Prelude.{pos, negsuc, Result, None}
+use Rattle.std.proofs.Common.{◌≡◌, ℕ, zero, suc, true, false, List, [], ◌∷◌, ◌++◌, replicate, Ok, refl, sym, ap, subst, inl, inr}
+use Rattle.std.specs.Prelude.{pos, negsuc, Result}
 use Rattle.std.specs.declared.cmp.Ordering.TheVariants.{Less}
 use Rattle.std.specs.Str.{is_utf8, chars}
 use lib.Utf8.{encode}
@@ -13,9 +13,9 @@ use Rattle.ice_prims.specs.declared.fault.Fault.{Fault}
 use Rattle.ice_prims.specs.declared.fault.Kind.TheVariants.{Short, TooLarge, BadSize, BadVersion, BadBool, BadText, EqualKey, LeftOver}
 use Rattle.ice_prims.specs.Rest.{fault, whole}
 use Rattle.ice_prims.specs.Bytes.{size_bytes}
-use Rattle.ice_encoding.specs.Tree.{Tree, boolean, byte, short, int, long, text, sequence, dictionary, struct, none, tree, no_entry, entry}
+use Rattle.ice_encoding.specs.Tree.{Tree, boolean, byte, short, int, long, text, sequence, dictionary, struct, none, tree, Entries, no_entry, entry, entry_count}
 use Rattle.ice_encoding.specs.Order.{tree_cmp, IsRising}
-use Rattle.ice_encoding.specs.Same.{Same}
+use Rattle.ice_encoding.specs.Same.{Same, AreAmong}
 use Rattle.ice_encoding.specs.Value.{plain_value_at}
 use Rattle.ice_encoding.specs.Encapsulation.{encapsulation_at, encapsulation_bytes}
 
@@ -191,19 +191,30 @@ key_before_value = refl
 -- ---- the same value
 
 in_any_order : Same (dictionary (entry (byte 1) (byte 70) (entry (byte 2) (byte 60) no_entry))) (dictionary (entry (byte 2) (byte 60) (entry (byte 1) (byte 70) no_entry)))
-in_any_order = (refl, (inr (inl (refl, refl)), (inl (refl, refl), tt)))
+in_any_order = (_, refl, refl, (inr (inl (refl, refl)), (inl (refl, refl), tt)))
+
+abbrev pairs_in : Tree → Entries
+pairs_in (dictionary pairs) = pairs
+pairs_in v = no_entry
+
+abbrev number_in : Tree → ℕ
+number_in (byte n) = n
+number_in v = 0
+
+same_pairs : (a b : Entries) → Same (dictionary a) (dictionary b) → (entry_count a ≡ entry_count b) × AreAmong a b
+same_pairs a b (c, is, count, among) = let same : b ≡ c = ap pairs_in is in subst (λ (ps : Entries). (entry_count a ≡ entry_count ps) × AreAmong a ps) (sym same) (count, among)
 
 not_both : (n : ℕ) → n ≡ 0 → n ≡ 1 → ⊥
 not_both n p q = absurd cc
 
 another_value : Same (dictionary (entry (byte 1) (byte 0) no_entry)) (dictionary (entry (byte 1) (byte 1) no_entry)) → ⊥
-another_value h = elim h.1.0 [
-  | inl same ↦ not_both 0 refl same.1
+another_value h = elim (same_pairs (entry (byte 1) (byte 0) no_entry) (entry (byte 1) (byte 1) no_entry) h).1.0 [
+  | inl same ↦ not_both 0 refl (sym (ap number_in same.1))
   | inr same ↦ same
 ]
 
 a_pair_more : Same (dictionary no_entry) (dictionary (entry (byte 1) (byte 60) no_entry)) → ⊥
-a_pair_more h = not_both 0 refl h.0
+a_pair_more h = not_both 0 refl (same_pairs no_entry (entry (byte 1) (byte 60) no_entry) h).0
 
 no_key_twice : IsRising (entry (byte 1) (byte 70) (entry (byte 1) (byte 70) no_entry)) → ⊥
 no_key_twice h = absurd cc

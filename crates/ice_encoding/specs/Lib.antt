@@ -5,5 +5,7 @@ pub mod Port
 pub mod Spelling
 pub mod Reading
 pub mod Value
+pub mod Typed
+pub mod Writing
 pub mod Canonical
 pub mod Encapsulation

@@ -1,19 +1,22 @@
 //! What the definitions promise of each other, one law a function.
 
-ghost use Rattle.std.specs.Prelude.{◌≡◌, ◌≢◌, ◌<◌, ◌≤◌, ◌↔◌, ◌++◌, ℕ, List, None, Some, Ok, length};
+ghost use Rattle.std.specs.Prelude.{◌≡◌, ◌≢◌, ◌≤◌, ◌↔◌, ◌++◌, ℕ, List, Some, Ok, length};
 ghost use Rattle.ice_types.specs.Tables.{Tables};
 ghost use Rattle.ice_types.specs.Measures.{measure, fixed_size};
 ghost use Rattle.ice_types.specs.Rules.{IsSchema};
 ghost use Rattle.ice_types.specs.declared.measure.Measure.{Measure};
 ghost use Rattle.ice_types.specs.declared.kind.TypeRef.{TypeRef};
-ghost use Rattle.ice_prims.specs.Rest.{IsBytes, whole};
+ghost use Rattle.ice_prims.specs.Rest.{Rest, IsBytes, whole};
 ghost use Rattle.ice_prims.specs.Laws.{FoundPart, OnlyPart};
 ghost use Rattle.ice_encoding.specs.Tree.{Tree, Entries};
 ghost use Rattle.ice_encoding.specs.Order.{IsOrdered, insert};
 ghost use Rattle.ice_encoding.specs.Same.{Same};
+ghost use Rattle.ice_encoding.specs.Port.{by_number};
+ghost use Rattle.ice_encoding.specs.Reading.{value_at};
+ghost use Rattle.ice_encoding.specs.Typed.{IsValue};
 ghost use Rattle.ice_encoding.specs.Value.{SpellsPlainValue, plain_value_at};
 ghost use Rattle.ice_encoding.specs.Canonical.{canonical, HasSizes};
-ghost use Rattle.ice_encoding.specs.Encapsulation.{SpellsEncapsulation, encapsulation_at, encapsulation_bytes};
+ghost use Rattle.ice_encoding.specs.Encapsulation.{SpellsEncapsulation, encapsulated_at, encapsulation_at, encapsulation_bytes};
 
 /// What is read is spelled by the bytes that were taken, none less and none more.
 pub fn values_found()
@@ -31,11 +34,18 @@ pub fn values_apart()
         → SpellsPlainValue t kind a v → SpellsPlainValue t kind b w → a ++ x ≡ b ++ y → (a ≡ b) × (v ≡ w) }
 {}
 
-/// The canonical bytes of a value spell it, and are as long as any of its spellings. So they are
-/// read as this value again.
-pub fn values_canonical()
+/// What bytes spell under a schema is a value of its type.
+pub fn values_typed()
     ensures { (t : Tables) (kind : TypeRef) (bytes : List ℕ) (v : Tree)
-        → IsBytes bytes → SpellsPlainValue t kind bytes v → SpellsPlainValue t kind (canonical v) v × (length (canonical v) ≡ length bytes) }
+        → IsSchema t → IsBytes bytes → SpellsPlainValue t kind bytes v → IsValue t kind v }
+{}
+
+/// The canonical bytes of each value of a type spell it, and no spelling is shorter. So they are read
+/// as this value again.
+pub fn values_canonical()
+    ensures values { (t : Tables) (kind : TypeRef) (v : Tree) → IsValue t kind v → SpellsPlainValue t kind (canonical v) v }
+    ensures spelled { (t : Tables) (kind : TypeRef) (bytes : List ℕ) (v : Tree) → IsBytes bytes
+        → SpellsPlainValue t kind bytes v → SpellsPlainValue t kind (canonical v) v × (length (canonical v) ≤ length bytes) }
 {}
 
 /// The keys of each dictionary in a value that bytes spell rise, in whatever order the bytes have them.
@@ -43,13 +53,17 @@ pub fn values_ordered()
     ensures { (t : Tables) (kind : TypeRef) (bytes : List ℕ) (v : Tree) → SpellsPlainValue t kind bytes v → IsOrdered v }
 {}
 
-/// Values are the same, in whatever order the pairs of their dictionaries stand, exactly where their
-/// canonical bytes are equal.
+/// Each size of a value that bytes spell is at most the greatest int.
+pub fn values_have_sizes()
+    ensures { (t : Tables) (kind : TypeRef) (bytes : List ℕ) (v : Tree) → SpellsPlainValue t kind bytes v → HasSizes v }
+{}
+
+/// Values of a type are the same, in whatever order the pairs of their dictionaries stand, exactly
+/// where their canonical bytes are equal.
 pub fn equal_values()
-    ensures values { (t : Tables) (kind : TypeRef) (a b : List ℕ) (v w : Tree)
-        → SpellsPlainValue t kind a v → SpellsPlainValue t kind b w → Same v w → v ≡ w }
-    ensures bytes { (t : Tables) (kind : TypeRef) (a b : List ℕ) (v w : Tree)
-        → IsBytes a → IsBytes b → SpellsPlainValue t kind a v → SpellsPlainValue t kind b w → Same v w ↔ (canonical v ≡ canonical w) }
+    ensures values { (t : Tables) (kind : TypeRef) (v w : Tree) → IsValue t kind v → IsValue t kind w → Same v w → v ≡ w }
+    ensures bytes { (t : Tables) (kind : TypeRef) (v w : Tree)
+        → IsValue t kind v → IsValue t kind w → Same v w ↔ (canonical v ≡ canonical w) }
 {}
 
 /// Two pairs come to the same places whichever of them is put first.
@@ -57,9 +71,18 @@ pub fn pairs_in_any_order()
     ensures { (k v l w : Tree) (pairs : Entries) → k ≢ l → insert k v (insert l w pairs) ≡ insert l w (insert k v pairs) }
 {}
 
-/// Each size of a value that bytes spell is at most the greatest int.
-pub fn values_have_sizes()
-    ensures { (t : Tables) (kind : TypeRef) (bytes : List ℕ) (v : Tree) → SpellsPlainValue t kind bytes v → HasSizes v }
+/// A type of a schema nests at most a hundred levels deep, so reading within more of them answers the
+/// same: no value is refused because the levels ran out.
+pub fn levels_suffice()
+    ensures { (t : Tables) (kind : TypeRef) (m : Measure) → measure t 100 kind ≡ Some m → (levels : ℕ) → 100 ≤ levels
+        → (r : Rest) → value_at by_number t levels kind tt r ≡ value_at by_number t 100 kind tt r }
+{}
+
+/// An encapsulation is read as its value, whatever follows it, and nothing else is: so one may stand
+/// after the other.
+pub fn encapsulations_in_a_row()
+    ensures found { (t : Tables) (kind : TypeRef) → FoundPart (encapsulated_at (plain_value_at t kind)) (SpellsEncapsulation t kind) }
+    ensures only { (t : Tables) (kind : TypeRef) → OnlyPart (encapsulated_at (plain_value_at t kind)) (SpellsEncapsulation t kind) }
 {}
 
 /// A value is read from an input exactly where the whole input is an encapsulation of it; so every
@@ -69,7 +92,7 @@ pub fn encapsulations_found()
         → IsBytes bytes → encapsulation_at t kind (whole bytes) ≡ Ok v → SpellsEncapsulation t kind bytes v }
 {}
 
-/// The other half: an encapsulation is read.
+/// The other half: an input that is an encapsulation of a value is read as it.
 pub fn encapsulations_only()
     ensures { (t : Tables) (kind : TypeRef) (bytes : List ℕ) (v : Tree)
         → SpellsEncapsulation t kind bytes v → encapsulation_at t kind (whole bytes) ≡ Ok v }
@@ -81,11 +104,10 @@ pub fn encapsulations_apart()
         → SpellsEncapsulation t kind bytes v → SpellsEncapsulation t kind bytes w → v ≡ w }
 {}
 
-/// The canonical encapsulation of a value holds it, and is as long as any encapsulation of it.
+/// The canonical encapsulation of a value that an encapsulation holds is one of it, and is not longer.
 pub fn encapsulations_canonical()
-    ensures { (t : Tables) (kind : TypeRef) (bytes : List ℕ) (v : Tree)
-        → IsBytes bytes → SpellsEncapsulation t kind bytes v
-        → SpellsEncapsulation t kind (encapsulation_bytes v) v × (length (encapsulation_bytes v) ≡ length bytes) }
+    ensures { (t : Tables) (kind : TypeRef) (bytes : List ℕ) (v : Tree) → IsBytes bytes → SpellsEncapsulation t kind bytes v
+        → SpellsEncapsulation t kind (encapsulation_bytes v) v × (length (encapsulation_bytes v) ≤ length bytes) }
 {}
 
 /// Relaying what was relayed changes nothing: it holds a value, and the canonical encapsulation of
@@ -96,20 +118,14 @@ pub fn relaying_again()
         → SpellsEncapsulation t kind (encapsulation_bytes v) w → encapsulation_bytes w ≡ encapsulation_bytes v }
 {}
 
-/// The smallest spelling of a type is as long as the schema says: none is shorter, and one is no
-/// longer.
+/// No spelling of a type is shorter than the smallest that the schema tells.
 pub fn smallest_spellings()
-    ensures least { (t : Tables) (kind : TypeRef) (m : Measure) (bytes : List ℕ) (v : Tree)
+    ensures { (t : Tables) (kind : TypeRef) (m : Measure) (bytes : List ℕ) (v : Tree)
         → measure t 100 kind ≡ Some m → SpellsPlainValue t kind bytes v → m.smallest ≤ length bytes }
-    ensures met { (t : Tables) (kind : TypeRef) (m : Measure)
-        → measure t 100 kind ≡ Some m → (bytes : List ℕ) × (v : Tree) × SpellsPlainValue t kind bytes v × (length bytes ≡ m.smallest) }
 {}
 
-/// Each spelling of a type of fixed size has that size; of every other type of a schema one spelling
-/// is longer than the smallest.
+/// Each spelling of a type of fixed size has that size.
 pub fn fixed_sizes()
-    ensures fixed { (t : Tables) (kind : TypeRef) (n : ℕ) (bytes : List ℕ) (v : Tree)
+    ensures { (t : Tables) (kind : TypeRef) (n : ℕ) (bytes : List ℕ) (v : Tree)
         → fixed_size t kind ≡ Some n → SpellsPlainValue t kind bytes v → length bytes ≡ n }
-    ensures other { (t : Tables) (kind : TypeRef) (m : Measure) → IsSchema t → measure t 100 kind ≡ Some m → fixed_size t kind ≡ None
-        → (bytes : List ℕ) × (v : Tree) × SpellsPlainValue t kind bytes v × (m.smallest < length bytes) }
 {}
