@@ -7,7 +7,7 @@ use Rattle.graph_arena.specs.declared.value.Value.{Value}
 use Rattle.graph_arena.specs.Sorted.{sorted, has_equal_keys}
 use Rattle.graph_arena.specs.View.{view}
 
--- Done: the value is sorted. Refused, where keys are equal, or no memory: it is as it was.
+-- Done: the value is sorted. Refused, where keys are equal, or out of memory: it is as it was.
 abbrev pub Sorts : Value → Value → Result Bool AllocError → Type 0
 Sorts old new (Ok true) = (has_equal_keys (view old) ≡ false) × (view new ≡ sorted (view old))
 Sorts old new (Ok false) = (has_equal_keys (view old) ≡ true) × (new ≡ old)

@@ -1,6 +1,6 @@
 -- A value without where it lies in memory.
 use Rattle.std.specs.Prelude.{List, [], ◌∷◌, map}
-use Rattle.ice_encoding.specs.Tree.{Tree, boolean, byte, short, int, long, text, sequence, dictionary, struct, Trees, none, tree, Entries, no_entry, entry}
+use Rattle.ice_encoding.specs.Tree.{Tree, boolean, byte, short, int, long, text, sequence, dictionary, struct, reference, Trees, none, tree, Entries, no_entry, entry}
 use Rattle.graph_arena.specs.declared.value.Value.{Value, fold-Value}
 use Rattle.graph_arena.specs.declared.value.Value.TheOpen.{Value-F}
 
@@ -23,6 +23,7 @@ view_step (Value-F.Text s) = text s
 view_step (Value-F.Seq items) = sequence (trees_of items)
 view_step (Value-F.Pairs pairs) = dictionary (entries_of pairs)
 view_step (Value-F.Members items) = struct (trees_of items)
+view_step (Value-F.Reference n) = reference n
 
 abbrev pub view : Value → Tree
 view = fold-Value Tree view_step

@@ -4,6 +4,7 @@
 ghost use Rattle.std.specs.Prelude.{◌≡◌, Some, refl};
 ghost use Rattle.std.specs.Ordering.{eq_by_cmp, on};
 ghost use Rattle.ice_encoding.specs.Order.{rank, tree_cmp, trees_cmp, entries_cmp};
+ghost use Rattle.ice_encoding.specs.Port.{size_of};
 ghost use Rattle.graph_arena.specs.View.{view, view_all, view_pairs};
 ghost use Rattle.graph_arena.specs.Comparing.{values_alike, values_equal, values_partial, values_total};
 
@@ -62,6 +63,7 @@ fn compare(a: &Value, b: &Value) -> Ordering
         (Value::Seq(a), Value::Seq(b)) => compare_each(a.as_slice(), b.as_slice()),
         (Value::Pairs(a), Value::Pairs(b)) => compare_pairs(a.as_slice(), b.as_slice()),
         (Value::Members(a), Value::Members(b)) => compare_each(a.as_slice(), b.as_slice()),
+        (Value::Reference(a), Value::Reference(b)) => size_of(*a).cmp(&size_of(*b)),
         _ => rank(a).cmp(&rank(b)),
     }
 }
@@ -80,6 +82,17 @@ fn rank(value: &Value) -> u8
         Value::Seq(_) => 6,
         Value::Pairs(_) => 7,
         Value::Members(_) => 8,
+        Value::Reference(_) => 9,
+    }
+}
+
+/// A reference as a size: 0 for null, else one more than the number.
+fn size_of(reference: Option<u32>) -> u64
+    ensures { result ≡ size_of reference }
+{
+    match reference {
+        Some(number) => number as u64 + 1,
+        None => 0,
     }
 }
 

@@ -18,7 +18,8 @@ pub fn is_sorted(value: &Value) -> bool
         | Value::Short(_)
         | Value::Int(_)
         | Value::Long(_)
-        | Value::Text(_) => true,
+        | Value::Text(_)
+        | Value::Reference(_) => true,
         Value::Seq(items) | Value::Members(items) => are_sorted(items.as_slice()),
         Value::Pairs(pairs) => {
             let pairs = pairs.as_slice();

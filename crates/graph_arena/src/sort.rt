@@ -14,7 +14,7 @@ use std::alloc::{AllocError, Global};
 use std::collections::BTreeMap;
 
 /// Puts the pairs of every dictionary inside the value into rising key order. False, with the value
-/// as it was, where two keys of one dictionary are equal. Want of memory leaves the value as it was;
+/// as it was, where two keys of one dictionary are equal. Out of memory leaves the value as it was;
 /// a value in order takes none.
 pub fn sort_pairs(alloc: Global, value: &mut Value) -> Result<bool, AllocError>
     ensures sorts { Sorts value.old value.new result }
@@ -44,6 +44,7 @@ fn sorted_copy(alloc: Global, value: &Value) -> Result<Option<Value>, AllocError
         Value::Int(n) => Ok(Some(Value::Int(*n))),
         Value::Long(n) => Ok(Some(Value::Long(*n))),
         Value::Text(text) => Ok(Some(Value::Text(Name::of(alloc, text.as_str())?))),
+        Value::Reference(number) => Ok(Some(Value::Reference(*number))),
         Value::Seq(items) => match sorted_items(alloc, items.as_slice())? {
             Some(items) => Ok(Some(Value::Seq(items))),
             None => Ok(None),

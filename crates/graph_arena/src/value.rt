@@ -17,4 +17,6 @@ pub enum Value {
     Pairs(List<(Value, Value)>),
     /// The values of a struct's members, in order.
     Members(List<Value>),
+    /// The number of a class instance, counted from 0, or None for null.
+    Reference(Option<u32>),
 }
