@@ -7,7 +7,7 @@ use Rattle.ice_prims.specs.declared.fault.ReadFault.{ReadFault}
 use Rattle.ice_prims.specs.declared.fault.ReadFault.TheVariants as faults
 use Rattle.ice_prims.specs.Rest.{Rest, ◌>>=◌}
 use Rattle.ice_encoding.specs.Tree.{Tree}
-use Rattle.ice_encoding.specs.Port.{no_references}
+use Rattle.ice_encoding.specs.Port.{by_number}
 use Rattle.ice_encoding.specs.Reading.{value_at}
 use Rattle.ice_encoding.specs.Value.{plain_value_at}
 use Rattle.graph_arena.specs.declared.value.Value.{Value}
@@ -22,6 +22,6 @@ stateless_is read (Ok value) new h = rw h refl
 stateless_is read (Err faults.Memory) new h = tt
 stateless_is read (Err (faults.Broken fault)) new h = rw h refl
 
-pub plain_is : (t : Tables) (kind : TypeRef) (r : Rest) (result : Result Value ReadFault) (new : Rest) → Reads view result new (value_at no_references t 100 kind tt r) → ReadsPlain view result new (plain_value_at t kind r)
+pub plain_is : (t : Tables) (kind : TypeRef) (r : Rest) (result : Result Value ReadFault) (new : Rest) → Reads view result new (value_at by_number t 100 kind tt r) → ReadsPlain view result new (plain_value_at t kind r)
 unfolding plain_value_at
-plain_is t kind r result new h = stateless_is (value_at no_references t 100 kind tt r) result new h
+plain_is t kind r result new h = stateless_is (value_at by_number t 100 kind tt r) result new h

@@ -2,7 +2,7 @@
 
 ghost use Rattle.std.specs.Prelude.{◌≡◌, map, replicate};
 ghost use Rattle.ice_prims.specs.Taking.{TakesUnlessMemory};
-ghost use Rattle.ice_encoding.specs.Port.{no_references};
+ghost use Rattle.ice_encoding.specs.Port.{by_number, number_of};
 ghost use Rattle.ice_encoding.specs.Reading.{value_at, value_step, each_at, pairs_at};
 ghost use Rattle.ice_encoding.specs.Tree.{no_entry};
 ghost use Rattle.ice_encoding.specs.Value.{plain_value_at};
@@ -36,7 +36,7 @@ pub fn read_value<'a>(
     }
 }
 
-/// The same, but a refusal leaves the cursor somewhere on the way.
+/// Reads as `read_value` does, but a refusal leaves the cursor somewhere on the way.
 fn read_plain(
     alloc: Global,
     schema: &Schema,
@@ -57,7 +57,7 @@ fn read_level(
     kind: TypeRef,
     cursor: &mut Cursor<'_>,
 ) -> Result<Value, ReadFault>
-    ensures { Reads view result cursor.new (value_at no_references schema.now levels kind tt cursor.old) }
+    ensures { Reads view result cursor.new (value_at by_number schema.now levels kind tt cursor.old) }
 {
     if levels == 0 {
         return Err(ReadFault::Broken(cursor.fault(Kind::LeftOver)));
@@ -74,7 +74,7 @@ fn read_parts(
     kind: TypeRef,
     cursor: &mut Cursor<'_>,
 ) -> Result<Value, ReadFault>
-    ensures { Reads view result cursor.new (value_step no_references schema.now (value_at no_references schema.now levels) kind tt cursor.old) }
+    ensures { Reads view result cursor.new (value_step by_number schema.now (value_at by_number schema.now levels) kind tt cursor.old) }
 {
     match kind {
         TypeRef::Bool => Ok(Value::Bool(cursor.take_bool()?)),
@@ -106,7 +106,15 @@ fn read_parts(
             }
             None => Err(ReadFault::Broken(cursor.fault(Kind::LeftOver))),
         },
+        TypeRef::Class(_) => Ok(Value::Reference(number_of(cursor.take_size()?))),
     }
+}
+
+/// The reference that a size stands for: 0 is null, any other one more than the number.
+fn number_of(size: u32) -> Option<u32>
+    ensures { result ≡ number_of size }
+{
+    if size == 0 { None } else { Some(size - 1) }
 }
 
 /// So many values of one type, one after the other.
@@ -119,7 +127,7 @@ fn read_each(
     count: u32,
     cursor: &mut Cursor<'_>,
 ) -> Result<List<Value>, ReadFault>
-    ensures { Reads view_all result cursor.new (each_at (value_at no_references schema.now levels) (replicate count kind) tt cursor.old) }
+    ensures { Reads view_all result cursor.new (each_at (value_at by_number schema.now levels) (replicate count kind) tt cursor.old) }
 {
     let mut items = List::new(alloc);
     for _ in 0..count {
@@ -138,7 +146,7 @@ fn read_members(
     members: &[Member],
     cursor: &mut Cursor<'_>,
 ) -> Result<List<Value>, ReadFault>
-    ensures { Reads view_all result cursor.new (each_at (value_at no_references schema.now levels) (map (λ m. m.kind) members.now) tt cursor.old) }
+    ensures { Reads view_all result cursor.new (each_at (value_at by_number schema.now levels) (map (λ m. m.kind) members.now) tt cursor.old) }
 {
     let mut items = Vec::with_capacity(alloc, members.len())?;
     for member in members {
@@ -160,7 +168,7 @@ fn read_pairs(
     count: u32,
     cursor: &mut Cursor<'_>,
 ) -> Result<List<(Value, Value)>, ReadFault>
-    ensures { Reads view_pairs result cursor.new (pairs_at (value_at no_references schema.now levels key) (value_at no_references schema.now levels value) count no_entry tt cursor.old) }
+    ensures { Reads view_pairs result cursor.new (pairs_at (value_at by_number schema.now levels key) (value_at by_number schema.now levels value) count no_entry tt cursor.old) }
 {
     let mut pairs = BTreeMap::new(alloc);
     for _ in 0..count {

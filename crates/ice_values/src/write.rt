@@ -10,7 +10,7 @@ use graph_arena::Value;
 use ice_prims::{put_bool, put_byte, put_int, put_long, put_short, put_size, put_str};
 use std::alloc::AllocError;
 
-/// Puts the value's canonical bytes at the end of the output. Want of memory leaves the output as it was.
+/// Puts the value's canonical bytes at the end of the output. Out of memory leaves the output as it was.
 /// (Ice manual, "Data Encoding".)
 pub fn write_value(value: &Value, out: &mut Vec<u8>) -> Result<(), AllocError>
     requires { HasSizes (view value.now) }
@@ -25,7 +25,7 @@ pub fn write_value(value: &Value, out: &mut Vec<u8>) -> Result<(), AllocError>
     result
 }
 
-/// The same, but want of memory may leave a part of it at the end.
+/// Appends as `write_value` does, but out of memory may leave a part of it at the end.
 #[cycle(values)]
 fn append(value: &Value, out: &mut Vec<u8>) -> Result<(), AllocError>
     requires { HasSizes (view value.now) }
@@ -50,6 +50,8 @@ fn append(value: &Value, out: &mut Vec<u8>) -> Result<(), AllocError>
             append_pairs(pairs.as_slice(), out)?;
             Ok(())
         }
+        Value::Reference(None) => put_size(out, 0),
+        Value::Reference(Some(number)) => put_size(out, *number + 1),
     }
 }
 
