@@ -10,7 +10,8 @@ use Rattle.ice_types.specs.declared.kind.TypeRef.{TypeRef}
 use Rattle.ice_types.specs.declared.kind.TypeRef.TheVariants as kinds
 use Rattle.ice_types.specs.declared.measure.Measure.{Measure}
 use Rattle.ice_types.specs.Tables.{Tables, no_types, with_seq, with_dict, with_struct, IsTypeId, IsNewId, HasId, seq_ids, dict_ids, struct_ids}
-use Rattle.ice_types.specs.Measures.{measure, measured, measure_members, container, structure, sequence_of, dictionary_of, struct_of, small_members, is_small, SeqFits, DictFits, StructFits}
+use Rattle.ice_types.specs.Measures.{measure, measured, measure_members, container, structure, sequence_of, dictionary_of, struct_of, small_members, is_small, names_of, SeqFits, DictFits, StructFits}
+use Rattle.ice_types.specs.Names.{AreNew}
 use Rattle.ice_types.specs.Rules.{IsSchema, IsKept, AreMeasures, HasTypeId}
 use Rattle.ice_types.proofs.Levels.{Keeps, measure_kept, members_kept}
 
@@ -141,7 +142,7 @@ module _ (t u : Tables) (keeps : Keeps t u) where
   dict_fits key value fits = (fits.0, fits.1, measure_kept t u keeps 98 key fits.0 fits.2, fits.3, measure_kept t u keeps 98 value fits.1 fits.4)
 
   struct_fits : (members : List Member) → StructFits t members → StructFits u members
-  struct_fits members fits = (fits.0, members_kept t u keeps 99 members fits.0 fits.1, fits.2, fits.3)
+  struct_fits members fits = (fits.0, members_kept t u keeps 99 members fits.0 fits.1, fits.2, fits.3, fits.4)
 
 -- ids stand in the new row, or where they stood
 abbrev IsSplit : Tables → Tables → List ℕ → TypeRef → Type 0
@@ -295,15 +296,15 @@ IsSchema-struct t new kept room type_id lacks fits =
 pub small_fits : (t : Tables) (members : List Member) → (fits : StructFits t members) → small_members t members ≡ Some fits.0
 small_fits t members fits = let small : is_small fits.0 ≡ true = search (rules, tests, fits.2) in rw (fits.1, small) refl
 
-pub fits_struct_is : (t : Tables) (members : List Member) → members ≢ [] → IsTrue (is_some (struct_of (small_members t members))) ↔ StructFits t members
-fits_struct_is t members some = (fits (measure_members (measure t 99) members) refl, λ fit. rw (small_fits t members fit) refl)
+pub fits_struct_is : (t : Tables) (members : List Member) → members ≢ [] → AreNew [] (names_of members) → IsTrue (is_some (struct_of (small_members t members))) ↔ StructFits t members
+fits_struct_is t members some names = (fits (measure_members (measure t 99) members) refl, λ fit. rw (small_fits t members fit) refl)
   where
     fits : (found : Option Measure) → measure_members (measure t 99) members ≡ found → IsTrue (is_some (struct_of (measured found (λ m. if is_small m then Some m else None)))) → StructFits t members
     fits None e h = absurd cc
     fits (Some x) e h = by_size (is_small x) refl h
       where
         by_size : (small : Bool) → is_small x ≡ small → IsTrue (is_some (struct_of (if small then Some x else None))) → StructFits t members
-        by_size true small found = (x, e, search (rules, tests), some)
+        by_size true small found = (x, e, search (rules, tests), some, names)
         by_size false small found = absurd cc
 
 -- ---- the same with what is kept beside the rows

@@ -1,3 +1,4 @@
+pub mod NamesOf
 pub mod Lookups
 pub mod Levels
 pub mod Added

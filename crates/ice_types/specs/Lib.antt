@@ -1,4 +1,5 @@
 pub mod formers
+pub mod Names
 pub mod Tables
 pub mod Measures
 pub mod Rules

@@ -1,10 +1,11 @@
 -- How deep a type nests, and how long its spellings are at least.
-use Rattle.std.specs.Prelude.{ℕ, zero, suc, ◌≡◌, ◌≢◌, ◌≤◌, ◌+◌, max, Bool, true, false, ◌&&◌, List, [], ◌∷◌, Option, None, Some, slice_get, if◌then◌else◌, nat_le}
+use Rattle.std.specs.Prelude.{ℕ, zero, suc, ◌≡◌, ◌≢◌, ◌≤◌, ◌+◌, max, Bool, true, false, ◌&&◌, List, [], ◌∷◌, map, Option, None, Some, slice_get, if◌then◌else◌, nat_le}
 use Rattle.ice_types.specs.declared.kind.TypeRef.{TypeRef}
 use Rattle.ice_types.specs.declared.kind.TypeRef.TheVariants as kinds
 use Rattle.ice_types.specs.declared.declarations.Member.{Member}
 use Rattle.ice_types.specs.declared.measure.Measure.{Measure}
 use Rattle.ice_types.specs.Tables.{Tables}
+use Rattle.ice_types.specs.Names.{AreNew}
 
 -- a built-in type, by the length of its smallest spelling
 abbrev pub built_in : ℕ → Bool → Measure
@@ -72,6 +73,9 @@ fixed_size t kind = measured (measure t 100 kind) (λ m. if m.is_fixed then Some
 
 -- ---- what may be added to the tables, where no type nests deeper than a hundred levels
 
+abbrev pub names_of : List Member → List (List ℕ)
+names_of members = map (λ m. m.name) members
+
 abbrev pub SeqFits : Tables → TypeRef → Type 0
 SeqFits t element = (m : Measure) × (measure t 99 element ≡ Some m)
 
@@ -86,6 +90,6 @@ is_small m = nat_le m.smallest 1048576
 abbrev pub small_members : Tables → List Member → Option Measure
 small_members t members = measured (measure_members (measure t 99) members) (λ m. if is_small m then Some m else None)
 
--- at least one member, and together they are small
+-- at least one member, each with a name of its own, and together they are small
 abbrev pub StructFits : Tables → List Member → Type 0
-StructFits t members = (m : Measure) × (measure_members (measure t 99) members ≡ Some m) × (m.smallest ≤ 1048576) × (members ≢ [])
+StructFits t members = (m : Measure) × (measure_members (measure t 99) members ≡ Some m) × (m.smallest ≤ 1048576) × (members ≢ []) × AreNew [] (names_of members)

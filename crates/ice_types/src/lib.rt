@@ -7,6 +7,7 @@ mod laws;
 mod list;
 mod measure;
 mod name;
+mod own_names;
 mod rows;
 mod schema;
 #[cfg(test)]
@@ -18,5 +19,6 @@ pub use laws::no_type_in_itself;
 pub use list::{Bytes, List};
 pub use measure::Measure;
 pub use name::Name;
+pub use own_names::have_own_names;
 pub use rows::MOST_ROWS;
 pub use schema::{MOST_DEPTH, MOST_SMALLEST, Schema};

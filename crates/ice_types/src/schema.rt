@@ -1,8 +1,9 @@
 //! The types of a Slice text by place, under the rules that every schema keeps.
 
-ghost use Rattle.std.specs.Prelude.{◌≡◌, ◌+◌, ◌<◌, ◌≤◌, ◌↔◌, MatchOption, IfOk, IfSome, OnErr, length, IsTrue, Some};
+ghost use Rattle.std.specs.Prelude.{◌≡◌, ◌+◌, ◌<◌, ◌≤◌, ◌↔◌, MatchOption, IfOk, IfSome, OnErr, length, IsTrue, Some, []};
 ghost use Rattle.ice_types.specs.Tables.{Tables, no_types, with_seq, with_dict, with_struct, IsTypeId, IsNewId, Names};
-ghost use Rattle.ice_types.specs.Measures.{measure, sequence_of, dictionary_of, struct_of, small_members, fixed_size, SeqFits, DictFits, StructFits};
+ghost use Rattle.ice_types.specs.Measures.{measure, sequence_of, dictionary_of, struct_of, small_members, names_of, fixed_size, SeqFits, DictFits, StructFits};
+ghost use Rattle.ice_types.specs.Names.{AreNew};
 ghost use Rattle.ice_types.specs.Rules.{IsSchema, HasTypeId};
 ghost use Rattle.ice_types.specs.declared.kind.TypeRef.{TypeRef};
 
@@ -181,9 +182,11 @@ impl Schema {
         }
     }
 
-    /// Whether a struct of these members may be added: there is at least one, it nests at most so
-    /// deep as a type may, and its smallest spelling has at most 1,048,576 bytes.
+    /// Whether a struct of these members, each with a name of its own, may be added: there is at
+    /// least one, it nests at most so deep as a type may, and its smallest spelling has at most
+    /// 1,048,576 bytes. `have_own_names` tests the names.
     pub fn fits_struct(&self, members: &List<Member>) -> bool
+        requires names { AreNew [] (names_of members.now) }
         ensures { IsTrue result ↔ StructFits self.now members.now }
     {
         !members.is_empty() && self.measure_struct(members.as_slice()).is_some()

@@ -10,4 +10,4 @@ returns-then-not-is_empty c =
     let members = c.args.members.now in
     let some : members ≢ [] = λ none. let empty = c.is_empty.ensures.1 none in absurd cc in
     let says = c.is_some.ensures ∙ ap is_some (c.measure_struct.ensures ∙ ap (λ ms. struct_of (small_members t ms)) c.as_slice.ensures) in
-    subst (λ (b : Bool). IsTrue b ↔ StructFits t members) (sym says) (fits_struct_is t members some)
+    subst (λ (b : Bool). IsTrue b ↔ StructFits t members) (sym says) (fits_struct_is t members some c.requires.names)
