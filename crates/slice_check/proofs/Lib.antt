@@ -2,7 +2,6 @@ pub mod Samples
 pub mod TokenFronts
 pub mod SliceNames
 pub mod Fronts
-pub mod ScopeNames
 pub mod TypeIds
 pub mod KnownTypes
 pub mod OneReading

@@ -6,14 +6,16 @@ use Rattle.ice_types.specs.declared.kind.TypeRef.{TypeRef}
 use Rattle.ice_types.specs.declared.declarations.Member.{Member}
 use Rattle.std.specs.Prelude.{String}
 use Rattle.std.specs.BTreeSet.{BTreeSet}
-use Rattle.slice_check.specs.SliceText.{Token, IsNew, IsType, IsMember, AreMembers, IsDefinition, closed}
-use Rattle.slice_check.specs.Reading.{Claims, HoldsNames, Lacks, ReadsFront, ReadsMember, ReadsMembers, tokens_seen}
+use Rattle.slice_check.specs.SliceText.{Token, IsNew, IsType, IsMember, AreMembers, IsDefinition, OwnNames, closed}
+use Rattle.slice_check.specs.Reading.{Claims, Lacks, ReadsFront, ReadsMember, ReadsMembers, tokens_seen}
 use Rattle.slice_check.specs.declared.fault.TextFault.{TextFault}
 use Rattle.slice_check.specs.declared.fault.TextFault.TheVariants as faults
 use Rattle.slice_check.specs.declared.definition.Definition.{Definition}
 use Rattle.slice_check.specs.declared.definition.Definition.TheVariants as definitions
 use Rattle.slice_check.specs.declared.definition_fronts.Front.{Front}
 use Rattle.slice_check.proofs.Fronts.{token_at, three, behind, behind_count, seen_count, drop_more}
+use Rattle.ice_types.specs.Names.{HoldsNames, AreNew}
+use Rattle.ice_types.specs.Measures.{names_of}
 use Rattle.slice_check.proofs.OneReading.{OneType, no_member, member_same}
 
 pub closed_front : (text after : List Token) → text ≡ closed after → text ≡ closed (drop 2 text)
@@ -166,3 +168,14 @@ front_or module_name t text no_sequence no_dictionary (Err faults.Refused) no_st
     none (definitions.Struct members) name after is = no_struct members name after is
     none (definitions.Sequence element) name after is = no_sequence element name after is
     none (definitions.Dictionary key value) name after is = no_dictionary (key, value) name after is
+
+-- ---- names of their own
+
+members_own : (module_name : Token) (t : Tables) (names text : List Token) (members : List Member) (after : List Token) → AreMembers module_name t names text members after → AreNew names (names_of members)
+members_own module_name t names text [] after h = tt
+members_own module_name t names text (member ∷ members) after (mid, is, more) = (is.3.1, members_own module_name t (member.name ∷ names) mid members after more)
+
+pub own_names : (module_name : Token) (t : Tables) (text : List Token) (d : Definition) (name : Token) (after : List Token) → IsDefinition module_name t text d name after → OwnNames d
+own_names module_name t text (definitions.Struct members) name after (body, is, some, are) = members_own module_name t [] body members after are
+own_names module_name t text (definitions.Sequence element) name after h = tt
+own_names module_name t text (definitions.Dictionary key value) name after h = tt

@@ -25,6 +25,7 @@ word_kept word kinds.Short h = rw h (23, omega arith, refl)
 word_kept word kinds.Int h = rw h (13, omega arith, refl)
 word_kept word kinds.Long h = rw h (17, omega arith, refl)
 word_kept word kinds.Text h = rw h (24, omega arith, refl)
+word_kept word (kinds.Class at) h = absurd h
 word_kept word (kinds.Seq at) h = absurd (no_type word (kinds.Seq at) h)
 word_kept word (kinds.Dict at) h = absurd (no_type word (kinds.Dict at) h)
 word_kept word (kinds.Struct at) h = absurd (no_type word (kinds.Struct at) h)

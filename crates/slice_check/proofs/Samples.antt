@@ -4,7 +4,8 @@ use Rattle.std.specs.Prelude.{codes, Contains}
 use Rattle.case_tables.specs.Tables.{keyword_names}
 use Rattle.ice_types.specs.declared.kind.TypeRef.TheVariants as kinds
 use Rattle.ice_types.specs.Tables.{Tables, no_types}
-use Rattle.slice_check.specs.SliceText.{tokens, IsFree, IsType, type_id}
+use Rattle.slice_check.specs.SliceText.{tokens, IsType, type_id}
+use Rattle.ice_types.specs.Names.{IsFree}
 
 -- symbols part words and stand alone
 symbols : tokens (codes "sequence<byte>Q;") ≡ codes "sequence" ∷ codes "<" ∷ codes "byte" ∷ codes ">" ∷ codes "Q" ∷ codes ";" ∷ []

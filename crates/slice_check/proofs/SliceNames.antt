@@ -56,6 +56,7 @@ built_in_utf8 word kinds.Short h = word_utf8 word (rw h refl)
 built_in_utf8 word kinds.Int h = word_utf8 word (rw h refl)
 built_in_utf8 word kinds.Long h = word_utf8 word (rw h refl)
 built_in_utf8 word kinds.Text h = word_utf8 word (rw h refl)
+built_in_utf8 word (kinds.Class at) h = absurd h
 built_in_utf8 word (kinds.Seq at) h = absurd (no_row at word h)
 built_in_utf8 word (kinds.Dict at) h = absurd (no_row at word h)
 built_in_utf8 word (kinds.Struct at) h = absurd (no_row at word h)

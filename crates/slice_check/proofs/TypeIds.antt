@@ -42,6 +42,7 @@ module _ (t : Tables) (id other : List ℕ) where
   type_split d kinds.Int h = absurd h
   type_split d kinds.Long h = absurd h
   type_split d kinds.Text h = absurd h
+  type_split d (kinds.Class at) h = absurd h
   type_split (definitions.Struct members) (kinds.Seq at) h = inl h
   type_split (definitions.Struct members) (kinds.Dict at) h = inl h
   type_split (definitions.Struct members) (kinds.Struct at) h = elim (split (λ row. row.id) t.structs (record { id = id; members = members }) other at h) [
@@ -68,6 +69,7 @@ module _ (t : Tables) (id other : List ℕ) where
   type_stays d kinds.Int h = absurd h
   type_stays d kinds.Long h = absurd h
   type_stays d kinds.Text h = absurd h
+  type_stays d (kinds.Class at) h = absurd h
   type_stays (definitions.Struct members) (kinds.Seq at) h = h
   type_stays (definitions.Struct members) (kinds.Dict at) h = h
   type_stays (definitions.Struct members) (kinds.Struct at) h = stays (λ row. row.id) t.structs (record { id = id; members = members }) other at h
@@ -90,6 +92,7 @@ no_type id kinds.Short h = h
 no_type id kinds.Int h = h
 no_type id kinds.Long h = h
 no_type id kinds.Text h = h
+no_type id (kinds.Class at) h = h
 no_type id (kinds.Seq at) h = cc
 no_type id (kinds.Dict at) h = cc
 no_type id (kinds.Struct at) h = cc

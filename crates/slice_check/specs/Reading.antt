@@ -6,6 +6,7 @@ use Rattle.std.specs.Ordering.{nat_cmp}
 use Rattle.std.specs.Cmp.Lexicographic.{slice_cmp}
 use Rattle.std.specs.BTreeMap.{BTreeMap, get_by}
 use Rattle.std.specs.BTreeSet.{BTreeSet, contains_text}
+use Rattle.ice_types.specs.Names.{HoldsNames}
 use Rattle.ice_types.specs.Tables.{Tables}
 use Rattle.ice_types.specs.Rules.{HasTypeId}
 use Rattle.ice_types.specs.declared.kind.TypeRef.{TypeRef}
@@ -30,15 +31,6 @@ Answers {A} Meant (Err faults.Refused) = (meaning : A) → Meant meaning → ⊥
 Answers Meant (Err faults.Memory) = Unit {0}
 
 -- ---- names
-
--- one of the names is this one in lower case
-abbrev pub has : List Token → Token → Bool
-has [] lowered = false
-has (name ∷ names) lowered = if bytes_eq (str_to_ascii_lowercase name) lowered then true else has names lowered
-
--- the set is that of the names in lower case
-abbrev pub HoldsNames : {Y : Type 0} → BTreeSet (String Y) → List Token → Type 0
-HoldsNames held names = (lowered : Token) → contains_text held lowered ≡ has names lowered
 
 -- the token is put among the names, or is no new name
 abbrev pub Claims : {Y : Type 0} → List Token → Token → BTreeSet (String Y) → Result (Bor Token) TextFault → Type 0

@@ -13,8 +13,9 @@ use Rattle.std.specs.Char.{is_ascii_alphanumeric, is_ascii_alphabetic, is_ascii_
 use Rattle.std.specs.List.{list_all}
 use Rattle.std.specs.Str.{str_to_ascii_lowercase}
 use Rattle.case_tables.specs.Tables.{keyword_names}
+use Rattle.ice_types.specs.Names.{IsFree, AreNew}
 use Rattle.ice_types.specs.Tables.{Tables, Names, no_types, with_seq, with_dict, with_struct}
-use Rattle.ice_types.specs.Measures.{SeqFits, DictFits, StructFits}
+use Rattle.ice_types.specs.Measures.{SeqFits, DictFits, StructFits, names_of}
 use Rattle.ice_types.specs.Rules.{HasTypeId}
 use Rattle.ice_types.specs.declared.kind.TypeRef.{TypeRef}
 use Rattle.ice_types.specs.declared.declarations.Member.{Member}
@@ -50,10 +51,6 @@ is_word (first ∷ others) = is_ascii_alphabetic first && list_all is_ascii_alph
 abbrev pub IsName : Token → Type 0
 IsName token = IsTrue (is_word token) × (Contains keyword_names token → ⊥)
 
--- none of the names is equal to this one without regard to case
-abbrev pub IsFree : List Token → Token → Type 0
-IsFree names name = All (λ other. str_to_ascii_lowercase other ≢ str_to_ascii_lowercase name) names
-
 -- a name for one more behind those of a scope
 abbrev pub IsNew : List Token → Token → Type 0
 IsNew names name = IsName name × IsFree names name
@@ -87,6 +84,12 @@ module _ (module_name : Token) (t : Tables) where
       × (text ≡ codes "sequence" ∷ codes "<" ∷ word ∷ codes ">" ∷ name ∷ codes ";" ∷ after) × IsType word element
   IsDefinition text (definitions.Dictionary key value) name after = (first second : Token)
       × (text ≡ codes "dictionary" ∷ codes "<" ∷ first ∷ codes "," ∷ second ∷ codes ">" ∷ name ∷ codes ";" ∷ after) × IsType first key × IsType second value
+
+-- the members of a struct have names of their own
+abbrev pub OwnNames : Definition → Type 0
+OwnNames (definitions.Struct members) = AreNew [] (names_of members)
+OwnNames (definitions.Sequence element) = Unit {0}
+OwnNames (definitions.Dictionary key value) = Unit {0}
 
 -- the definition keeps the limits, and a dictionary's key may be one
 abbrev pub Fits : Tables → Definition → Type 0

@@ -2,7 +2,7 @@
 
 ghost use Rattle.std.specs.Prelude.{◌≡◌, ◌+◌, ◌≤◌, ◌↔◌, IsTrue, OnErr, length};
 ghost use Rattle.ice_types.specs.Tables.{IsTypeId, IsNewId};
-ghost use Rattle.slice_check.specs.SliceText.{Fits};
+ghost use Rattle.slice_check.specs.SliceText.{Fits, OwnNames};
 ghost use Rattle.slice_check.specs.Reading.{Adds};
 
 use crate::fault::TextFault;
@@ -26,6 +26,7 @@ pub fn add_definition(
     requires room { length schema.old.seqs + length schema.old.dicts + length schema.old.structs ≤ 1000000 }
     requires type_id { IsTypeId id }
     requires new_id { IsNewId schema.old id }
+    requires own_names { OwnNames definition }
     ensures adds { Adds schema.old schema.new id definition result }
     ensures memory { result ≡ Err TextFault.Memory → Fits schema.old definition }
     ensures err { OnErr result (schema.new ≡ schema.old) }
@@ -46,6 +47,7 @@ pub fn add_definition(
 
 /// Whether the definition keeps the limits of the schema.
 fn fits(schema: &Schema, definition: &Definition) -> bool
+    requires { OwnNames definition.now }
     ensures { IsTrue result ↔ Fits schema.now definition.now }
 {
     match definition {

@@ -1,10 +1,11 @@
 //! The definition at the front of some tokens.
 
 ghost use Rattle.std.specs.Prelude.{◌≡◌, ◌↔◌, IsTrue, List, MatchOption, drop};
+ghost use Rattle.ice_types.specs.Names.{HoldsNames};
 ghost use Rattle.ice_types.specs.declared.kind.TypeRef.{TypeRef};
 ghost use Rattle.ice_types.specs.declared.declarations.Member.{Member};
 ghost use Rattle.slice_check.specs.SliceText.{Token, closed};
-ghost use Rattle.slice_check.specs.Reading.{HoldsNames, IsFront, Knows, Lacks, ReadsFront, ReadsMember, ReadsMembers, tokens_seen};
+ghost use Rattle.slice_check.specs.Reading.{IsFront, Knows, Lacks, ReadsFront, ReadsMember, ReadsMembers, tokens_seen};
 ghost use Rattle.slice_check.specs.declared.definition.Definition.{Definition};
 ghost use Rattle.slice_check.specs.declared.definition.Definition.TheVariants as definitions;
 

@@ -3,7 +3,8 @@
 ghost use Rattle.std.specs.Prelude.{◌≡◌, ◌↔◌, IsTrue, List, MatchOption, Contains};
 ghost use Rattle.case_tables.specs.Tables.{keyword_names};
 ghost use Rattle.slice_check.specs.SliceText.{IsName, Token, is_word};
-ghost use Rattle.slice_check.specs.Reading.{Claims, HoldsNames};
+ghost use Rattle.slice_check.specs.Reading.{Claims};
+ghost use Rattle.ice_types.specs.Names.{HoldsNames};
 ghost use Rattle.std.specs.List.{list_all};
 ghost use Rattle.std.specs.Char.{is_ascii_alphanumeric};
 

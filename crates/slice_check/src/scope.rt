@@ -27,7 +27,7 @@ impl<'a> Scope<'a> {
     ghost use Rattle.ice_types.specs.Tables.{no_types};
     ghost use Rattle.ice_types.specs.Rules.{HasTypeId};
     ghost use Rattle.ice_types.specs.declared.kind.TypeRef.{TypeRef};
-    ghost use Rattle.slice_check.specs.SliceText.{IsName, IsType, type_id};
+    ghost use Rattle.slice_check.specs.SliceText.{IsName, IsType, OwnNames, type_id};
     ghost use Rattle.slice_check.specs.Reading.{Defines, Knows};
 
     /// A module without definitions.
@@ -65,6 +65,7 @@ impl<'a> Scope<'a> {
         requires room { length self.old.schema.seqs + length self.old.schema.dicts + length self.old.schema.structs ≤ 1000000 }
         requires knows { Knows self.old }
         requires is_name { IsName name.now }
+        requires own_names { OwnNames definition }
         requires new { (kind : TypeRef) → HasTypeId self.old.schema (type_id self.old.module_name.now name.now) kind → ⊥ }
         ensures { Defines self.old self.new name.now definition result }
     {

@@ -1,7 +1,8 @@
 use Rattle.std.proofs.Common.{◌-◌, ◌≤◌, List, length, drop}
 use Rattle.slice_check.specs.SliceText.{Token}
-use Rattle.slice_check.specs.Reading.{HoldsNames, tokens_seen}
+use Rattle.slice_check.specs.Reading.{tokens_seen}
 use Rattle.slice_check.proofs.Members.{Members}
+use Rattle.ice_types.specs.Names.{HoldsNames}
 use Rattle.slice_check.proofs.definition_fronts.members_at.Given as goal
 
 abbrev pub invariant-loop-alloc : goal.invariant-loop-alloc

@@ -2,6 +2,7 @@ use Rattle.std.proofs.Common.{◌<◌, ◌-◌, [], ◌∷◌, List, length, tak
 use Rattle.slice_check.specs.SliceText.{Token, IsName}
 use Rattle.slice_check.specs.Reading.{tokens_seen}
 use Rattle.slice_check.proofs.Fronts.{behind, behind_count, seen_count, clash}
+use Rattle.slice_check.proofs.Members.{own_names}
 use Rattle.slice_check.proofs.Bodies.{Reading, body_begins, body_ends, body_refused, body_unclaimed, body_unfit, body_next, fresh, count_some}
 use Rattle.slice_check.proofs.file.definitions_of.Goals as goal
 
@@ -33,6 +34,11 @@ define-requires-clause-new c =
     let claimed = c.in-Ok-claim.ensures.claims i.0 i.2 in
     fresh c.args.module_name.now c.loop-rest.scope.module_name.now i.4 (tokens_seen c.args.body.now) i.0 c.loop-rest.scope.schema (tokens_seen c.loop-rest.rest.now) i.1
     c.in-Ok-claim.name.now c.in-Ok.front.name.now claimed.0 claimed.1
+
+pub define-requires-clause-own_names : goal.define-requires-clause-own_names
+define-requires-clause-own_names c =
+    let rest = tokens_seen c.loop-rest.rest.now in
+    own_names c.loop-rest.scope.module_name.now c.loop-rest.scope.schema rest c.in-Ok.front.definition c.in-Ok.front.name.now (drop c.in-Ok.front.count rest) c.in-Ok.ensures.0
 
 pub returns-in-Err-define : goal.returns-in-Err-define
 returns-in-Err-define c =

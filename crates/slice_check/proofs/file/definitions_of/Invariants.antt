@@ -1,7 +1,8 @@
 use Rattle.std.proofs.Common.{◌≡◌, List, length}
 use Rattle.slice_check.specs.SliceText.{Token}
-use Rattle.slice_check.specs.Reading.{HoldsNames, Knows, tokens_seen}
+use Rattle.slice_check.specs.Reading.{Knows, tokens_seen}
 use Rattle.slice_check.proofs.Bodies.{Reading}
+use Rattle.ice_types.specs.Names.{HoldsNames}
 use Rattle.slice_check.proofs.file.definitions_of.Given as goal
 
 abbrev pub invariant-loop-rest : goal.invariant-loop-rest

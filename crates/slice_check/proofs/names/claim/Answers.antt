@@ -2,7 +2,7 @@ use Rattle.std.proofs.Common.{◌≡◌, ap, ◌∙◌, true, string_bytes}
 use Rattle.std.specs.Str.{str_to_ascii_lowercase}
 use Rattle.std.specs.BTreeSet.{contains_text}
 use Rattle.std.proofs.lemmas.Map.Text.{btree_set_updates_text}
-use Rattle.slice_check.proofs.ScopeNames.{was_new, was_old, has_more}
+use Rattle.ice_types.proofs.NamesOf.{was_new, was_old, has_more}
 use Rattle.slice_check.proofs.names.claim.Goals as goal
 
 pub returns-then-branch-clause-claims : goal.returns-then-branch-clause-claims
