@@ -3,3 +3,4 @@ pub mod Comparisons
 pub mod Rising
 pub mod Sorting
 pub mod SortedLaws
+pub mod SortedKeys

@@ -2,12 +2,14 @@
 #![tactic(auto)]
 
 mod compare;
+mod laws;
 mod order;
 mod sort;
 #[cfg(test)]
 mod tests;
 mod value;
 
+pub use laws::{equal_keys_repeat, sorting_keeps_the_value};
 pub use order::is_sorted;
 pub use sort::{in_order, sort_pairs};
 pub use value::Value;

@@ -13,7 +13,7 @@ use Rattle.ice_prims.specs.Taking.{Fails}
 use Rattle.ice_prims.specs.Bytes.{signed_bytes}
 use Rattle.ice_encoding.specs.Tree.{Tree}
 use Rattle.ice_encoding.specs.Canonical.{canonical, HasSizes}
-use Rattle.ice_encoding.specs.Encapsulation.{SpellsEncapsulation, encapsulation_at}
+use Rattle.ice_encoding.specs.Encapsulation.{SpellsEncapsulation, encapsulation_at, encapsulation_bytes}
 use Rattle.ice_encoding.proofs.Plain.{plain_sizes}
 use Rattle.ice_encoding.proofs.Encapsulations.{encapsulation_found, encapsulation_only, encapsulation_canon}
 use Rattle.ice_ports.specs.Files.{file_named}
@@ -53,8 +53,8 @@ module _ (t : Tables) (kind : TypeRef) where
   value_fits input v fits e =
       let h = encapsulation_found t kind input v fits e in
       let canon = encapsulation_canon t kind input v fits h in
-      let long : length input ≡ length (canonical v) + 6 = sym canon.1 ∙ length-append (signed_bytes w32 (pos (length (canonical v) + 6))) (1 ∷ 1 ∷ canonical v) ∙ omega arith in
-      (h, plain_sizes t kind h.1 v h.5, omega (arith, long, h.4))
+      let long : length (encapsulation_bytes v) ≡ length (canonical v) + 6 = length-append (signed_bytes w32 (pos (length (canonical v) + 6))) (1 ∷ 1 ∷ canonical v) ∙ omega arith in
+      (h, plain_sizes t kind h.1 v h.5, omega (arith, long, canon.1, h.4))
 
   pub none_fits : (input : List ℕ) (fault : Fault) → encapsulation_at t kind (whole input) ≡ Err fault → (v : Tree) → SpellsEncapsulation t kind input v → ⊥
   none_fits input fault e v h = let read = encapsulation_only t kind input v h in cc
