@@ -4,3 +4,4 @@ pub mod Rising
 pub mod Sorting
 pub mod SortedLaws
 pub mod SortedKeys
+pub mod RisingPairs

@@ -1,9 +1,9 @@
 -- What is sorted has its dictionaries in rising key order, and what has them so is sorted already.
 use Rattle.std.proofs.Common.{◌≡◌, Bool, true, false, ◌||◌, refl, sym, ap, subst, ◌∙◌}
 use Rattle.ice_encoding.specs.Tree.{Tree, boolean, byte, short, int, long, text, sequence, dictionary, struct, reference, Trees, none, tree, Entries, no_entry, entry, InEach, InPairs}
-use Rattle.ice_encoding.specs.Order.{IsRising, KeysRise, IsOrdered, insert, has_key}
+use Rattle.ice_encoding.specs.Order.{IsRising, KeysRise, IsOrdered, insert, has_key, AreBelow}
 use Rattle.ice_encoding.proofs.Order.{less_then, is_new, has_none, insert_rising}
-use Rattle.ice_encoding.proofs.Inserting.{insert_inside, join, join_none, join_join, AreBelow, insert_last, lacks_above}
+use Rattle.ice_encoding.proofs.Inserting.{insert_inside, join, join_none, join_join, insert_last, lacks_above}
 use Rattle.graph_arena.specs.Sorted.{sorted, sorted_each, sorted_onto, has_equal_keys, some_has_equal_keys}
 use Rattle.graph_arena.proofs.Sorting.{equal_onto, equal_is}
 

@@ -10,6 +10,6 @@ mod tests;
 mod value;
 
 pub use laws::{equal_keys_repeat, sorting_keeps_the_value};
-pub use order::is_sorted;
-pub use sort::{in_order, sort_pairs};
+pub use order::{is_above, is_sorted};
+pub use sort::{in_order, keyed, put, sort_pairs};
 pub use value::Value;

@@ -1,7 +1,7 @@
 //! Whether dictionaries stand in order.
 
 ghost use Rattle.std.specs.Prelude.{IsTrue, ◌↔◌};
-ghost use Rattle.ice_encoding.specs.Order.{IsRising, KeysRise, IsOrdered};
+ghost use Rattle.ice_encoding.specs.Order.{IsRising, KeysRise, IsOrdered, AreBelow};
 ghost use Rattle.ice_encoding.specs.Tree.{InEach, InPairs};
 ghost use Rattle.graph_arena.specs.View.{view, view_all, view_pairs};
 
@@ -68,4 +68,16 @@ fn is_rising(pairs: &[(Value, Value)]) -> bool
         last = Some(&pair.0);
     }
     true
+}
+
+/// Whether the key is above those of all pairs, which stand in strictly rising key order. It is
+/// compared with the last one alone.
+pub fn is_above(pairs: &[(Value, Value)], key: &Value) -> bool
+    requires { IsRising (view_pairs pairs.now) }
+    ensures { IsTrue result ↔ AreBelow (view_pairs pairs.now) (view key.now) }
+{
+    match pairs.last() {
+        Some(last) => last.0.cmp(key).is_lt(),
+        None => true,
+    }
 }

@@ -1,7 +1,7 @@
 //! Dictionaries put into order.
 
 ghost use Rattle.std.specs.Prelude.{◌≡◌, true, Ok, IfOk};
-ghost use Rattle.ice_encoding.specs.Order.{IsOrdered};
+ghost use Rattle.ice_encoding.specs.Order.{IsOrdered, IsRising};
 ghost use Rattle.ice_encoding.specs.Tree.{no_entry};
 ghost use Rattle.graph_arena.specs.Sorted.{sorted, sorted_each, sorted_onto, has_equal_keys, some_has_equal_keys, have_equal_keys};
 ghost use Rattle.graph_arena.specs.Sorting.{Sorts, UnlessEqual, Puts};
@@ -99,10 +99,25 @@ fn by_key(
 }
 
 /// Puts a value at a new key. False where the key is not new.
-fn put(map: &mut BTreeMap<Value, Value>, key: Value, value: Value) -> Result<bool, AllocError>
+pub fn put(map: &mut BTreeMap<Value, Value>, key: Value, value: Value) -> Result<bool, AllocError>
     ensures { IfOk result (Puts (view key) (view value) (view_pairs map.old.entries) (view_pairs map.new.entries)) }
 {
     Ok(map.insert(key, value)?.is_none())
+}
+
+/// A map of pairs that stand in strictly rising key order.
+pub fn keyed(
+    alloc: Global,
+    mut pairs: List<(Value, Value)>,
+) -> Result<BTreeMap<Value, Value>, AllocError>
+    requires { IsRising (view_pairs pairs) }
+    ensures { IfOk result (λ map. view_pairs map.entries ≡ view_pairs pairs) }
+{
+    let mut map = BTreeMap::new(alloc);
+    while let Some((key, value)) = pairs.pop() {
+        let _is_new = put(&mut map, key, value)?;
+    }
+    Ok(map)
 }
 
 /// The pairs of a map, in the order of their keys.

@@ -3,7 +3,7 @@ use Rattle.std.proofs.Common.{◌≡◌, suc, Bool, true, false, cond, refl, sym
 use Rattle.std.specs.Ordering.{is_lt}
 use Rattle.std.specs.declared.cmp.Ordering.TheVariants.{Less}
 use Rattle.ice_encoding.specs.Tree.{Tree, Entries, no_entry, entry, entry_count, Everywhere, InPairs}
-use Rattle.ice_encoding.specs.Order.{tree_cmp, insert, LacksKey}
+use Rattle.ice_encoding.specs.Order.{tree_cmp, AreBelow, insert, LacksKey}
 use Rattle.ice_encoding.proofs.Order.{turns, less_then}
 
 pub by_test : (b : Bool) (P : Entries → Type 0) (x y : Entries) → P x → P y → P (cond b x y)
@@ -37,9 +37,6 @@ join no_entry others = others
 join (entry k v rest) others = entry k v (join rest others)
 
 -- each key is below this one
-abbrev pub AreBelow : Entries → Tree → Type 0
-AreBelow no_entry k = Unit {0}
-AreBelow (entry l w rest) k = (tree_cmp l k ≡ Less) × AreBelow rest k
 
 not_lt : (k l : Tree) → tree_cmp l k ≡ Less → is_lt (tree_cmp k l) ≡ false
 not_lt k l lt = rw (turns k l, lt) refl

@@ -5,13 +5,13 @@ use Rattle.ice_types.specs.declared.kind.TypeRef.TheVariants as kinds
 use Rattle.ice_types.specs.Tables.{Tables}
 use Rattle.ice_prims.proofs.Spelled.{bool_exact, short_exact, int_exact, long_exact, size_exact, text_exact}
 use Rattle.ice_encoding.specs.Tree.{Tree, boolean, byte, short, int, long, text, sequence, dictionary, struct, reference, Trees, none, tree, tree_count, Entries, no_entry, entry, entry_count}
-use Rattle.ice_encoding.specs.Order.{IsRising, insert}
+use Rattle.ice_encoding.specs.Order.{IsRising, insert, AreBelow}
 use Rattle.ice_encoding.specs.Port.{Port, Speller, size_of, by_number}
 use Rattle.ice_encoding.specs.Spelling.{Each, Pairs, SpellsValue}
 use Rattle.ice_encoding.specs.Typed.{AllOf, EachOf, PairsOf, Refers, no_reference, HasType, by_size}
 use Rattle.ice_encoding.specs.Writing.{Writer, IsWritten, written, written_each, written_pairs, as_number}
 use Rattle.ice_encoding.proofs.Order.{tail_rising}
-use Rattle.ice_encoding.proofs.Inserting.{AllPairs, join, join_none, join_join, AreBelow, insert_last, lacks_above, below_next}
+use Rattle.ice_encoding.proofs.Inserting.{AllPairs, join, join_none, join_join, insert_last, lacks_above, below_next}
 
 -- the first key is above those before
 abbrev pub Follows : Entries → Entries → Type 0
