@@ -39,7 +39,7 @@ above_last (x ∷ y ∷ ps) (suc i) p k len at rising =
 
 -- ---- the last pair, put before the others
 
-view_push : (ps : List (Value × Value)) (k v : Value) → view_pairs (ps ++ (k, v) ∷ []) ≡ join (view_pairs ps) (entry (view k) (view v) no_entry)
+pub view_push : (ps : List (Value × Value)) (k v : Value) → view_pairs (ps ++ (k, v) ∷ []) ≡ join (view_pairs ps) (entry (view k) (view v) no_entry)
 view_push [] k v = refl
 view_push (p ∷ ps) k v = ap (entry (view p.0) (view p.1)) (view_push ps k v)
 

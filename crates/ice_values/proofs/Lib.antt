@@ -1,3 +1,5 @@
 pub mod Loop
 pub mod Writing
 pub mod Plain
+pub mod ReadBegun
+pub mod PutPairs

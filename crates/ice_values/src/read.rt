@@ -1,22 +1,24 @@
 //! A value of a type from bytes.
 
-ghost use Rattle.std.specs.Prelude.{◌≡◌, map, replicate};
+ghost use Rattle.std.specs.Prelude.{◌≡◌, ◌++◌, ◌∷◌, [], OnOk, suc, map, replicate, Err};
 ghost use Rattle.ice_prims.specs.Taking.{TakesUnlessMemory};
 ghost use Rattle.ice_encoding.specs.Port.{by_number, number_of};
-ghost use Rattle.ice_encoding.specs.Reading.{value_at, value_step, each_at, pairs_at};
+ghost use Rattle.ice_encoding.specs.Order.{IsRising};
+ghost use Rattle.ice_encoding.specs.Reading.{value_at};
 ghost use Rattle.ice_encoding.specs.Tree.{no_entry};
 ghost use Rattle.ice_encoding.specs.Value.{plain_value_at};
 ghost use Rattle.graph_arena.specs.View.{view, view_all, view_pairs};
-ghost use Rattle.ice_values.specs.Reads.{Reads, ReadsPlain};
+ghost use Rattle.ice_values.specs.Reads.{Reads, ReadsPlain, ReadsEach, ReadsPairs};
+ghost use Rattle.ice_values.specs.Begun.{Begins, FirstBegins, HasBegun};
 
-use graph_arena::{Value, in_order};
+use graph_arena::{Value, in_order, is_above, keyed, put};
 use ice_prims::{Cursor, Kind, ReadFault};
-use ice_types::{List, MOST_DEPTH, Member, Name, Schema, TypeRef};
-use std::alloc::Global;
-use std::collections::BTreeMap;
+use ice_types::{DictDecl, List, MOST_DEPTH, Member, Name, Schema, TypeRef};
+use std::alloc::{AllocError, Global};
 
 /// The value of the type at the front, with the first fault from the left. A refusal leaves the
-/// cursor as it was. Memory is taken for what is read, never for what a size merely claims.
+/// cursor as it was. Memory is taken for what is read, never for what a size merely claims: it can run
+/// out only once the first part of the value is there.
 /// (Ice manual, "Data Encoding".)
 pub fn read_value<'a>(
     alloc: Global,
@@ -24,7 +26,8 @@ pub fn read_value<'a>(
     kind: TypeRef,
     cursor: &mut Cursor<'a>,
 ) -> Result<Value, ReadFault>
-    ensures { TakesUnlessMemory view result cursor.old cursor.new (plain_value_at schema.now kind cursor.old) }
+    ensures value { TakesUnlessMemory view result cursor.old cursor.new (plain_value_at schema.now kind cursor.old) }
+    ensures memory { result ≡ Err ReadFault.Memory → HasBegun schema.now kind cursor.old }
 {
     let mut ahead = cursor.fork();
     match read_plain(alloc, schema, kind, &mut ahead) {
@@ -43,7 +46,8 @@ fn read_plain(
     kind: TypeRef,
     cursor: &mut Cursor<'_>,
 ) -> Result<Value, ReadFault>
-    ensures { ReadsPlain view result cursor.new (plain_value_at schema.now kind cursor.old) }
+    ensures value { ReadsPlain view result cursor.new (plain_value_at schema.now kind cursor.old) }
+    ensures memory { result ≡ Err ReadFault.Memory → HasBegun schema.now kind cursor.old }
 {
     read_level(alloc, schema, MOST_DEPTH, kind, cursor)
 }
@@ -57,7 +61,8 @@ fn read_level(
     kind: TypeRef,
     cursor: &mut Cursor<'_>,
 ) -> Result<Value, ReadFault>
-    ensures { Reads view result cursor.new (value_at by_number schema.now levels kind tt cursor.old) }
+    ensures value { Reads view result cursor.new (value_at by_number schema.now levels kind tt cursor.old) }
+    ensures memory { result ≡ Err ReadFault.Memory → Begins schema.now levels kind cursor.old }
 {
     if levels == 0 {
         return Err(ReadFault::Broken(cursor.fault(Kind::LeftOver)));
@@ -74,7 +79,8 @@ fn read_parts(
     kind: TypeRef,
     cursor: &mut Cursor<'_>,
 ) -> Result<Value, ReadFault>
-    ensures { Reads view result cursor.new (value_step by_number schema.now (value_at by_number schema.now levels) kind tt cursor.old) }
+    ensures value { Reads view result cursor.new (value_at by_number schema.now (suc levels) kind tt cursor.old) }
+    ensures memory { result ≡ Err ReadFault.Memory → Begins schema.now (suc levels) kind cursor.old }
 {
     match kind {
         TypeRef::Bool => Ok(Value::Bool(cursor.take_bool()?)),
@@ -93,9 +99,7 @@ fn read_parts(
         TypeRef::Dict(at) => match schema.dicts().get(at as usize) {
             Some(decl) => {
                 let count = cursor.take_size()?;
-                Ok(Value::Pairs(read_pairs(
-                    alloc, schema, levels, decl.key, decl.value, count, cursor,
-                )?))
+                Ok(Value::Pairs(read_pairs(alloc, schema, levels, decl, count, cursor)?))
             }
             None => Err(ReadFault::Broken(cursor.fault(Kind::LeftOver))),
         },
@@ -127,7 +131,8 @@ fn read_each(
     count: u32,
     cursor: &mut Cursor<'_>,
 ) -> Result<List<Value>, ReadFault>
-    ensures { Reads view_all result cursor.new (each_at (value_at by_number schema.now levels) (replicate count kind) tt cursor.old) }
+    ensures items { ReadsEach schema.now levels (replicate count kind) cursor.old result cursor.new }
+    ensures memory { result ≡ Err ReadFault.Memory → Begins schema.now levels kind cursor.old }
 {
     let mut items = List::new(alloc);
     for _ in 0..count {
@@ -146,39 +151,84 @@ fn read_members(
     members: &[Member],
     cursor: &mut Cursor<'_>,
 ) -> Result<List<Value>, ReadFault>
-    ensures { Reads view_all result cursor.new (each_at (value_at by_number schema.now levels) (map (λ m. m.kind) members.now) tt cursor.old) }
+    ensures items { ReadsEach schema.now levels (map (λ m. m.kind) members.now) cursor.old result cursor.new }
+    ensures memory { result ≡ Err ReadFault.Memory → FirstBegins schema.now levels members.now cursor.old }
 {
-    let mut items = Vec::with_capacity(alloc, members.len())?;
+    let mut items = Vec::new(alloc);
     for member in members {
         let item = read_level(alloc, schema, levels, member.kind, cursor)?;
-        items.push(item)?;
+        push_member(&mut items, item, members.len())?;
     }
     Ok(List::from_vec(items))
 }
 
-/// So many pairs, each put at its place. A key that is equal to an earlier one is refused when it
-/// has been read whole.
+/// Puts a member's value after the others. Room for all of them is made once the first is there.
+fn push_member(items: &mut Vec<Value>, item: Value, count: usize) -> Result<(), AllocError>
+    ensures { OnOk result (items.new.items ≡ items.old.items ++ item ∷ []) }
+{
+    if items.is_empty() {
+        items.reserve_exact(count)?;
+    }
+    items.push(item)?;
+    Ok(())
+}
+
+/// So many pairs, in rising order of their keys. As long as the keys come in that order each is
+/// compared with the one before it alone; the others are put at their places in a map.
 #[cycle(values)]
 fn read_pairs(
     alloc: Global,
     schema: &Schema,
     levels: u32,
-    key: TypeRef,
-    value: TypeRef,
+    decl: &DictDecl,
     count: u32,
     cursor: &mut Cursor<'_>,
 ) -> Result<List<(Value, Value)>, ReadFault>
-    ensures { Reads view_pairs result cursor.new (pairs_at (value_at by_number schema.now levels key) (value_at by_number schema.now levels value) count no_entry tt cursor.old) }
+    ensures pairs { ReadsPairs schema.now levels decl.now count no_entry cursor.old result cursor.new }
+    ensures memory { result ≡ Err ReadFault.Memory → Begins schema.now levels decl.now.key cursor.old }
 {
-    let mut pairs = BTreeMap::new(alloc);
+    let mut pairs = List::new(alloc);
+    for at in 0..count {
+        let before = cursor.fork();
+        let key = read_level(alloc, schema, levels, decl.key, cursor)?;
+        if !is_above(pairs.as_slice(), &key) {
+            *cursor = before;
+            return read_scattered(alloc, schema, levels, decl, count - at, pairs, cursor);
+        }
+        let value = read_level(alloc, schema, levels, decl.value, cursor)?;
+        pairs.push((key, value))?;
+    }
+    Ok(pairs)
+}
+
+/// So many pairs beside those before, each put at its place. A key that is equal to an earlier one is
+/// refused, whatever stands after it.
+#[cycle(values)]
+fn read_scattered(
+    alloc: Global,
+    schema: &Schema,
+    levels: u32,
+    decl: &DictDecl,
+    count: u32,
+    before: List<(Value, Value)>,
+    cursor: &mut Cursor<'_>,
+) -> Result<List<(Value, Value)>, ReadFault>
+    requires { IsRising (view_pairs before) }
+    ensures { ReadsPairs schema.now levels decl.now count (view_pairs before) cursor.old result cursor.new }
+{
+    let mut pairs = keyed(alloc, before)?;
     for _ in 0..count {
         let equal = cursor.fault(Kind::EqualKey);
-        let found = read_level(alloc, schema, levels, key, cursor)?;
-        if pairs.contains_key(&found) {
-            return Err(ReadFault::Broken(equal));
+        let key = read_level(alloc, schema, levels, decl.key, cursor)?;
+        match read_level(alloc, schema, levels, decl.value, cursor) {
+            Ok(value) => {
+                if !put(&mut pairs, key, value)? {
+                    return Err(ReadFault::Broken(equal));
+                }
+            }
+            Err(_) if pairs.contains_key(&key) => return Err(ReadFault::Broken(equal)),
+            Err(fault) => return Err(fault),
         }
-        let held = read_level(alloc, schema, levels, value, cursor)?;
-        pairs.insert(found, held)?;
     }
     Ok(in_order(alloc, pairs)?)
 }
