@@ -22,3 +22,8 @@ keyword_names = codes "bool" ∷ codes "byte" ∷ codes "class" ∷ codes "const
     ∷ codes "extends" ∷ codes "false" ∷ codes "float" ∷ codes "idempotent" ∷ codes "implements" ∷ codes "int" ∷ codes "interface" ∷ codes "local"
     ∷ codes "LocalObject" ∷ codes "long" ∷ codes "module" ∷ codes "Object" ∷ codes "optional" ∷ codes "out" ∷ codes "sequence" ∷ codes "short"
     ∷ codes "string" ∷ codes "struct" ∷ codes "throws" ∷ codes "true" ∷ codes "Value" ∷ codes "void" ∷ []
+
+-- the symbols of Slice
+abbrev pub symbol_names : List Name
+symbol_names = codes "{" ∷ codes "}" ∷ codes "(" ∷ codes ")" ∷ codes "<" ∷ codes ">" ∷ codes "[" ∷ codes "]" ∷ codes "[[" ∷ codes "]]"
+    ∷ codes "," ∷ codes ";" ∷ codes "::" ∷ codes "=" ∷ codes "*" ∷ codes "+" ∷ codes "-" ∷ []

@@ -8,7 +8,7 @@ ghost use Rattle.case_tables.specs.Tables.{names_seen, are_distinct};
 
 mod slice_words;
 
-pub use slice_words::{codes_apart, keywords};
+pub use slice_words::{codes_apart, keywords, symbols};
 
 /// Names in the order of their codes, no two of which are equal, and at most 256.
 #[derive(Clone, Copy, Debug)]

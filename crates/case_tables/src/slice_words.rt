@@ -1,7 +1,7 @@
-//! The table of the words that Slice keeps for itself.
+//! The tables of the words that Slice keeps for itself, and of its symbols.
 
 ghost use Rattle.std.specs.Prelude.{ℕ, ◌≡◌, Some, slice_get};
-ghost use Rattle.case_tables.specs.Tables.{Name, keyword_names};
+ghost use Rattle.case_tables.specs.Tables.{Name, keyword_names, symbol_names};
 ghost use Rattle.case_tables.specs.Rows.{names_of};
 
 use crate::CaseTable;
@@ -53,5 +53,14 @@ pub fn keywords() -> CaseTable<30>
         "true",
         "Value",
         "void",
+    ]
+}
+
+/// The symbols of Slice.
+pub fn symbols() -> CaseTable<17>
+    ensures { names_of result ≡ symbol_names }
+{
+    case_table![
+        "{", "}", "(", ")", "<", ">", "[", "]", "[[", "]]", ",", ";", "::", "=", "*", "+", "-",
     ]
 }

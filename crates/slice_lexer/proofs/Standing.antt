@@ -8,17 +8,25 @@ use Rattle.slice_lexer.specs.declared.piece.Piece.{Piece}
 use Rattle.slice_lexer.specs.declared.piece.Piece.TheVariants as pieces
 use Rattle.slice_lexer.specs.declared.token.Token.{Token}
 use Rattle.slice_lexer.specs.declared.token.TokenKind.{TokenKind}
-use Rattle.slice_lexer.specs.Pieces.{Front, front}
-use Rattle.slice_lexer.specs.Lexing.{front_at, length_of, Stand, tokens_of, Reads, Lexes, LexBreaks, AreSpans}
+use Rattle.slice_lexer.specs.Pieces.{Front, front, front_at}
+use Rattle.slice_lexer.specs.Lexing.{StandsAt, BreaksAt, length_of, Stand, tokens_of, Reads, Lexes, LexBreaks, AreSpans}
 use Rattle.slice_lexer.proofs.Sizes.{front_end, front_fits}
+use Rattle.slice_lexer.proofs.Exact.{stands_read}
+use Rattle.slice_lexer.proofs.Faults.{breaks_read}
 
 pub piece_within : (text : List ℕ) (place : ℕ) (piece : Piece) → front_at text place ≡ Ok piece → (0 < length_of piece) × (place + length_of piece ≤ length text)
 piece_within text place piece e =
     let fits = front_fits place (take place text) (drop place text) piece e in
     (fits.0, omega (arith, length-drop place text))
 
+pub at_piece : (text : List ℕ) (place : ℕ) (piece : Piece) → StandsAt text place piece → front_at text place ≡ Ok piece
+at_piece text place piece h = stands_read place (take place text) (drop place text) piece h
+
+at_fault : (text : List ℕ) (place : ℕ) (fault : LexFault) → BreaksAt text place fault → front_at text place ≡ Err fault
+at_fault text place fault h = breaks_read place (take place text) (drop place text) fault h
+
 -- one piece more stands at the end
-stand_more : (text : List ℕ) (start : ℕ) (found : List Piece) (place : ℕ) (piece : Piece) → front_at text place ≡ Ok piece → Stand text start found place
+stand_more : (text : List ℕ) (start : ℕ) (found : List Piece) (place : ℕ) (piece : Piece) → StandsAt text place piece → Stand text start found place
     → Stand text start (found ++ piece ∷ []) (place + length_of piece)
 stand_more text start [] place piece e h = rw h (e, refl)
 stand_more text start (other ∷ found) place piece e h = (h.0, stand_more text (start + length_of other) found place piece e h.1)
@@ -35,10 +43,10 @@ token_more text start (pieces.Gap m ∷ found) place kind n h = token_more text 
 token_more text start (pieces.Token other m ∷ found) place kind n h =
     ap (λ tokens. record { kind = other; from = start; to = start + m } ∷ tokens) (token_more text (start + m) found place kind n h.1)
 
-pub reads_gap : (text : List ℕ) (tokens : List Token) (place n : ℕ) → Reads text tokens place → front_at text place ≡ Ok (pieces.Gap n) → Reads text tokens (place + n)
+pub reads_gap : (text : List ℕ) (tokens : List Token) (place n : ℕ) → Reads text tokens place → StandsAt text place (pieces.Gap n) → Reads text tokens (place + n)
 reads_gap text tokens place n h e = (h.0 ++ pieces.Gap n ∷ [], stand_more text 0 h.0 place (pieces.Gap n) e h.1, gap_more text 0 h.0 n ∙ h.2)
 
-pub reads_token : (text : List ℕ) (tokens more : List Token) (place n : ℕ) (kind : TokenKind) → Reads text tokens place → front_at text place ≡ Ok (pieces.Token kind n)
+pub reads_token : (text : List ℕ) (tokens more : List Token) (place n : ℕ) (kind : TokenKind) → Reads text tokens place → StandsAt text place (pieces.Token kind n)
     → more ≡ tokens ++ record { kind = kind; from = place; to = place + n } ∷ [] → Reads text more (place + n)
 reads_token text tokens more place n kind h e is = (
   h.0 ++ pieces.Token kind n ∷ [],
@@ -60,10 +68,10 @@ one_fault r fault defect e f = cc
 same_pieces : (text : List ℕ) (start : ℕ) (found others : List Piece) (place end : ℕ) (fault defect : LexFault) → front_at text place ≡ Err fault → front_at text end ≡ Err defect
     → Stand text start found place → Stand text start others end → (found ≡ others) × (place ≡ end)
 same_pieces text start [] [] place end fault defect e f h k = (refl, sym h ∙ k)
-same_pieces text start [] (other ∷ others) place end fault defect e f h k = let here = ap (front_at text) h in absurd cc
-same_pieces text start (piece ∷ found) [] place end fault defect e f h k = let here = ap (front_at text) k in absurd cc
+same_pieces text start [] (other ∷ others) place end fault defect e f h k = let here = ap (front_at text) h in let stands = at_piece text start other k.0 in absurd cc
+same_pieces text start (piece ∷ found) [] place end fault defect e f h k = let here = ap (front_at text) k in let stands = at_piece text start piece h.0 in absurd cc
 same_pieces text start (piece ∷ found) (other ∷ others) place end fault defect e f h k =
-    let same : piece ≡ other = one_piece (front_at text start) piece other h.0 k.0 in
+    let same : piece ≡ other = one_piece (front_at text start) piece other (at_piece text start piece h.0) (at_piece text start other k.0) in
     let rest = same_pieces text (start + length_of piece) found others place end fault defect e f h.1 (rw same k.1) in
     let tails : found ≡ others = rest.0 in
     (cc (same, tails), rest.1)
@@ -77,13 +85,13 @@ one_lexing text tokens others h k =
 -- a text has one first defect
 pub one_break : (text : List ℕ) (fault defect : LexFault) → LexBreaks text fault → LexBreaks text defect → fault ≡ defect
 one_break text fault defect h k =
-    let same = same_pieces text 0 h.2.0 k.2.0 h.1 k.1 fault defect h.4 k.4 h.2.1 k.2.1 in
-    one_fault (front_at text h.1) fault defect h.4 (ap (front_at text) same.1 ∙ k.4)
+    let same = same_pieces text 0 h.2.0 k.2.0 h.1 k.1 fault defect (at_fault text h.1 fault h.4) (at_fault text k.1 defect k.4) h.2.1 k.2.1 in
+    one_fault (front_at text h.1) fault defect (at_fault text h.1 fault h.4) (ap (front_at text) same.1 ∙ at_fault text k.1 defect k.4)
 
 -- a text with tokens has no defect
 pub lexes_whole : (text : List ℕ) (tokens : List Token) (fault : LexFault) → Lexes text tokens → LexBreaks text fault → ⊥
 lexes_whole text tokens fault h k =
-    let same = same_pieces text 0 h.0 k.2.0 (length text) k.1 (faults.BadByte (length text)) fault (end_front text) k.4 h.1 k.2.1 in
+    let same = same_pieces text 0 h.0 k.2.0 (length text) k.1 (faults.BadByte (length text)) fault (end_front text) (at_fault text k.1 fault k.4) h.1 k.2.1 in
     let is : length text ≡ k.1 = same.1 in
     let less : k.1 < length text = k.3 in
     omega arith
@@ -96,7 +104,7 @@ spans_of : (text : List ℕ) (start : ℕ) (found : List Piece) (end : ℕ) → 
 spans_of text start [] end h = omega arith
 spans_of text start (pieces.Gap n ∷ found) end h = wider start (start + n) (tokens_of (start + n) found) end (omega arith) (spans_of text (start + n) found end h.1)
 spans_of text start (pieces.Token kind n ∷ found) end h =
-    let some : 0 < n = (piece_within text start (pieces.Token kind n) h.0).0 in
+    let some : 0 < n = (piece_within text start (pieces.Token kind n) (at_piece text start (pieces.Token kind n) h.0)).0 in
     (omega arith, omega arith, spans_of text (start + n) found end h.1)
 
 -- the spans of a text's tokens rise

@@ -1,10 +1,10 @@
--- What stands at the front of bytes: a blank, a comment, a token or a defect.
+-- What is read of bytes from the first on: a blank, a comment, a token or a defect. Tokens.antt says what these are, and this reading meets that.
 use Rattle.std.specs.Prelude.{ℕ, ◌+◌, Bool, false, not, ◌&&◌, ◌==◌, nat_lt, nat_le, if◌then◌else◌, List, [], ◌∷◌, codes, length, take, drop, Option, Some, None, Result, Ok, Err}
 use Rattle.std.specs.Char.{is_ascii_digit}
 use Rattle.std.specs.List.{position}
 use Rattle.std.specs.Str.{bytes_eq}
 use Rattle.std.specs.Str.Parse.{digits_value}
-use Rattle.case_tables.specs.Tables.{keyword_names}
+use Rattle.case_tables.specs.Tables.{keyword_names, symbol_names}
 use Rattle.slice_lexer.specs.declared.fault.LexFault.{LexFault}
 use Rattle.slice_lexer.specs.declared.fault.LexFault.TheVariants as faults
 use Rattle.slice_lexer.specs.declared.token.TokenKind.{TokenKind}
@@ -81,13 +81,9 @@ string_at place bytes =
 unfoldable pub directive_at : ℕ → List ℕ → List ℕ → Front
 directive_at place before bytes = if is_line_blank before then token kinds.Directive (length (line bytes)) else Err (faults.BadByte place)
 
-abbrev pub symbols : List (List ℕ)
-symbols = codes "{" ∷ codes "}" ∷ codes "(" ∷ codes ")" ∷ codes "<" ∷ codes ">" ∷ codes "[" ∷ codes "]" ∷ codes "[[" ∷ codes "]]"
-    ∷ codes "," ∷ codes ";" ∷ codes "::" ∷ codes "=" ∷ codes "*" ∷ codes "+" ∷ codes "-" ∷ []
-
 -- the place of the symbol that these bytes are
 abbrev pub symbol_code : List ℕ → Option ℕ
-symbol_code bytes = position (bytes_eq bytes) symbols
+symbol_code bytes = position (bytes_eq bytes) symbol_names
 
 -- the symbol of this code, or what stands there where it is none
 abbrev pub symbol_or : Option ℕ → ℕ → Front → Front
@@ -110,3 +106,6 @@ front place before bytes =
     else if first bytes == backslash then escaped_at place bytes
     else if first bytes == hash then directive_at place before bytes
     else symbol_at place bytes
+
+abbrev pub front_at : List ℕ → ℕ → Front
+front_at text place = front place (take place text) (drop place text)

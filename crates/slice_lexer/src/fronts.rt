@@ -5,8 +5,7 @@ ghost use Rattle.std.specs.List.{position};
 ghost use Rattle.std.specs.Str.{bytes_eq};
 ghost use Rattle.std.specs.Str.Parse.{digits_value};
 ghost use Rattle.slice_lexer.specs.Bytes.{digits};
-ghost use Rattle.slice_lexer.specs.Pieces.{base_of, comment_at, directive_at, escaped_at, number_at, prefix_of, string_at, symbol_at, symbol_code, word_at, word_kind};
-ghost use Rattle.slice_lexer.specs.Lexing.{front_at};
+ghost use Rattle.slice_lexer.specs.Pieces.{front_at, base_of, comment_at, directive_at, escaped_at, number_at, prefix_of, string_at, symbol_at, symbol_code, word_at, word_kind};
 
 use crate::fault::LexFault;
 use crate::piece::Piece;
