@@ -1,12 +1,11 @@
--- Tokens with their bytes, and what each is to the grammar.
+-- Tokens with their bytes, and what each is to the grammar. The forms of directives are those of "The Slice Language" of the Ice manual, "Slice Source Files" (file guarding, `#include`).
 use Rattle.std.specs.Prelude.{length, ℕ, Bool, false, not, ◌&&◌, ◌==◌, nat_eq, if◌then◌else◌, List, [], ◌∷◌, map, codes, take, drop, Option, Some, None, slice_range, ◌≡◌, Ok}
 use Rattle.std.specs.Borrow.{Bor}
 use Rattle.std.specs.List.{list_all, list_any, prefix_len}
 use Rattle.std.specs.Str.{bytes_eq, is_utf8}
 use Rattle.std.specs.Option.{is_some}
 use Rattle.slice_lexer.specs.Bytes.{backslash, quote, first, is_blank, is_letter, is_word_byte, begins_with}
-use Rattle.slice_lexer.specs.Pieces.{front}
-use Rattle.slice_lexer.specs.declared.piece.Piece.TheVariants as pieces
+use Rattle.slice_lexer.specs.Tokens.{IsToken}
 use Rattle.slice_lexer.specs.declared.token.Token.{Token}
 use Rattle.slice_lexer.specs.declared.token.TokenKind.{TokenKind}
 use Rattle.slice_lexer.specs.declared.token.TokenKind.TheVariants as kinds
@@ -188,9 +187,9 @@ next (l ∷ ls) = Some l
 abbrev pub seen : Token × Bor (List ℕ) → Lexeme
 seen found = record { kind = found.0.kind; from = found.0.from; bytes = found.1.now }
 
--- The bytes alone are one token, of its kind.
+-- The bytes are a token of the kind.
 abbrev pub IsAlone : Lexeme → Type 0
-IsAlone l = front 0 [] l.bytes ≡ Ok (pieces.Token l.kind (length l.bytes))
+IsAlone l = IsToken l.kind l.bytes
 
 -- tokens as they stand in texts
 abbrev pub AreTokens : Lexemes → Type 0

@@ -33,10 +33,7 @@ pub(crate) fn directive_sort(bytes: &[u8]) -> Sort
 pub(crate) fn if_text(bytes: &[u8]) -> Option<&str>
     ensures { text_seen result ≡ if_text bytes.now }
 {
-    match std::str::from_utf8(bytes) {
-        Ok(text) => Some(text),
-        Err(_) => None,
-    }
+    std::str::from_utf8(bytes).ok()
 }
 
 /// The name that an `#include` names.

@@ -1,13 +1,13 @@
 //! Modules, which nest without a recursion.
 
-ghost use Rattle.std.specs.Prelude.{◌≡◌, ◌∷◌, ◌++◌, Err, OnErr, OnOk, length, reverse};
+ghost use Rattle.std.specs.Prelude.{◌≡◌, ◌++◌, Err, OnErr, OnOk};
 ghost use Rattle.slice_syntax.specs.declared.fault.Stop.TheVariants as stops;
 ghost use Rattle.slice_syntax.specs.Grammar.{parted, ◌▸◌};
 ghost use Rattle.slice_syntax.specs.Sorts.{colons};
 ghost use Rattle.slice_syntax.specs.Reading.{read};
 ghost use Rattle.slice_syntax.specs.Rules.{metadata, word};
-ghost use Rattle.slice_syntax.specs.Files.{enters, exits, head};
-ghost use Rattle.slice_syntax.specs.Moving.{inner_move, items_of, modules_at, moved};
+ghost use Rattle.slice_syntax.specs.Files.{Opens, enters, exits, head};
+ghost use Rattle.slice_syntax.specs.Moving.{MovedFrom, inner_move, modules_at};
 ghost use Rattle.slice_syntax.specs.Taking.{Takes, TakesWith};
 
 use crate::cursor::Cursor;
@@ -38,9 +38,9 @@ pub(crate) fn modules(alloc: Global, cursor: &mut Cursor) -> Result<List<Item>, 
     }
 }
 
-/// The head of a module behind its metadata, and how many names it has.
+/// The head of a module after its metadata, and how many names it has.
 fn outer_move(alloc: Global, cursor: &mut Cursor, items: &mut List<Item>) -> Result<usize, Stop>
-    ensures { TakesWith (λ count words. (count ≡ length words) × (items.new ≡ items.old ++ enters words)) result cursor.new (read (metadata ▸ head) cursor.old) }
+    ensures { TakesWith (λ count words. Opens count items.old items.new words) result cursor.new (read (metadata ▸ head) cursor.old) }
 {
     metadata(cursor)?;
     module_head(alloc, cursor, items)
@@ -55,7 +55,7 @@ fn inner_move(
     open_modules: &mut Vec<usize>,
     items: &mut List<Item>,
 ) -> Result<(), Stop>
-    ensures { TakesWith (λ u move. (reverse open_modules.new.items ≡ moved (names ∷ reverse open_modules.old.items) move) × (items.new ≡ items.old ++ items_of (names ∷ reverse open_modules.old.items) move)) result cursor.new (read inner_move cursor.old) }
+    ensures { TakesWith (λ u move. MovedFrom names open_modules.old.items open_modules.new.items items.old items.new move) result cursor.new (read inner_move cursor.old) }
 {
     if cursor.begins(&[CLOSE_BRACE]) {
         close(cursor)?;
@@ -73,7 +73,7 @@ fn inner_move(
 
 /// `"module" word { "::" word } "{"`, and how many words these are.
 fn module_head(alloc: Global, cursor: &mut Cursor, items: &mut List<Item>) -> Result<usize, Stop>
-    ensures { TakesWith (λ count words. (count ≡ length words) × (items.new ≡ items.old ++ enters words)) result cursor.new (read head cursor.old) }
+    ensures { TakesWith (λ count words. Opens count items.old items.new words) result cursor.new (read head cursor.old) }
 {
     cursor.take(MODULE)?;
     let before = items.len();
