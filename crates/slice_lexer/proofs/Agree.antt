@@ -1,28 +1,27 @@
 -- What is read at a place is what stands there.
-use Rattle.std.proofs.Common.{ℕ, zero, suc, ◌≡◌, ◌+◌, ◌<◌, ◌≤◌, Bool, true, false, not, ◌&&◌, cond, ◌==◌, if◌then◌else◌, nat_lt, nat_le, List, [], ◌∷◌, ◌++◌, length, take, drop, codes, Contains, slice_get, Option, Some, None, Ok, Err, refl, sym, ap, ap₂, subst, ◌∙◌, inl, inr, ◌⊎◌, arith, append_assoc, length-append, take-append-drop, zero-add}
+use Rattle.std.proofs.Common.{ℕ, suc, ◌≡◌, ◌+◌, ◌<◌, Bool, true, false, not, ◌==◌, if◌then◌else◌, nat_lt, List, [], ◌∷◌, ◌++◌, length, take, drop, codes, Option, Some, None, Ok, Err, refl, sym, ap, ap₂, subst, ◌∙◌, inl, inr, arith, append_assoc, length-append, take-append-drop, zero-add}
 use Rattle.std.specs.Char.{is_ascii_digit, is_digit}
 use Rattle.std.specs.List.{list_all, prefix_len, take_while, position}
 use Rattle.std.specs.Str.{bytes_eq}
 use Rattle.std.specs.Str.Parse.{digits_value}
-use borrow.Author.Tests.{ltb-true, lt-ltb, leb-true, le-leb}
+use borrow.Author.Tests.{ltb-true, leb-true}
 use Rattle.std.proofs.lemmas.Bool.Decides.{nat_tests}
 use Rattle.std.proofs.lemmas.List.Folds.{length-prefix_len}
 use Rattle.std.proofs.lemmas.List.Sums.{take_while-cons}
 use Rattle.case_tables.specs.Tables.{keyword_names, symbol_names}
 use Rattle.case_tables.proofs.Places.{row_found, no_row}
-use Rattle.slice_lexer.specs.declared.fault.LexFault.{LexFault}
 use Rattle.slice_lexer.specs.declared.fault.LexFault.TheVariants as faults
 use Rattle.slice_lexer.specs.declared.token.TokenKind.{TokenKind}
 use Rattle.slice_lexer.specs.declared.token.TokenKind.TheVariants as kinds
 use Rattle.slice_lexer.specs.declared.piece.Piece.{Piece}
 use Rattle.slice_lexer.specs.declared.piece.Piece.TheVariants as pieces
 use Rattle.slice_lexer.specs.Bytes.{newline, quote, hash, slash, backslash, first, is_blank, is_letter, is_word_byte, spoils_number, begins_with, line, word, digits, is_line_blank, before_close, string_length}
-use Rattle.slice_lexer.specs.Pieces.{Front, gap, token, kind_of, comment_at, word_kind, word_at, escaped_at, base_of, prefix_of, number_digits, number_length, number_value, is_number, number_at, string_at, directive_at, symbol_code, symbol_or, symbol_at, front}
-use Rattle.slice_lexer.specs.Tokens.{AreDigits, IsIdentifier, IsInteger, Characters, IsGap, LineEnds, NumberEnds, HasNoClose, IsToken, MayStand, TokenStands, Begins}
+use Rattle.slice_lexer.specs.Pieces.{Front, gap, kind_of, comment_at, word_kind, word_at, escaped_at, base_of, prefix_of, number_digits, number_length, number_value, is_number, number_at, string_at, directive_at, symbol_code, symbol_or, symbol_at, front}
+use Rattle.slice_lexer.specs.Tokens.{AreDigits, IsIdentifier, IsInteger, NumberEnds, IsToken, MayStand, Begins}
 use Rattle.slice_lexer.proofs.Sizes.{choose, front_end, letter_goes_on}
-use Rattle.slice_lexer.proofs.Stretches.{both, equal, equals, unequals, run_more, run_whole, run_stop, run_all, run_parts, run_stops, Stops, line_stops, line_ends, string_reach, string_found, close_reach, close_found}
-use Rattle.slice_lexer.proofs.Branches.{front_blank, front_word, front_number, front_slash, front_quote, front_backslash, front_hash, front_symbol, word_bytes, same_kind, escaped_size, number_size, length_by, decimal_base, zero_octal, integer_first, string_bytes_more, string_size, symbol_size, directive_size, no_zero_x, no_zero}
-use Rattle.slice_lexer.proofs.Longest.{found, symbol_found, keyword_found, symbol_length, no_empty_symbol, stands}
+use Rattle.slice_lexer.proofs.Stretches.{both, equal, run_all, run_parts, run_stops, line_stops, string_found, close_found}
+use Rattle.slice_lexer.proofs.Branches.{same_kind, escaped_size, number_size, length_by, string_bytes_more, string_size, directive_size}
+use Rattle.slice_lexer.proofs.Longest.{stands}
 
 pub after_own : (xs ys : List ℕ) → drop (length xs) (xs ++ ys) ≡ ys
 after_own [] ys = refl
@@ -112,9 +111,14 @@ hexadecimal_read : (rest : List ℕ) → 0 < length (digits 16 rest) → IsRead 
 hexadecimal_read rest some =
     let test : ℕ → Bool = λ c. is_digit c 16 in
     let size : number_length (codes "0x" ++ rest) ≡ suc (suc (length (digits 16 rest))) = omega arith in
-    let count : suc (suc (prefix_len test rest)) ≡ number_length (codes "0x" ++ rest) = ap (λ n. suc (suc n)) (sym (length-prefix_len test rest)) ∙ sym size in
-    (codes "0x" ++ digits 16 rest, drop (prefix_len test rest) rest, ap (λ (bs : List ℕ). codes "0x" ++ bs) (run_parts test rest), sym size,
-      inr (inr (digits 16 rest, refl, some, run_all test rest, refl)), ap (λ (n : ℕ). drop n (codes "0x" ++ rest)) count)
+    let count : suc (suc (prefix_len test rest)) ≡ number_length (codes "0x" ++ rest) = ap (λ n. suc (suc n)) (sym (length-prefix_len test rest)) ∙ sym size in (
+      codes "0x" ++ digits 16 rest,
+      drop (prefix_len test rest) rest,
+      ap (λ (bs : List ℕ). codes "0x" ++ bs) (run_parts test rest),
+      sym size,
+      inr (inr (digits 16 rest, refl, some, run_all test rest, refl)),
+      ap (λ (n : ℕ). drop n (codes "0x" ++ rest)) count,
+    )
 
 integer_read : (byte : ℕ) (bytes : List ℕ) → is_ascii_digit byte ≡ true → 0 < length (number_digits (byte ∷ bytes)) → (b c : Bool) → begins_with (codes "0x") (byte ∷ bytes) ≡ b → begins_with (codes "0") (byte ∷ bytes) ≡ c
     → IsRead (byte ∷ bytes)
@@ -227,9 +231,13 @@ line_slashes rest = run_cons in_line 47 (47 ∷ rest) refl ∙ ap (λ (bs : List
 read_line : (before rest : List ℕ) (piece : Piece) → gap (length (line (codes "//" ++ rest))) ≡ Ok piece → Begins before (codes "//" ++ rest) piece
 read_line before rest (pieces.Token kind n) e = absurd cc
 read_line before rest (pieces.Gap n) e =
-    let same : length (line (codes "//" ++ rest)) ≡ n = cc in
-    (codes "//" ++ line rest, drop (prefix_len in_line rest) rest, ap (λ (bs : List ℕ). codes "//" ++ bs) (run_parts in_line rest), ap (λ (bs : List ℕ). length bs) (sym (line_slashes rest)) ∙ same,
-      inr (inl ((line rest, refl, run_all in_line rest), line_stops (drop (prefix_len in_line rest) rest) (run_stops in_line rest))))
+    let same : length (line (codes "//" ++ rest)) ≡ n = cc in (
+      codes "//" ++ line rest,
+      drop (prefix_len in_line rest) rest,
+      ap (λ (bs : List ℕ). codes "//" ++ bs) (run_parts in_line rest),
+      ap (λ (bs : List ℕ). length bs) (sym (line_slashes rest)) ∙ same,
+      inr (inl ((line rest, refl, run_all in_line rest), line_stops (drop (prefix_len in_line rest) rest) (run_stops in_line rest))),
+    )
 
 read_block : (before rest : List ℕ) (piece : Piece) → before_close rest < length rest → gap (before_close rest + 4) ≡ Ok piece → Begins before (codes "/*" ++ rest) piece
 read_block before rest (pieces.Token kind n) h e = absurd cc
@@ -259,16 +267,16 @@ read_comment place before byte bytes piece =
     let block : Front = if nat_lt (before_close rest) (length rest) then gap (before_close rest + 4) else Err (faults.OpenComment place) in
     choose C (begins_with (codes "//") (byte ∷ bytes)) (gap (length (line (byte ∷ bytes)))) (if not (begins_with (codes "/*") (byte ∷ bytes)) then Err (faults.BadByte place) else block) (Ok piece)
     (λ h e. let marks = slash_marks byte slash bytes h in
-      let there = subst (λ (bs : List ℕ). gap (length (line bs)) ≡ Ok piece) marks.1 e in
-      subst (λ (bs : List ℕ). Begins before bs piece) (sym marks.1) (read_line before marks.0 piece there))
+    let there = subst (λ (bs : List ℕ). gap (length (line bs)) ≡ Ok piece) marks.1 e in
+    subst (λ (bs : List ℕ). Begins before bs piece) (sym marks.1) (read_line before marks.0 piece there))
     (λ _. choose C (not (begins_with (codes "/*") (byte ∷ bytes))) (Err (faults.BadByte place)) block (Ok piece)
     (λ h e. absurd cc)
     (λ h. choose C (nat_lt (before_close rest) (length rest)) (gap (before_close rest + 4)) (Err (faults.OpenComment place)) (Ok piece)
     (λ closed e. let marks = slash_marks byte 42 bytes (admitted _ h) in
-      let same : rest ≡ marks.0 = ap (λ (bs : List ℕ). drop 2 bs) marks.1 in
-      let short = subst (λ (bs : List ℕ). before_close bs < length bs) same (ltb-true _ _ closed) in
-      let there = subst (λ (bs : List ℕ). gap (before_close bs + 4) ≡ Ok piece) same e in
-      subst (λ (bs : List ℕ). Begins before bs piece) (sym marks.1) (read_block before marks.0 piece short there))
+    let same : rest ≡ marks.0 = ap (λ (bs : List ℕ). drop 2 bs) marks.1 in
+    let short = subst (λ (bs : List ℕ). before_close bs < length bs) same (ltb-true _ _ closed) in
+    let there = subst (λ (bs : List ℕ). gap (before_close bs + 4) ≡ Ok piece) same e in
+    subst (λ (bs : List ℕ). Begins before bs piece) (sym marks.1) (read_block before marks.0 piece short there))
     (λ _ e. absurd cc)))
 
 by_byte : (place : ℕ) (before : List ℕ) (mark byte : ℕ) (bytes : List ℕ) (piece : Piece) (X : List ℕ → Front) → (byte == mark) ≡ true
@@ -277,7 +285,7 @@ by_byte : (place : ℕ) (before : List ℕ) (mark byte : ℕ) (bytes : List ℕ)
 by_byte place before mark byte bytes piece X h read full e =
     let same = equal byte mark h in
     subst (λ (b : ℕ). Begins before (b ∷ bytes) piece) (sym same)
-      (read bytes (subst (λ (b : ℕ). front place before (b ∷ bytes) ≡ Ok piece) same full) (subst (λ (b : ℕ). X (b ∷ bytes) ≡ Ok piece) same e))
+    (read bytes (subst (λ (b : ℕ). front place before (b ∷ bytes) ≡ Ok piece) same full) (subst (λ (b : ℕ). X (b ∷ bytes) ≡ Ok piece) same e))
 
 read_byte : (place : ℕ) (before : List ℕ) (byte : ℕ) (bytes : List ℕ) (piece : Piece) → front place before (byte ∷ bytes) ≡ Ok piece → front place before (byte ∷ bytes) ≡ Ok piece → Begins before (byte ∷ bytes) piece
 unfolding front

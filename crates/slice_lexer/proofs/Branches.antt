@@ -1,22 +1,17 @@
 -- Which token stands there by the first byte, and how long tokens there may be.
-use Rattle.std.proofs.Common.{ℕ, zero, suc, ◌≡◌, ◌+◌, ◌<◌, ◌≤◌, Bool, true, false, not, ◌&&◌, cond, ◌==◌, nat_lt, nat_le, List, [], ◌∷◌, ◌++◌, length, take, drop, codes, Contains, slice_get, Some, None, Ok, Err, Result, refl, sym, ap, ap₂, subst, ◌∙◌, inl, inr, arith, append_assoc, length-append}
+use Rattle.std.proofs.Common.{ℕ, zero, suc, ◌≡◌, ◌+◌, ◌≤◌, Bool, true, false, not, ◌&&◌, ◌==◌, nat_le, List, [], ◌∷◌, ◌++◌, length, take, drop, codes, slice_get, Some, Ok, refl, sym, ap, ap₂, subst, ◌∙◌, inl, inr, arith, append_assoc, length-append}
 use Rattle.std.specs.Char.{is_ascii_digit, is_digit}
-use Rattle.std.specs.List.{list_all, prefix_len, take_while, position}
-use Rattle.std.specs.Str.{bytes_eq}
-use Rattle.std.specs.Str.Parse.{digits_value}
+use Rattle.std.specs.List.{list_all}
 use Rattle.std.proofs.lemmas.Bool.Decides.{nat_tests}
-use Rattle.std.proofs.lemmas.List.{length-take}
 use Rattle.case_tables.specs.Tables.{keyword_names, symbol_names}
-use Rattle.slice_lexer.specs.declared.fault.LexFault.TheVariants as faults
 use Rattle.slice_lexer.specs.declared.token.TokenKind.{TokenKind}
 use Rattle.slice_lexer.specs.declared.token.TokenKind.TheVariants as kinds
-use Rattle.slice_lexer.specs.declared.piece.Piece.{Piece}
 use Rattle.slice_lexer.specs.declared.piece.Piece.TheVariants as pieces
-use Rattle.slice_lexer.specs.Bytes.{newline, quote, hash, slash, backslash, first, is_blank, is_letter, is_word_byte, spoils_number, begins_with, line, word, digits, string_length, is_line_blank}
-use Rattle.slice_lexer.specs.Pieces.{Front, token, word_kind, word_at, escaped_at, comment_at, base_of, prefix_of, number_digits, number_length, number_value, is_number, number_at, string_at, directive_at, symbol_code, symbol_or, symbol_at, front}
-use Rattle.slice_lexer.specs.Tokens.{AreDigits, IsIdentifier, IsInteger, Characters, IsToken}
-use Rattle.slice_lexer.proofs.Sizes.{choose, front_fits, letter_goes_on}
-use Rattle.slice_lexer.proofs.Stretches.{both, equal, unequal, run_bound, string_reach}
+use Rattle.slice_lexer.specs.Bytes.{newline, quote, hash, slash, backslash, first, is_blank, is_letter, is_word_byte, begins_with, line, word, digits, string_length, is_line_blank}
+use Rattle.slice_lexer.specs.Pieces.{token, word_kind, word_at, escaped_at, comment_at, base_of, prefix_of, number_length, number_value, is_number, number_at, string_at, directive_at, symbol_code, symbol_at, front}
+use Rattle.slice_lexer.specs.Tokens.{AreDigits, IsIdentifier, IsInteger, Characters}
+use Rattle.slice_lexer.proofs.Sizes.{choose, letter_goes_on}
+use Rattle.slice_lexer.proofs.Stretches.{both, unequal, run_bound, string_reach}
 
 letter_no_blank : (byte : ℕ) → is_letter byte ≡ true → is_blank byte ≡ false
 letter_no_blank byte h = grind (arith, nat_tests)
@@ -181,12 +176,12 @@ integer_bound (byte ∷ bytes) rest value (inr (inl h)) =
     subst (λ (b : ℕ). suc (length bytes) ≤ number_length (b ∷ bytes ++ rest)) (sym is) (octal_bound bytes rest all (begins_with (codes "0x") (48 ∷ bytes ++ rest)) refl)
 integer_bound (byte ∷ bytes) rest value (inr (inr h)) =
     subst (λ (bs : List ℕ). length bs ≤ number_length (bs ++ rest)) (sym h.1) (hexadecimal h.0 h.3) where
-  hexadecimal : (ds : List ℕ) → AreDigits 16 ds → length (codes "0x" ++ ds) ≤ number_length (codes "0x" ++ ds ++ rest)
-  hexadecimal ds all =
-      let is : number_length (codes "0x" ++ ds ++ rest) ≡ 2 + length (digits 16 (ds ++ rest)) = refl in
-      let more = run_bound (λ b. is_digit b 16) ds rest all in
-      let size : length (codes "0x" ++ ds) ≡ 2 + length ds = omega arith in
-      omega arith
+      hexadecimal : (ds : List ℕ) → AreDigits 16 ds → length (codes "0x" ++ ds) ≤ number_length (codes "0x" ++ ds ++ rest)
+      hexadecimal ds all =
+          let is : number_length (codes "0x" ++ ds ++ rest) ≡ 2 + length (digits 16 (ds ++ rest)) = refl in
+          let more = run_bound (λ b. is_digit b 16) ds rest all in
+          let size : length (codes "0x" ++ ds) ≡ 2 + length ds = omega arith in
+          omega arith
 
 ten_ascii : (byte : ℕ) → is_digit byte 10 ≡ true → is_ascii_digit byte ≡ true
 ten_ascii byte h = grind (arith, nat_tests)

@@ -1,24 +1,22 @@
 -- What stands at a place is what is read there.
-use Rattle.std.proofs.Common.{ℕ, zero, suc, ◌≡◌, ◌+◌, ◌<◌, ◌≤◌, Bool, true, false, not, ◌&&◌, cond, ◌==◌, if◌then◌else◌, nat_lt, nat_le, List, [], ◌∷◌, ◌++◌, length, take, drop, codes, Contains, slice_get, Option, Some, None, Ok, Err, refl, sym, ap, ap₂, subst, ◌∙◌, inl, inr, ◌⊎◌, arith, append_assoc, length-append, take-append-drop, zero-add, length-take}
-use Rattle.std.specs.Char.{is_ascii_digit, is_digit}
-use Rattle.std.specs.List.{list_all, prefix_len, take_while, position}
+use Rattle.std.proofs.Common.{ℕ, suc, ◌≡◌, ◌+◌, ◌<◌, ◌≤◌, Bool, true, false, not, ◌&&◌, ◌==◌, if◌then◌else◌, nat_lt, nat_le, List, [], ◌∷◌, ◌++◌, length, take, drop, codes, Contains, slice_get, Option, Some, None, Ok, Err, refl, sym, ap, ap₂, subst, ◌∙◌, inl, inr, arith, append_assoc, length-append, zero-add}
+use Rattle.std.specs.Char.{is_digit}
+use Rattle.std.specs.List.{list_all, position}
 use Rattle.std.specs.Str.{bytes_eq}
 use Rattle.std.specs.Str.Parse.{digits_value}
-use borrow.Author.Tests.{ltb-true, lt-ltb, leb-true, le-leb}
+use borrow.Author.Tests.{lt-ltb, le-leb}
 use Rattle.std.proofs.lemmas.Bool.Decides.{nat_tests}
 use Rattle.case_tables.specs.Tables.{keyword_names, symbol_names}
-use Rattle.case_tables.proofs.Places.{row_found, no_row}
-use Rattle.slice_lexer.specs.declared.fault.LexFault.{LexFault}
+use Rattle.case_tables.proofs.Places.{row_found}
 use Rattle.slice_lexer.specs.declared.fault.LexFault.TheVariants as faults
 use Rattle.slice_lexer.specs.declared.token.TokenKind.{TokenKind}
 use Rattle.slice_lexer.specs.declared.token.TokenKind.TheVariants as kinds
 use Rattle.slice_lexer.specs.declared.piece.Piece.{Piece}
 use Rattle.slice_lexer.specs.declared.piece.Piece.TheVariants as pieces
-use Rattle.slice_lexer.specs.Bytes.{newline, quote, hash, slash, backslash, first, is_blank, is_letter, is_word_byte, spoils_number, begins_with, line, word, digits, is_line_blank, before_close, string_length}
-use Rattle.slice_lexer.specs.Pieces.{Front, gap, token, kind_of, comment_at, word_kind, word_at, escaped_at, base_of, prefix_of, number_digits, number_length, number_value, is_number, number_at, string_at, directive_at, symbol_code, symbol_or, symbol_at, front}
-use Rattle.slice_lexer.specs.Tokens.{AreDigits, IsIdentifier, IsInteger, IsOnOneLine, Characters, IsGap, LineEnds, NumberEnds, HasNoClose, IsToken, IsLongest, MayStand, TokenStands, Begins}
-use Rattle.slice_lexer.proofs.Sizes.{letter_goes_on}
-use Rattle.slice_lexer.proofs.Stretches.{both, equals, run_whole, run_stop, run_all, run_parts, Stops, line_ends, string_reach, close_reach}
+use Rattle.slice_lexer.specs.Bytes.{quote, hash, backslash, first, is_letter, is_word_byte, spoils_number, begins_with, line, word, digits, is_line_blank, before_close, string_length}
+use Rattle.slice_lexer.specs.Pieces.{gap, token, kind_of, comment_at, word_kind, escaped_at, base_of, prefix_of, number_digits, number_length, number_value, is_number, number_at, string_at, directive_at, symbol_code, symbol_at, front}
+use Rattle.slice_lexer.specs.Tokens.{AreDigits, IsIdentifier, IsInteger, IsOnOneLine, Characters, IsGap, LineEnds, NumberEnds, HasNoClose, IsToken, IsLongest, MayStand, Begins}
+use Rattle.slice_lexer.proofs.Stretches.{both, run_whole, run_stop, run_all, run_parts, Stops, line_ends, string_reach, close_reach}
 use Rattle.slice_lexer.proofs.Branches.{front_blank, front_word, front_number, front_slash, front_quote, front_backslash, front_hash, front_symbol, word_bytes, keyword_identifier, length_by, decimal_base, zero_octal, integer_first, string_bytes_more}
 use Rattle.slice_lexer.proofs.Longest.{found, symbol_found, keyword_found, symbol_length, no_empty_symbol}
 use Rattle.slice_lexer.proofs.Agree.{after_own, first_word, word_is, line_slashes, run_cons, in_line, spoils_by}
@@ -129,7 +127,7 @@ integer_is place (byte ∷ bytes) after value (inl h) few ends =
     ∙ ap (λ (n : ℕ). token (kinds.Number value) n) (zero-add (length own))
 integer_is place (byte ∷ bytes) after value (inr (inl h)) few ends =
     subst (λ (b : ℕ). number_at place (b ∷ bytes ++ after) ≡ token (kinds.Number value) (length (b ∷ bytes))) (sym h.0)
-      (octal_is place bytes after value (subst (λ (b : ℕ). AreDigits 8 (b ∷ bytes)) h.0 h.1) (subst (λ (b : ℕ). value ≡ digits_value 8 (b ∷ bytes)) h.0 h.2) few ends)
+    (octal_is place bytes after value (subst (λ (b : ℕ). AreDigits 8 (b ∷ bytes)) h.0 h.1) (subst (λ (b : ℕ). value ≡ digits_value 8 (b ∷ bytes)) h.0 h.2) few ends)
 integer_is place (byte ∷ bytes) after value (inr (inr h)) few ends =
     subst (λ (bs : List ℕ). number_at place (bs ++ after) ≡ token (kinds.Number value) (length bs)) (sym h.1) (hexadecimal_is place h.0 after value h.2 h.3 h.4 few ends)
 

@@ -1,23 +1,19 @@
 -- No token is longer than the one that is read.
-use Rattle.std.proofs.Common.{ℕ, zero, suc, ◌≡◌, ◌+◌, ◌<◌, ◌≤◌, Bool, true, false, not, ◌&&◌, ◌==◌, nat_le, List, [], ◌∷◌, ◌++◌, length, take, drop, Contains, slice_get, Option, Some, None, Ok, Err, refl, sym, ap, subst, ◌∙◌, inl, inr, arith, length-append, get_or}
+use Rattle.std.proofs.Common.{ℕ, ◌≡◌, ◌≤◌, true, nat_le, List, [], ◌∷◌, ◌++◌, length, Contains, slice_get, Option, Some, None, Ok, refl, sym, ap, subst, ◌∙◌, inl, inr, arith}
 use Rattle.std.specs.List.{position}
 use Rattle.std.specs.Str.{bytes_eq}
 use borrow.Author.Tests.{leb-true}
-use Rattle.std.proofs.lemmas.List.{length-take}
 use Rattle.std.proofs.lemmas.Option.{slice_get_within, get_or_from_slice_get}
 use Rattle.case_tables.specs.Tables.{are_distinct, keyword_names, symbol_names}
 use Rattle.case_tables.proofs.Places.{row_found, no_row, one_place}
-use Rattle.slice_lexer.specs.declared.fault.LexFault.TheVariants as faults
 use Rattle.slice_lexer.specs.declared.token.TokenKind.{TokenKind}
 use Rattle.slice_lexer.specs.declared.token.TokenKind.TheVariants as kinds
-use Rattle.slice_lexer.specs.declared.piece.Piece.{Piece}
 use Rattle.slice_lexer.specs.declared.piece.Piece.TheVariants as pieces
-use Rattle.slice_lexer.specs.Bytes.{hash, backslash}
-use Rattle.slice_lexer.specs.Pieces.{Front, token, symbol_code, symbol_or, symbol_at, front}
-use Rattle.slice_lexer.specs.Tokens.{IsIdentifier, IsToken, IsLongest, MayStand, TokenStands, Begins}
+use Rattle.slice_lexer.specs.Pieces.{symbol_code, front}
+use Rattle.slice_lexer.specs.Tokens.{IsToken, IsLongest, MayStand, Begins}
 use Rattle.slice_lexer.proofs.Sizes.{front_fits}
 use Rattle.slice_lexer.proofs.Stretches.{both}
-use Rattle.slice_lexer.proofs.Branches.{is_other, is_symbol_start, symbol_start, front_symbol, keyword_identifier, same_size, symbol_size, word_bound, escaped_bound, number_bound, string_bound, directive_bound}
+use Rattle.slice_lexer.proofs.Branches.{is_other, symbol_start, front_symbol, keyword_identifier, same_size, symbol_size, word_bound, escaped_bound, number_bound, string_bound, directive_bound}
 
 -- the row of a name of a table is found
 pub found : (names : List (List ℕ)) (code : ℕ) (name : List ℕ) → slice_get names code ≡ Some name → Contains names name
@@ -77,8 +73,8 @@ pub stands : (place : ℕ) (before bytes : List ℕ) (kind : TokenKind) (n : ℕ
     → IsToken kind own → MayStand before kind after → Begins before bytes (pieces.Token kind n)
 stands place before bytes kind n own after e parts size is may =
     (own, after, parts, size, record { is = is; longest = longest; may = may }) where
-  longest : IsLongest own after
-  longest other longer rest same h =
-      let there : front place before (longer ++ rest) ≡ Ok (pieces.Token kind n) = ap (front place before) (sym same ∙ sym parts) ∙ e in
-      let most = bound place before other longer rest h kind n there in
-      omega arith
+      longest : IsLongest own after
+      longest other longer rest same h =
+          let there : front place before (longer ++ rest) ≡ Ok (pieces.Token kind n) = ap (front place before) (sym same ∙ sym parts) ∙ e in
+          let most = bound place before other longer rest h kind n there in
+          omega arith

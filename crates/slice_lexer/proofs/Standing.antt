@@ -1,5 +1,5 @@
--- Pieces that stand one behind the other.
-use Rattle.std.proofs.Common.{ℕ, zero, suc, ◌≡◌, ◌+◌, ◌<◌, ◌≤◌, List, [], ◌∷◌, ◌++◌, length, take, drop, slice_get, Some, Ok, Err, refl, sym, ap, subst, ◌∙◌, arith}
+-- Pieces that stand one after the other.
+use Rattle.std.proofs.Common.{ℕ, zero, suc, ◌≡◌, ◌+◌, ◌-◌, ◌<◌, ◌≤◌, List, [], ◌∷◌, ◌++◌, length, take, drop, slice_get, slice_range, slice_index_or, Contains, Some, Ok, Err, refl, sym, ap, subst, subst₂, drop-drop, ◌∙◌, arith}
 use Rattle.std.proofs.lemmas.List.{length-drop}
 use Rattle.std.proofs.Math.Seq.{drop-length}
 use Rattle.slice_lexer.specs.declared.fault.LexFault.{LexFault}
@@ -9,8 +9,10 @@ use Rattle.slice_lexer.specs.declared.piece.Piece.TheVariants as pieces
 use Rattle.slice_lexer.specs.declared.token.Token.{Token}
 use Rattle.slice_lexer.specs.declared.token.TokenKind.{TokenKind}
 use Rattle.slice_lexer.specs.Pieces.{Front, front, front_at}
-use Rattle.slice_lexer.specs.Lexing.{StandsAt, BreaksAt, length_of, Stand, tokens_of, Reads, Lexes, LexBreaks, AreSpans}
+use Rattle.slice_lexer.specs.Tokens.{TokenStands}
+use Rattle.slice_lexer.specs.Lexing.{IsTokenOf, StandsAt, BreaksAt, length_of, Stand, tokens_of, Reads, Lexes, LexBreaks, AreSpans}
 use Rattle.slice_lexer.proofs.Sizes.{front_end, front_fits}
+use Rattle.slice_lexer.proofs.Agree.{after_own}
 use Rattle.slice_lexer.proofs.Exact.{stands_read}
 use Rattle.slice_lexer.proofs.Faults.{breaks_read}
 
@@ -127,3 +129,30 @@ span_at place (first ∷ tokens) end spans (suc at) token e = span_at first.to t
 -- a token of a text lies within it
 pub token_within : (text : List ℕ) (tokens : List Token) → Lexes text tokens → (at : ℕ) (token : Token) → slice_get tokens at ≡ Some token → (token.from ≤ token.to) × (token.to ≤ length text)
 token_within text tokens h = span_at 0 tokens (length text) (lexes_spans text tokens h)
+
+take_own : (own after : List ℕ) → take (length own) (own ++ after) ≡ own
+take_own [] after = refl
+take_own (byte ∷ own) after = ap (λ (bs : List ℕ). byte ∷ bs) (take_own own after)
+
+-- a piece that is a token is one between all bytes before it and all after it
+token_of : (text : List ℕ) (place n : ℕ) (kind : TokenKind) → StandsAt text place (pieces.Token kind n) → IsTokenOf text (record { kind = kind; from = place; to = place + n })
+token_of text place n kind h =
+    let count : place + n - place ≡ length h.0 = (omega arith) ∙ sym h.3 in
+    let own : slice_range text place (place + n) ≡ h.0 = ap (λ (k : ℕ). take k (drop place text)) count ∙ ap (λ (bs : List ℕ). take (length h.0) bs) h.2 ∙ take_own h.0 h.1 in
+    let rest : drop (place + n) text ≡ h.1 = sym (drop-drop n place text) ∙ ap (λ (k : ℕ). drop k (drop place text)) (sym h.3) ∙ ap (λ (bs : List ℕ). drop (length h.0) bs) h.2 ∙ after_own h.0 h.1 in
+    subst₂ (λ (mine after : List ℕ). TokenStands (take place text) kind mine after) (sym own) (sym rest) h.4
+
+contains_by : (text : List ℕ) (first : Token) (tokens : List Token) → IsTokenOf text first → ((token : Token) → Contains tokens token → IsTokenOf text token)
+    → (token : Token) (k : ℕ) → k < length (first ∷ tokens) → slice_index_or (first ∷ tokens) k token ≡ token → IsTokenOf text token
+contains_by text first tokens here more token zero h e = subst (IsTokenOf text) e here
+contains_by text first tokens here more token (suc k) h e = more token (k, omega arith, e)
+
+stand_tokens : (text : List ℕ) (start : ℕ) (found : List Piece) (end : ℕ) → Stand text start found end → (token : Token) → Contains (tokens_of start found) token → IsTokenOf text token
+stand_tokens text start [] end h token there = let less = there.1 in absurd (omega arith)
+stand_tokens text start (pieces.Gap n ∷ found) end h token there = stand_tokens text (start + n) found end h.1 token there
+stand_tokens text start (pieces.Token kind n ∷ found) end h token there =
+    contains_by text (record { kind = kind; from = start; to = start + n }) (tokens_of (start + n) found) (token_of text start n kind h.0) (stand_tokens text (start + n) found end h.1) token there.0 there.1 there.2
+
+-- each token of a text is one
+pub lexes_stand : (text : List ℕ) (tokens : List Token) → Lexes text tokens → (token : Token) → Contains tokens token → IsTokenOf text token
+lexes_stand text tokens h token there = stand_tokens text 0 h.0 (length text) h.1 token (subst (λ (ts : List Token). Contains ts token) (sym h.2) there)

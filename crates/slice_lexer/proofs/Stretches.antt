@@ -1,11 +1,10 @@
 -- How far runs of bytes, strings and comments reach.
-use Rattle.std.proofs.Common.{ℕ, zero, suc, ◌≡◌, ◌+◌, ◌<◌, ◌≤◌, Bool, true, false, not, ◌&&◌, ◌||◌, cond, ◌==◌, List, [], ◌∷◌, ◌++◌, length, take, drop, codes, IsTrue, refl, sym, ap, subst, ◌∙◌, arith, take-append-drop, length-append}
+use Rattle.std.proofs.Common.{ℕ, suc, ◌≡◌, ◌+◌, ◌<◌, ◌≤◌, Bool, true, false, not, ◌&&◌, cond, ◌==◌, List, [], ◌∷◌, ◌++◌, length, drop, codes, refl, sym, ap, subst, ◌∙◌, arith, take-append-drop, length-append}
 use Rattle.std.specs.List.{list_all, prefix_len, take_while}
 use Rattle.std.proofs.lemmas.Bool.Decides.{nat_tests}
-use Rattle.std.proofs.lemmas.List.Folds.{length-prefix_len}
 use Rattle.std.proofs.lemmas.List.Sums.{take_while-cons}
 use Rattle.slice_lexer.specs.Bytes.{newline, quote, backslash, first, begins_with, before_close, string_length}
-use Rattle.slice_lexer.specs.Tokens.{Characters, none, plain, escape, IsPlain, LineEnds, HasNoClose}
+use Rattle.slice_lexer.specs.Tokens.{Characters, none, plain, escape, LineEnds, HasNoClose}
 
 pub both : (a b : Bool) → (a && b) ≡ true → (a ≡ true) × (b ≡ true)
 both true b h = (refl, h)
@@ -48,9 +47,9 @@ run_whole p xs rest h le =
     let e = ap (λ (ys : List ℕ). length ys) more in
     let none : take_while p rest ≡ [] = empty (take_while p rest) (omega (arith, length-append xs (take_while p rest))) in
     more ∙ ap (λ (ys : List ℕ). xs ++ ys) none ∙ nothing xs where
-  nothing : (xs : List ℕ) → xs ++ [] ≡ xs
-  nothing [] = refl
-  nothing (x ∷ xs) = ap (λ (ys : List ℕ). x ∷ ys) (nothing xs)
+      nothing : (xs : List ℕ) → xs ++ [] ≡ xs
+      nothing [] = refl
+      nothing (x ∷ xs) = ap (λ (ys : List ℕ). x ∷ ys) (nothing xs)
 
 -- No byte that passes comes next.
 abbrev pub Stops : (ℕ → Bool) → List ℕ → Type 0
@@ -80,8 +79,8 @@ run_stops_by : (p : ℕ → Bool) (x : ℕ) (xs : List ℕ) → Stops p (drop (p
 run_stops_by p x xs h true e =
     let is : prefix_len p (x ∷ xs) ≡ suc (prefix_len p xs) = more ∙ omega arith in
     subst (λ (k : ℕ). Stops p (drop k (x ∷ xs))) (sym is) h where
-  more : prefix_len p (x ∷ xs) ≡ 1 + prefix_len p xs
-  more = rw e refl
+      more : prefix_len p (x ∷ xs) ≡ 1 + prefix_len p xs
+      more = rw e refl
 run_stops_by p x xs h false e =
     let is : prefix_len p (x ∷ xs) ≡ 0 = rw e refl in
     subst (λ (k : ℕ). Stops p (drop k (x ∷ xs))) (sym is) e

@@ -1,12 +1,12 @@
 -- The tokens of a Slice text, after "The Slice Language" of the Ice manual, "Lexical Rules".
-use Rattle.std.specs.Prelude.{ℕ, ◌≡◌, ◌+◌, ◌<◌, ◌≤◌, List, [], ◌∷◌, length, take, drop, Result, Ok, Err}
+use Rattle.std.specs.Prelude.{ℕ, ◌≡◌, ◌+◌, ◌<◌, ◌≤◌, List, [], ◌∷◌, length, take, drop, slice_get, slice_range, Contains, Some, Result, Ok, Err}
 use Rattle.slice_lexer.specs.declared.fault.LexFault.{LexFault}
 use Rattle.slice_lexer.specs.declared.fault.LexFault.TheVariants as faults
 use Rattle.slice_lexer.specs.declared.token.Token.{Token}
 use Rattle.slice_lexer.specs.declared.token.TokenKind.{TokenKind}
 use Rattle.slice_lexer.specs.declared.piece.Piece.{Piece}
 use Rattle.slice_lexer.specs.declared.piece.Piece.TheVariants as pieces
-use Rattle.slice_lexer.specs.Tokens.{Begins, Breaks}
+use Rattle.slice_lexer.specs.Tokens.{Begins, Breaks, TokenStands}
 
 -- the most bytes of a text
 abbrev pub MOST_BYTES : ℕ
@@ -47,6 +47,24 @@ Lexes text tokens = Reads text tokens (length text)
 abbrev pub LexBreaks : List ℕ → LexFault → Type 0
 LexBreaks text fault = (tokens : List Token) × (place : ℕ) × Reads text tokens place × (place < length text) × BreaksAt text place fault
 
+abbrev pub HasTokens : List ℕ → Type 0
+HasTokens text = (tokens : List Token) × Lexes text tokens
+
+abbrev pub HasDefect : List ℕ → Type 0
+HasDefect text = (fault : LexFault) × LexBreaks text fault
+
+-- The token stands in the text, between all bytes before it and all after it.
+abbrev pub IsTokenOf : List ℕ → Token → Type 0
+IsTokenOf text token = TokenStands (take token.from text) token.kind (slice_range text token.from token.to) (drop token.to text)
+
+-- Each token stands in the text.
+abbrev pub AreTokensOf : List ℕ → List Token → Type 0
+AreTokensOf text tokens = (token : Token) → Contains tokens token → IsTokenOf text token
+
+-- These are the bytes of the token at a place among the tokens.
+abbrev pub AreBytesOf : List ℕ → List Token → ℕ → List ℕ → Type 0
+AreBytesOf text tokens at bytes = (token : Token) → slice_get tokens at ≡ Some token → bytes ≡ slice_range text token.from token.to
+
 -- the place that a defect of the text names
 abbrev pub IsAt : ℕ → LexFault → Type 0
 IsAt place (faults.BadByte from) = from ≡ place
@@ -55,6 +73,10 @@ IsAt place (faults.OpenComment from) = from ≡ place
 IsAt place (faults.BadNumber from) = from ≡ place
 IsAt place faults.TooLong = ⊥
 IsAt place faults.Memory = ⊥
+
+-- A byte of the text is the place that the defect names.
+abbrev pub IsWithin : List ℕ → LexFault → Type 0
+IsWithin text fault = (place : ℕ) × (place < length text) × IsAt place fault
 
 -- Spans from one place to another: they rise without overlap, and none is empty.
 abbrev pub AreSpans : ℕ → List Token → ℕ → Type 0

@@ -1,5 +1,5 @@
 -- What blanks, comments and tokens are, in the words of the Ice manual: "The Slice Language", "Lexical Rules" (comments, keywords, identifiers), and "Constants and Literals" (integer and string literals).
-use Rattle.std.specs.Prelude.{ℕ, ◌≡◌, ◌<◌, ◌≤◌, ◌⊎◌, false, true, not, ◌==◌, IsTrue, IsFalse, List, [], ◌∷◌, ◌++◌, length, codes, Contains, Some, slice_get}
+use Rattle.std.specs.Prelude.{ℕ, ◌≡◌, ◌<◌, ◌≤◌, ◌⊎◌, not, ◌==◌, IsTrue, IsFalse, List, [], ◌∷◌, ◌++◌, length, codes, Contains, Some, slice_get}
 use Rattle.std.specs.Char.{is_ascii_digit, is_digit}
 use Rattle.std.specs.List.{list_all}
 use Rattle.std.specs.Str.Parse.{digits_value}

@@ -65,12 +65,19 @@ is_guarded (aside ∷ heads) = is_guarded heads
 is_guarded (include name ∷ heads) = is_guarded heads
 
 -- What is known after these heads: whether an `#ifndef` is among them, and the names of the `#include`s after those before.
-abbrev pub Notes : Bool → List (List ℕ × ℕ) → List (List ℕ × ℕ) → List Head → Type 0
-Notes guarded old new heads = (guarded ≡ is_guarded heads) × (new ≡ old ++ includes_in heads)
+abbrev pub Notes : List (List ℕ × ℕ) → List (List ℕ × ℕ) → Bool → List Head → Type 0
+Notes old new guarded heads = (guarded ≡ is_guarded heads) × (new ≡ old ++ includes_in heads)
+
+abbrev pub NotesOne : List (List ℕ × ℕ) → List (List ℕ × ℕ) → Bool → Head → Type 0
+NotesOne old new guards h = Notes old new guards (h ∷ [])
+
+-- What is known after the words of a module's name: the items after those before.
+abbrev pub Enters : {A : Type 0} → List Item → List Item → A → List Word → Type 0
+Enters old new answer words = new ≡ old ++ enters words
 
 -- What is known after the head of a module: how many words its name has, and the items after those before.
-abbrev pub Opens : ℕ → List Item → List Item → List Word → Type 0
-Opens count old new words = (count ≡ length words) × (new ≡ old ++ enters words)
+abbrev pub Opens : List Item → List Item → ℕ → List Word → Type 0
+Opens old new count words = (count ≡ length words) × (new ≡ old ++ enters words)
 
 -- after the modules `#endif` stands where an `#ifndef` stands before them, and else nothing
 abbrev pub Closes : Bool → Lexemes → Type 0

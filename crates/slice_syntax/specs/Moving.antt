@@ -86,10 +86,10 @@ abbrev pub end_at : Lexemes → Reading (Unit {0})
 end_at [] = Ok (tt, [])
 end_at (l ∷ ls) = Err (l ∷ ls)
 
--- a file, and nothing behind it
+-- a file, and nothing after it
 abbrev pub whole_at : Lexemes → Reading File
 whole_at ls = file_at ls >>= (λ f. end_at f.1 >>= (λ u. Ok (f.0, u.1)))
 
--- what is made of the moves that a reading gives, behind items that were read
+-- what is made of the moves that a reading gives, after items that were read
 abbrev pub resume : List Item → Open → Lexemes → Reading (List Item)
 resume items others ls = moves_at others ls >>= (λ ms. Ok (items ++ all_items others ms.0, ms.1))

@@ -41,7 +41,7 @@ number_size kinds.Text = 0
 number_size (kinds.Symbol code) = 0
 number_size kinds.Directive = 0
 
--- A built-in type, with or without `*` behind it.
+-- A built-in type, with or without `*` after it.
 abbrev pub built : Lexeme → Bool → TypeWord
 built l star = types.Built (keyword_code l.kind) star l.from
 
@@ -153,14 +153,14 @@ constant_item = made (λ kind w v. items.Const kind w v) (one word_const ▸ met
 unfoldable pub entry : Grammar (Word × Option Constant)
 entry = both (λ w v. (w, v)) word given
 
--- an entry, and whether a comma stands behind it
+-- an entry, and whether a comma stands after it
 abbrev pub Entry : Type 0
 Entry = (Word × Option Constant) × Bool
 
 unfoldable pub entry_comma : Grammar Entry
 entry_comma = both (λ e c. (e, is_some c)) entry (optional (one comma))
 
--- entries = [ entry { "," entry } [ "," ] ]: behind a comma one more entry may stand
+-- entries = [ entry { "," entry } [ "," ] ]: after a comma one more entry may stand
 unfoldable pub entries : Grammar (List (Word × Option Constant))
 entries = made (λ es. map (λ (e : Entry). e.0) es) (series (λ (e : Entry). e.1) entry_comma)
 

@@ -20,7 +20,7 @@ abbrev pub Refuses : Lexemes → Lexemes → Type 0
 Refuses before [] = (file : File) → Reads before file → ⊥
 Refuses before (l ∷ behind) = Begins (before ++ l ∷ []) → ⊥
 
--- The tokens behind some begin with the first one that no file goes on with. It may be the end.
+-- The tokens after some begin with the first one that no file goes on with. It may be the end.
 pub record SyntaxBreaks (ls before behind : Lexemes) : Type 0 where
   pub parts : ls ≡ before ++ behind
   pub alive : GoesOn before
@@ -29,6 +29,10 @@ pub record SyntaxBreaks (ls before behind : Lexemes) : Type 0 where
 -- The tokens are some file.
 abbrev pub IsFile : Lexemes → Type 0
 IsFile ls = (file : File) × Reads ls file
+
+-- These tokens of them begin with the first one that no file goes on with. They may be none, at the end.
+abbrev pub BreaksAt : Lexemes → Lexemes → Type 0
+BreaksAt ls behind = (before : Lexemes) × SyntaxBreaks ls before behind
 
 -- Some token of them, or the end, is the first that no file goes on with.
 abbrev pub IsBroken : Lexemes → Type 0

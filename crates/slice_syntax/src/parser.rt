@@ -7,9 +7,9 @@ ghost use Rattle.slice_syntax.specs.Lexemes.{Lexemes};
 ghost use Rattle.slice_syntax.specs.Reading.{read, token_at};
 ghost use Rattle.slice_syntax.specs.declared.tree.File.{File};
 ghost use Rattle.slice_syntax.specs.Sorts.{AreWritten, written};
-ghost use Rattle.slice_syntax.specs.Files.{Notes, Reads, directive, directives, include_of};
+ghost use Rattle.slice_syntax.specs.Files.{Notes, NotesOne, Reads, directive, directives, include_of};
 ghost use Rattle.slice_syntax.specs.Moving.{closing_at, end_at, whole_at};
-ghost use Rattle.slice_syntax.specs.Syntax.{Answers, IsBroken, IsFile, SyntaxBreaks};
+ghost use Rattle.slice_syntax.specs.Syntax.{Answers, BreaksAt, IsBroken, IsFile};
 ghost use Rattle.slice_syntax.specs.Taking.{Takes, TakesNoMemory, TakesWith};
 
 use crate::cursor::Cursor;
@@ -41,8 +41,8 @@ pub fn parse(alloc: Global, text: &[u8], tokens: &Tokens) -> Result<File, Syntax
 pub fn one_answer()
     ensures either { (ls : Lexemes) → IsFile ls ⊎ IsBroken ls }
     ensures one_file { (ls : Lexemes) (file other : File) → Reads ls file → Reads ls other → file ≡ other }
-    ensures one_break { (ls before behind others rest : Lexemes) → SyntaxBreaks ls before behind → SyntaxBreaks ls others rest → behind ≡ rest }
-    ensures never_both { (ls : Lexemes) (file : File) (before behind : Lexemes) → Reads ls file → SyntaxBreaks ls before behind → ⊥ }
+    ensures one_break { (ls behind rest : Lexemes) → BreaksAt ls behind → BreaksAt ls rest → behind ≡ rest }
+    ensures never_both { (ls : Lexemes) → IsFile ls → IsBroken ls → ⊥ }
 {}
 
 /// The codes that the grammar goes by are those of the words and symbols that they are called after.
@@ -65,7 +65,7 @@ fn file(alloc: Global, cursor: &mut Cursor) -> Result<File, Stop>
 /// `{ directive | filemeta }`, and whether an `#ifndef` is among them.
 #[tactic(auto, unfolding(crate::specs::Files::directives))]
 fn heads(alloc: Global, cursor: &mut Cursor, included: &mut List<(Name, u32)>) -> Result<bool, Stop>
-    ensures { TakesWith (λ guarded heads. Notes guarded included.old included.new heads) result cursor.new (read directives cursor.old) }
+    ensures { TakesWith (Notes included.old included.new) result cursor.new (read directives cursor.old) }
 {
     let mut guarded = false;
     while cursor.begins(&[Sort::Include, Sort::Guard, Sort::Aside, OPEN_TWO]) {
@@ -78,7 +78,7 @@ fn heads(alloc: Global, cursor: &mut Cursor, included: &mut List<(Name, u32)>) -
 /// A directive before the modules or metadata of the file, and whether it is an `#ifndef`.
 #[tactic(auto, unfolding(crate::specs::Files::directive))]
 fn head(alloc: Global, cursor: &mut Cursor, included: &mut List<(Name, u32)>) -> Result<bool, Stop>
-    ensures { TakesWith (λ guards head. Notes guards included.old included.new (head ∷ [])) result cursor.new (read directive cursor.old) }
+    ensures { TakesWith (NotesOne included.old included.new) result cursor.new (read directive cursor.old) }
 {
     if cursor.begins(&[Sort::Include]) {
         included.push(take_include(alloc, cursor)?)?;

@@ -17,7 +17,7 @@ use ice_types::{List, Name};
 use slice_lexer::TokenKind;
 use std::alloc::Global;
 
-/// The keywords that are types and have no `*` behind them.
+/// The keywords that are types and have no `*` after them.
 const PLAIN_TYPES: [Sort; 9] = [BOOL, BYTE, SHORT, INT, LONG, FLOAT, DOUBLE, STRING, VALUE];
 
 /// These, and what a type begins with.
