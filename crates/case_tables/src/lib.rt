@@ -8,7 +8,7 @@ ghost use Rattle.case_tables.specs.Tables.{names_seen, are_distinct};
 
 mod slice_words;
 
-pub use slice_words::{codes_apart, keywords};
+pub use slice_words::{codes_apart, keywords, symbols};
 
 /// Names in the order of their codes, no two of which are equal, and at most 256.
 #[derive(Clone, Copy, Debug)]
@@ -20,14 +20,14 @@ pub struct CaseTable<const N: usize> {
 }
 
 impl<const N: usize> CaseTable<N> {
-    ghost use Rattle.std.specs.Prelude.{◌≡◌, ◌≤◌, MatchOption, Some, Contains, length, slice_get};
+    ghost use Rattle.std.specs.Prelude.{◌≡◌, ◌≤◌, MatchOption, length};
     ghost use Rattle.std.specs.List.{position};
     ghost use Rattle.std.specs.Str.{bytes_eq};
-    ghost use Rattle.case_tables.specs.Rows.{names_of};
+    ghost use Rattle.case_tables.specs.Rows.{HasNoRow, HasRow, names_of};
 
     /// The code of the name, None where no row has it.
     pub fn code_of(&self, name: &str) -> Option<u8>
-        ensures row { MatchOption result (Contains (names_of self.now) name.now → ⊥) (λ code. slice_get (names_of self.now) code ≡ Some name.now) }
+        ensures row { MatchOption result (HasNoRow self.now name.now) (λ code. HasRow self.now code name.now) }
         ensures place { result ≡ position (bytes_eq name.now) (names_of self.now) }
     {
         match place_of(self.names, name) {
@@ -38,7 +38,7 @@ impl<const N: usize> CaseTable<N> {
 
     /// The name of the code, None where no row has it.
     pub fn name_of(&self, code: u8) -> Option<&'static str>
-        ensures { MatchOption result (length (names_of self.now) ≤ code) (λ name. slice_get (names_of self.now) code ≡ Some name.now) }
+        ensures { MatchOption result (length (names_of self.now) ≤ code) (λ name. HasRow self.now code name.now) }
     {
         self.names.get(usize::from(code)).copied()
     }
@@ -49,27 +49,4 @@ fn place_of(names: &[&str], name: &str) -> Option<usize>
     ensures { result ≡ position (λ other. bytes_eq name.now other.now) names.now }
 {
     names.iter().position(|other| name == *other)
-}
-
-#[cfg(test)]
-mod tests {
-    use super::keywords;
-
-    #[test]
-    fn codes_and_names(rt: HostRuntime) {
-        let table = keywords();
-        for (name, code) in [
-            ("bool", 0),
-            ("LocalObject", 16),
-            ("Value", 28),
-            ("void", 29),
-        ] {
-            assert_eq!(rt; table.code_of(name), Some(code), "of {name:?}");
-            assert_eq!(rt; table.name_of(code), Some(name), "of {code}");
-        }
-        for name in ["", "Bool", "boo", "bools", "VOID"] {
-            assert_eq!(rt; table.code_of(name), None, "of {name:?}");
-        }
-        assert_eq!(rt; table.name_of(30), None);
-    }
 }

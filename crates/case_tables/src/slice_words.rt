@@ -1,14 +1,14 @@
-//! The table of the words that Slice keeps for itself.
+//! The tables of the words that Slice keeps for itself, and of its symbols.
 
-ghost use Rattle.std.specs.Prelude.{ℕ, ◌≡◌, Some, slice_get};
-ghost use Rattle.case_tables.specs.Tables.{Name, keyword_names};
-ghost use Rattle.case_tables.specs.Rows.{names_of};
+ghost use Rattle.std.specs.Prelude.{◌≡◌};
+ghost use Rattle.case_tables.specs.Tables.{keyword_names, symbol_names};
+ghost use Rattle.case_tables.specs.Rows.{HasOneCode, names_of};
 
 use crate::CaseTable;
 
 /// No name has two codes. That no code has two names is what a list is.
 pub fn codes_apart<const N: usize>(table: &CaseTable<N>)
-    ensures { (code other : ℕ) (name : Name) → slice_get (names_of table.now) code ≡ Some name → slice_get (names_of table.now) other ≡ Some name → code ≡ other }
+    ensures { HasOneCode table.now }
 {}
 
 /// A table of the names in this order.
@@ -53,5 +53,14 @@ pub fn keywords() -> CaseTable<30>
         "true",
         "Value",
         "void",
+    ]
+}
+
+/// The symbols of Slice.
+pub fn symbols() -> CaseTable<17>
+    ensures { names_of result ≡ symbol_names }
+{
+    case_table![
+        "{", "}", "(", ")", "<", ">", "[", "]", "[[", "]]", ",", ";", "::", "=", "*", "+", "-",
     ]
 }

@@ -1,4 +1,4 @@
--- Keywords are text.
+-- Keywords and symbols are text.
 use Rattle.std.proofs.Common.{ℕ, zero, suc, ◌≡◌, ◌<◌, Bool, true, false, ◌&&◌, List, [], ◌∷◌, length, get_or, Option, Some, None, refl, sym, ap, subst, arith}
 use Rattle.std.specs.Char.{is_ascii}
 use Rattle.std.specs.List.{list_all, position}
@@ -8,9 +8,9 @@ use Rattle.std.proofs.lemmas.Slice.Eq.{bytes_eq-Decides}
 use Rattle.std.proofs.lemmas.Str.{IsUtf8-from_ascii}
 use Rattle.std.proofs.lemmas.Str.Ascii.{IsAscii-nil, IsAscii-cons}
 use borrow.Author.Tests.{ltb-true}
-use Rattle.case_tables.specs.Tables.{keyword_names}
+use Rattle.case_tables.specs.Tables.{keyword_names, symbol_names}
 use Rattle.slice_lexer.specs.declared.token.TokenKind.TheVariants as kinds
-use Rattle.slice_lexer.specs.Pieces.{kind_of, word_kind}
+use Rattle.slice_lexer.specs.Pieces.{kind_of, symbol_code, word_kind}
 
 both : (a b : Bool) → (a && b) ≡ true → (a ≡ true) × (b ≡ true)
 both true b e = (refl, e)
@@ -27,14 +27,17 @@ text_at [] h at k = absurd (omega arith)
 text_at (name ∷ names) h zero k = IsUtf8-from_ascii name (ascii name (both (list_all is_ascii name) (list_all (list_all is_ascii) names) h).0)
 text_at (name ∷ names) h (suc at) k = text_at names (both (list_all is_ascii name) (list_all (list_all is_ascii) names) h).1 at (omega arith)
 
-found_none : (name : List ℕ) → (IsUtf8 name → ⊥) → (o : Option ℕ) → position (bytes_eq name) keyword_names ≡ o → o ≡ None
-found_none name h None e = refl
-found_none name h (Some at) e =
-    let found = position-Some (bytes_eq name) keyword_names at [] e in
-    let is : get_or keyword_names at [] ≡ name = sym ((bytes_eq-Decides name (get_or keyword_names at [])).0 found.1) in
-    absurd (h (subst (λ (n : List ℕ). IsUtf8 n) is (text_at keyword_names refl at found.0)))
+-- what is no text is none of these names
+found_none : (names : List (List ℕ)) → list_all (list_all is_ascii) names ≡ true → (name : List ℕ) → (IsUtf8 name → ⊥) → (o : Option ℕ) → position (bytes_eq name) names ≡ o → o ≡ None
+found_none names all name h None e = refl
+found_none names all name h (Some at) e =
+    let found = position-Some (bytes_eq name) names at [] e in
+    let is : get_or names at [] ≡ name = sym ((bytes_eq-Decides name (get_or names at [])).0 found.1) in
+    absurd (h (subst (λ (n : List ℕ). IsUtf8 n) is (text_at names all at found.0)))
 
--- what is no text is no keyword
 pub no_keyword : (name : List ℕ) → (IsUtf8 name → ⊥) → word_kind name ≡ kinds.Word
 unfolding word_kind
-no_keyword name h = ap kind_of (found_none name h (position (bytes_eq name) keyword_names) refl)
+no_keyword name h = ap kind_of (found_none keyword_names refl name h (position (bytes_eq name) keyword_names) refl)
+
+pub no_symbol : (name : List ℕ) → (IsUtf8 name → ⊥) → symbol_code name ≡ None
+no_symbol name h = found_none symbol_names refl name h (symbol_code name) refl

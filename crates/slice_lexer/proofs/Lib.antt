@@ -1,4 +1,9 @@
 pub mod Sizes
+pub mod Stretches
+pub mod Branches
+pub mod Longest
+pub mod Agree
+pub mod Exact
 pub mod Faults
 pub mod Standing
 pub mod Keywords

@@ -36,7 +36,7 @@ fits_token bytes (pieces.Token other m) kind n h k e = let same : n ≡ m = cc i
 fits_none : (bytes : List ℕ) (piece : Piece) (fault : LexFault) → Err fault ≡ Ok piece → Fits bytes piece
 fits_none bytes piece fault e = absurd cc
 
-run_within : (p : ℕ → Bool) (bytes : List ℕ) → length (take_while p bytes) ≤ length bytes
+pub run_within : (p : ℕ → Bool) (bytes : List ℕ) → length (take_while p bytes) ≤ length bytes
 run_within p bytes = let e = length-prefix_len p bytes in let h = prefix_len-le-length p bytes in omega arith
 
 run_some : (p : ℕ → Bool) (byte : ℕ) (bytes : List ℕ) → p byte ≡ true → 0 < length (take_while p (byte ∷ bytes))
@@ -45,7 +45,7 @@ run_some p byte bytes h =
     let one : prefix_len p (byte ∷ bytes) ≡ 1 + prefix_len p bytes = rw h refl in
     omega arith
 
-letter_goes_on : (byte : ℕ) → is_letter byte ≡ true → is_word_byte byte ≡ true
+pub letter_goes_on : (byte : ℕ) → is_letter byte ≡ true → is_word_byte byte ≡ true
 letter_goes_on byte h = grind (arith, nat_tests)
 
 equal_line : (byte mark : ℕ) → (byte == mark) ≡ true → (mark == newline) ≡ false → not (byte == newline) ≡ true

@@ -1,11 +1,13 @@
 -- Each text is pieces up to its end or up to a defect.
-use Rattle.std.proofs.Common.{ℕ, zero, suc, ◌≡◌, ◌+◌, ◌<◌, ◌≤◌, Bool, true, false, nat_lt, List, [], ◌∷◌, ◌++◌, length, Ok, Err, refl, subst, inl, inr, ◌⊎◌, arith}
+use Rattle.std.proofs.Common.{ℕ, zero, suc, ◌≡◌, ◌+◌, ◌<◌, ◌≤◌, Bool, true, false, nat_lt, List, [], ◌∷◌, ◌++◌, length, take, drop, Ok, Err, refl, subst, inl, inr, ◌⊎◌, arith}
 use borrow.Author.Tests.{ltb-true, ltb-false}
 use Rattle.slice_lexer.specs.declared.fault.LexFault.{LexFault}
 use Rattle.slice_lexer.specs.declared.piece.Piece.TheVariants as pieces
 use Rattle.slice_lexer.specs.declared.token.Token.{Token}
-use Rattle.slice_lexer.specs.Pieces.{Front}
-use Rattle.slice_lexer.specs.Lexing.{front_at, Reads, Lexes, LexBreaks}
+use Rattle.slice_lexer.specs.Pieces.{Front, front_at}
+use Rattle.slice_lexer.specs.Lexing.{Reads, Lexes, LexBreaks}
+use Rattle.slice_lexer.proofs.Agree.{read_stands}
+use Rattle.slice_lexer.proofs.Faults.{read_breaks}
 use Rattle.slice_lexer.proofs.Standing.{piece_within, reads_gap, reads_token}
 
 abbrev Answered : List ℕ → Type 0
@@ -19,12 +21,12 @@ at_front : (text : List ℕ) (fuel place : ℕ) (tokens : List Token) → Goes t
     → (r : Front) → front_at text place ≡ r → Answered text
 at_front text fuel place tokens more enough less h (Ok (pieces.Gap n)) e =
     let within = piece_within text place (pieces.Gap n) e in
-    more (place + n) tokens (omega arith) (omega arith) (reads_gap text tokens place n h e)
+    more (place + n) tokens (omega arith) (omega arith) (reads_gap text tokens place n h (read_stands place (take place text) (drop place text) (pieces.Gap n) e))
 at_front text fuel place tokens more enough less h (Ok (pieces.Token kind n)) e =
     let within = piece_within text place (pieces.Token kind n) e in
     let seen : List Token = tokens ++ record { kind = kind; from = place; to = place + n } ∷ [] in
-    more (place + n) seen (omega arith) (omega arith) (reads_token text tokens seen place n kind h e refl)
-at_front text fuel place tokens more enough less h (Err fault) e = inr (fault, (tokens, place, h, less, e))
+    more (place + n) seen (omega arith) (omega arith) (reads_token text tokens seen place n kind h (read_stands place (take place text) (drop place text) (pieces.Token kind n) e) refl)
+at_front text fuel place tokens more enough less h (Err fault) e = inr (fault, (tokens, place, h, less, read_breaks place (take place text) (drop place text) fault e))
 
 at_end : (text : List ℕ) (place : ℕ) (tokens : List Token) → place ≡ length text → Reads text tokens place → Answered text
 at_end text place tokens e h = inl (tokens, subst (Reads text tokens) e h)

@@ -68,7 +68,7 @@ abbrev pub before_close : List ℕ → ℕ
 before_close [] = 0
 before_close (byte ∷ bytes) = if begins_with (codes "*/") (byte ∷ bytes) then 0 else suc (before_close bytes)
 
--- How many bytes a string has behind its opening quote: all before a newline, or before a quote that no `\` takes.
+-- How many bytes a string has after its opening quote: all before a newline, or before a quote that no `\` takes.
 -- `taken` says that a `\` takes the first of these bytes.
 abbrev pub string_length : Bool → List ℕ → ℕ
 string_length taken [] = 0

@@ -1,24 +1,33 @@
--- The tokens of a Slice text.
-use Rattle.std.specs.Prelude.{ℕ, ◌≡◌, ◌+◌, ◌<◌, ◌≤◌, List, [], ◌∷◌, length, take, drop, Result, Ok, Err}
+-- The tokens of a Slice text, after "The Slice Language" of the Ice manual, "Lexical Rules".
+use Rattle.std.specs.Prelude.{ℕ, ◌≡◌, ◌+◌, ◌<◌, ◌≤◌, List, [], ◌∷◌, length, take, drop, slice_get, slice_range, Contains, Some, Result, Ok, Err}
 use Rattle.slice_lexer.specs.declared.fault.LexFault.{LexFault}
 use Rattle.slice_lexer.specs.declared.fault.LexFault.TheVariants as faults
 use Rattle.slice_lexer.specs.declared.token.Token.{Token}
 use Rattle.slice_lexer.specs.declared.token.TokenKind.{TokenKind}
 use Rattle.slice_lexer.specs.declared.piece.Piece.{Piece}
 use Rattle.slice_lexer.specs.declared.piece.Piece.TheVariants as pieces
-use Rattle.slice_lexer.specs.Pieces.{Front, front}
+use Rattle.slice_lexer.specs.Tokens.{Begins, Breaks, TokenStands}
 
-abbrev pub front_at : List ℕ → ℕ → Front
-front_at text place = front place (take place text) (drop place text)
+-- the most bytes of a text
+abbrev pub MOST_BYTES : ℕ
+MOST_BYTES = 1000000
+
+-- This piece stands at a place of the text.
+abbrev pub StandsAt : List ℕ → ℕ → Piece → Type 0
+StandsAt text place piece = Begins (take place text) (drop place text) piece
+
+-- This defect stands at a place of the text.
+abbrev pub BreaksAt : List ℕ → ℕ → LexFault → Type 0
+BreaksAt text place fault = Breaks place (take place text) (drop place text) fault
 
 abbrev pub length_of : Piece → ℕ
 length_of (pieces.Gap length) = length
 length_of (pieces.Token kind length) = length
 
--- From one place of the text to another these pieces stand one behind the other.
+-- From one place of the text to another these pieces stand one after the other.
 abbrev pub Stand : List ℕ → ℕ → List Piece → ℕ → Type 0
 Stand text place [] end = place ≡ end
-Stand text place (piece ∷ others) end = (front_at text place ≡ Ok piece) × Stand text (place + length_of piece) others end
+Stand text place (piece ∷ others) end = StandsAt text place piece × Stand text (place + length_of piece) others end
 
 -- the pieces from a place on that are no gaps, each with its span
 abbrev pub tokens_of : ℕ → List Piece → List Token
@@ -36,7 +45,25 @@ Lexes text tokens = Reads text tokens (length text)
 
 -- The text is pieces up to a place, and there is this defect.
 abbrev pub LexBreaks : List ℕ → LexFault → Type 0
-LexBreaks text fault = (tokens : List Token) × (place : ℕ) × Reads text tokens place × (place < length text) × (front_at text place ≡ Err fault)
+LexBreaks text fault = (tokens : List Token) × (place : ℕ) × Reads text tokens place × (place < length text) × BreaksAt text place fault
+
+abbrev pub HasTokens : List ℕ → Type 0
+HasTokens text = (tokens : List Token) × Lexes text tokens
+
+abbrev pub HasDefect : List ℕ → Type 0
+HasDefect text = (fault : LexFault) × LexBreaks text fault
+
+-- The token stands in the text, between all bytes before it and all after it.
+abbrev pub IsTokenOf : List ℕ → Token → Type 0
+IsTokenOf text token = TokenStands (take token.from text) token.kind (slice_range text token.from token.to) (drop token.to text)
+
+-- Each token stands in the text.
+abbrev pub AreTokensOf : List ℕ → List Token → Type 0
+AreTokensOf text tokens = (token : Token) → Contains tokens token → IsTokenOf text token
+
+-- These are the bytes of the token at a place among the tokens.
+abbrev pub AreBytesOf : List ℕ → List Token → ℕ → List ℕ → Type 0
+AreBytesOf text tokens at bytes = (token : Token) → slice_get tokens at ≡ Some token → bytes ≡ slice_range text token.from token.to
 
 -- the place that a defect of the text names
 abbrev pub IsAt : ℕ → LexFault → Type 0
@@ -47,6 +74,10 @@ IsAt place (faults.BadNumber from) = from ≡ place
 IsAt place faults.TooLong = ⊥
 IsAt place faults.Memory = ⊥
 
+-- A byte of the text is the place that the defect names.
+abbrev pub IsWithin : List ℕ → LexFault → Type 0
+IsWithin text fault = (place : ℕ) × (place < length text) × IsAt place fault
+
 -- Spans from one place to another: they rise without overlap, and none is empty.
 abbrev pub AreSpans : ℕ → List Token → ℕ → Type 0
 AreSpans place [] end = place ≤ end
@@ -54,11 +85,11 @@ AreSpans place (token ∷ tokens) end = (place ≤ token.from) × (token.from < 
 
 -- The text is pieces up to a place where a token stands.
 abbrev pub HasToken : List ℕ → Type 0
-HasToken text = (tokens : List Token) × (place : ℕ) × (kind : TokenKind) × (size : ℕ) × Reads text tokens place × (front_at text place ≡ Ok (pieces.Token kind size))
+HasToken text = (tokens : List Token) × (place : ℕ) × (kind : TokenKind) × (size : ℕ) × Reads text tokens place × StandsAt text place (pieces.Token kind size)
 
 -- The answer to a text. Memory is wanted for tokens alone.
 abbrev pub Answers : List ℕ → Result (List Token) LexFault → Type 0
-Answers text (Ok tokens) = (length text ≤ 1000000) × Lexes text tokens
-Answers text (Err faults.TooLong) = 1000000 < length text
-Answers text (Err faults.Memory) = (length text ≤ 1000000) × HasToken text
-Answers text (Err fault) = (length text ≤ 1000000) × LexBreaks text fault
+Answers text (Ok tokens) = (length text ≤ MOST_BYTES) × Lexes text tokens
+Answers text (Err faults.TooLong) = MOST_BYTES < length text
+Answers text (Err faults.Memory) = (length text ≤ MOST_BYTES) × HasToken text
+Answers text (Err fault) = (length text ≤ MOST_BYTES) × LexBreaks text fault

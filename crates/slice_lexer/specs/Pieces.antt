@@ -1,10 +1,10 @@
--- What stands at the front of bytes: a blank, a comment, a token or a defect.
-use Rattle.std.specs.Prelude.{ℕ, ◌+◌, Bool, false, not, ◌&&◌, ◌==◌, nat_lt, nat_le, if◌then◌else◌, List, [], ◌∷◌, codes, length, take, drop, Option, Some, None, Result, Ok, Err}
+-- What is read of bytes from the first on: a blank, a comment, a token or a defect. Tokens.antt says what these are, and this reading meets that.
+use Rattle.std.specs.Prelude.{ℕ, ◌≡◌, ◌≤◌, ◌^◌, MatchOption, ◌+◌, Bool, false, not, ◌&&◌, ◌==◌, nat_lt, nat_le, if◌then◌else◌, List, codes, length, take, drop, Option, Some, None, Result, Ok, Err}
 use Rattle.std.specs.Char.{is_ascii_digit}
 use Rattle.std.specs.List.{position}
 use Rattle.std.specs.Str.{bytes_eq}
 use Rattle.std.specs.Str.Parse.{digits_value}
-use Rattle.case_tables.specs.Tables.{keyword_names}
+use Rattle.case_tables.specs.Tables.{keyword_names, symbol_names}
 use Rattle.slice_lexer.specs.declared.fault.LexFault.{LexFault}
 use Rattle.slice_lexer.specs.declared.fault.LexFault.TheVariants as faults
 use Rattle.slice_lexer.specs.declared.token.TokenKind.{TokenKind}
@@ -22,7 +22,7 @@ gap length = Ok (pieces.Gap length)
 abbrev pub token : TokenKind → ℕ → Front
 token kind length = Ok (pieces.Token kind length)
 
--- `//` up to the line's end, or `/*` up to the first `*/` behind it
+-- `//` up to the line's end, or `/*` up to the first `*/` after it
 unfoldable pub comment_at : ℕ → List ℕ → Front
 comment_at place bytes =
     if begins_with (codes "//") bytes then gap (length (line bytes))
@@ -41,11 +41,11 @@ word_kind name = kind_of (position (bytes_eq name) keyword_names)
 abbrev pub word_at : List ℕ → Front
 word_at bytes = token (word_kind (word bytes)) (length (word bytes))
 
--- a word behind a `\` is no keyword
+-- a word after a `\` is no keyword
 unfoldable pub escaped_at : ℕ → List ℕ → Front
 escaped_at place bytes = if is_letter (first (drop 1 bytes)) then token kinds.Word (length (word (drop 1 bytes)) + 1) else Err (faults.BadByte place)
 
--- 16 behind `0x`, 8 behind another `0`, and else 10
+-- 16 after `0x`, 8 after another `0`, and else 10
 abbrev pub base_of : List ℕ → ℕ
 base_of bytes = if begins_with (codes "0x") bytes then 16 else if begins_with (codes "0") bytes then 8 else 10
 
@@ -61,6 +61,10 @@ number_length bytes = prefix_of bytes + length (number_digits bytes)
 
 abbrev pub number_value : List ℕ → ℕ
 number_value bytes = digits_value (base_of bytes) (number_digits bytes)
+
+-- the value of digits, where it is below 2 ^ 64
+abbrev pub FitsValue : ℕ → List ℕ → Option ℕ → Type 0
+FitsValue base digits result = MatchOption result (2 ^ 64 ≤ digits_value base digits) (λ value. value ≡ digits_value base digits)
 
 -- Some digit stands there, nothing that spoils the number follows, and its value is at most 2 ^ 63.
 abbrev pub is_number : List ℕ → Bool
@@ -81,13 +85,9 @@ string_at place bytes =
 unfoldable pub directive_at : ℕ → List ℕ → List ℕ → Front
 directive_at place before bytes = if is_line_blank before then token kinds.Directive (length (line bytes)) else Err (faults.BadByte place)
 
-abbrev pub symbols : List (List ℕ)
-symbols = codes "{" ∷ codes "}" ∷ codes "(" ∷ codes ")" ∷ codes "<" ∷ codes ">" ∷ codes "[" ∷ codes "]" ∷ codes "[[" ∷ codes "]]"
-    ∷ codes "," ∷ codes ";" ∷ codes "::" ∷ codes "=" ∷ codes "*" ∷ codes "+" ∷ codes "-" ∷ []
-
 -- the place of the symbol that these bytes are
 abbrev pub symbol_code : List ℕ → Option ℕ
-symbol_code bytes = position (bytes_eq bytes) symbols
+symbol_code bytes = position (bytes_eq bytes) symbol_names
 
 -- the symbol of this code, or what stands there where it is none
 abbrev pub symbol_or : Option ℕ → ℕ → Front → Front
@@ -99,7 +99,7 @@ unfoldable pub symbol_at : ℕ → List ℕ → Front
 symbol_at place bytes =
     symbol_or (symbol_code (take 2 bytes)) (length (take 2 bytes)) (symbol_or (symbol_code (take 1 bytes)) 1 (Err (faults.BadByte place)))
 
--- What the bytes begin with, which stand at this place of the text behind those before them. At the text's end it is no byte of the language.
+-- What the bytes begin with, which stand at this place of the text after those before them. At the text's end it is no byte of the language.
 unfoldable pub front : ℕ → List ℕ → List ℕ → Front
 front place before bytes =
     if is_blank (first bytes) then gap 1
@@ -110,3 +110,6 @@ front place before bytes =
     else if first bytes == backslash then escaped_at place bytes
     else if first bytes == hash then directive_at place before bytes
     else symbol_at place bytes
+
+abbrev pub front_at : List ℕ → ℕ → Front
+front_at text place = front place (take place text) (drop place text)

@@ -1,12 +1,10 @@
 //! What stands at a place of a text: a blank, a comment, a token or a defect.
 
 ghost use Rattle.std.specs.Prelude.{◌≡◌, ◌<◌, ◌≤◌, ◌^◌, MatchOption, Ok, length};
-ghost use Rattle.std.specs.List.{position};
-ghost use Rattle.std.specs.Str.{bytes_eq};
 ghost use Rattle.std.specs.Str.Parse.{digits_value};
 ghost use Rattle.slice_lexer.specs.Bytes.{digits};
-ghost use Rattle.slice_lexer.specs.Pieces.{base_of, comment_at, directive_at, escaped_at, number_at, prefix_of, string_at, symbol_at, symbol_code, word_at, word_kind};
-ghost use Rattle.slice_lexer.specs.Lexing.{front_at};
+ghost use Rattle.slice_lexer.specs.Lexing.{MOST_BYTES};
+ghost use Rattle.slice_lexer.specs.Pieces.{FitsValue, front_at, base_of, comment_at, directive_at, escaped_at, number_at, prefix_of, string_at, symbol_at, symbol_code, word_at, word_kind};
 
 use crate::fault::LexFault;
 use crate::piece::Piece;
@@ -15,19 +13,16 @@ use crate::runs::{
     string_length, word_length,
 };
 use crate::token::TokenKind;
-use case_tables::keywords;
+use case_tables::{keywords, symbols};
 
-const SYMBOLS: [&str; 17] = [
-    "{", "}", "(", ")", "<", ">", "[", "]", "[[", "]]", ",", ";", "::", "=", "*", "+", "-",
-];
-
+/// No integer literal has a greater value: 2 ^ 63.
 const MOST_VALUE: u64 = 9_223_372_036_854_775_808;
 
 /// What stands at the place.
 #[tactic(auto, unfolding(crate::specs::Pieces::front))]
 pub fn front(text: &[u8], at: usize) -> Result<Piece, LexFault>
     requires within { at < length text.now }
-    requires few { length text.now ≤ 1000000 }
+    requires few { length text.now ≤ MOST_BYTES }
     ensures { result ≡ front_at text.now at }
 {
     let (before, rest) = text.split_at(at);
@@ -53,7 +48,7 @@ pub fn front(text: &[u8], at: usize) -> Result<Piece, LexFault>
 
 #[tactic(auto, unfolding(crate::specs::Pieces::comment_at))]
 fn comment_at(place: u32, rest: &[u8]) -> Result<Piece, LexFault>
-    requires { length rest.now ≤ 1000000 }
+    requires { length rest.now ≤ MOST_BYTES }
     ensures { result ≡ comment_at place rest.now }
 {
     if rest.starts_with(b"//") {
@@ -95,7 +90,7 @@ fn word_kind(word: &[u8]) -> TokenKind
 #[tactic(auto, unfolding(crate::specs::Pieces::escaped_at))]
 fn escaped_at(place: u32, rest: &[u8]) -> Result<Piece, LexFault>
     requires within { 0 < length rest.now }
-    requires few { length rest.now ≤ 1000000 }
+    requires few { length rest.now ≤ MOST_BYTES }
     ensures { result ≡ escaped_at place rest.now }
 {
     match &rest[1..] {
@@ -128,7 +123,7 @@ fn prefix_of(rest: &[u8]) -> usize
 /// The number that the digits write, None from 2 ^ 64 on.
 fn value_of(base: u8, digits: &[u8]) -> Option<u64>
     requires { 1 ≤ base }
-    ensures { MatchOption result (2 ^ 64 ≤ digits_value base digits.now) (λ value. value ≡ digits_value base digits.now) }
+    ensures { FitsValue base digits.now result }
 {
     let mut value: u64 = 0;
     for digit in digits {
@@ -141,7 +136,7 @@ fn value_of(base: u8, digits: &[u8]) -> Option<u64>
 
 #[tactic(auto, unfolding(crate::specs::Pieces::number_at))]
 fn number_at(place: u32, rest: &[u8]) -> Result<Piece, LexFault>
-    requires { length rest.now ≤ 1000000 }
+    requires { length rest.now ≤ MOST_BYTES }
     ensures { result ≡ number_at place rest.now }
 {
     let base = base_of(rest);
@@ -166,7 +161,7 @@ fn number_at(place: u32, rest: &[u8]) -> Result<Piece, LexFault>
 #[tactic(auto, unfolding(crate::specs::Pieces::string_at))]
 fn string_at(place: u32, rest: &[u8]) -> Result<Piece, LexFault>
     requires within { 0 < length rest.now }
-    requires few { length rest.now ≤ 1000000 }
+    requires few { length rest.now ≤ MOST_BYTES }
     ensures { result ≡ string_at place rest.now }
 {
     let inside = &rest[1..];
@@ -203,18 +198,12 @@ fn symbol_at(place: u32, rest: &[u8]) -> Result<Piece, LexFault>
     }
 }
 
-/// The place of the symbol in the list of symbols.
+/// The code of the symbol that these bytes are.
 fn symbol_code(bytes: &[u8]) -> Option<u8>
     ensures { result ≡ symbol_code bytes.now }
 {
-    match place_of(&SYMBOLS, bytes) {
-        Some(place) => Some(place as u8),
-        None => None,
+    match std::str::from_utf8(bytes) {
+        Ok(name) => symbols().code_of(name),
+        Err(_) => None,
     }
-}
-
-fn place_of(names: &[&str], name: &[u8]) -> Option<usize>
-    ensures { result ≡ position (λ other. bytes_eq name.now other.now) names.now }
-{
-    names.iter().position(|other| name == other.as_bytes())
 }

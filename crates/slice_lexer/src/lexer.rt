@@ -1,9 +1,6 @@
 //! From a text to its tokens.
 
-ghost use Rattle.std.specs.Prelude.{List, ℕ, ◌≡◌, ◌<◌, ◌⊎◌, length};
-ghost use Rattle.slice_lexer.specs.declared.fault.LexFault.{LexFault};
-ghost use Rattle.slice_lexer.specs.declared.token.Token.{Token};
-ghost use Rattle.slice_lexer.specs.Lexing.{Answers, AreSpans, IsAt, Lexes, LexBreaks};
+ghost use Rattle.slice_lexer.specs.Lexing.{Answers};
 
 use crate::fault::LexFault;
 use crate::fronts::front;
@@ -11,8 +8,8 @@ use crate::piece::Piece;
 use crate::token::{Token, Tokens};
 use std::alloc::Global;
 
-/// No longer text has tokens.
-const MOST_BYTES: usize = 1_000_000;
+/// The most bytes of a text that has tokens.
+pub const MOST_BYTES: usize = 1_000_000;
 
 /// The tokens of the text, or its first defect from the left.
 #[tactic(auto, using(crate::proofs::Standing::piece_within))]
@@ -38,21 +35,3 @@ pub fn tokens(alloc: Global, text: &[u8]) -> Result<Tokens, LexFault>
     }
     Ok(Tokens::from_vec(items))
 }
-
-/// Each text, of any length, has tokens or a first defect, and no two of these.
-pub fn one_answer()
-    ensures some { (text : List ℕ) → ((tokens : List Token) × Lexes text tokens) ⊎ ((fault : LexFault) × LexBreaks text fault) }
-    ensures tokens { (text : List ℕ) (tokens others : List Token) → Lexes text tokens → Lexes text others → tokens ≡ others }
-    ensures defect { (text : List ℕ) (fault other : LexFault) → LexBreaks text fault → LexBreaks text other → fault ≡ other }
-    ensures never_both { (text : List ℕ) (tokens : List Token) (fault : LexFault) → Lexes text tokens → LexBreaks text fault → ⊥ }
-{}
-
-/// The spans of a text's tokens rise without overlap and end within the text. None is empty.
-pub fn spans_rise()
-    ensures { (text : List ℕ) (tokens : List Token) → Lexes text tokens → AreSpans 0 tokens (length text) }
-{}
-
-/// A defect's place is a byte of the text, and it is never `TooLong` or `Memory`.
-pub fn defects_placed()
-    ensures { (text : List ℕ) (fault : LexFault) → LexBreaks text fault → (place : ℕ) × (place < length text) × IsAt place fault }
-{}

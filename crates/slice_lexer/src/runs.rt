@@ -27,12 +27,7 @@ pub fn spoils_number(byte: u8) -> bool
 pub fn digit_value(byte: u8) -> u8
     ensures { result ≡ digit_value byte }
 {
-    match byte {
-        b'0'..=b'9' => byte - b'0',
-        b'A'..=b'Z' => byte - b'A' + 10,
-        b'a'..=b'z' => byte - b'a' + 10,
-        _ => 36,
-    }
+    char::from(byte).to_digit(36).unwrap_or(36) as u8
 }
 
 /// How long the rest of the line is.
@@ -86,7 +81,7 @@ pub fn before_close(bytes: &[u8]) -> usize
     count
 }
 
-/// How many bytes a string has behind its opening quote, up to its closing quote or its line's end.
+/// How many bytes a string has after its opening quote, up to its closing quote or its line's end.
 pub fn string_length(bytes: &[u8]) -> usize
     ensures within { result ≤ length bytes.now }
     ensures value { result ≡ string_length false bytes.now }

@@ -5,7 +5,7 @@ use std::marker::Model;
 /// What a token is.
 #[derive(Clone, Copy, Debug, PartialEq, Eq)]
 pub enum TokenKind {
-    /// A word that is no keyword, or any behind a `\`.
+    /// A word that is no keyword, or any after a `\`.
     Word,
     /// A keyword, with its code in the table of keywords.
     Keyword(u8),
@@ -19,7 +19,7 @@ pub enum TokenKind {
     Directive,
 }
 
-/// A token, with its first byte and the byte behind its last, counted from 0.
+/// A token, with its first byte and the byte after its last, counted from 0.
 #[derive(Clone, Copy, Debug, PartialEq, Eq)]
 pub struct Token {
     pub kind: TokenKind,
@@ -43,10 +43,10 @@ impl Model for Tokens {
 }
 
 impl Tokens {
-    ghost use Rattle.std.specs.Prelude.{◌≡◌, ◌<◌, ◌↔◌, [], Some, IsTrue, length, slice_get, slice_range};
+    ghost use Rattle.std.specs.Prelude.{◌≡◌, ◌<◌, ◌↔◌, [], IsTrue, length, slice_get};
     ghost use Rattle.std.specs.Option.{option_copied};
     ghost use Rattle.slice_lexer.specs.declared.token.Token.{Token};
-    ghost use Rattle.slice_lexer.specs.Lexing.{Lexes};
+    ghost use Rattle.slice_lexer.specs.Lexing.{AreBytesOf, Lexes};
 
     /// These tokens, which are not copied.
     pub(crate) fn from_vec(items: Vec<Token>) -> Tokens
@@ -80,7 +80,7 @@ impl Tokens {
     pub fn text<'a>(&self, at: usize, text: &'a [u8]) -> &'a [u8]
         requires within { at < length self.now }
         requires same_text { Lexes text.now self.now }
-        ensures { (token : Token) → slice_get self.now at ≡ Some token → result.now ≡ slice_range text.now token.from token.to }
+        ensures { AreBytesOf text.now self.now at result.now }
     {
         let token = &self.items[at];
         &text[token.from as usize..token.to as usize]

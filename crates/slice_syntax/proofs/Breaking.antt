@@ -142,7 +142,7 @@ whole_file ls rest file e = then_ok (Reads ls file) (file_at ls) (λ f. at_end f
 regroup : (before : Lexemes) (l : Lexeme) (more : Lexemes) → (before ++ l ∷ []) ++ more ≡ before ++ l ∷ more
 regroup before l more = append_assoc before (l ∷ []) more
 
--- no file begins with tokens behind which reading refuses one
+-- no file begins with tokens after which reading refuses one
 stuck : (before left : Lexemes) → ((other : Lexemes) → next left ≡ next other → file_at (before ++ other) ≡ Err other) → Refuses before left
 stuck before [] kept = λ file h. let one = kept [] refl in let two = reads_file before file h in let same = ap file_at (append_none before) in absurd cc
 stuck before (l ∷ left) kept = λ h.
@@ -151,7 +151,7 @@ stuck before (l ∷ left) kept = λ h.
     let same = ap file_at (regroup before l h.0) in
     absurd cc
 
--- no file goes on behind tokens that are one where reading takes no further one
+-- no file goes on after tokens that are one where reading takes no further one
 over : (before : Lexemes) (l : Lexeme) (file : File) → ((other : Lexemes) → Some l ≡ next other → file_at (before ++ other) ≡ Ok (file, other)) → Refuses before (l ∷ [])
 over before l file kept h =
     let one = kept (l ∷ h.0) refl in

@@ -1,12 +1,14 @@
 -- Which rules are read with one token ahead, and that they are.
-use Rattle.std.proofs.Common.{ℕ, zero, suc, ◌≡◌, ◌<◌, arith, Bool, true, false, cond, not, ◌&&◌, codes, List, [], ◌∷◌, ◌++◌, refl, subst, nat_lt, get_or}
+use Rattle.std.proofs.Common.{ℕ, zero, suc, ◌≡◌, ◌<◌, arith, Bool, true, false, cond, not, ◌&&◌, codes, List, [], ◌∷◌, ◌++◌, refl, subst, nat_lt, get_or, inl, inr}
 use Rattle.std.proofs.lemmas.Bool.{eq-eqb, false≢true}
 use Rattle.std.specs.List.{slice_index}
 use Rattle.std.specs.Str.{is_utf8}
 use Rattle.std.proofs.lemmas.Str.{IsUtf8-from_ascii, is_utf8-from_IsUtf8}
 use borrow.Author.Tests.{ltb-true}
-use Rattle.case_tables.specs.Tables.{keyword_names}
-use Rattle.slice_lexer.specs.Pieces.{front, word_kind, number_at, string_at, directive_at, symbol_at, symbols}
+use Rattle.std.proofs.lemmas.Option.{slice_get-get_or}
+use Rattle.case_tables.specs.Tables.{keyword_names, symbol_names}
+use Rattle.case_tables.proofs.Places.{no_row}
+use Rattle.slice_lexer.specs.Tokens as forms
 use Rattle.slice_lexer.specs.declared.token.TokenKind.TheVariants as kinds
 use Rattle.slice_syntax.specs.declared.sort.Sort.{Sort}
 use Rattle.slice_syntax.specs.declared.sort.Sort.TheVariants as sorts
@@ -23,7 +25,7 @@ sample_of sorts.Word = record { kind = kinds.Word; from = 0; bytes = codes "a" }
 sample_of (sorts.Keyword n) = record { kind = kinds.Keyword n; from = 0; bytes = get_or keyword_names n [] }
 sample_of sorts.Number = record { kind = kinds.Number 0; from = 0; bytes = codes "0" }
 sample_of sorts.Text = record { kind = kinds.Text; from = 0; bytes = 34 ∷ 34 ∷ [] }
-sample_of (sorts.Symbol n) = record { kind = kinds.Symbol n; from = 0; bytes = get_or symbols n [] }
+sample_of (sorts.Symbol n) = record { kind = kinds.Symbol n; from = 0; bytes = get_or symbol_names n [] }
 sample_of sorts.Include = record { kind = kinds.Directive; from = 0; bytes = codes "#include<a>" }
 sample_of sorts.Guard = record { kind = kinds.Directive; from = 0; bytes = codes "#ifndef a" }
 sample_of sorts.Aside = record { kind = kinds.Directive; from = 0; bytes = codes "#pragma once" }
@@ -80,71 +82,24 @@ sample_fits [] h = absurd cc
 sample_fits (s ∷ set) h = let is = sampled s in let same = same_sort s in rw (is, same) refl
 
 keyword_alone : (n : ℕ) → nat_lt n 30 ≡ true → IsAlone (sample_of (sorts.Keyword n))
-unfolding sample_of front word_kind
-keyword_alone zero h = refl
-keyword_alone (suc zero) h = refl
-keyword_alone (suc (suc zero)) h = refl
-keyword_alone (suc (suc (suc zero))) h = refl
-keyword_alone (suc (suc (suc (suc zero)))) h = refl
-keyword_alone (suc (suc (suc (suc (suc zero))))) h = refl
-keyword_alone (suc (suc (suc (suc (suc (suc zero)))))) h = refl
-keyword_alone (suc (suc (suc (suc (suc (suc (suc zero))))))) h = refl
-keyword_alone (suc (suc (suc (suc (suc (suc (suc (suc zero)))))))) h = refl
-keyword_alone (suc (suc (suc (suc (suc (suc (suc (suc (suc zero))))))))) h = refl
-keyword_alone (suc (suc (suc (suc (suc (suc (suc (suc (suc (suc zero)))))))))) h = refl
-keyword_alone (suc (suc (suc (suc (suc (suc (suc (suc (suc (suc (suc zero))))))))))) h = refl
-keyword_alone (suc (suc (suc (suc (suc (suc (suc (suc (suc (suc (suc (suc zero)))))))))))) h = refl
-keyword_alone (suc (suc (suc (suc (suc (suc (suc (suc (suc (suc (suc (suc (suc zero))))))))))))) h = refl
-keyword_alone (suc (suc (suc (suc (suc (suc (suc (suc (suc (suc (suc (suc (suc (suc zero)))))))))))))) h = refl
-keyword_alone (suc (suc (suc (suc (suc (suc (suc (suc (suc (suc (suc (suc (suc (suc (suc zero))))))))))))))) h = refl
-keyword_alone (suc (suc (suc (suc (suc (suc (suc (suc (suc (suc (suc (suc (suc (suc (suc (suc zero)))))))))))))))) h = refl
-keyword_alone (suc (suc (suc (suc (suc (suc (suc (suc (suc (suc (suc (suc (suc (suc (suc (suc (suc zero))))))))))))))))) h = refl
-keyword_alone (suc (suc (suc (suc (suc (suc (suc (suc (suc (suc (suc (suc (suc (suc (suc (suc (suc (suc zero)))))))))))))))))) h = refl
-keyword_alone (suc (suc (suc (suc (suc (suc (suc (suc (suc (suc (suc (suc (suc (suc (suc (suc (suc (suc (suc zero))))))))))))))))))) h = refl
-keyword_alone (suc (suc (suc (suc (suc (suc (suc (suc (suc (suc (suc (suc (suc (suc (suc (suc (suc (suc (suc (suc zero)))))))))))))))))))) h = refl
-keyword_alone (suc (suc (suc (suc (suc (suc (suc (suc (suc (suc (suc (suc (suc (suc (suc (suc (suc (suc (suc (suc (suc zero))))))))))))))))))))) h = refl
-keyword_alone (suc (suc (suc (suc (suc (suc (suc (suc (suc (suc (suc (suc (suc (suc (suc (suc (suc (suc (suc (suc (suc (suc zero)))))))))))))))))))))) h = refl
-keyword_alone (suc (suc (suc (suc (suc (suc (suc (suc (suc (suc (suc (suc (suc (suc (suc (suc (suc (suc (suc (suc (suc (suc (suc zero))))))))))))))))))))))) h = refl
-keyword_alone (suc (suc (suc (suc (suc (suc (suc (suc (suc (suc (suc (suc (suc (suc (suc (suc (suc (suc (suc (suc (suc (suc (suc (suc zero)))))))))))))))))))))))) h = refl
-keyword_alone (suc (suc (suc (suc (suc (suc (suc (suc (suc (suc (suc (suc (suc (suc (suc (suc (suc (suc (suc (suc (suc (suc (suc (suc (suc zero))))))))))))))))))))))))) h = refl
-keyword_alone (suc (suc (suc (suc (suc (suc (suc (suc (suc (suc (suc (suc (suc (suc (suc (suc (suc (suc (suc (suc (suc (suc (suc (suc (suc (suc zero)))))))))))))))))))))))))) h = refl
-keyword_alone (suc (suc (suc (suc (suc (suc (suc (suc (suc (suc (suc (suc (suc (suc (suc (suc (suc (suc (suc (suc (suc (suc (suc (suc (suc (suc (suc zero))))))))))))))))))))))))))) h = refl
-keyword_alone (suc (suc (suc (suc (suc (suc (suc (suc (suc (suc (suc (suc (suc (suc (suc (suc (suc (suc (suc (suc (suc (suc (suc (suc (suc (suc (suc (suc zero)))))))))))))))))))))))))))) h = refl
-keyword_alone (suc (suc (suc (suc (suc (suc (suc (suc (suc (suc (suc (suc (suc (suc (suc (suc (suc (suc (suc (suc (suc (suc (suc (suc (suc (suc (suc (suc (suc zero))))))))))))))))))))))))))))) h = refl
-keyword_alone (suc (suc (suc (suc (suc (suc (suc (suc (suc (suc (suc (suc (suc (suc (suc (suc (suc (suc (suc (suc (suc (suc (suc (suc (suc (suc (suc (suc (suc (suc n)))))))))))))))))))))))))))))) h = absurd (omega (arith, ltb-true _ _ h))
+unfolding sample_of
+keyword_alone n h = slice_get-get_or keyword_names n [] (ltb-true n 30 h)
 
 symbol_alone : (n : ℕ) → nat_lt n 17 ≡ true → IsAlone (sample_of (sorts.Symbol n))
-unfolding sample_of front symbol_at
-symbol_alone zero h = refl
-symbol_alone (suc zero) h = refl
-symbol_alone (suc (suc zero)) h = refl
-symbol_alone (suc (suc (suc zero))) h = refl
-symbol_alone (suc (suc (suc (suc zero)))) h = refl
-symbol_alone (suc (suc (suc (suc (suc zero))))) h = refl
-symbol_alone (suc (suc (suc (suc (suc (suc zero)))))) h = refl
-symbol_alone (suc (suc (suc (suc (suc (suc (suc zero))))))) h = refl
-symbol_alone (suc (suc (suc (suc (suc (suc (suc (suc zero)))))))) h = refl
-symbol_alone (suc (suc (suc (suc (suc (suc (suc (suc (suc zero))))))))) h = refl
-symbol_alone (suc (suc (suc (suc (suc (suc (suc (suc (suc (suc zero)))))))))) h = refl
-symbol_alone (suc (suc (suc (suc (suc (suc (suc (suc (suc (suc (suc zero))))))))))) h = refl
-symbol_alone (suc (suc (suc (suc (suc (suc (suc (suc (suc (suc (suc (suc zero)))))))))))) h = refl
-symbol_alone (suc (suc (suc (suc (suc (suc (suc (suc (suc (suc (suc (suc (suc zero))))))))))))) h = refl
-symbol_alone (suc (suc (suc (suc (suc (suc (suc (suc (suc (suc (suc (suc (suc (suc zero)))))))))))))) h = refl
-symbol_alone (suc (suc (suc (suc (suc (suc (suc (suc (suc (suc (suc (suc (suc (suc (suc zero))))))))))))))) h = refl
-symbol_alone (suc (suc (suc (suc (suc (suc (suc (suc (suc (suc (suc (suc (suc (suc (suc (suc zero)))))))))))))))) h = refl
-symbol_alone (suc (suc (suc (suc (suc (suc (suc (suc (suc (suc (suc (suc (suc (suc (suc (suc (suc n))))))))))))))))) h = absurd (omega (arith, ltb-true _ _ h))
+unfolding sample_of
+symbol_alone n h = slice_get-get_or symbol_names n [] (ltb-true n 17 h)
 
 alone_of : (s : Sort) → is_known s ≡ true → IsAlone (sample_of s)
-unfolding sample_of front word_kind number_at string_at directive_at
-alone_of sorts.Word h = refl
+unfolding sample_of
+alone_of sorts.Word h = inl ((refl, refl), no_row keyword_names (codes "a") refl)
 alone_of (sorts.Keyword n) h = keyword_alone n h
-alone_of sorts.Number h = refl
-alone_of sorts.Text h = refl
+alone_of sorts.Number h = (inr (inl (refl, refl, refl)), omega arith)
+alone_of sorts.Text h = ([], refl, forms.none)
 alone_of (sorts.Symbol n) h = symbol_alone n h
-alone_of sorts.Include h = refl
-alone_of sorts.Guard h = refl
-alone_of sorts.Aside h = refl
-alone_of sorts.EndGuard h = refl
+alone_of sorts.Include h = (refl, refl)
+alone_of sorts.Guard h = (refl, refl)
+alone_of sorts.Aside h = (refl, refl)
+alone_of sorts.EndGuard h = (refl, refl)
 alone_of sorts.Stray h = absurd cc
 
 sample_alone : (set : List Sort) → any_sort set ≡ true → IsAlone (sample set)

@@ -12,7 +12,7 @@ use Rattle.slice_syntax.proofs.Nesting.{append_none}
 abbrev pub Told : Type 0
 Told = Bool × List (List ℕ × ℕ)
 
--- what heads tell behind others
+-- what heads tell after others
 abbrev pub told : Bool → List (List ℕ × ℕ) → List Head → Told
 told guarded included hs = (guarded || is_guarded hs, included ++ includes_in hs)
 

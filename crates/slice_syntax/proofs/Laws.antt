@@ -7,14 +7,14 @@ use Rattle.slice_syntax.specs.Lexemes.{IsAlone, AreTokens, Lexeme, Lexemes, has,
 use Rattle.slice_syntax.specs.Reading.{Reading, ◌>>=◌, token_at, or_at}
 use Rattle.slice_syntax.proofs.Sets.{disjoint, apart, begins_append, begins_next, next_append}
 
--- Reading went over tokens that spell the value, and looked at no token behind the next one.
+-- Reading went over tokens that spell the value, and looked at no token after the next one.
 pub record Took {A : Type 0} (P : Lexemes → A → Type 0) (r : Lexemes → Reading A) (ls : Lexemes) (x : A) (rest : Lexemes) : Type 0 where
   pub taken : Lexemes
   pub parts : ls ≡ taken ++ rest
   pub spelled : P taken x
   pub kept : (other : Lexemes) → next rest ≡ next other → r (taken ++ other) ≡ Ok (x, other)
 
--- Reading refused a token, behind tokens that can be completed, and looked at no token behind it.
+-- Reading refused a token, after tokens that can be completed, and looked at no token after it.
 pub record Stopped {A : Type 0} (P : Lexemes → A → Type 0) (r : Lexemes → Reading A) (ls left : Lexemes) : Type 0 where
   pub front : Lexemes
   pub parts : ls ≡ front ++ left
@@ -173,7 +173,7 @@ module _ {X A : Type 0} (view : X → A) (P : Lexemes → X → Type 0) (p : Lex
     only = λ taken rest a h none. let k = g.only taken rest h.0 h.1 none in let is = sym h.2 in rw (k, is) refl;
   }
 
--- One behind the other, where the second may depend on the value of the first.
+-- One after the other, where the second may depend on the value of the first.
 module _ {X Y A : Type 0} (make : X → Y → A) (P : Lexemes → X → Type 0) (p : Lexemes → Reading X) (Q : X → Lexemes → Y → Type 0) (q : X → Lexemes → Reading Y) where
   abbrev Both : Lexemes → A → Type 0
   Both ls a = (x : X) × (y : Y) × (before behind : Lexemes) × (ls ≡ before ++ behind) × P before x × Q x behind y × (a ≡ make x y)

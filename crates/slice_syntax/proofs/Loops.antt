@@ -1,4 +1,4 @@
--- Reading parts one behind the other, and their spellings.
+-- Reading parts one after the other, and their spellings.
 use Rattle.std.proofs.Common.{ℕ, zero, suc, ◌≡◌, ◌<◌, ◌≤◌, Bool, true, false, cond, List, [], ◌∷◌, ◌++◌, length, Ok, Err, refl, sym, ap, subst, ◌∙◌, append_assoc, arith}
 use Rattle.std.proofs.lemmas.List.{length-append}
 use Rattle.slice_syntax.specs.declared.sort.Sort.{Sort}

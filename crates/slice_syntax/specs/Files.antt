@@ -1,4 +1,4 @@
--- The grammar of modules and whole files.
+-- The grammar of modules and whole files, after "The Slice Language" of the Ice manual: "Modules", "Slice Source Files" (file guarding, `#include`).
 use Rattle.std.specs.Prelude.{ℕ, ◌≡◌, Bool, true, false, List, [], ◌∷◌, ◌++◌, map, length, replicate, unwrap_or}
 use Rattle.slice_syntax.specs.declared.sort.Sort.TheVariants as sorts
 use Rattle.slice_syntax.specs.declared.tree.Word.{Word}
@@ -22,7 +22,7 @@ enters words = map (λ w. items.Enter w) words
 abbrev pub exits : ℕ → List Item
 exits count = replicate count items.Exit
 
--- Definitions one behind the other: { meta def } in a module, where `inner` is true, and else { meta module }.
+-- Definitions one after the other: { meta def } in a module, where `inner` is true, and else { meta module }.
 -- module = "module" word { "::" word } "{" { meta def } "}" [ ";" ]
 -- def = module | const | enum | struct | seq | dict | class | exception | interface
 pub data Body : Bool → Lexemes → List Item → Type 0 where
@@ -64,7 +64,22 @@ is_guarded (guard ∷ heads) = true
 is_guarded (aside ∷ heads) = is_guarded heads
 is_guarded (include name ∷ heads) = is_guarded heads
 
--- behind the modules `#endif` stands where an `#ifndef` stands before them, and else nothing
+-- What is known after these heads: whether an `#ifndef` is among them, and the names of the `#include`s after those before.
+abbrev pub Notes : List (List ℕ × ℕ) → List (List ℕ × ℕ) → Bool → List Head → Type 0
+Notes old new guarded heads = (guarded ≡ is_guarded heads) × (new ≡ old ++ includes_in heads)
+
+abbrev pub NotesOne : List (List ℕ × ℕ) → List (List ℕ × ℕ) → Bool → Head → Type 0
+NotesOne old new guards h = Notes old new guards (h ∷ [])
+
+-- What is known after the words of a module's name: the items after those before.
+abbrev pub Enters : {A : Type 0} → List Item → List Item → A → List Word → Type 0
+Enters old new answer words = new ≡ old ++ enters words
+
+-- What is known after the head of a module: how many words its name has, and the items after those before.
+abbrev pub Opens : List Item → List Item → ℕ → List Word → Type 0
+Opens old new count words = (count ≡ length words) × (new ≡ old ++ enters words)
+
+-- after the modules `#endif` stands where an `#ifndef` stands before them, and else nothing
 abbrev pub Closes : Bool → Lexemes → Type 0
 Closes true ls = (place : ℕ) × Spells (one sorts.EndGuard) ls place
 Closes false ls = ls ≡ []

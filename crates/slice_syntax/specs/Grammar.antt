@@ -11,14 +11,14 @@ pub data Grammar : Type 0 → Type 1 where
   token : {A : Type 0} → List Sort → (Lexeme → A) → Grammar A
   -- the same spellings, for other values
   made : {X A : Type 0} → (X → A) → Grammar X → Grammar A
-  -- one behind the other
+  -- one after the other
   both : {X Y A : Type 0} → (X → Y → A) → Grammar X → Grammar Y → Grammar A
   -- the one or the other
   or : {A : Type 0} → Grammar A → Grammar A → Grammar A
-  -- any number, one behind the other, where each but the last says that one may follow
+  -- any number, one after the other, where each but the last says that one may follow
   series : {A : Type 0} → (A → Bool) → Grammar A → Grammar (List A)
 
--- Spellings one behind the other: `Step` at a state spells a value, which leads to the next state. They may end at some states.
+-- Spellings one after the other: `Step` at a state spells a value, which leads to the next state. They may end at some states.
 abbrev pub Runs : {S X : Type 0} → (S → Lexemes → X → Type 0) → (S → X → S) → (S → Bool) → S → Lexemes → List X → Type 0
 Runs Step next may_end s ls [] = (ls ≡ []) × IsTrue (may_end s)
 Runs {X = X} Step next may_end s ls (x ∷ xs) = (before behind : Lexemes) × (ls ≡ before ++ behind) × Step s before x × Runs Step next may_end (next s x) behind xs
@@ -49,7 +49,7 @@ infixl 30 ◌◂◌
 abbrev pub ◌◂◌ : {X A : Type 0} → Grammar A → Grammar X → Grammar A
 g ◂ h = both (λ x y. x) g h
 
--- g, which makes a value of what h stands for behind it
+-- g, which makes a value of what h stands for after it
 infixl 20 ◌⊛◌
 abbrev pub ◌⊛◌ : {X A : Type 0} → Grammar (X → A) → Grammar X → Grammar A
 g ⊛ h = both (λ make x. make x) g h

@@ -1,12 +1,11 @@
--- Tokens with their bytes, and what each is to the grammar.
-use Rattle.std.specs.Prelude.{length, ℕ, Bool, false, not, ◌&&◌, ◌==◌, nat_eq, if◌then◌else◌, List, [], ◌∷◌, map, codes, take, drop, Option, Some, None, slice_range, ◌≡◌, Ok}
+-- Tokens with their bytes, and what each is to the grammar. The forms of directives are those of "The Slice Language" of the Ice manual, "Slice Source Files" (file guarding, `#include`).
+use Rattle.std.specs.Prelude.{ℕ, Bool, false, not, ◌&&◌, ◌==◌, nat_eq, if◌then◌else◌, List, [], ◌∷◌, map, codes, take, drop, Option, Some, None, slice_range}
 use Rattle.std.specs.Borrow.{Bor}
 use Rattle.std.specs.List.{list_all, list_any, prefix_len}
 use Rattle.std.specs.Str.{bytes_eq, is_utf8}
 use Rattle.std.specs.Option.{is_some}
 use Rattle.slice_lexer.specs.Bytes.{backslash, quote, first, is_blank, is_letter, is_word_byte, begins_with}
-use Rattle.slice_lexer.specs.Pieces.{front}
-use Rattle.slice_lexer.specs.declared.piece.Piece.TheVariants as pieces
+use Rattle.slice_lexer.specs.Tokens.{IsToken}
 use Rattle.slice_lexer.specs.declared.token.Token.{Token}
 use Rattle.slice_lexer.specs.declared.token.TokenKind.{TokenKind}
 use Rattle.slice_lexer.specs.declared.token.TokenKind.TheVariants as kinds
@@ -47,7 +46,7 @@ greater = 62
 abbrev pub is_bare : List ℕ → Bool
 is_bare bytes = list_all is_blank bytes
 
--- the line of a directive behind its `#` and blanks
+-- the line of a directive after its `#` and blanks
 abbrev pub directive_line : List ℕ → List ℕ
 directive_line bytes = unblank (drop 1 bytes)
 
@@ -59,7 +58,7 @@ word_length bytes = prefix_len is_word_byte bytes
 abbrev pub directive_word : List ℕ → List ℕ
 directive_word bytes = take (word_length (directive_line bytes)) (directive_line bytes)
 
--- what stands behind the first word of a directive and the blanks there
+-- what stands after the first word of a directive and the blanks there
 abbrev pub directive_rest : List ℕ → List ℕ
 directive_rest bytes = unblank (drop (word_length (directive_line bytes)) (directive_line bytes))
 
@@ -83,7 +82,7 @@ is_closed mark (byte ∷ bytes) = byte == mark && is_bare bytes
 abbrev pub if_text : List ℕ → Option (List ℕ)
 if_text bytes = if is_utf8 bytes then Some bytes else None
 
--- The bytes before a mark, which stands there and has only blanks behind it. They are UTF-8.
+-- The bytes before a mark, which stands there and has only blanks after it. They are UTF-8.
 abbrev pub up_to : ℕ → List ℕ → Option (List ℕ)
 up_to mark bytes = if is_closed mark (drop (mark_place mark bytes) bytes) then if_text (take (mark_place mark bytes) bytes) else None
 
@@ -188,9 +187,9 @@ next (l ∷ ls) = Some l
 abbrev pub seen : Token × Bor (List ℕ) → Lexeme
 seen found = record { kind = found.0.kind; from = found.0.from; bytes = found.1.now }
 
--- The bytes alone are one token, of its kind.
+-- The bytes are a token of the kind.
 abbrev pub IsAlone : Lexeme → Type 0
-IsAlone l = front 0 [] l.bytes ≡ Ok (pieces.Token l.kind (length l.bytes))
+IsAlone l = IsToken l.kind l.bytes
 
 -- tokens as they stand in texts
 abbrev pub AreTokens : Lexemes → Type 0

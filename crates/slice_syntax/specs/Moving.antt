@@ -1,5 +1,5 @@
 -- Reading modules without a recursion: moves, with the modules that are open.
-use Rattle.std.specs.Prelude.{ℕ, Bool, true, false, List, [], ◌∷◌, ◌++◌, length, Ok, Err}
+use Rattle.std.specs.Prelude.{ℕ, ◌≡◌, Bool, true, false, List, [], ◌∷◌, ◌++◌, length, reverse, Ok, Err}
 use Rattle.slice_syntax.specs.declared.sort.Sort.TheVariants as sorts
 use Rattle.slice_syntax.specs.declared.tree.Word.{Word}
 use Rattle.slice_syntax.specs.declared.tree.Item.{Item}
@@ -49,6 +49,14 @@ items_of others (hold item) = item ∷ []
 items_of [] leave = []
 items_of (count ∷ others) leave = exits count
 
+-- What is known after a move: the modules that are open, and the items after those before.
+abbrev pub Moved : Open → Open → List Item → List Item → Move → Type 0
+Moved others after old new m = (after ≡ moved others m) × (new ≡ old ++ items_of others m)
+
+-- The same of a move inside a module of so many words, where the modules around it are kept with the innermost last.
+abbrev pub MovedFrom : ℕ → List ℕ → List ℕ → List Item → List Item → Move → Type 0
+MovedFrom words around after old new m = Moved (words ∷ reverse around) (reverse after) old new m
+
 abbrev pub all_items : Open → List Move → List Item
 all_items others [] = []
 all_items others (m ∷ moves) = items_of others m ++ all_items (moved others m) moves
@@ -78,10 +86,10 @@ abbrev pub end_at : Lexemes → Reading (Unit {0})
 end_at [] = Ok (tt, [])
 end_at (l ∷ ls) = Err (l ∷ ls)
 
--- a file, and nothing behind it
+-- a file, and nothing after it
 abbrev pub whole_at : Lexemes → Reading File
 whole_at ls = file_at ls >>= (λ f. end_at f.1 >>= (λ u. Ok (f.0, u.1)))
 
--- what is made of the moves that a reading gives, behind items that were read
+-- what is made of the moves that a reading gives, after items that were read
 abbrev pub resume : List Item → Open → Lexemes → Reading (List Item)
 resume items others ls = moves_at others ls >>= (λ ms. Ok (items ++ all_items others ms.0, ms.1))

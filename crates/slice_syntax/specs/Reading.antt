@@ -7,7 +7,7 @@ use Rattle.slice_syntax.specs.Grammar.{Grammar, nothing, token, made, both, or, 
 abbrev pub Reading : Type 0 → Type 0
 Reading A = Result (A × Lexemes) Lexemes
 
--- one part behind the other
+-- one part after the other
 infixl 10 ◌>>=◌
 abbrev pub ◌>>=◌ : {A B : Type 0} → Reading A → (A × Lexemes → Reading B) → Reading B
 (Ok x) >>= f = f x
@@ -39,7 +39,7 @@ abbrev pub or_at : {A : Type 0} → Bool → (Lexemes → Reading A) → (Lexeme
 or_at true one other ls = one ls
 or_at false one other ls = other ls
 
--- Parts one behind the other, as long as the next token begins one at the state that was reached. `most` is at least the number of tokens.
+-- Parts one after the other, as long as the next token begins one at the state that was reached. `most` is at least the number of tokens.
 abbrev pub runs_at : {S X : Type 0} → (S → List Sort) → (S → Lexemes → Reading X) → (S → X → S) → (S → Bool) → ℕ → S → Lexemes → Reading (List X)
 runs_at starts step next may_end zero s ls = cond (may_end s) (Ok ([], ls)) (Err ls)
 runs_at {X = X} starts step next may_end (suc most) s ls =

@@ -1,4 +1,4 @@
--- The grammar of Slice, but for modules and whole files. A word is one that is no keyword, or any behind a `\`.
+-- The grammar of Slice, but for modules and whole files, after "The Slice Language" of the Ice manual: "Constants and Literals", "Enumerations", "Structures", "Sequences", "Dictionaries", "Classes", "Interfaces, Operations, and Exceptions", "Optional Data Members", "Metadata". A word is one that is no keyword, or any directly after a `\`.
 use Rattle.std.specs.Prelude.{ℕ, Bool, false, List, [], ◌∷◌, map, Option, Some, None, unwrap_or, ◌==◌}
 use Rattle.std.specs.Option.{is_some}
 use Rattle.slice_lexer.specs.declared.token.TokenKind.{TokenKind}
@@ -16,7 +16,7 @@ use Rattle.slice_syntax.specs.declared.tree.Param.{Param}
 use Rattle.slice_syntax.specs.declared.tree.OpTree.{OpTree}
 use Rattle.slice_syntax.specs.declared.tree.Item.{Item}
 use Rattle.slice_syntax.specs.declared.tree.Item.TheVariants as items
-use Rattle.slice_syntax.specs.Lexemes.{Lexeme, name_of}
+use Rattle.slice_syntax.specs.Lexemes.{Lexeme, code, name_of}
 use Rattle.slice_syntax.specs.Grammar.{Grammar, nothing, token, made, both, or, series, ◌▸◌, ◌◂◌, ◌⊛◌, one, optional, many, parted}
 use Rattle.slice_syntax.specs.Sorts.{word_bool, word_byte, word_class, word_const, word_dictionary, word_double, word_enum, word_exception, word_extends, word_false, word_float, word_idempotent, word_int, word_interface, word_long, word_object, word_optional, word_out, word_sequence, word_short, word_string, word_struct, word_throws, word_true, word_value, word_void, open_brace, close_brace, open_round, close_round, less, greater, open_square, close_square, open_two, close_two, comma, semicolon, colons, equals, star, plus, minus}
 
@@ -41,7 +41,7 @@ number_size kinds.Text = 0
 number_size (kinds.Symbol code) = 0
 number_size kinds.Directive = 0
 
--- A built-in type, with or without `*` behind it.
+-- A built-in type, with or without `*` after it.
 abbrev pub built : Lexeme → Bool → TypeWord
 built l star = types.Built (keyword_code l.kind) star l.from
 
@@ -96,17 +96,19 @@ named_type = made (λ p stars. types.Named p (is_some stars)) scoped ⊛ optiona
 unfoldable pub type_word : Grammar TypeWord
 type_word = or plain_type (or object_type named_type)
 
+-- the symbol `-`
 abbrev pub is_minus : TokenKind → Bool
 is_minus kinds.Word = false
 is_minus (kinds.Keyword code) = false
 is_minus (kinds.Number size) = false
 is_minus kinds.Text = false
-is_minus (kinds.Symbol code) = code == 16
+is_minus (kinds.Symbol place) = place == code minus
 is_minus kinds.Directive = false
 
+-- the keyword `true`
 abbrev pub is_true : TokenKind → Bool
 is_true kinds.Word = false
-is_true (kinds.Keyword code) = code == 27
+is_true (kinds.Keyword place) = place == code word_true
 is_true (kinds.Number size) = false
 is_true kinds.Text = false
 is_true (kinds.Symbol code) = false
@@ -151,14 +153,14 @@ constant_item = made (λ kind w v. items.Const kind w v) (one word_const ▸ met
 unfoldable pub entry : Grammar (Word × Option Constant)
 entry = both (λ w v. (w, v)) word given
 
--- an entry, and whether a comma stands behind it
+-- an entry, and whether a comma stands after it
 abbrev pub Entry : Type 0
 Entry = (Word × Option Constant) × Bool
 
 unfoldable pub entry_comma : Grammar Entry
 entry_comma = both (λ e c. (e, is_some c)) entry (optional (one comma))
 
--- entries = [ entry { "," entry } [ "," ] ]: behind a comma one more entry may stand
+-- entries = [ entry { "," entry } [ "," ] ]: after a comma one more entry may stand
 unfoldable pub entries : Grammar (List (Word × Option Constant))
 entries = made (λ es. map (λ (e : Entry). e.0) es) (series (λ (e : Entry). e.1) entry_comma)
 

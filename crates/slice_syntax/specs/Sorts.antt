@@ -1,7 +1,6 @@
--- The keywords and symbols of the grammar: a keyword by its code in the table of keywords, a symbol by its place in the list of symbols.
+-- The keywords ("The Slice Language" of the Ice manual, "Lexical Rules") and symbols of the grammar: a keyword by its code in the table of keywords, a symbol by its place in the list of symbols.
 use Rattle.std.specs.Prelude.{ℕ, ◌≡◌, List, [], ◌∷◌, Some, codes, slice_get}
-use Rattle.case_tables.specs.Tables.{keyword_names}
-use Rattle.slice_lexer.specs.Pieces.{symbols}
+use Rattle.case_tables.specs.Tables.{keyword_names, symbol_names}
 use Rattle.slice_syntax.specs.declared.sort.Sort.{Sort}
 use Rattle.slice_syntax.specs.declared.sort.Sort.TheVariants as sorts
 
@@ -140,7 +139,7 @@ minus = sorts.Symbol 16
 -- This is how the sort is written.
 abbrev pub IsWritten : Sort → List ℕ → Type 0
 IsWritten (sorts.Keyword n) text = slice_get keyword_names n ≡ Some text
-IsWritten (sorts.Symbol n) text = slice_get symbols n ≡ Some text
+IsWritten (sorts.Symbol n) text = slice_get symbol_names n ≡ Some text
 IsWritten sorts.Word text = ⊥
 IsWritten sorts.Number text = ⊥
 IsWritten sorts.Text text = ⊥

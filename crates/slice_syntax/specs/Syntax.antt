@@ -20,11 +20,23 @@ abbrev pub Refuses : Lexemes → Lexemes → Type 0
 Refuses before [] = (file : File) → Reads before file → ⊥
 Refuses before (l ∷ behind) = Begins (before ++ l ∷ []) → ⊥
 
--- The tokens behind some begin with the first one that no file goes on with. It may be the end.
+-- The tokens after some begin with the first one that no file goes on with. It may be the end.
 pub record SyntaxBreaks (ls before behind : Lexemes) : Type 0 where
   pub parts : ls ≡ before ++ behind
   pub alive : GoesOn before
   pub refused : Refuses before behind
+
+-- The tokens are some file.
+abbrev pub IsFile : Lexemes → Type 0
+IsFile ls = (file : File) × Reads ls file
+
+-- These tokens of them begin with the first one that no file goes on with. They may be none, at the end.
+abbrev pub BreaksAt : Lexemes → Lexemes → Type 0
+BreaksAt ls behind = (before : Lexemes) × SyntaxBreaks ls before behind
+
+-- Some token of them, or the end, is the first that no file goes on with.
+abbrev pub IsBroken : Lexemes → Type 0
+IsBroken ls = (before behind : Lexemes) × SyntaxBreaks ls before behind
 
 -- The place and the kind of the next token, or the text's length and None at the end.
 abbrev pub fault_at : ℕ → Lexemes → SyntaxFault
@@ -35,7 +47,7 @@ fault_at end (l ∷ ls) = faults.Expected l.from (Some l.kind)
 abbrev pub FaultOf : ℕ → Lexemes → SyntaxFault → Type 0
 FaultOf end ls fault = (before behind : Lexemes) × SyntaxBreaks ls before behind × (fault ≡ fault_at end behind)
 
--- The answer to a text with these tokens. Want of memory says nothing of them.
+-- The answer to a text with these tokens. Out of memory says nothing of them.
 abbrev pub Answers : List ℕ → List Token → Result File SyntaxFault → Type 0
 Answers text tokens (Ok file) = Reads (lexemes text tokens) file
 Answers text tokens (Err faults.Memory) = Unit {0}

@@ -22,7 +22,7 @@ use std::alloc::Global;
 use std::marker::Model;
 
 /// The tokens of a text from one of them on. Each taking call takes the next one and goes on
-/// behind it, or refuses it and stays before it.
+/// after it, or refuses it and stays before it.
 #[derive(Debug, Drop)]
 pub(crate) struct Cursor<'a> {
     text: &'a [u8],
@@ -83,7 +83,7 @@ impl<'a> Cursor<'a> {
         }
     }
 
-    /// Goes on behind the next token, where there is one.
+    /// Goes on after the next token, where there is one.
     fn advance(&mut self)
         ensures { self.new ≡ drop 1 self.old }
     {

@@ -89,7 +89,7 @@ fn entries(alloc: Global, cursor: &mut Cursor) -> Result<List<(Word, Option<Cons
     Ok(entries)
 }
 
-/// An entry, and whether a comma stands behind it.
+/// An entry, and whether a comma stands after it.
 #[tactic(auto, unfolding(crate::specs::Rules::entry_comma))]
 fn entry_comma(alloc: Global, cursor: &mut Cursor) -> Result<((Word, Option<Constant>), bool), Stop>
     ensures { Takes (λ x. x) result cursor.new (read entry_comma cursor.old) }

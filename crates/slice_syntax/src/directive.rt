@@ -33,10 +33,7 @@ pub(crate) fn directive_sort(bytes: &[u8]) -> Sort
 pub(crate) fn if_text(bytes: &[u8]) -> Option<&str>
     ensures { text_seen result ≡ if_text bytes.now }
 {
-    match std::str::from_utf8(bytes) {
-        Ok(text) => Some(text),
-        Err(_) => None,
-    }
+    std::str::from_utf8(bytes).ok()
 }
 
 /// The name that an `#include` names.
@@ -89,7 +86,7 @@ fn is_bare(bytes: &[u8]) -> bool
     bytes.iter().all(|byte| byte.is_ascii_whitespace())
 }
 
-/// The line of a directive behind its `#` and blanks.
+/// The line of a directive after its `#` and blanks.
 fn directive_line(bytes: &[u8]) -> &[u8]
     ensures { result.now ≡ directive_line bytes.now }
 {
@@ -107,7 +104,7 @@ fn directive_word(bytes: &[u8]) -> &[u8]
     &line[..word_length(line)]
 }
 
-/// What stands behind the first word of a directive and the blanks there.
+/// What stands after the first word of a directive and the blanks there.
 fn directive_rest(bytes: &[u8]) -> &[u8]
     ensures { result.now ≡ directive_rest bytes.now }
 {
@@ -134,7 +131,7 @@ fn is_once(bytes: &[u8]) -> bool
     bytes.starts_with(b"once") && is_bare(&bytes[4..])
 }
 
-/// The text before a mark, behind which only blanks stand.
+/// The text before a mark, after which only blanks stand.
 fn up_to(mark: u8, bytes: &[u8]) -> Option<&str>
     ensures { text_seen result ≡ up_to mark bytes.now }
 {

@@ -2,18 +2,18 @@
 //!
 //! `parse` answers the tree of exactly the texts that the grammar has, and for any other text the first token after
 //! which no file can go on, or the text's end: some file begins with the tokens before it, and none with those up to it.
-//! `specs/Rules.antt` and `specs/Files.antt` have the grammar, rule by rule, and `specs/Syntax.antt` says what is answered. `one_answer` is the law that this leaves no choice.
+//! `specs/Rules.antt` and `specs/Files.antt` have the grammar, rule by rule, and `specs/Syntax.antt` says what is
+//! answered. `one_answer` is the law that this leaves no choice. `cases/slice-trees.cases` and `cases/slice-faults.cases`
+//! have texts with what they declare, and with the token that no file goes on with.
 //!
-//! - A name is a word that is no keyword, or any word behind a `\`, which is not part of the name.
+//! - A name is a word that is no keyword, or any word after a `\`, which is not part of the name.
 //! - Metadata and directives leave nothing in the tree, but for `#include` with its name.
 //! - Before the modules stand `#include "NAME"`, `#include <NAME>`, `#pragma once`, `#ifndef WORD`, `#define WORD` and
-//!   `[[..]]`. NAME is UTF-8. Behind the modules stands `#endif`, once, exactly where an `#ifndef` stands before them.
-//! - Blanks may stand behind the `#` of a directive, between its parts and at its end. A comment may not.
+//!   `[[..]]`. NAME is UTF-8. After the modules stands `#endif`, once, exactly where an `#ifndef` stands before them.
+//! - Blanks may stand after the `#` of a directive, between its parts and at its end. A comment may not.
 //! - A module in a module takes no stack: the tree is flat, and modules are read in one loop.
 #![tactic(auto)]
 
-#[cfg(test)]
-mod accepted;
 mod classes;
 mod cursor;
 mod definitions;
@@ -22,11 +22,7 @@ mod fault;
 mod interfaces;
 mod modules;
 mod parser;
-#[cfg(test)]
-mod refusals;
 mod sort;
-#[cfg(test)]
-mod tests;
 mod tree;
 mod words;
 

@@ -1,14 +1,14 @@
 //! Modules, which nest without a recursion.
 
-ghost use Rattle.std.specs.Prelude.{◌≡◌, ◌∷◌, ◌++◌, Err, OnErr, OnOk, length, reverse};
+ghost use Rattle.std.specs.Prelude.{◌≡◌, ◌++◌, Err, OnErr, OnOk};
 ghost use Rattle.slice_syntax.specs.declared.fault.Stop.TheVariants as stops;
 ghost use Rattle.slice_syntax.specs.Grammar.{parted, ◌▸◌};
 ghost use Rattle.slice_syntax.specs.Sorts.{colons};
 ghost use Rattle.slice_syntax.specs.Reading.{read};
 ghost use Rattle.slice_syntax.specs.Rules.{metadata, word};
-ghost use Rattle.slice_syntax.specs.Files.{enters, exits, head};
-ghost use Rattle.slice_syntax.specs.Moving.{inner_move, items_of, modules_at, moved};
-ghost use Rattle.slice_syntax.specs.Taking.{Takes, TakesWith};
+ghost use Rattle.slice_syntax.specs.Files.{Enters, Opens, exits, head};
+ghost use Rattle.slice_syntax.specs.Moving.{modules_at};
+ghost use Rattle.slice_syntax.specs.Taking.{Takes, TakesMove, TakesWith};
 
 use crate::cursor::Cursor;
 use crate::definitions::{close, definition};
@@ -38,33 +38,33 @@ pub(crate) fn modules(alloc: Global, cursor: &mut Cursor) -> Result<List<Item>, 
     }
 }
 
-/// The head of a module behind its metadata, and how many names it has.
+/// The head of a module after its metadata, and how many names it has.
 fn outer_move(alloc: Global, cursor: &mut Cursor, items: &mut List<Item>) -> Result<usize, Stop>
-    ensures { TakesWith (λ count words. (count ≡ length words) × (items.new ≡ items.old ++ enters words)) result cursor.new (read (metadata ▸ head) cursor.old) }
+    ensures { TakesWith (Opens items.old items.new) result cursor.new (read (metadata ▸ head) cursor.old) }
 {
     metadata(cursor)?;
     module_head(alloc, cursor, items)
 }
 
 /// The head of a module, a definition, or the end of the innermost module, which has so many names.
-/// `open_modules` has the numbers of names of the modules that are open around it, and then of all.
+/// `around` has the numbers of names of the modules that are open around it, and after the call of all.
 fn inner_move(
     alloc: Global,
     cursor: &mut Cursor,
     names: usize,
-    open_modules: &mut Vec<usize>,
+    around: &mut Vec<usize>,
     items: &mut List<Item>,
 ) -> Result<(), Stop>
-    ensures { TakesWith (λ u move. (reverse open_modules.new.items ≡ moved (names ∷ reverse open_modules.old.items) move) × (items.new ≡ items.old ++ items_of (names ∷ reverse open_modules.old.items) move)) result cursor.new (read inner_move cursor.old) }
+    ensures { TakesMove names around.old.items around.new.items items.old items.new result cursor.old cursor.new }
 {
     if cursor.begins(&[CLOSE_BRACE]) {
         close(cursor)?;
         return leave(names, items);
     }
-    open_modules.push(names)?;
+    around.push(names)?;
     metadata(cursor)?;
     if cursor.begins(&[MODULE]) {
-        open_modules.push(module_head(alloc, cursor, items)?)?;
+        around.push(module_head(alloc, cursor, items)?)?;
     } else {
         items.push(definition(alloc, cursor)?)?;
     }
@@ -73,7 +73,7 @@ fn inner_move(
 
 /// `"module" word { "::" word } "{"`, and how many words these are.
 fn module_head(alloc: Global, cursor: &mut Cursor, items: &mut List<Item>) -> Result<usize, Stop>
-    ensures { TakesWith (λ count words. (count ≡ length words) × (items.new ≡ items.old ++ enters words)) result cursor.new (read head cursor.old) }
+    ensures { TakesWith (Opens items.old items.new) result cursor.new (read head cursor.old) }
 {
     cursor.take(MODULE)?;
     let before = items.len();
@@ -84,7 +84,7 @@ fn module_head(alloc: Global, cursor: &mut Cursor, items: &mut List<Item>) -> Re
 
 /// `word { "::" word }`
 fn module_words(alloc: Global, cursor: &mut Cursor, items: &mut List<Item>) -> Result<(), Stop>
-    ensures { TakesWith (λ u words. items.new ≡ items.old ++ enters words) result cursor.new (read (parted colons word) cursor.old) }
+    ensures { TakesWith (Enters items.old items.new) result cursor.new (read (parted colons word) cursor.old) }
 {
     items.push(Item::Enter(cursor.take_word(alloc)?))?;
     while cursor.begins(&[COLONS]) {

@@ -1,15 +1,15 @@
 //! From the tokens of a text to what it declares.
 
-ghost use Rattle.std.specs.Prelude.{◌≡◌, ◌≤◌, ◌⊎◌, ◌++◌, [], ◌∷◌, length};
-ghost use Rattle.slice_lexer.specs.Lexing.{Lexes};
+ghost use Rattle.std.specs.Prelude.{◌≡◌, ◌≤◌, ◌⊎◌, [], ◌∷◌, length};
+ghost use Rattle.slice_lexer.specs.Lexing.{Lexes, MOST_BYTES};
 ghost use Rattle.slice_syntax.specs.declared.sort.Sort.TheVariants as sorts;
 ghost use Rattle.slice_syntax.specs.Lexemes.{Lexemes};
 ghost use Rattle.slice_syntax.specs.Reading.{read, token_at};
 ghost use Rattle.slice_syntax.specs.declared.tree.File.{File};
 ghost use Rattle.slice_syntax.specs.Sorts.{AreWritten, written};
-ghost use Rattle.slice_syntax.specs.Files.{Reads, directive, directives, include_of, includes_in, is_guarded};
+ghost use Rattle.slice_syntax.specs.Files.{Notes, NotesOne, Reads, directive, directives, include_of};
 ghost use Rattle.slice_syntax.specs.Moving.{closing_at, end_at, whole_at};
-ghost use Rattle.slice_syntax.specs.Syntax.{Answers, SyntaxBreaks};
+ghost use Rattle.slice_syntax.specs.Syntax.{Answers, BreaksAt, IsBroken, IsFile};
 ghost use Rattle.slice_syntax.specs.Taking.{Takes, TakesNoMemory, TakesWith};
 
 use crate::cursor::Cursor;
@@ -26,7 +26,7 @@ use std::alloc::Global;
 /// What the text declares, or the first token after which no file can go on.
 pub fn parse(alloc: Global, text: &[u8], tokens: &Tokens) -> Result<File, SyntaxFault>
     requires lexed { Lexes text.now tokens.now }
-    requires few { length text.now ≤ 1000000 }
+    requires few { length text.now ≤ MOST_BYTES }
     ensures { Answers text.now tokens.now result }
 {
     let mut cursor = Cursor::new(text, tokens);
@@ -39,10 +39,10 @@ pub fn parse(alloc: Global, text: &[u8], tokens: &Tokens) -> Result<File, Syntax
 
 /// Tokens are a file, and one alone, or have a first one that no file goes on with, and never both.
 pub fn one_answer()
-    ensures either { (ls : Lexemes) → ((file : File) × Reads ls file) ⊎ ((before behind : Lexemes) × SyntaxBreaks ls before behind) }
+    ensures either { (ls : Lexemes) → IsFile ls ⊎ IsBroken ls }
     ensures one_file { (ls : Lexemes) (file other : File) → Reads ls file → Reads ls other → file ≡ other }
-    ensures one_break { (ls before behind others rest : Lexemes) → SyntaxBreaks ls before behind → SyntaxBreaks ls others rest → behind ≡ rest }
-    ensures never_both { (ls : Lexemes) (file : File) (before behind : Lexemes) → Reads ls file → SyntaxBreaks ls before behind → ⊥ }
+    ensures one_break { (ls behind rest : Lexemes) → BreaksAt ls behind → BreaksAt ls rest → behind ≡ rest }
+    ensures never_both { (ls : Lexemes) → IsFile ls → IsBroken ls → ⊥ }
 {}
 
 /// The codes that the grammar goes by are those of the words and symbols that they are called after.
@@ -50,7 +50,7 @@ pub fn words_written()
     ensures { AreWritten written }
 {}
 
-/// `{ directive | filemeta } { meta module } { directive }`, and nothing behind it.
+/// `{ directive | filemeta } { meta module } { directive }`, and nothing after it.
 fn file(alloc: Global, cursor: &mut Cursor) -> Result<File, Stop>
     ensures { Takes (λ x. x) result cursor.new (whole_at cursor.old) }
 {
@@ -65,7 +65,7 @@ fn file(alloc: Global, cursor: &mut Cursor) -> Result<File, Stop>
 /// `{ directive | filemeta }`, and whether an `#ifndef` is among them.
 #[tactic(auto, unfolding(crate::specs::Files::directives))]
 fn heads(alloc: Global, cursor: &mut Cursor, included: &mut List<(Name, u32)>) -> Result<bool, Stop>
-    ensures { TakesWith (λ guarded heads. (guarded ≡ is_guarded heads) × (included.new ≡ included.old ++ includes_in heads)) result cursor.new (read directives cursor.old) }
+    ensures { TakesWith (Notes included.old included.new) result cursor.new (read directives cursor.old) }
 {
     let mut guarded = false;
     while cursor.begins(&[Sort::Include, Sort::Guard, Sort::Aside, OPEN_TWO]) {
@@ -78,7 +78,7 @@ fn heads(alloc: Global, cursor: &mut Cursor, included: &mut List<(Name, u32)>) -
 /// A directive before the modules or metadata of the file, and whether it is an `#ifndef`.
 #[tactic(auto, unfolding(crate::specs::Files::directive))]
 fn head(alloc: Global, cursor: &mut Cursor, included: &mut List<(Name, u32)>) -> Result<bool, Stop>
-    ensures { TakesWith (λ guards head. (guards ≡ is_guarded (head ∷ [])) × (included.new ≡ included.old ++ includes_in (head ∷ []))) result cursor.new (read directive cursor.old) }
+    ensures { TakesWith (NotesOne included.old included.new) result cursor.new (read directive cursor.old) }
 {
     if cursor.begins(&[Sort::Include]) {
         included.push(take_include(alloc, cursor)?)?;

@@ -25,9 +25,9 @@ pub struct Path {
 /// A type where it is used.
 #[derive(Debug, Drop)]
 pub enum TypeWord {
-    /// A keyword with its code in the table of keywords, and whether `*` stands behind it.
+    /// A keyword with its code in the table of keywords, and whether `*` stands after it.
     Built { code: u8, star: bool, place: u32 },
-    /// A name, and whether `*` stands behind it.
+    /// A name, and whether `*` stands after it.
     Named { path: Path, star: bool },
 }
 
@@ -59,7 +59,7 @@ pub struct Field {
     pub tag: Option<Constant>,
     pub kind: TypeWord,
     pub word: Word,
-    /// The value behind `=`. A parameter has none.
+    /// The value after `=`. A parameter has none.
     pub value: Option<Constant>,
 }
 

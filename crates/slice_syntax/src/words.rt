@@ -17,82 +17,30 @@ use ice_types::{List, Name};
 use slice_lexer::TokenKind;
 use std::alloc::Global;
 
-/// The keywords that are types and have no `*` behind them.
+/// The keywords that are types and have no `*` after them.
 const PLAIN_TYPES: [Sort; 9] = [BOOL, BYTE, SHORT, INT, LONG, FLOAT, DOUBLE, STRING, VALUE];
 
+/// These, and what a type begins with.
+macro_rules! or_type {
+    ($($other:expr),*) => {
+        [
+            $($other,)*
+            BOOL, BYTE, SHORT, INT, LONG, FLOAT, DOUBLE, STRING, VALUE, OBJECT, COLONS, Sort::Word,
+        ]
+    };
+}
+
 /// What a member of a struct may begin with.
-pub(crate) const MEMBERS: [Sort; 13] = [
-    OPEN_SQUARE,
-    BOOL,
-    BYTE,
-    SHORT,
-    INT,
-    LONG,
-    FLOAT,
-    DOUBLE,
-    STRING,
-    VALUE,
-    OBJECT,
-    COLONS,
-    Sort::Word,
-];
+pub(crate) const MEMBERS: [Sort; 13] = or_type![OPEN_SQUARE];
 
 /// What a member of a class or an exception may begin with.
-pub(crate) const TAGGED_MEMBERS: [Sort; 14] = [
-    OPEN_SQUARE,
-    OPTIONAL,
-    BOOL,
-    BYTE,
-    SHORT,
-    INT,
-    LONG,
-    FLOAT,
-    DOUBLE,
-    STRING,
-    VALUE,
-    OBJECT,
-    COLONS,
-    Sort::Word,
-];
+pub(crate) const TAGGED_MEMBERS: [Sort; 14] = or_type![OPEN_SQUARE, OPTIONAL];
 
 /// What an operation may begin with.
-pub(crate) const OPERATIONS: [Sort; 16] = [
-    OPEN_SQUARE,
-    IDEMPOTENT,
-    VOID,
-    OPTIONAL,
-    BOOL,
-    BYTE,
-    SHORT,
-    INT,
-    LONG,
-    FLOAT,
-    DOUBLE,
-    STRING,
-    VALUE,
-    OBJECT,
-    COLONS,
-    Sort::Word,
-];
+pub(crate) const OPERATIONS: [Sort; 16] = or_type![OPEN_SQUARE, IDEMPOTENT, VOID, OPTIONAL];
 
 /// What a parameter may begin with.
-pub(crate) const PARAMETERS: [Sort; 15] = [
-    OUT,
-    OPEN_SQUARE,
-    OPTIONAL,
-    BOOL,
-    BYTE,
-    SHORT,
-    INT,
-    LONG,
-    FLOAT,
-    DOUBLE,
-    STRING,
-    VALUE,
-    OBJECT,
-    COLONS,
-    Sort::Word,
-];
+pub(crate) const PARAMETERS: [Sort; 15] = or_type![OUT, OPEN_SQUARE, OPTIONAL];
 
 /// `{ "[" text { "," text } "]" }`
 #[tactic(auto, unfolding(crate::specs::Rules::metadata))]
@@ -304,20 +252,22 @@ fn number_size(kind: TokenKind) -> u64
     }
 }
 
+/// Whether the token is the symbol `-`.
 fn is_minus(kind: TokenKind) -> bool
     ensures { result ≡ is_minus kind }
 {
     match kind {
-        TokenKind::Symbol(code) => code == 16,
+        TokenKind::Symbol(code) => Sort::Symbol(code) == MINUS,
         _ => false,
     }
 }
 
+/// Whether the token is the keyword `true`.
 fn is_true(kind: TokenKind) -> bool
     ensures { result ≡ is_true kind }
 {
     match kind {
-        TokenKind::Keyword(code) => code == 27,
+        TokenKind::Keyword(code) => Sort::Keyword(code) == TRUE,
         _ => false,
     }
 }

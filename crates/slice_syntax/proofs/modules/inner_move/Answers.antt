@@ -35,7 +35,7 @@ returns-in_err-definition c =
 pub returns-in_ok-push-2 : goal.returns-in_ok-push-2
 returns-in_ok-push-2 c =
     let held = c.in_ok-module_head.ensures in
-    let one = reverse_pushed c.args.open_modules.now.items c.push.new.self.items c.args.names c.in_ok-push.ensures.items in
+    let one = reverse_pushed c.args.around.now.items c.push.new.self.items c.args.names c.in_ok-push.ensures.items in
     let two = reverse_pushed c.push.new.self.items c.push-then-begins-2.new.self.items c.in_ok-module_head.field-0 c.in_ok-push-2.ensures.items in (
       enter held.0,
       enter_read c.args.cursor.now c.metadata.new.cursor c.module_head.new.cursor held.0 (sym c.begins.ensures ∙ c.if-begins.false) c.in_ok-metadata.ensures (sym c.begins-2.ensures ∙ c.if-begins-2.true) held.1,
@@ -47,5 +47,5 @@ returns-in_ok-push-3 c = (
   hold c.in_ok-definition.field-0,
   hold_read c.args.cursor.now c.metadata.new.cursor c.definition.new.cursor c.in_ok-definition.field-0 (sym c.begins.ensures ∙ c.if-begins.false) c.in_ok-metadata.ensures (sym c.begins-2.ensures ∙ c.if-begins-2.false)
       c.in_ok-definition.ensures,
-  (reverse_pushed c.args.open_modules.now.items c.push.new.self.items c.args.names c.in_ok-push.ensures.items, c.in_ok-push-3.ensures.ok),
+  (reverse_pushed c.args.around.now.items c.push.new.self.items c.args.names c.in_ok-push.ensures.items, c.in_ok-push-3.ensures.ok),
 )

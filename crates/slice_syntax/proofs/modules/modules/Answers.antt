@@ -25,7 +25,7 @@ pub loop-names-preserved-in_ok-inner_move-in-Some : goal.loop-names-preserved-in
 loop-names-preserved-in_ok-inner_move-in-Some c =
     let held = c.in_ok-inner_move-in-Some.ensures in
     let stack = reverse_pushed c.pop.new.self.items c.loop-names.open_modules.items c.in-Some.names c.in-Some.ensures.items in
-    resume_more c.loop-names.items c.inner_move.new.items (c.in-Some.names ∷ reverse c.pop.new.self.items) (reverse c.inner_move.new.open_modules.items) c.loop-names.cursor c.inner_move.new.cursor held.0 (modules_at c.args.cursor.now)
+    resume_more c.loop-names.items c.inner_move.new.items (c.in-Some.names ∷ reverse c.pop.new.self.items) (reverse c.inner_move.new.around.items) c.loop-names.cursor c.inner_move.new.cursor held.0 (modules_at c.args.cursor.now)
     (inner_begun c.loop-names.cursor c.inner_move.new.cursor held.0 held.1) held.1 held.2.1 held.2.0 (ap (λ (o : Open). resume c.loop-names.items o c.loop-names.cursor) (sym stack) ∙ c.loop-names.invariant)
 
 pub returns-in_err-inner_move-in-Some : goal.returns-in_err-inner_move-in-Some

@@ -8,7 +8,7 @@ pub returns-clause-one_file : goal.returns-clause-one_file
 returns-clause-one_file c = one_file
 
 pub returns-clause-one_break : goal.returns-clause-one_break
-returns-clause-one_break c = λ ls before behind others rest a b. one_break ls before behind others rest a b
+returns-clause-one_break c = λ ls behind rest a b. one_break ls a.0 behind b.0 rest a.1 b.1
 
 pub returns-clause-never_both : goal.returns-clause-never_both
-returns-clause-never_both c = never_both
+returns-clause-never_both c = λ ls a b. never_both ls a.0 b.0 b.1 a.1 b.2
