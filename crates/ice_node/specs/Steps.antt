@@ -1,4 +1,5 @@
--- What the steps of reading an encapsulation answer.
+-- What the steps of reading an encapsulation answer: its size, its version and its end. (Ice manual,
+-- "Basic Data Encoding", "Encapsulations".)
 use Rattle.std.specs.Prelude.{ℕ, ℤ, ◌≡◌, List, [], ◌∷◌, length, Result, Ok, Err}
 use Rattle.ice_prims.specs.declared.fault.Fault.{Fault}
 use Rattle.ice_prims.specs.declared.fault.Kind.TheVariants.{LeftOver}
