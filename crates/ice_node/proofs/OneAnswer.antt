@@ -1,13 +1,13 @@
 -- At most one answer is decided where the outside tells what it holds.
-use Rattle.std.proofs.Common.{◌≡◌, ℕ, List, Option, None, Some, IsSome, refl, sym, ap, subst, ◌∙◌, inl, inr, ◌⊎◌}
+use Rattle.std.proofs.Common.{◌≡◌, ℕ, List, Option, None, Some, refl, sym, ap, subst, ◌∙◌, inl, inr, ◌⊎◌}
 use Rattle.ice_types.specs.declared.kind.TypeRef.{TypeRef}
 use Rattle.ice_types.specs.Tables.{Tables, Names}
 use Rattle.ice_encoding.specs.Encapsulation.{SpellsEncapsulation, encapsulation_bytes}
 use Rattle.ice_encoding.proofs.Encapsulations.{encapsulation_apart}
 use Rattle.ice_node.specs.Words.{Word, Command, relay, help, version, Asks}
-use Rattle.ice_node.specs.Outside.{Files, Failures, Outside}
+use Rattle.ice_node.specs.Outside.{Files, Failures}
 use Rattle.slice_check.specs.SliceText.{Means}
-use Rattle.ice_node.specs.Statuses.{Answer, done, usage, no_such_name, slice_refused, input_refused, read_failed, write_failed, no_memory, status, FileMeans, IsType, Relays, Decides, Decided, Causes, IsTold, Ends}
+use Rattle.ice_node.specs.Statuses.{Answer, done, usage, no_such_name, slice_refused, input_refused, read_failed, write_failed, no_memory, status, FileMeans, IsType, Relays, Decides, Decided, Causes, Ends}
 use Rattle.ice_node.proofs.CommandForms.{asks_apart}
 use Rattle.slice_check.proofs.OneReading.{texts_apart}
 
@@ -90,24 +90,23 @@ decides_apart (Some help) files input a b p q = p ∙ sym q
 decides_apart (Some version) files input a b p q = p ∙ sym q
 decides_apart None files input a b p q = p ∙ sym q
 
-told_apart : (asked : Option Command) (files : Option Files) (input : Option (List ℕ)) (a b : Answer) → IsSome files → IsSome input → Decides asked files input a → Decides asked files input b → a ≡ b
-told_apart asked None input a b f i p q = absurd (cc f)
-told_apart asked (Some files) None a b f i p q = absurd (cc i)
-told_apart asked (Some files) (Some input) a b f i p q = decides_apart asked files input a b p q
-
-pub answers_apart : (words : List Word) (before : Outside) → IsTold before → (a b : Answer) → Decided words before a → Decided words before b → a ≡ b
-answers_apart words before told a b p q =
+pub answers_apart : (words : List Word) (files : Files) (input : List ℕ) (a b : Answer) → Decided words files input a → Decided words files input b → a ≡ b
+answers_apart words files input a b p q =
     let same = asks_apart words p.0 q.0 p.1 q.1 in
-    told_apart q.0 before.files before.input a b told.0 told.1 (subst (λ (x : Option Command). Decides x before.files before.input a) same p.2) q.2
+    decides_apart q.0 files input a b (subst (λ (x : Option Command). Decides x (Some files) (Some input) a) same p.2) q.2
 
 -- the answer that came is the one that is decided, unless something failed
-pub ends_told : (words : List Word) (before : Outside) (after : Failures) (asked : Option Command) (result : ℕ) (came : Answer) → Asks words asked → Causes asked before.files before.input before.failures after came → result ≡ status came
-    → IsTold before → (answer : Answer) → Decided words before answer → Ends result answer
-ends_told words before after asked result (done bytes) asks c e told answer d = inl (e ∙ ap status (answers_apart words before told (done bytes) answer (asked, asks, c.0) d))
-ends_told words before after asked result usage asks c e told answer d = inl (e ∙ ap status (answers_apart words before told usage answer (asked, asks, c.0) d))
-ends_told words before after asked result (no_such_name word) asks c e told answer d = inl (e ∙ ap status (answers_apart words before told (no_such_name word) answer (asked, asks, c.0) d))
-ends_told words before after asked result slice_refused asks c e told answer d = inl (e ∙ ap status (answers_apart words before told slice_refused answer (asked, asks, c.0) d))
-ends_told words before after asked result input_refused asks c e told answer d = inl (e ∙ ap status (answers_apart words before told input_refused answer (asked, asks, c.0) d))
-ends_told words before after asked result read_failed asks c e told answer d = inr (inl e)
-ends_told words before after asked result (write_failed bytes) asks c e told answer d = inr (inr (inl e))
-ends_told words before after asked result no_memory asks c e told answer d = inr (inr (inr e))
+ends_with : (words : List Word) (files : Files) (input : List ℕ) (before after : Failures) (asked : Option Command) (result : ℕ) (came answer : Answer) → Asks words asked → Causes asked (Some files) (Some input) before after came → result ≡ status came → Decided words files input answer → Ends result answer
+ends_with words files input b n asked result (done bytes) answer asks c e d = inl (e ∙ ap status (answers_apart words files input (done bytes) answer (asked, asks, c.0) d))
+ends_with words files input b n asked result usage answer asks c e d = inl (e ∙ ap status (answers_apart words files input usage answer (asked, asks, c.0) d))
+ends_with words files input b n asked result (no_such_name word) answer asks c e d = inl (e ∙ ap status (answers_apart words files input (no_such_name word) answer (asked, asks, c.0) d))
+ends_with words files input b n asked result slice_refused answer asks c e d = inl (e ∙ ap status (answers_apart words files input slice_refused answer (asked, asks, c.0) d))
+ends_with words files input b n asked result input_refused answer asks c e d = inl (e ∙ ap status (answers_apart words files input input_refused answer (asked, asks, c.0) d))
+ends_with words files input b n asked result read_failed answer asks c e d = inr (inl e)
+ends_with words files input b n asked result (write_failed bytes) answer asks c e d = inr (inr (inl e))
+ends_with words files input b n asked result no_memory answer asks c e d = inr (inr (inr e))
+
+pub ends_told : (words : List Word) (known : Option Files) (left : Option (List ℕ)) (before after : Failures) (asked : Option Command) (result : ℕ) (came : Answer) → Asks words asked → Causes asked known left before after came → result ≡ status came
+    → (files : Files) (input : List ℕ) (answer : Answer) → known ≡ Some files → left ≡ Some input → Decided words files input answer → Ends result answer
+ends_told words known left before after asked result came asks c e files input answer k l d =
+    ends_with words files input before after asked result came answer asks (subst (λ (x : Option (List ℕ)). Causes asked (Some files) x before after came) l (subst (λ (x : Option Files). Causes asked x left before after came) k c)) e d

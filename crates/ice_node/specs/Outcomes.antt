@@ -15,7 +15,7 @@ use Rattle.slice_check.specs.declared.fault.TextFault.TheVariants as text_faults
 use Rattle.ice_node.specs.declared.outcome.Outcome.{Outcome}
 use Rattle.ice_node.specs.declared.outcome.Outcome.TheVariants as outcomes
 use Rattle.ice_node.specs.Words.{Word, relay}
-use Rattle.ice_node.specs.Outside.{Files, Failures, NoneFailed}
+use Rattle.ice_node.specs.Outside.{Files, Failures, NoneFailed, counts}
 use Rattle.ice_node.specs.Streams.{TakesFrugally}
 use Rattle.ice_node.specs.Statuses.{Answer, done, usage, no_such_name, slice_refused, input_refused, read_failed, write_failed, no_memory, IsSchema, Relays, Causes, Takes}
 
@@ -58,8 +58,8 @@ FindsSchema files file before after (Ok t) = IsSchema files file t × (after ≡
 FindsSchema files file before after (Err outcome) =
     (word : Word) (input : Option (List ℕ)) (source sink : ℕ)
     → Causes (Some (relay file word)) files input
-        (record { shelf = before; source = source; sink = sink })
-        (record { shelf = after; source = source; sink = sink }) (answer_of outcome [])
+    (counts before source sink)
+    (counts after source sink) (answer_of outcome [])
 
 -- the bytes to be written, or why there are none
 abbrev pub FindsBytes : Option Files → Option (List ℕ) → Word → Word → (before after : Failures)
@@ -70,9 +70,11 @@ FindsBytes files input file word before after (Err outcome) =
     Causes (Some (relay file word)) files input before after (answer_of outcome [])
 
 -- what was taken of the input on the way
-abbrev pub TakesFound : {X : Type 0} → Word → Word → Option (List ℕ) → Option (List ℕ) → Result X Outcome → Type 0
+abbrev pub TakesFound : {X : Type 0} → Word → Word → (old new : Option (List ℕ))
+    → Result X Outcome → Type 0
 TakesFound file word old new (Ok found) = TakesFrugally old new
-TakesFound file word old new (Err outcome) = Takes (Some (relay file word)) old new (answer_of outcome [])
+TakesFound file word old new (Err outcome) =
+    Takes (Some (relay file word)) old new (answer_of outcome [])
 
 -- the bytes of a vector that was found
 abbrev pub bytes_found : {E : Type 0} → Result (Vec ℕ Global) E → Result (List ℕ) E

@@ -26,20 +26,24 @@ pub record Outside : Type 0 where
   -- those of the sink of errors
   pub error_failures : ℕ
 
+-- those of the shelf, the source and the sink
+abbrev pub counts : ℕ → ℕ → ℕ → Failures
+counts shelf source sink = record { shelf = shelf; source = source; sink = sink }
+
 -- ---- what failed between two moments: one call at most
 
 abbrev pub NoneFailed : Failures → Failures → Type 0
-NoneFailed before after =
-    (after.shelf ≡ before.shelf) × (after.source ≡ before.source) × (after.sink ≡ before.sink)
+NoneFailed before after = (after.shelf ≡ before.shelf)
+    × (after.source ≡ before.source) × (after.sink ≡ before.sink)
 
 abbrev pub ShelfFailed : Failures → Failures → Type 0
-ShelfFailed before after =
-    (after.shelf ≡ one_more before.shelf) × (after.source ≡ before.source) × (after.sink ≡ before.sink)
+ShelfFailed before after = (after.shelf ≡ one_more before.shelf)
+    × (after.source ≡ before.source) × (after.sink ≡ before.sink)
 
 abbrev pub SourceFailed : Failures → Failures → Type 0
-SourceFailed before after =
-    (after.shelf ≡ before.shelf) × (after.source ≡ one_more before.source) × (after.sink ≡ before.sink)
+SourceFailed before after = (after.shelf ≡ before.shelf)
+    × (after.source ≡ one_more before.source) × (after.sink ≡ before.sink)
 
 abbrev pub SinkFailed : Failures → Failures → Type 0
-SinkFailed before after =
-    (after.shelf ≡ before.shelf) × (after.source ≡ before.source) × (after.sink ≡ one_more before.sink)
+SinkFailed before after = (after.shelf ≡ before.shelf)
+    × (after.source ≡ before.source) × (after.sink ≡ one_more before.sink)

@@ -1,5 +1,5 @@
 -- What the program answers: the table of statuses, with the line and the cause of each.
-use Rattle.std.specs.Prelude.{ℕ, ◌≡◌, ◌⊎◌, List, [], ◌++◌, Option, Some, None, IfSome, IsSome, codes}
+use Rattle.std.specs.Prelude.{ℕ, ◌≡◌, ◌⊎◌, List, [], ◌++◌, Option, Some, None, IfSome, codes}
 use Rattle.std.specs.Io.KnownBytes.{Keeps, Appends}
 use Rattle.ice_types.specs.declared.kind.TypeRef.{TypeRef}
 use Rattle.ice_types.specs.Tables.{Tables, Names}
@@ -70,13 +70,18 @@ IsNamed t word kind = Names t word kind × ((other : TypeRef) → Names t word o
 abbrev pub IsType : Option Files → Word → Word → Tables → TypeRef → Type 0
 IsType files file word t kind = IsSchema files file t × IsNamed t word kind
 
+-- the file means a schema in which the word names a type
+abbrev pub HasType : Option Files → Word → Word → Type 0
+HasType files file word = (t : Tables) × (kind : TypeRef) × IsType files file word t kind
+
 -- the input is one encapsulation of this value alone, where the source tells it
 abbrev pub IsValue : Option (List ℕ) → Tables → TypeRef → Tree → Type 0
 IsValue input t kind v = IfSome input (λ known. SpellsEncapsulation t kind known v)
 
 -- the input is an encapsulation of no value, where the source tells it
 abbrev pub HasNoValue : Option (List ℕ) → Tables → TypeRef → Type 0
-HasNoValue input t kind = IfSome input (λ known. (v : Tree) → SpellsEncapsulation t kind known v → ⊥)
+HasNoValue input t kind =
+    IfSome input (λ known. (v : Tree) → SpellsEncapsulation t kind known v → ⊥)
 
 -- what `relay FILE TYPE` comes to
 abbrev pub Relays : Option Files → Option (List ℕ) → Word → Word → Answer → Type 0
@@ -99,14 +104,10 @@ Decides (Some help) files input answer = answer ≡ done HELP.now
 Decides (Some version) files input answer = answer ≡ done VERSION.now
 Decides None files input answer = answer ≡ usage
 
--- what the words come to
-abbrev pub Decided : List Word → Outside → Answer → Type 0
-Decided words before answer = (asked : Option Command)
-    × Asks words asked × Decides asked before.files before.input answer
-
--- the shelf and the source tell what they hold
-abbrev pub IsTold : Outside → Type 0
-IsTold before = IsSome before.files × IsSome before.input
+-- what the words come to, with these files and this input
+abbrev pub Decided : List Word → Files → List ℕ → Answer → Type 0
+Decided words files input answer = (asked : Option Command)
+    × Asks words asked × Decides asked (Some files) (Some input) answer
 
 -- the status is the answer's, unless a read or a write failed, or memory ran out
 abbrev pub Ends : ℕ → Answer → Type 0
@@ -116,8 +117,8 @@ Ends result answer = (result ≡ status answer) ⊎ ((result ≡ 5) ⊎ ((result
 
 -- Of what a read failed: FILE; or the input, and then FILE means a schema in which TYPE is named.
 abbrev pub ReadFails : Option Command → Option Files → Failures → Failures → Type 0
-ReadFails (Some (relay file word)) files before after = ShelfFailed before after
-    ⊎ (((t : Tables) × (kind : TypeRef) × IsType files file word t kind) × SourceFailed before after)
+ReadFails (Some (relay file word)) files before after =
+    ShelfFailed before after ⊎ (HasType files file word × SourceFailed before after)
 ReadFails (Some help) files before after = ⊥
 ReadFails (Some version) files before after = ⊥
 ReadFails None files before after = ⊥
@@ -129,15 +130,24 @@ MayRunOut (Some help) files = ⊥
 MayRunOut (Some version) files = ⊥
 MayRunOut None files = ⊥
 
-abbrev pub Causes : Option Command → Option Files → Option (List ℕ) → (before after : Failures) → Answer → Type 0
-Causes asked files input before after (done bytes) = Decides asked files input (done bytes) × NoneFailed before after
-Causes asked files input before after usage = Decides asked files input usage × NoneFailed before after
-Causes asked files input before after (no_such_name word) = Decides asked files input (no_such_name word) × NoneFailed before after
-Causes asked files input before after slice_refused = Decides asked files input slice_refused × NoneFailed before after
-Causes asked files input before after input_refused = Decides asked files input input_refused × NoneFailed before after
-Causes asked files input before after read_failed = ReadFails asked files before after
-Causes asked files input before after (write_failed bytes) = Decides asked files input (done bytes) × SinkFailed before after
-Causes asked files input before after no_memory = MayRunOut asked files × NoneFailed before after
+abbrev pub Causes : Option Command → Option Files → Option (List ℕ)
+    → (before after : Failures) → Answer → Type 0
+Causes asked files input before after (done bytes) =
+    Decides asked files input (done bytes) × NoneFailed before after
+Causes asked files input before after usage =
+    Decides asked files input usage × NoneFailed before after
+Causes asked files input before after (no_such_name word) =
+    Decides asked files input (no_such_name word) × NoneFailed before after
+Causes asked files input before after slice_refused =
+    Decides asked files input slice_refused × NoneFailed before after
+Causes asked files input before after input_refused =
+    Decides asked files input input_refused × NoneFailed before after
+Causes asked files input before after read_failed =
+    ReadFails asked files before after
+Causes asked files input before after (write_failed bytes) =
+    Decides asked files input (done bytes) × SinkFailed before after
+Causes asked files input before after no_memory =
+    MayRunOut asked files × NoneFailed before after
 
 -- ---- what each answer took and wrote
 
@@ -178,7 +188,8 @@ GetsLine old new before after answer =
 
 -- The words ask for this command or none, this answer comes for its cause, its status is returned,
 -- and the input, the sink and the sink of errors are as it says.
-pub record Answered (words : List Word) (before after : Outside) (result : ℕ) (answer : Answer) : Type 0 where
+pub record Answered (words : List Word) (before after : Outside) (result : ℕ) (answer : Answer)
+    : Type 0 where
   pub asked : Option Command
   pub asks : Asks words asked
   pub cause : Causes asked before.files before.input before.failures after.failures answer

@@ -9,8 +9,9 @@ use Rattle.ice_node.specs.declared.encapsulation.TheConstants.{SMALLEST, LARGEST
 
 -- ---- input
 
--- Bytes were read after those that were there, up to a number of bytes in all or the end of the input.
-pub record ReadsUpTo (goal : ℕ) (old_left new_left : Option (List ℕ)) (old new : List ℕ) : Type 0 where
+-- Bytes were read after those that were there, up to so many in all or the end of the input.
+pub record ReadsUpTo (goal : ℕ) (old_left new_left : Option (List ℕ)) (old new : List ℕ)
+    : Type 0 where
   pub more : List ℕ
   pub parts : new ≡ old ++ more
   pub within : length new ≤ goal
@@ -63,9 +64,12 @@ ReadsInput old_left new_left got =
 
 -- a prefix of the bytes was taken
 abbrev pub AppendsPrefix : Option (List ℕ) → Option (List ℕ) → List ℕ → Type 0
-AppendsPrefix old new bytes = (prefix rest : List ℕ) × (bytes ≡ prefix ++ rest) × Appends old new prefix
+AppendsPrefix old new bytes =
+    (prefix rest : List ℕ) × (bytes ≡ prefix ++ rest) × Appends old new prefix
 
 -- The sink got the bytes, and no write failed; or it got a prefix of them, and then one failed.
-abbrev pub Writes : {X E : Type 0} → (old new : Option (List ℕ)) → (before after : ℕ) → Result X E → List ℕ → Type 0
+abbrev pub Writes : {X E : Type 0} → (old new : Option (List ℕ)) → (before after : ℕ)
+    → Result X E → List ℕ → Type 0
 Writes old new before after (Ok x) bytes = Appends old new bytes × (after ≡ before)
-Writes old new before after (Err e) bytes = AppendsPrefix old new bytes × (after ≡ one_more before)
+Writes old new before after (Err e) bytes =
+    AppendsPrefix old new bytes × (after ≡ one_more before)

@@ -20,7 +20,8 @@ IsWord word = length word ≤ MOST_OF_A_WORD
 
 -- The listed forms. Words that are none of them are a faulty command line.
 abbrev pub Form : List Word → Command → Type 0
-Form words (relay file kind) = (words ≡ codes "relay" ∷ file ∷ kind ∷ []) × IsWord file × IsWord kind
+Form words (relay file kind) =
+    (words ≡ codes "relay" ∷ file ∷ kind ∷ []) × IsWord file × IsWord kind
 Form words help = words ≡ codes "--help" ∷ []
 Form words version = words ≡ codes "--version" ∷ []
 

@@ -9,7 +9,7 @@ ghost use Rattle.ice_prims.specs.Taking.{TakesUnlessMemory, GivesUnlessMemory};
 ghost use Rattle.ice_encoding.specs.Canonical.{canonical, HasSizes};
 ghost use Rattle.ice_encoding.specs.Encapsulation.{encapsulation_size, version_at, encapsulation_at, encapsulation_bytes};
 ghost use Rattle.graph_arena.specs.View.{view};
-ghost use Rattle.ice_node.specs.Steps.{Bounds, TakesVersion, Ends};
+ghost use Rattle.ice_node.specs.Steps.{Bounds, TakesVersion, IsEnd};
 
 use graph_arena::Value;
 use ice_prims::{Cursor, Fault, Kind, ReadFault, put_byte, put_int};
@@ -76,7 +76,7 @@ fn take_version(cursor: &mut Cursor<'_>) -> Result<(), Fault>
 
 /// The end of a bound.
 fn end(cursor: &Cursor<'_>) -> Result<(), Fault>
-    ensures { Ends result cursor.now }
+    ensures { IsEnd result cursor.now }
 {
     if cursor.left() > 0 {
         return Err(cursor.fault(Kind::LeftOver));

@@ -14,9 +14,8 @@ use std::alloc::Global;
 /// is none, no more than the size is read. What was read of a source that fails is lost; that was
 /// no more either. (Ice manual, "Encapsulations".)
 pub fn read_input<S: Source>(alloc: Global, source: &mut S) -> Result<Vec<u8>, PortFault>
-    ensures read {
-        IfOk result (λ got. ReadsInput (S.left source.old) (S.left source.new) got.items)
-    }
+    ensures read { IfOk result (λ got.
+        ReadsInput (S.left source.old) (S.left source.new) got.items) }
     ensures taken { TakesFrugally (S.left source.old) (S.left source.new) }
     ensures count { S.failures source.new ≡ count_after (S.failures source.old) (is_failed result) }
 {
@@ -45,12 +44,10 @@ fn claimed_size(bytes: &[u8]) -> Option<usize>
 /// After a fault no more than that was taken.
 fn read_up_to<S: Source>(source: &mut S, bytes: &mut Vec<u8>, goal: usize) -> Result<(), PortFault>
     requires { vec_len bytes.old ≤ goal }
-    ensures read {
-        OnOk result (ReadsUpTo goal (S.left source.old) (S.left source.new) bytes.old.items bytes.new.items)
-    }
-    ensures taken {
-        OnErr result (TakesUpTo goal (S.left source.old) (S.left source.new) bytes.old.items)
-    }
+    ensures read { OnOk result (ReadsUpTo goal
+        (S.left source.old) (S.left source.new) bytes.old.items bytes.new.items) }
+    ensures taken { OnErr result (TakesUpTo goal
+        (S.left source.old) (S.left source.new) bytes.old.items) }
     ensures count { S.failures source.new ≡ count_after (S.failures source.old) (is_failed result) }
 {
     let mut buffer = [0; MOST_OF_A_READ];

@@ -48,9 +48,8 @@ impl<'a> Outcome<'a> {
 
     /// The line on the sink of errors, in pieces: so it takes no memory.
     pub fn line(&self) -> [&'a str; 3]
-        ensures {
-            (bytes : List ℕ) → flat_map (λ piece. piece.now) result ≡ error_line (answer_of self.now bytes)
-        }
+        ensures { (bytes : List ℕ)
+            → flat_map (λ piece. piece.now) result ≡ error_line (answer_of self.now bytes) }
     {
         match self {
             Outcome::Done => ["", "", ""],

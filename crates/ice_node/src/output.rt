@@ -24,10 +24,8 @@ pub fn print<K: Sink>(bytes: &[u8], sink: &mut K) -> Outcome<'static>
 /// cannot be written leaves the status as it is.
 pub fn report<E: Sink>(outcome: Outcome<'_>, errors: &mut E) -> u8
     ensures status { (bytes : List ℕ) → result ≡ status (answer_of outcome.entry bytes) }
-    ensures line {
-        (bytes : List ℕ) → GetsLine (E.taken errors.old) (E.taken errors.new)
-            (E.failures errors.old) (E.failures errors.new) (answer_of outcome.entry bytes)
-    }
+    ensures line { (bytes : List ℕ) → GetsLine (E.taken errors.old) (E.taken errors.new)
+        (E.failures errors.old) (E.failures errors.new) (answer_of outcome.entry bytes) }
 {
     let _ = write_pieces(errors, &outcome.line());
     outcome.status()
@@ -35,10 +33,8 @@ pub fn report<E: Sink>(outcome: Outcome<'_>, errors: &mut E) -> u8
 
 /// Writes all of the bytes. A sink that fails has taken a prefix of them, and is not asked again.
 pub fn write_all<K: Sink>(sink: &mut K, bytes: &[u8]) -> Result<(), Failed>
-    ensures {
-        Writes (K.taken sink.old) (K.taken sink.new)
-            (K.failures sink.old) (K.failures sink.new) result bytes.now
-    }
+    ensures { Writes (K.taken sink.old) (K.taken sink.new)
+        (K.failures sink.old) (K.failures sink.new) result bytes.now }
 {
     let mut at = 0;
     while at < bytes.len() {
@@ -49,10 +45,9 @@ pub fn write_all<K: Sink>(sink: &mut K, bytes: &[u8]) -> Result<(), Failed>
 
 /// Writes the texts one after the other.
 fn write_pieces<K: Sink>(sink: &mut K, pieces: &[&str]) -> Result<(), Failed>
-    ensures {
-        Writes (K.taken sink.old) (K.taken sink.new)
-            (K.failures sink.old) (K.failures sink.new) result (flat_map (λ piece. piece.now) pieces.now)
-    }
+    ensures { Writes (K.taken sink.old) (K.taken sink.new)
+        (K.failures sink.old) (K.failures sink.new) result
+        (flat_map (λ piece. piece.now) pieces.now) }
 {
     for piece in pieces {
         write_all(sink, piece.as_bytes())?;

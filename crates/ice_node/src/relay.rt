@@ -1,6 +1,7 @@
 //! `relay FILE TYPE`: one encapsulation in, the canonical one out.
 
 ghost use Rattle.std.specs.Prelude.{ℕ};
+ghost use Rattle.ice_node.specs.Outside.{counts};
 ghost use Rattle.ice_node.specs.Outcomes.{FindsSchema, FindsBytes, TakesFound, Canonicalizes, bytes_found};
 
 use crate::encapsulation::{decode, encode};
@@ -12,7 +13,8 @@ use ice_types::{Schema, TypeRef};
 use slice_check::schema_of;
 use std::alloc::Global;
 
-/// The canonical encapsulation of the value of the type that the source holds, or why there is none.
+/// The canonical encapsulation of the value of the type that the source holds, or why there is
+/// none. Only a source of which a value is asked is read.
 pub fn relay<'a, H: Shelf, S: Source>(
     alloc: Global,
     file: &str,
@@ -20,15 +22,11 @@ pub fn relay<'a, H: Shelf, S: Source>(
     shelf: &mut H,
     source: &mut S,
 ) -> Result<Vec<u8>, Outcome<'a>>
-    ensures found {
-        (sink : ℕ) → FindsBytes (H.files shelf.old) (S.left source.old) file.now kind.now
-            (record { shelf = H.failures shelf.old; source = S.failures source.old; sink = sink })
-            (record { shelf = H.failures shelf.new; source = S.failures source.new; sink = sink })
-            (bytes_found result)
-    }
-    ensures taken {
-        TakesFound file.now kind.now (S.left source.old) (S.left source.new) result
-    }
+    ensures found { (sink : ℕ)
+        → FindsBytes (H.files shelf.old) (S.left source.old) file.now kind.now
+        (counts (H.failures shelf.old) (S.failures source.old) sink)
+        (counts (H.failures shelf.new) (S.failures source.new) sink) (bytes_found result) }
+    ensures taken { TakesFound file.now kind.now (S.left source.old) (S.left source.new) result }
 {
     let schema = load_schema(alloc, file, shelf)?;
     let Some(kind) = schema.type_named(kind) else {
@@ -44,10 +42,8 @@ fn load_schema<H: Shelf>(
     file: &str,
     shelf: &mut H,
 ) -> Result<Schema, Outcome<'static>>
-    ensures {
-        FindsSchema (H.files shelf.old) file.now
-            (H.failures shelf.old) (H.failures shelf.new) result
-    }
+    ensures { FindsSchema (H.files shelf.old) file.now
+        (H.failures shelf.old) (H.failures shelf.new) result }
 {
     let Some(text) = shelf.load(alloc, file)? else {
         return Err(Outcome::SliceRefused);

@@ -2,8 +2,8 @@
 
 ghost use Rattle.std.specs.Prelude.{◌≡◌, List, ℕ, Option, Some};
 ghost use Rattle.ice_node.specs.Words.{Word, Command as Asked, Asks, words_of};
-ghost use Rattle.ice_node.specs.Outside.{Outside};
-ghost use Rattle.ice_node.specs.Statuses.{Answer, Answered, Decided, IsTold, Ends, Causes, Takes, Outputs};
+ghost use Rattle.ice_node.specs.Outside.{Files, Outside, counts};
+ghost use Rattle.ice_node.specs.Statuses.{Answer, Answered, Decided, Ends, Causes, Takes, Outputs};
 ghost use Rattle.ice_node.specs.Outcomes.{answer_of};
 
 use crate::help::{HELP, VERSION};
@@ -27,44 +27,38 @@ pub fn node<H: Shelf, S: Source, K: Sink, E: Sink>(
 ) -> u8
     // There is one answer: its status is returned, it comes for its cause, no more of the input was
     // taken than it says, and the sinks got what it says.
-    ensures answered {
-        let before : Outside = record {
-            files = H.files shelf.old; input = S.left source.old;
-            output = K.taken sink.old; errors = E.taken errors.old;
-            failures = record { shelf = H.failures shelf.old; source = S.failures source.old; sink = K.failures sink.old };
-            error_failures = E.failures errors.old
-        } in
+    ensures answered { let before : Outside = record {
+      files = H.files shelf.old;
+      input = S.left source.old;
+      output = K.taken sink.old;
+      errors = E.taken errors.old;
+      failures = counts (H.failures shelf.old) (S.failures source.old) (K.failures sink.old);
+      error_failures = E.failures errors.old;
+    } in
         let after : Outside = record {
-            files = H.files shelf.new; input = S.left source.new;
-            output = K.taken sink.new; errors = E.taken errors.new;
-            failures = record { shelf = H.failures shelf.new; source = S.failures source.new; sink = K.failures sink.new };
-            error_failures = E.failures errors.new
+          files = H.files shelf.new;
+          input = S.left source.new;
+          output = K.taken sink.new;
+          errors = E.taken errors.new;
+          failures = counts (H.failures shelf.new) (S.failures source.new) (K.failures sink.new);
+          error_failures = E.failures errors.new;
         } in
-        (answer : Answer) × Answered (words_of words.now) before after result answer
-    }
+        (answer : Answer) × Answered (words_of words.now) before after result answer }
 
     // Where the outside tells what it holds, and that decides an answer, no other answer comes,
     // unless a read or a write failed, or memory ran out.
-    ensures exactly {
-        let before : Outside = record {
-            files = H.files shelf.old; input = S.left source.old;
-            output = K.taken sink.old; errors = E.taken errors.old;
-            failures = record { shelf = H.failures shelf.old; source = S.failures source.old; sink = K.failures sink.old };
-            error_failures = E.failures errors.old
-        } in
-        IsTold before → (answer : Answer) → Decided (words_of words.now) before answer → Ends result answer
-    }
+    ensures exactly { (files : Files) (input : List ℕ) (answer : Answer)
+        → H.files shelf.old ≡ Some files → S.left source.old ≡ Some input
+        → Decided (words_of words.now) files input answer → Ends result answer }
 {
     let outcome = run(alloc, words, shelf, source, sink);
     report(outcome, errors)
 }
 
-/// At most one answer is decided where the outside tells what it holds.
+/// Words, files and an input decide at most one answer.
 pub fn answers_apart()
-    ensures {
-        (words : List Word) (before : Outside) → IsTold before
-        → (a b : Answer) → Decided words before a → Decided words before b → a ≡ b
-    }
+    ensures { (words : List Word) (files : Files) (input : List ℕ) (a b : Answer)
+        → Decided words files input a → Decided words files input b → a ≡ b }
 {}
 
 /// Does what the words ask for, up to the answer's last byte.
@@ -75,15 +69,13 @@ fn run<'a, H: Shelf, S: Source, K: Sink>(
     source: &mut S,
     sink: &mut K,
 ) -> Outcome<'a>
-    ensures {
-        (bytes : List ℕ) × (asked : Option Asked) × Asks (words_of words.now) asked
+    ensures { (bytes : List ℕ) × (asked : Option Asked) × Asks (words_of words.now) asked
         × Causes asked (H.files shelf.old) (S.left source.old)
-            (record { shelf = H.failures shelf.old; source = S.failures source.old; sink = K.failures sink.old })
-            (record { shelf = H.failures shelf.new; source = S.failures source.new; sink = K.failures sink.new })
-            (answer_of result bytes)
+        (counts (H.failures shelf.old) (S.failures source.old) (K.failures sink.old))
+        (counts (H.failures shelf.new) (S.failures source.new) (K.failures sink.new))
+        (answer_of result bytes)
         × Takes asked (S.left source.old) (S.left source.new) (answer_of result bytes)
-        × Outputs (K.taken sink.old) (K.taken sink.new) (answer_of result bytes)
-    }
+        × Outputs (K.taken sink.old) (K.taken sink.new) (answer_of result bytes) }
 {
     match command_of(words) {
         Some(Command::Relay { file, kind }) => match relay(alloc, file, kind, shelf, source) {

@@ -8,9 +8,9 @@ returns-in-Ok g c =
     let found = c.in-Ok.ensures.found (g.K.Sink.failures c.args.sink.now) in
     let asked = Some (relay c.in-Some-Relay.file.now c.in-Some-Relay.kind.now) in
     let came = printed asked (g.H.Shelf.files c.args.shelf.now) (g.S.Source.left c.args.source.now) (g.S.Source.left c.relay.new.source)
-        (record { shelf = g.H.Shelf.failures c.args.shelf.now; source = g.S.Source.failures c.args.source.now; sink = g.K.Sink.failures c.args.sink.now })
-        (record { shelf = g.H.Shelf.failures c.relay.new.shelf; source = g.S.Source.failures c.relay.new.source; sink = g.K.Sink.failures c.print.new.sink })
-        c.in-Ok.bytes.items c.print.result found.0 found.1.0 found.1.1 c.in-Ok.ensures.taken c.print.ensures.outcome in
+    (record { shelf = g.H.Shelf.failures c.args.shelf.now; source = g.S.Source.failures c.args.source.now; sink = g.K.Sink.failures c.args.sink.now })
+    (record { shelf = g.H.Shelf.failures c.relay.new.shelf; source = g.S.Source.failures c.relay.new.source; sink = g.K.Sink.failures c.print.new.sink })
+    c.in-Ok.bytes.items c.print.result found.0 found.1.0 found.1.1 c.in-Ok.ensures.taken c.print.ensures.outcome in
     (c.in-Ok.bytes.items, asked, (rw c.in-Some-Relay.field-0-is at c.in-Some-Relay.ensures), came.0, came.1, (rw c.as_slice.ensures.value at c.print.ensures.output))
 
 pub returns-in-Err : goal.returns-in-Err
