@@ -13,38 +13,37 @@ const INPUT: &[u8] = &[9, 0, 0, 0, 1, 1, 2, 7, 8];
 
 const WORDS: &[&str] = &["relay", "s.ice", "::M::Q"];
 
-/// The one call of its object that fails, counted from 0.
-enum Failing {
-    Nothing,
-    Load,
-    Read(u64),
-    Write(u64),
-}
-
-use Failing::{Load, Nothing, Read, Write};
-
-/// How many bytes a read gives at most and which call fails; how many bytes the sink and the sink of
-/// errors take in all; the status, the output and the line that are wanted.
-type Run = (u32, Failing, u32, u32, u8, &'static [u8], &'static str);
-
 const READ: &str = "ice: read failed\n";
 
 const WRITE: &str = "ice: write failed\n";
 
+/// How many bytes a read gives at most; which loads, reads and writes fail, counted from 0; how many
+/// bytes the sink and the sink of errors take in all; the status, output and line that are wanted.
+type Run = (
+    u32,
+    &'static [u64],
+    &'static [u64],
+    &'static [u64],
+    u32,
+    u32,
+    u8,
+    &'static [u8],
+    &'static str,
+);
+
 /// Nine bytes in pieces of one byte are ten reads, the last of which finds the end.
 const RUNS: &[Run] = &[
-    (1, Nothing, 99, 99, 0, INPUT, ""),
-    (4096, Nothing, 99, 0, 0, INPUT, ""),
-    (4096, Load, 99, 99, 5, b"", READ),
-    (4096, Read(1), 99, 99, 5, b"", READ),
-    (1, Read(0), 99, 99, 5, b"", READ),
-    (1, Read(4), 99, 99, 5, b"", READ),
-    (1, Read(9), 99, 3, 5, b"", "ice"),
-    (1, Read(10), 99, 99, 0, INPUT, ""),
-    (1, Write(0), 99, 99, 6, b"", WRITE),
-    (1, Write(1), 99, 99, 0, INPUT, ""),
-    (1, Nothing, 3, 99, 6, &[9, 0, 0], WRITE),
-    (1, Nothing, 0, 0, 6, b"", ""),
+    (1, &[], &[], &[], 99, 99, 0, INPUT, ""),
+    (4096, &[1], &[], &[1], 99, 0, 0, INPUT, ""),
+    (4096, &[0], &[], &[], 99, 99, 5, b"", READ),
+    (4096, &[], &[1], &[], 99, 99, 5, b"", READ),
+    (1, &[], &[0], &[], 99, 99, 5, b"", READ),
+    (1, &[], &[4], &[], 99, 99, 5, b"", READ),
+    (1, &[], &[9], &[], 99, 3, 5, b"", "ice"),
+    (1, &[], &[10], &[], 99, 99, 0, INPUT, ""),
+    (1, &[], &[], &[0], 99, 99, 6, b"", WRITE),
+    (1, &[], &[], &[], 3, 99, 6, &[9, 0, 0], WRITE),
+    (1, &[], &[], &[], 0, 0, 6, b"", ""),
 ];
 
 fn bytes(alloc: Global, items: &[u8]) -> Result<Bytes, AllocError> {
@@ -59,28 +58,19 @@ fn words(alloc: Global) -> Result<Vec<String>, AllocError> {
     Ok(words)
 }
 
-/// The failing calls of the shelf, the source and the sink.
-fn fails(alloc: Global, failing: &Failing) -> Result<[List<u64>; 3], AllocError> {
-    let mut lists = [List::new(alloc), List::new(alloc), List::new(alloc)];
-    match failing {
-        Nothing => {}
-        Load => lists[0].push(0)?,
-        Read(at) => lists[1].push(*at)?,
-        Write(at) => lists[2].push(*at)?,
-    }
-    Ok(lists)
+fn calls(alloc: Global, numbers: &[u64]) -> Result<List<u64>, AllocError> {
+    Ok(List::from_vec(Vec::from_slice(alloc, numbers)?))
 }
 
 /// Whether the run comes to what is wanted.
 fn comes(alloc: Global, run: &Run) -> Result<bool, AllocError> {
-    let (piece, failing, room, line_room, status, output, line) = run;
-    let [loads, reads, writes] = fails(alloc, failing)?;
+    let (piece, loads, reads, writes, room, line_room, status, output, line) = run;
     let mut files = List::new(alloc);
     files.push((Name::of(alloc, "s.ice")?, bytes(alloc, TEXT)?))?;
-    let mut shelf = MemShelf::new(files, loads);
-    let mut source = MemSource::new(bytes(alloc, INPUT)?, (*piece).max(1), reads);
-    let mut sink = MemSink::new(alloc, (*room).min(99), writes)?;
-    let mut errors = MemSink::new(alloc, (*line_room).min(99), List::new(alloc))?;
+    let mut shelf = MemShelf::new(files, calls(alloc, loads)?);
+    let mut source = MemSource::new(bytes(alloc, INPUT)?, (*piece).max(1), calls(alloc, reads)?);
+    let mut sink = MemSink::new(alloc, (*room).min(99), calls(alloc, writes)?)?;
+    let mut errors = MemSink::new(alloc, (*line_room).min(99), calls(alloc, &[])?)?;
     let words = words(alloc)?;
     let ended = node(
         alloc,
