@@ -8,11 +8,12 @@ use std::io::ErrorKind;
 use std::process::ExitCode;
 use std::{env, io};
 
-/// One byte more than a Slice text may have. A file that has so many is refused, and no more is read.
+/// One byte more than a Slice text may have: a file that has so many is refused, and no more of it
+/// is read.
 const MOST_OF_A_FILE: u64 = 1_000_001;
 
-/// The words after the program's name. Words that are not UTF-8 are none of the listed forms, and so
-/// are no words at all.
+/// The words after the program's name. Words that are not UTF-8 are none of the listed forms, and
+/// so are no words at all.
 fn words(rt: &HostRuntime) -> Result<Vec<String>, AllocError> {
     match env::args(rt) {
         Ok(mut args) => {

@@ -21,7 +21,7 @@ use Rattle.ice_node.specs.Words.{Word, relay}
 use Rattle.slice_check.specs.SliceText.{Means}
 use Rattle.ice_node.specs.Streams.{Claims, IsSize, ReadsInput}
 use Rattle.ice_node.specs.Outside.{Files, Failures, NoneFailed}
-use Rattle.ice_node.specs.Statuses.{FileMeans, IsType, Causes, IsSchema, HasNoSchema, IsValue, HasNoValue}
+use Rattle.ice_node.specs.Statuses.{IsType, Causes, IsSchema, HasNoSchema, IsValue, HasNoValue}
 use Rattle.ice_node.specs.Outcomes.{Canonicalizes, FindsSchema, answer_of, of_text, of_read}
 use Rattle.ice_node.specs.declared.outcome.Outcome.{Outcome}
 use Rattle.slice_check.specs.Reading.{Answers}

@@ -78,7 +78,7 @@ HasType files file word = (t : Tables) × (kind : TypeRef) × IsType files file 
 abbrev pub IsValue : Option (List ℕ) → Tables → TypeRef → Tree → Type 0
 IsValue input t kind v = IfSome input (λ known. SpellsEncapsulation t kind known v)
 
--- the input is an encapsulation of no value, where the source tells it
+-- the input is no encapsulation of a value of the type, where the source tells it
 abbrev pub HasNoValue : Option (List ℕ) → Tables → TypeRef → Type 0
 HasNoValue input t kind =
     IfSome input (λ known. (v : Tree) → SpellsEncapsulation t kind known v → ⊥)
@@ -115,7 +115,7 @@ Ends result answer = (result ≡ status answer) ⊎ ((result ≡ 5) ⊎ ((result
 
 -- ---- when each answer comes, with what failed in the call
 
--- Of what a read failed: FILE; or the input, and then FILE means a schema in which TYPE is named.
+-- A read failed: of FILE; or of the input, and then FILE means a schema in which TYPE is named.
 abbrev pub ReadFails : Option Command → Option Files → Failures → Failures → Type 0
 ReadFails (Some (relay file word)) files before after =
     ShelfFailed before after ⊎ (HasType files file word × SourceFailed before after)
@@ -130,6 +130,7 @@ MayRunOut (Some help) files = ⊥
 MayRunOut (Some version) files = ⊥
 MayRunOut None files = ⊥
 
+-- The cause of each answer. Each but 5 and 6 comes where no call failed; after those, one has.
 abbrev pub Causes : Option Command → Option Files → Option (List ℕ)
     → (before after : Failures) → Answer → Type 0
 Causes asked files input before after (done bytes) =

@@ -100,7 +100,7 @@ pub fn encode(alloc: Global, value: &Value) -> Result<Vec<u8>, AllocError>
     Ok(out)
 }
 
-/// Puts the size over the four bytes at the front.
+/// Puts the size over the first four bytes.
 fn patch_size(out: &mut Vec<u8>, size: i32)
     requires { 4 ≤ vec_len out.old }
     ensures { out.new.items ≡ signed_bytes w32 size ++ drop 4 out.old.items }

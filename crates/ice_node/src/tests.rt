@@ -17,8 +17,8 @@ const READ: &str = "ice: read failed\n";
 
 const WRITE: &str = "ice: write failed\n";
 
-/// How many bytes a read gives at most; which loads, reads and writes fail, counted from 0; how many
-/// bytes the sink and the sink of errors take in all; the status, output and line that are wanted.
+/// How many bytes a read gives at most; which loads, reads and writes fail, counted from 0; how
+/// many bytes the sink and the sink of errors take; the status, output and line that are wanted.
 type Run = (
     u32,
     &'static [u64],

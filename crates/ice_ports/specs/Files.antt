@@ -21,7 +21,8 @@ is_failed (Err Memory) = false
 -- where the files are known, the answer is the file of this name
 abbrev pub Finds : {E : Type 0} → Option (List (List ℕ × List ℕ)) → List ℕ
     → Result (Option (List ℕ)) E → Type 0
-Finds files name result = IfOk result (λ answer. IfSome files (λ known. answer ≡ file_named known name))
+Finds files name result =
+    IfOk result (λ answer. IfSome files (λ known. answer ≡ file_named known name))
 
 -- where the files are known, one has the name
 abbrev pub IsThere : Option (List (List ℕ × List ℕ)) → List ℕ → Type 0

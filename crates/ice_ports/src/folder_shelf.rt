@@ -4,7 +4,7 @@ ghost use Rattle.std.specs.IoError.{error_kind};
 ghost use Rattle.ice_ports.specs.Failures.{count_after};
 ghost use Rattle.ice_ports.specs.Files.{Finds, IsMissing, IsNotOpened, IsPrefix, is_failed};
 
-use super::ports::{Shelf, PortFault};
+use super::ports::{PortFault, Shelf};
 use ice_types::{Bytes, List};
 use std::alloc::Global;
 use std::fs::File;
@@ -88,7 +88,8 @@ fn prefix_of<F: Read + Drop>(
 
 /// So many bytes of what is left of an open file, or all of it.
 fn read_prefix<F: Read + Drop>(alloc: Global, file: F, most: u64) -> Result<Bytes, PortFault>
-    ensures { IfOk result (λ content. IfSome (F.remaining file) (λ known. content ≡ take most known)) }
+    ensures { IfOk result (λ content.
+        IfSome (F.remaining file) (λ known. content ≡ take most known)) }
 {
     let mut bytes = Vec::new(alloc);
     match file.take(most).read_to_end(&mut bytes) {

@@ -4,7 +4,7 @@ ghost use Rattle.ice_ports.specs.Files.{Finds, file_named, is_failed};
 ghost use Rattle.ice_ports.specs.Plan.{new_plan, fails_now, after_call};
 
 use super::fault_plan::FaultPlan;
-use super::ports::{Shelf, PortFault};
+use super::ports::{PortFault, Shelf};
 use ice_types::{Bytes, List, Name};
 use std::alloc::{AllocError, Global};
 use std::marker::Model;
@@ -59,7 +59,8 @@ impl Shelf for MemShelf {
         ensures found { Finds (Some self.old.files) name.now result }
         ensures kept { self.new.files ≡ self.old.files }
         ensures fails { is_failed result ≡ fails_now self.old.plan }
-        ensures memory { result ≡ Err PortFault.Memory → IsSome (file_named self.old.files name.now) }
+        ensures memory { result ≡ Err PortFault.Memory
+            → IsSome (file_named self.old.files name.now) }
         ensures plan { self.new.plan ≡ after_call self.old.plan (fails_now self.old.plan) }
     {
         let fails = self.plan.fails_now();

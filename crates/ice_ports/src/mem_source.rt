@@ -67,7 +67,8 @@ impl Source for MemSource {
         ensures bound { ReadsAtMost result into.new }
         ensures bytes { ReadConsumes (Some self.old.left) (Some self.new.left) result into.new }
         ensures fails { is_err result ≡ fails_now self.old.plan }
-        ensures most { IfOk result (λ n. n ≡ min (length into.old) (min self.old.piece (length self.old.left))) }
+        ensures most { IfOk result (λ n.
+            n ≡ min (length into.old) (min self.old.piece (length self.old.left))) }
         ensures rest { IfOk result (λ n. drop n into.new ≡ drop n into.old) }
         ensures untouched { OnErr result (into.new ≡ into.old) }
         ensures piece { self.new.piece ≡ self.old.piece }

@@ -57,8 +57,9 @@ pub trait Source {
     // How many reads failed, as far as u64 counts.
     ghost failures: { Self → ℕ };
 
-    /// Puts bytes at the front of `into` and answers how many. 0 for a slice that is not empty is
-    /// the end. `Failed` took nothing and is counted once; no other answer is counted.
+    /// Puts bytes at the start of `into`, which has at most `MOST_OF_A_READ`, and answers how many.
+    /// 0 for a slice that is not empty is the end. `Failed` took nothing and is counted once; no other
+    /// answer is counted.
     fn read(&mut self, into: &mut [u8]) -> Result<usize, Failed>
         requires { length into.old ≤ MOST_OF_A_READ }
         ensures bound { ReadsAtMost result into.new }
@@ -74,7 +75,7 @@ pub trait Sink {
     // How many writes failed, as far as u64 counts.
     ghost failures: { Self → ℕ };
 
-    /// Takes bytes of the front of `piece` and answers how many, 0 of an empty piece alone.
+    /// Takes a prefix of `piece` and answers its length, 0 for an empty piece alone.
     /// `Failed` took none and is counted once; no other answer is counted.
     fn write(&mut self, piece: &[u8]) -> Result<usize, Failed>
         ensures bound { WritesAtMost result piece.now }

@@ -53,7 +53,8 @@ impl<R: Read> Source for StdSource<R> {
 
     fn read(&mut self, into: &mut [u8]) -> Result<usize, Failed>
         ensures bound { ReadsAtMost result into.new }
-        ensures bytes { ReadConsumes (R.remaining self.old.stream) (R.remaining self.new.stream) result into.new }
+        ensures bytes { ReadConsumes
+            (R.remaining self.old.stream) (R.remaining self.new.stream) result into.new }
         ensures count { self.new.failures ≡ count_after self.old.failures (is_err result) }
     {
         let result = read_once(&mut self.input, into);
@@ -121,7 +122,8 @@ impl<W: Write> Sink for StdSink<W> {
 
     fn write(&mut self, piece: &[u8]) -> Result<usize, Failed>
         ensures bound { WritesAtMost result piece.now }
-        ensures bytes { WriteAppends (W.contents self.old.stream) (W.contents self.new.stream) result piece.now }
+        ensures bytes { WriteAppends
+            (W.contents self.old.stream) (W.contents self.new.stream) result piece.now }
         ensures progress { IfOk result (λ n. 0 < length piece.now → 0 < n) }
         ensures count { self.new.failures ≡ count_after self.old.failures (is_err result) }
     {

@@ -1,5 +1,4 @@
-use Rattle.ice_node.proofs.Inputs.{first_is_enough, rest_is_enough, rest_is_frugal, reads_frugally, on_err}
-use Rattle.std.proofs.lemmas.Result.{err_from_is_err_and}
+use Rattle.ice_node.proofs.Inputs.{first_is_enough, rest_is_enough, rest_is_frugal, reads_frugally}
 use Rattle.ice_node.proofs.input.read_input.Goals as goal
 
 pub returns-in_default-clause-read : goal.returns-in_default-clause-read

@@ -1,4 +1,4 @@
-use Rattle.std.proofs.Common.{rules, ◌≤◌, ◌-◌, length}
+use Rattle.std.proofs.Common.{rules}
 use Rattle.ice_node.proofs.Inputs.{on_err, lost_within}
 use Rattle.ice_node.proofs.input.read_up_to.Goals as goal
 
