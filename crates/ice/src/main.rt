@@ -1,17 +1,18 @@
 //! The program: makes the real outside, and does what the words ask for.
 #![tactic(auto)]
 
-use ice_node::node;
-use ice_ports::{FolderShelf, Sink, StdSink, StdSource};
+use ice_node::{Outcome, node, report};
+use ice_ports::{FolderShelf, StdSink, StdSource};
 use std::alloc::AllocError;
 use std::io::ErrorKind;
 use std::process::ExitCode;
 use std::{env, io};
 
-/// A Slice file is refused above this many bytes, so no more of one is read.
+/// One byte more than a Slice text may have: a file that has so many is refused, and no more of it
+/// is read.
 const MOST_OF_A_FILE: u64 = 1_000_001;
 
-/// The words behind the program's name. Words that are not UTF-8 are none of the listed forms, and
+/// The words after the program's name. Words that are not UTF-8 are none of the listed forms, and
 /// so are no words at all.
 fn words(rt: &HostRuntime) -> Result<Vec<String>, AllocError> {
     match env::args(rt) {
@@ -25,10 +26,9 @@ fn words(rt: &HostRuntime) -> Result<Vec<String>, AllocError> {
 }
 
 fn main(rt: HostRuntime) -> io::Result<ExitCode> {
-    let mut faults = StdSink::error(&rt);
+    let mut errors = StdSink::error(&rt);
     let Ok(words) = words(&rt) else {
-        let _ = faults.write(b"ice: no memory\n");
-        return Ok(ExitCode::from(9));
+        return Ok(ExitCode::from(report(Outcome::Memory, &mut errors)));
     };
     let mut source = StdSource::input(&rt);
     let mut sink = StdSink::output(&rt);
@@ -40,7 +40,7 @@ fn main(rt: HostRuntime) -> io::Result<ExitCode> {
         &mut shelf,
         &mut source,
         &mut sink,
-        &mut faults,
+        &mut errors,
     );
     Ok(ExitCode::from(status))
 }

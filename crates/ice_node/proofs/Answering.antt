@@ -1,47 +1,46 @@
 -- What the program did, from what its parts did.
-use Rattle.std.proofs.Common.{◌≡◌, ℕ, ◌+◌, ◌<◌, List, ◌++◌, length, get_or, take, drop, Option, Result, Err, Bor, sym, ap, ◌∙◌, append_assoc, inr}
+use Rattle.std.proofs.Common.{◌≡◌, ℕ, ◌+◌, ◌<◌, List, [], ◌++◌, length, get_or, take, drop, Option, None, Some, Result, Err, Bor, refl, sym, ap, ◌∙◌, append_assoc, inl, inr}
 use Rattle.std.specs.List.{flat_map}
-use Rattle.std.specs.Io.KnownBytes.{Appends}
+use Rattle.std.specs.Io.KnownBytes.{Appends, Keeps}
 use Rattle.std.proofs.lemmas.Grind.{flat_map-append}
 use Rattle.std.proofs.lemmas.List.{take-append-drop, drop_more}
-use Rattle.ice_node.specs.Words.{Word, Command, Form}
-use Rattle.ice_node.specs.Streams.{Wrote}
-use Rattle.ice_node.specs.Statuses.{done, Files, World, Relays, Commands, AppendsFront}
+use Rattle.ice_ports.specs.Failures.{one_more}
+use Rattle.ice_node.specs.Words.{Command}
+use Rattle.ice_node.specs.Outside.{Files, Failures}
+use Rattle.ice_node.specs.Streams.{AppendsPrefix, Writes}
+use Rattle.ice_node.specs.Statuses.{done, Decides, Causes, TakesInput, Takes, Outputs}
 use Rattle.ice_node.specs.declared.outcome.Outcome.{Outcome}
 use Rattle.ice_node.specs.declared.outcome.Outcome.TheVariants as outcomes
-use Rattle.ice_node.specs.Outcomes.{Prints, Ran, RelayRan}
-use Rattle.ice_node.proofs.KnownBytes.{Appends-then}
+use Rattle.ice_node.specs.Outcomes.{Prints, answer_of}
+use Rattle.ice_node.proofs.KnownBytes.{Appends-none, Appends-then}
 
--- a text of the program's own was written, or a front of it
-pub ran_print : (w : World) (read_rose write_rose : Type 0) (old new : Option (List ℕ)) (command : Command) (bytes : List ℕ) (outcome : Outcome) → Form w.words command → Commands w command (done bytes) → Prints old new write_rose bytes outcome
-    → Ran w read_rose write_rose old new outcome
-ran_print w r s old new command bytes outcomes.Done form what p = (bytes, inr (command, form, what), p)
-ran_print w r s old new command bytes outcomes.WriteFailed form what p = (bytes, (inr (command, form, what), p.0), p.1)
-ran_print w r s old new command bytes outcomes.Usage form what p = absurd p
-ran_print w r s old new command bytes (outcomes.NoSuchName word) form what p = absurd p
-ran_print w r s old new command bytes outcomes.SliceRefused form what p = absurd p
-ran_print w r s old new command bytes outcomes.InputRefused form what p = absurd p
-ran_print w r s old new command bytes outcomes.ReadFailed form what p = absurd p
-ran_print w r s old new command bytes outcomes.Memory form what p = absurd p
+-- what was decided was written, or a write of it failed
+pub printed : (asked : Option Command) (files : Option Files) (input left : Option (List ℕ)) (before after : Failures) (bytes : List ℕ) (outcome : Outcome) → Decides asked files input (done bytes) → after.shelf ≡ before.shelf → after.source ≡ before.source → TakesInput asked input left
+    → Prints before.sink after.sink outcome → Causes asked files input before after (answer_of outcome bytes) × Takes asked input left (answer_of outcome bytes)
+printed asked files input left before after bytes outcome decided shelf source taken (inl p) = rw p.0 ((decided, (shelf, source, p.1)), taken)
+printed asked files input left before after bytes outcome decided shelf source taken (inr p) = rw p.0 ((decided, (shelf, source, p.1)), taken)
 
--- the canonical encapsulation was written, or a front of it
-pub relayed_print : (files : Option Files) (input : Option (List ℕ)) (file word : Word) (read_rose write_rose : Type 0) (old new : Option (List ℕ)) (bytes : List ℕ) (outcome : Outcome) → Relays files input file word (done bytes) → Prints old new write_rose bytes outcome
-    → RelayRan files input file word read_rose write_rose old new outcome
-relayed_print files input file word r s old new bytes outcomes.Done h p = (bytes, h, p)
-relayed_print files input file word r s old new bytes outcomes.WriteFailed h p = (bytes, (h, p.0), p.1)
-relayed_print files input file word r s old new bytes outcomes.Usage h p = absurd p
-relayed_print files input file word r s old new bytes (outcomes.NoSuchName unknown) h p = absurd p
-relayed_print files input file word r s old new bytes outcomes.SliceRefused h p = absurd p
-relayed_print files input file word r s old new bytes outcomes.InputRefused h p = absurd p
-relayed_print files input file word r s old new bytes outcomes.ReadFailed h p = absurd p
-relayed_print files input file word r s old new bytes outcomes.Memory h p = absurd p
+keeps_itself : (old : Option (List ℕ)) → Keeps old old
+keeps_itself None = tt
+keeps_itself (Some bytes) = refl
 
--- the pieces before one, a front of it, and what is left
+-- nothing was written of no bytes, whatever the answer
+pub outputs_nothing : (old : Option (List ℕ)) (answer : Outcome) → Outputs old old (answer_of answer [])
+outputs_nothing old outcomes.Done = Appends-none old
+outputs_nothing old outcomes.Usage = keeps_itself old
+outputs_nothing old (outcomes.NoSuchName word) = keeps_itself old
+outputs_nothing old outcomes.SliceRefused = keeps_itself old
+outputs_nothing old outcomes.InputRefused = keeps_itself old
+outputs_nothing old outcomes.ReadFailed = keeps_itself old
+outputs_nothing old outcomes.WriteFailed = ([], [], refl, Appends-none old)
+outputs_nothing old outcomes.Memory = keeps_itself old
+
+-- the pieces before one, a prefix of it, and what is left
 abbrev seen : Bor (List ℕ) → List ℕ
 seen piece = piece.now
 
-pub stops_in : (a b c : Option (List ℕ)) (pieces : List (Bor (List ℕ))) (i : ℕ) (other : Bor (List ℕ)) (text : List ℕ) → i < length pieces → text ≡ (get_or pieces i other).now → Appends a b (flat_map (λ p. p.now) (take i pieces)) → AppendsFront b c text
-    → AppendsFront a c (flat_map (λ p. p.now) pieces)
+pub stops_in : (a b c : Option (List ℕ)) (pieces : List (Bor (List ℕ))) (i : ℕ) (other : Bor (List ℕ)) (text : List ℕ) → i < length pieces → text ≡ (get_or pieces i other).now → Appends a b (flat_map (λ p. p.now) (take i pieces)) → AppendsPrefix b c text
+    → AppendsPrefix a c (flat_map (λ p. p.now) pieces)
 stops_in a b c pieces i other text lt text_is p q =
     let piece = get_or pieces i other in
     let before = flat_map seen (take i pieces) in
@@ -51,5 +50,5 @@ stops_in a b c pieces i other text lt text_is p q =
     let cut : piece.now ≡ q.0 ++ q.1 = sym text_is ∙ q.2 in
     (before ++ q.0, q.1 ++ rest, all ∙ ap (λ (l : List ℕ). before ++ (l ++ rest)) cut ∙ simp append_assoc, Appends-then a b c before q.0 p q.3)
 
-pub wrote_front : {X E : Type 0} (a c : Option (List ℕ)) (r : Result X E) (e : E) (bytes : List ℕ) → r ≡ Err e → AppendsFront a c bytes → Wrote a c r bytes
-wrote_front a c r e bytes is h = rw is h
+pub writes_prefix : {X E : Type 0} (a c : Option (List ℕ)) (before after : ℕ) (r : Result X E) (e : E) (bytes : List ℕ) → r ≡ Err e → AppendsPrefix a c bytes → after ≡ one_more before → Writes a c before after r bytes
+writes_prefix a c before after r e bytes is h count = rw is (h, count)

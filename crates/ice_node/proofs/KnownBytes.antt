@@ -1,9 +1,8 @@
 -- Bytes that an object tells, through one call after another.
-use Rattle.std.proofs.Common.{◌≡◌, ℕ, ◌+◌, ◌≤◌, List, [], ◌++◌, take, drop, Option, None, Some, refl, sym, ap, subst, ◌∙◌, append_assoc, arith}
+use Rattle.std.proofs.Common.{◌≡◌, ℕ, ◌+◌, List, [], ◌++◌, take, drop, Option, None, Some, refl, sym, ap, subst, ◌∙◌, append_assoc}
 use Rattle.std.proofs.Math.Seq.{take-add}
 use Rattle.std.specs.Io.KnownBytes.{Keeps, Appends, Consumes}
 use Rattle.std.proofs.lemmas.List.{append-nil}
-use Rattle.ice_ports.specs.Causes.{Rose}
 
 pub Consumes-none : (a : Option (List ℕ)) → Consumes a a []
 Consumes-none None = tt
@@ -37,15 +36,8 @@ Appends-then (Some xs) None c x y p q = absurd p
 Appends-then (Some xs) (Some ys) None x y p q = absurd q
 Appends-then (Some xs) (Some ys) (Some zs) x y p q = q ∙ ap (λ (l : List ℕ). l ++ y) p ∙ append_assoc xs x y
 
--- a count that rose later rose
-pub Rose-later : (before mid now : ℕ) → before ≤ mid → Rose mid now → Rose before now
-Rose-later before mid now le rose = omega (arith, rose)
-
-pub Rose-before : (before mid now : ℕ) → Rose before mid → mid ≤ now → Rose before now
-Rose-before before mid now rose le = omega (arith, rose)
-
--- a front of what is left behind a front
-pub Appends-more : (a b c : Option (List ℕ)) (bytes behind : List ℕ) (at n : ℕ) → behind ≡ drop at bytes → Appends a b (take at bytes) → Appends b c (take n behind) → Appends a c (take (at + n) bytes)
-Appends-more a b c bytes behind at n is p q =
-    let all : take at bytes ++ take n behind ≡ take (at + n) bytes = ap (λ (l : List ℕ). take at bytes ++ take n l) is ∙ sym (take-add at n bytes) in
-    subst (λ (l : List ℕ). Appends a c l) all (Appends-then a b c (take at bytes) (take n behind) p q)
+-- a prefix of what is left after a prefix
+pub Appends-more : (a b c : Option (List ℕ)) (bytes left : List ℕ) (at n : ℕ) → left ≡ drop at bytes → Appends a b (take at bytes) → Appends b c (take n left) → Appends a c (take (at + n) bytes)
+Appends-more a b c bytes left at n is p q =
+    let all : take at bytes ++ take n left ≡ take (at + n) bytes = ap (λ (l : List ℕ). take at bytes ++ take n l) is ∙ sym (take-add at n bytes) in
+    subst (λ (l : List ℕ). Appends a c l) all (Appends-then a b c (take at bytes) (take n left) p q)

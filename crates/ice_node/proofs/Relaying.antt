@@ -1,5 +1,5 @@
 -- What was loaded and read, and what it comes to.
-use Rattle.std.proofs.Common.{◌≡◌, ℕ, ℤ, pos, ◌+◌, ◌<◌, ◌^◌, List, [], ◌∷◌, ◌++◌, length, take, Option, None, Some, Ok, Err, sym, ap, subst, ◌∙◌, append_assoc, arith, inl, inr}
+use Rattle.std.proofs.Common.{◌≡◌, ℕ, ℤ, pos, ◌+◌, ◌<◌, ◌^◌, List, [], ◌∷◌, ◌++◌, length, take, Option, None, Some, IsSome, Result, Ok, Err, refl, sym, ap, subst, ◌∙◌, append_assoc, arith, inl, inr}
 use Rattle.std.specs.Prelude.{IfSome}
 use Rattle.std.specs.Int.{w32, from_le_bytes, cast_signed}
 use Rattle.std.proofs.lemmas.List.{append-nil, length-append, take_at}
@@ -16,35 +16,37 @@ use Rattle.ice_encoding.specs.Canonical.{canonical, HasSizes}
 use Rattle.ice_encoding.specs.Encapsulation.{SpellsEncapsulation, encapsulation_at, encapsulation_bytes}
 use Rattle.ice_encoding.proofs.Plain.{plain_sizes}
 use Rattle.ice_encoding.proofs.Encapsulations.{encapsulation_found, encapsulation_only, encapsulation_canon}
-use Rattle.ice_ports.specs.Files.{file_named}
-use Rattle.ice_node.specs.Words.{Word}
+use Rattle.ice_ports.specs.Files.{file_named, IsThere}
+use Rattle.ice_node.specs.Words.{Word, relay}
 use Rattle.slice_check.specs.SliceText.{Means}
 use Rattle.ice_node.specs.Streams.{Claims, IsSize, ReadsInput}
-use Rattle.ice_node.specs.Statuses.{Files, FileMeans, Told}
+use Rattle.ice_node.specs.Outside.{Files, Failures, NoneFailed}
+use Rattle.ice_node.specs.Statuses.{IsType, Causes, IsSchema, HasNoSchema, IsValue, HasNoValue}
+use Rattle.ice_node.specs.Outcomes.{Canonicalizes, FindsSchema, answer_of, of_text, of_read}
 use Rattle.ice_node.specs.declared.outcome.Outcome.{Outcome}
-use Rattle.ice_node.specs.declared.outcome.Outcome.TheVariants as outcomes
-use Rattle.ice_node.specs.Outcomes.{Refuses, Canonicalizes}
+use Rattle.slice_check.specs.Reading.{Answers}
+use Rattle.slice_check.specs.declared.fault.TextFault.{TextFault}
+use Rattle.slice_check.specs.declared.fault.TextFault.TheVariants as text_faults
 
 -- ---- the file
 
-pub told_is : (files : Option Files) (file : Word) (text : List ℕ) (t : Tables) → IfSome files (λ known. Some text ≡ file_named known file) → Means text t → Told files file t
+pub told_is : (files : Option Files) (file : Word) (text : List ℕ) (t : Tables) → IfSome files (λ known. Some text ≡ file_named known file) → Means text t → IsSchema files file t
 told_is None file text t e m = tt
 told_is (Some known) file text t e m = (text, sym e, m)
 
-pub told_none : (files : Option Files) (file : Word) (text : List ℕ) → IfSome files (λ known. Some text ≡ file_named known file) → ((t : Tables) → Means text t → ⊥) → IfSome files (λ known. (t : Tables) → FileMeans known file t → ⊥)
+pub told_none : (files : Option Files) (file : Word) (text : List ℕ) → IfSome files (λ known. Some text ≡ file_named known file) → ((t : Tables) → Means text t → ⊥) → HasNoSchema files file
 told_none None file text e none = tt
 told_none (Some known) file text e none = λ t m. let same : text ≡ m.0 = cc in none t (subst (λ (x : List ℕ). Means x t) (sym same) m.2)
 
--- the count of another object does not matter
-pub Refuses-weaker : (files : Option Files) (input : Option (List ℕ)) (file word : Word) (one other : Type 0) (outcome : Outcome) → (one → other) → Refuses files input file word one outcome → Refuses files input file word other outcome
-Refuses-weaker files input file word one other outcomes.Done f h = h
-Refuses-weaker files input file word one other outcomes.Usage f h = h
-Refuses-weaker files input file word one other (outcomes.NoSuchName unknown) f h = h
-Refuses-weaker files input file word one other outcomes.SliceRefused f h = h
-Refuses-weaker files input file word one other outcomes.InputRefused f h = h
-Refuses-weaker files input file word one other outcomes.ReadFailed f h = f h
-Refuses-weaker files input file word one other outcomes.WriteFailed f h = h
-Refuses-weaker files input file word one other outcomes.Memory f h = h
+pub is_there : (files : Option Files) (file : Word) (text : List ℕ) → IfSome files (λ known. Some text ≡ file_named known file) → IsThere files file
+is_there None file text e = tt
+is_there (Some known) file text e = subst (λ (x : Option (List ℕ)). IsSome x) e refl
+
+-- a text that means no schema, or for which memory ran out
+pub text_refused : (files : Option Files) (file : Word) (text : List ℕ) (before after : ℕ) (fault : TextFault) (result : Result Tables Outcome) (outcome : Outcome) → result ≡ Err outcome → outcome ≡ of_text fault → IfSome files (λ known. Some text ≡ file_named known file)
+    → Answers (Means text) (Err fault) → after ≡ before → FindsSchema files file before after result
+text_refused files file text before after text_faults.Refused result outcome is from there none count = rw (is, from) (λ word input source sink. (told_none files file text there none, (count, refl, refl)))
+text_refused files file text before after text_faults.Memory result outcome is from there none count = rw (is, from) (λ word input source sink. (is_there files file text there, (count, refl, refl)))
 
 -- ---- the value
 
@@ -68,7 +70,7 @@ module _ (t : Tables) (kind : TypeRef) where
       let long : length bytes ≡ length h.0 + length (1 ∷ 1 ∷ h.1) = ap length h.2 ∙ length-append h.0 (1 ∷ 1 ∷ h.1) in
       (claimed, omega (arith, long, h.3.0), h.4)
 
-  pub input_accepted : (before now : Option (List ℕ)) (got : List ℕ) (v : Tree) → ReadsInput before now got → SpellsEncapsulation t kind got v → IfSome before (λ known. SpellsEncapsulation t kind known v)
+  pub input_accepted : (before now : Option (List ℕ)) (got : List ℕ) (v : Tree) → ReadsInput before now got → SpellsEncapsulation t kind got v → IsValue before t kind v
   input_accepted None now got v r h = tt
   input_accepted (Some known) None got v r h = absurd r.0
   input_accepted (Some known) (Some rest) got v r h = elim r.1 [
@@ -76,7 +78,7 @@ module _ (t : Tables) (kind : TypeRef) where
     | inr past ↦ absurd (let size = claims_length got got [] v past.0 (sym (append-nil got)) past.1 h in let below : length got < length got = past.2 (length got) size in omega arith)
   ]
 
-  pub input_refused : (before now : Option (List ℕ)) (got : List ℕ) → ReadsInput before now got → ((v : Tree) → SpellsEncapsulation t kind got v → ⊥) → IfSome before (λ known. (v : Tree) → SpellsEncapsulation t kind known v → ⊥)
+  pub input_refused : (before now : Option (List ℕ)) (got : List ℕ) → ReadsInput before now got → ((v : Tree) → SpellsEncapsulation t kind got v → ⊥) → HasNoValue before t kind
   input_refused None now got r none = tt
   input_refused (Some known) None got r none = absurd r.0
   input_refused (Some known) (Some rest) got r none = λ v h. elim r.1 [
@@ -87,7 +89,18 @@ module _ (t : Tables) (kind : TypeRef) where
         omega (arith, ap length r.0, length-append got rest)
   ]
 
-  -- no value where reading failed, unless memory was wanting
+  -- no value where reading failed, unless memory ran out
   pub none_canonical : (input : List ℕ) (fault : ReadFault) → Fails fault (encapsulation_at t kind (whole input)) → Canonicalizes t kind input (Err fault)
   none_canonical input faults.Memory h = tt
   none_canonical input (faults.Broken fault) h = none_fits input fault h
+
+-- a file that means a schema is there
+pub schema_there : (files : Option Files) (file : Word) (t : Tables) → IsSchema files file t → IsThere files file
+schema_there None file t m = tt
+schema_there (Some known) file t m = subst (λ (x : Option (List ℕ)). IsSome x) (sym m.1) refl
+
+-- an input that holds no value, or for which memory ran out
+pub input_gives_none : (files : Option Files) (input now : Option (List ℕ)) (file word : Word) (t : Tables) (kind : TypeRef) (got : List ℕ) (before after : Failures) (fault : ReadFault) (outcome : Outcome) → outcome ≡ of_read fault
+    → IsType files file word t kind → ReadsInput input now got → Canonicalizes t kind got (Err fault) → NoneFailed before after → Causes (Some (relay file word)) files input before after (answer_of outcome [])
+input_gives_none files input now file word t kind got before after (faults.Broken fault) outcome from type read none counts = rw from ((t, kind, type, input_refused t kind input now got read none), counts)
+input_gives_none files input now file word t kind got before after faults.Memory outcome from type read none counts = rw from (schema_there files file t type.0, counts)

@@ -1,15 +1,17 @@
 -- What the program answers: the table of statuses, with the line and the cause of each.
-use Rattle.std.specs.Prelude.{ℕ, ◌≡◌, ◌⊎◌, List, [], ◌++◌, Option, Some, IfSome, codes}
+use Rattle.std.specs.Prelude.{ℕ, ◌≡◌, ◌⊎◌, List, [], ◌++◌, Option, Some, None, IfSome, codes}
 use Rattle.std.specs.Io.KnownBytes.{Keeps, Appends}
 use Rattle.ice_types.specs.declared.kind.TypeRef.{TypeRef}
 use Rattle.ice_types.specs.Tables.{Tables, Names}
 use Rattle.ice_encoding.specs.Tree.{Tree}
 use Rattle.ice_encoding.specs.Encapsulation.{SpellsEncapsulation, encapsulation_bytes}
-use Rattle.ice_ports.specs.Files.{file_named}
-use Rattle.ice_node.specs.declared.help.TheConstants.{HELP, VERSION}
-use Rattle.ice_node.specs.Words.{Word, Command, relay, help, version, Form}
-use Rattle.ice_node.specs.Streams.{TakesFront}
+use Rattle.ice_ports.specs.Failures.{one_more}
+use Rattle.ice_ports.specs.Files.{file_named, IsThere}
 use Rattle.slice_check.specs.SliceText.{Means}
+use Rattle.ice_node.specs.declared.help.TheConstants.{HELP, VERSION}
+use Rattle.ice_node.specs.Words.{Word, Command, relay, help, version, Asks}
+use Rattle.ice_node.specs.Outside.{Files, Failures, Outside, NoneFailed, ShelfFailed, SourceFailed, SinkFailed}
+use Rattle.ice_node.specs.Streams.{TakesFrugally, AppendsPrefix}
 
 pub data Answer : Type 0 where
   -- these bytes were written
@@ -21,7 +23,7 @@ pub data Answer : Type 0 where
   slice_refused : Answer
   input_refused : Answer
   read_failed : Answer
-  -- a front of these bytes was written
+  -- a prefix of these bytes was written
   write_failed : List ℕ → Answer
   no_memory : Answer
 
@@ -35,118 +37,164 @@ status read_failed = 5
 status (write_failed bytes) = 6
 status no_memory = 9
 
--- the line on the sink of faults
-abbrev pub fault_line : Answer → List ℕ
-fault_line (done bytes) = []
-fault_line usage = codes "ice: usage\n"
-fault_line (no_such_name word) = codes "ice: no such name " ++ (word ++ codes "\n")
-fault_line slice_refused = codes "ice: slice refused\n"
-fault_line input_refused = codes "ice: input refused\n"
-fault_line read_failed = codes "ice: read failed\n"
-fault_line (write_failed bytes) = codes "ice: write failed\n"
-fault_line no_memory = codes "ice: no memory\n"
+-- the line on the sink of errors
+abbrev pub error_line : Answer → List ℕ
+error_line (done bytes) = []
+error_line usage = codes "ice: usage\n"
+error_line (no_such_name word) = codes "ice: no such name " ++ (word ++ codes "\n")
+error_line slice_refused = codes "ice: slice refused\n"
+error_line input_refused = codes "ice: input refused\n"
+error_line read_failed = codes "ice: read failed\n"
+error_line (write_failed bytes) = codes "ice: write failed\n"
+error_line no_memory = codes "ice: no memory\n"
 
--- ---- what is decided by the words, the files and the input, where the outside tells them
-
-abbrev pub Files : Type 0
-Files = List (List ℕ × List ℕ)
-
-pub record World : Type 0 where
-  pub words : List Word
-  -- names and contents
-  pub files : Option Files
-  -- all that the source has left at the call
-  pub input : Option (List ℕ)
+-- ---- what is decided by the command, the files and the input, where the outside tells them
 
 -- the file is there, and its text means the schema
 abbrev pub FileMeans : Files → Word → Tables → Type 0
 FileMeans files file t = (text : List ℕ) × (file_named files file ≡ Some text) × Means text t
 
--- the file means the schema, where the shelf tells its files
-abbrev pub Told : Option Files → Word → Tables → Type 0
-Told files file t = IfSome files (λ known. FileMeans known file t)
+-- the same, where the shelf tells its files
+abbrev pub IsSchema : Option Files → Word → Tables → Type 0
+IsSchema files file t = IfSome files (λ known. FileMeans known file t)
+
+-- the file means no schema, where the shelf tells its files
+abbrev pub HasNoSchema : Option Files → Word → Type 0
+HasNoSchema files file = IfSome files (λ known. (t : Tables) → FileMeans known file t → ⊥)
 
 -- the word names this type, and no other
 abbrev pub IsNamed : Tables → Word → TypeRef → Type 0
 IsNamed t word kind = Names t word kind × ((other : TypeRef) → Names t word other → other ≡ kind)
 
+-- the file means this schema, in which the word names this type
+abbrev pub IsType : Option Files → Word → Word → Tables → TypeRef → Type 0
+IsType files file word t kind = IsSchema files file t × IsNamed t word kind
+
+-- the file means a schema in which the word names a type
+abbrev pub HasType : Option Files → Word → Word → Type 0
+HasType files file word = (t : Tables) × (kind : TypeRef) × IsType files file word t kind
+
+-- the input is one encapsulation of this value alone, where the source tells it
+abbrev pub IsValue : Option (List ℕ) → Tables → TypeRef → Tree → Type 0
+IsValue input t kind v = IfSome input (λ known. SpellsEncapsulation t kind known v)
+
+-- the input is no encapsulation of a value of the type, where the source tells it
+abbrev pub HasNoValue : Option (List ℕ) → Tables → TypeRef → Type 0
+HasNoValue input t kind =
+    IfSome input (λ known. (v : Tree) → SpellsEncapsulation t kind known v → ⊥)
+
 -- what `relay FILE TYPE` comes to
 abbrev pub Relays : Option Files → Option (List ℕ) → Word → Word → Answer → Type 0
-Relays files input file word (done bytes) = (t : Tables) × (kind : TypeRef) × (v : Tree) × Told files file t × IsNamed t word kind
-    × IfSome input (λ known. SpellsEncapsulation t kind known v) × (bytes ≡ encapsulation_bytes v)
-Relays files input file word (no_such_name unknown) = (unknown ≡ word) × (t : Tables) × Told files file t × ((kind : TypeRef) → Names t word kind → ⊥)
-Relays files input file word slice_refused = IfSome files (λ known. (t : Tables) → FileMeans known file t → ⊥)
-Relays files input file word input_refused = (t : Tables) × (kind : TypeRef) × Told files file t × IsNamed t word kind
-    × IfSome input (λ known. (v : Tree) → SpellsEncapsulation t kind known v → ⊥)
+Relays files input file word (done bytes) = (t : Tables) × (kind : TypeRef) × (v : Tree)
+    × IsType files file word t kind × IsValue input t kind v × (bytes ≡ encapsulation_bytes v)
+Relays files input file word (no_such_name unknown) = (unknown ≡ word)
+    × (t : Tables) × IsSchema files file t × ((kind : TypeRef) → Names t word kind → ⊥)
+Relays files input file word slice_refused = HasNoSchema files file
+Relays files input file word input_refused = (t : Tables) × (kind : TypeRef)
+    × IsType files file word t kind × HasNoValue input t kind
 Relays files input file word usage = ⊥
 Relays files input file word read_failed = ⊥
 Relays files input file word (write_failed bytes) = ⊥
 Relays files input file word no_memory = ⊥
 
--- what a command comes to
-abbrev pub Commands : World → Command → Answer → Type 0
-Commands w (relay file word) answer = Relays w.files w.input file word answer
-Commands w help answer = answer ≡ done HELP.now
-Commands w version answer = answer ≡ done VERSION.now
+-- what a command comes to, and words that are none
+abbrev pub Decides : Option Command → Option Files → Option (List ℕ) → Answer → Type 0
+Decides (Some (relay file word)) files input answer = Relays files input file word answer
+Decides (Some help) files input answer = answer ≡ done HELP.now
+Decides (Some version) files input answer = answer ≡ done VERSION.now
+Decides None files input answer = answer ≡ usage
 
-abbrev pub Decides : World → Answer → Type 0
-Decides w answer = ((answer ≡ usage) × ((command : Command) → Form w.words command → ⊥)) ⊎ ((command : Command) × Form w.words command × Commands w command answer)
+-- what the words come to, with these files and this input
+abbrev pub Decided : List Word → Files → List ℕ → Answer → Type 0
+Decided words files input answer = (asked : Option Command)
+    × Asks words asked × Decides asked (Some files) (Some input) answer
 
--- ---- when each answer comes, with what failed in the call
-
-abbrev pub Comes : World → (read_rose write_rose : Type 0) → Answer → Type 0
-Comes w read_rose write_rose (done bytes) = Decides w (done bytes)
-Comes w read_rose write_rose usage = Decides w usage
-Comes w read_rose write_rose (no_such_name word) = Decides w (no_such_name word)
-Comes w read_rose write_rose slice_refused = Decides w slice_refused
-Comes w read_rose write_rose input_refused = Decides w input_refused
-Comes w read_rose write_rose read_failed = (file word : Word) × Form w.words (relay file word) × read_rose
-Comes w read_rose write_rose (write_failed bytes) = Decides w (done bytes) × write_rose
-Comes w read_rose write_rose no_memory = (file word : Word) × Form w.words (relay file word)
-
--- a front of the bytes was taken
-abbrev pub AppendsFront : Option (List ℕ) → Option (List ℕ) → List ℕ → Type 0
-AppendsFront old new bytes = (front back : List ℕ) × (bytes ≡ front ++ back) × Appends old new front
-
--- The status is the answer's, unless a read, a write or memory failed.
+-- the status is the answer's, unless a read or a write failed, or memory ran out
 abbrev pub Ends : ℕ → Answer → Type 0
 Ends result answer = (result ≡ status answer) ⊎ ((result ≡ 5) ⊎ ((result ≡ 6) ⊎ (result ≡ 9)))
 
--- what the sink of answers got
-abbrev pub Writes : Option (List ℕ) → Option (List ℕ) → Answer → Type 0
-Writes old new (done bytes) = Appends old new bytes
-Writes old new usage = Keeps old new
-Writes old new (no_such_name word) = Keeps old new
-Writes old new slice_refused = Keeps old new
-Writes old new input_refused = Keeps old new
-Writes old new read_failed = Keeps old new
-Writes old new (write_failed bytes) = AppendsFront old new bytes
-Writes old new no_memory = Keeps old new
+-- ---- when each answer comes, with what failed in the call
 
--- The input is as it was, or the words ask to relay, and no more was taken of it than the encapsulation that it claims and
--- one byte more.
-abbrev pub TakesInput : List Word → Option (List ℕ) → Option (List ℕ) → Type 0
-TakesInput words old new = Keeps old new ⊎ ((file word : Word) × Form words (relay file word) × TakesFront old new)
+-- A read failed: of FILE; or of the input, and then FILE means a schema in which TYPE is named.
+abbrev pub ReadFails : Option Command → Option Files → Failures → Failures → Type 0
+ReadFails (Some (relay file word)) files before after =
+    ShelfFailed before after ⊎ (HasType files file word × SourceFailed before after)
+ReadFails (Some help) files before after = ⊥
+ReadFails (Some version) files before after = ⊥
+ReadFails None files before after = ⊥
 
--- What was taken of the input: nothing where the answer comes without it. It is open after a failure.
-abbrev pub Uses : List Word → Option (List ℕ) → Option (List ℕ) → Answer → Type 0
-Uses words old new (done bytes) = TakesInput words old new
-Uses words old new usage = Keeps old new
-Uses words old new (no_such_name word) = Keeps old new
-Uses words old new slice_refused = Keeps old new
-Uses words old new input_refused = TakesInput words old new
-Uses words old new read_failed = Unit {0}
-Uses words old new (write_failed bytes) = TakesInput words old new
-Uses words old new no_memory = Unit {0}
+-- memory may run out: for the relay of a file that is there
+abbrev pub MayRunOut : Option Command → Option Files → Type 0
+MayRunOut (Some (relay file word)) files = IsThere files file
+MayRunOut (Some help) files = ⊥
+MayRunOut (Some version) files = ⊥
+MayRunOut None files = ⊥
 
--- what the sink of faults got: the line, or a front of it where the sink failed
-abbrev pub Tells : Option (List ℕ) → Option (List ℕ) → (fault_rose : Type 0) → Answer → Type 0
-Tells old new fault_rose answer = Appends old new (fault_line answer) ⊎ (fault_rose × AppendsFront old new (fault_line answer))
+-- The cause of each answer. Each but 5 and 6 comes where no call failed; after those, one has.
+abbrev pub Causes : Option Command → Option Files → Option (List ℕ)
+    → (before after : Failures) → Answer → Type 0
+Causes asked files input before after (done bytes) =
+    Decides asked files input (done bytes) × NoneFailed before after
+Causes asked files input before after usage =
+    Decides asked files input usage × NoneFailed before after
+Causes asked files input before after (no_such_name word) =
+    Decides asked files input (no_such_name word) × NoneFailed before after
+Causes asked files input before after slice_refused =
+    Decides asked files input slice_refused × NoneFailed before after
+Causes asked files input before after input_refused =
+    Decides asked files input input_refused × NoneFailed before after
+Causes asked files input before after read_failed =
+    ReadFails asked files before after
+Causes asked files input before after (write_failed bytes) =
+    Decides asked files input (done bytes) × SinkFailed before after
+Causes asked files input before after no_memory =
+    MayRunOut asked files × NoneFailed before after
 
--- The answer is this one, for its cause, the input lost what it says, and the two sinks got what it says.
-pub record Answered (w : World) (new_input : Option (List ℕ)) (read_rose write_rose fault_rose : Type 0) (old new old_faults new_faults : Option (List ℕ)) (result : ℕ) (answer : Answer) : Type 0 where
+-- ---- what each answer took and wrote
+
+-- no more of the input than the encapsulation that it claims and one byte, for `relay` alone
+abbrev pub TakesInput : Option Command → Option (List ℕ) → Option (List ℕ) → Type 0
+TakesInput (Some (relay file word)) old new = TakesFrugally old new
+TakesInput (Some help) old new = Keeps old new
+TakesInput (Some version) old new = Keeps old new
+TakesInput None old new = Keeps old new
+
+-- what was taken of the input: nothing where the answer comes without it
+abbrev pub Takes : Option Command → Option (List ℕ) → Option (List ℕ) → Answer → Type 0
+Takes asked old new (done bytes) = TakesInput asked old new
+Takes asked old new usage = Keeps old new
+Takes asked old new (no_such_name word) = Keeps old new
+Takes asked old new slice_refused = Keeps old new
+Takes asked old new input_refused = TakesInput asked old new
+Takes asked old new read_failed = TakesInput asked old new
+Takes asked old new (write_failed bytes) = TakesInput asked old new
+Takes asked old new no_memory = TakesInput asked old new
+
+-- what the sink got: the bytes, a prefix of them after a failed write, and nothing of a refusal
+abbrev pub Outputs : Option (List ℕ) → Option (List ℕ) → Answer → Type 0
+Outputs old new (done bytes) = Appends old new bytes
+Outputs old new usage = Keeps old new
+Outputs old new (no_such_name word) = Keeps old new
+Outputs old new slice_refused = Keeps old new
+Outputs old new input_refused = Keeps old new
+Outputs old new read_failed = Keeps old new
+Outputs old new (write_failed bytes) = AppendsPrefix old new bytes
+Outputs old new no_memory = Keeps old new
+
+-- what the sink of errors got: the line, or a prefix of it where a write to it failed
+abbrev pub GetsLine : (old new : Option (List ℕ)) → (before after : ℕ) → Answer → Type 0
+GetsLine old new before after answer =
+    (Appends old new (error_line answer) × (after ≡ before))
+    ⊎ (AppendsPrefix old new (error_line answer) × (after ≡ one_more before))
+
+-- The words ask for this command or none, this answer comes for its cause, its status is returned,
+-- and the input, the sink and the sink of errors are as it says.
+pub record Answered (words : List Word) (before after : Outside) (result : ℕ) (answer : Answer)
+    : Type 0 where
+  pub asked : Option Command
+  pub asks : Asks words asked
+  pub cause : Causes asked before.files before.input before.failures after.failures answer
   pub returned : result ≡ status answer
-  pub cause : Comes w read_rose write_rose answer
-  pub used : Uses w.words w.input new_input answer
-  pub written : Writes old new answer
-  pub told : Tells old_faults new_faults fault_rose answer
+  pub input : Takes asked before.input after.input answer
+  pub output : Outputs before.output after.output answer
+  pub line : GetsLine before.errors after.errors before.error_failures after.error_failures answer

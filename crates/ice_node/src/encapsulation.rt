@@ -1,4 +1,5 @@
-//! A value in an encapsulation: its size, the version 1.1, and the value. (Ice manual, "Encapsulations".)
+//! A value in an encapsulation: its size, the version 1.1, and the value. (Ice manual, "Basic Data
+//! Encoding", "Encapsulations".)
 
 ghost use Rattle.std.specs.Prelude.{◌≡◌, ◌++◌, ◌∷◌, ◌+◌, ◌<◌, ◌≤◌, ◌^◌, pos, length, drop, IfOk, vec_len};
 ghost use Rattle.std.specs.Int.{w32};
@@ -8,7 +9,7 @@ ghost use Rattle.ice_prims.specs.Taking.{TakesUnlessMemory, GivesUnlessMemory};
 ghost use Rattle.ice_encoding.specs.Canonical.{canonical, HasSizes};
 ghost use Rattle.ice_encoding.specs.Encapsulation.{encapsulation_size, version_at, encapsulation_at, encapsulation_bytes};
 ghost use Rattle.graph_arena.specs.View.{view};
-ghost use Rattle.ice_node.specs.Steps.{Bounds, TakesVersion, Ends};
+ghost use Rattle.ice_node.specs.Steps.{Bounds, TakesVersion, IsEnd};
 
 use graph_arena::Value;
 use ice_prims::{Cursor, Fault, Kind, ReadFault, put_byte, put_int};
@@ -16,11 +17,17 @@ use ice_types::{Schema, TypeRef};
 use ice_values::{read_value, write_value};
 use std::alloc::{AllocError, Global};
 
+/// How many bytes the size has that an encapsulation begins with.
+pub const SIZE_BYTES: usize = 4;
+
+/// The smallest size of an encapsulation, in bytes: that of its size and version.
+pub const SMALLEST: usize = 6;
+
 /// The greatest size of an encapsulation, in bytes.
-pub const LARGEST: i32 = 1_048_576;
+pub const LARGEST: usize = 1_048_576;
 
 /// The value of the type that the whole input holds in one encapsulation, or the first fault from
-/// the left. Nothing may stand behind the value, or behind the encapsulation.
+/// the left. Nothing may follow the value, or the encapsulation.
 pub fn decode(
     alloc: Global,
     schema: &Schema,
@@ -32,7 +39,7 @@ pub fn decode(
     let mut cursor = Cursor::new(input);
     let size = cursor.take_int()?;
     let size = bound_of(size, input.len())?;
-    let mut bound = cursor.split(size - 4)?;
+    let mut bound = cursor.split(size - SIZE_BYTES)?;
     take_version(&mut bound)?;
     let value = read_value(alloc, schema, kind, &mut bound)?;
     end(&bound)?;
@@ -44,11 +51,11 @@ pub fn decode(
 fn bound_of(size: i32, there: usize) -> Result<usize, Fault>
     ensures { Bounds result size there }
 {
-    let kind = if size > LARGEST {
+    let kind = if size > LARGEST as i32 {
         Kind::TooLarge
     } else if size >= 0 && size as usize > there {
         Kind::Short
-    } else if size < 6 {
+    } else if size < SMALLEST as i32 {
         Kind::BadSize
     } else {
         return Ok(size as usize);
@@ -69,7 +76,7 @@ fn take_version(cursor: &mut Cursor<'_>) -> Result<(), Fault>
 
 /// The end of a bound.
 fn end(cursor: &Cursor<'_>) -> Result<(), Fault>
-    ensures { Ends result cursor.now }
+    ensures { IsEnd result cursor.now }
 {
     if cursor.left() > 0 {
         return Err(cursor.fault(Kind::LeftOver));
@@ -93,7 +100,7 @@ pub fn encode(alloc: Global, value: &Value) -> Result<Vec<u8>, AllocError>
     Ok(out)
 }
 
-/// Puts the size over the four bytes at the front.
+/// Puts the size over the first four bytes.
 fn patch_size(out: &mut Vec<u8>, size: i32)
     requires { 4 ≤ vec_len out.old }
     ensures { out.new.items ≡ signed_bytes w32 size ++ drop 4 out.old.items }

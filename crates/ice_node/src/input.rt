@@ -1,57 +1,26 @@
 //! An encapsulation from a source.
 
-ghost use Rattle.std.specs.Prelude.{◌≡◌, ◌≤◌, ℕ, pos, length, IfOk, OnOk, MatchOption, vec_len};
-ghost use Rattle.ice_ports.specs.Causes.{Rose};
-ghost use Rattle.ice_node.specs.Streams.{ReadsUpTo, ReadsInput, ClaimsSize};
+ghost use Rattle.std.specs.Prelude.{◌≡◌, ◌≤◌, ℕ, pos, length, IfOk, OnOk, OnErr, MatchOption, vec_len};
+ghost use Rattle.ice_ports.specs.Failures.{count_after};
+ghost use Rattle.ice_ports.specs.Files.{is_failed};
+ghost use Rattle.ice_node.specs.Streams.{ReadsUpTo, TakesUpTo, ReadsInput, TakesFrugally, ClaimsSize};
 
-use crate::encapsulation::LARGEST;
-use ice_ports::{Failed, Source};
+use crate::encapsulation::{LARGEST, SIZE_BYTES, SMALLEST};
+use ice_ports::{MOST_OF_A_READ, PortFault, Source};
 use ice_prims::Cursor;
-use std::alloc::{AllocError, Global};
+use std::alloc::Global;
 
-/// Why an input was not read.
-#[derive(Debug, PartialEq, Eq, Drop)]
-pub enum InputFault {
-    /// The source failed, and has counted it.
-    Failed,
-    /// Want of memory.
-    Memory,
-}
-
-impl From<Failed> for InputFault {
-    ghost use Rattle.std.specs.Prelude.{◌≡◌};
-    ghost use Rattle.ice_node.specs.declared.input.InputFault.TheVariants as faults;
-
-    ghost from_gives = { λ _ e. e ≡ faults.Failed };
-
-    fn from(_failed: Failed) -> InputFault {
-        InputFault::Failed
-    }
-}
-
-impl From<AllocError> for InputFault {
-    ghost use Rattle.std.specs.Prelude.{◌≡◌};
-    ghost use Rattle.ice_node.specs.declared.input.InputFault.TheVariants as faults;
-
-    ghost from_gives = { λ _ e. e ≡ faults.Memory };
-
-    fn from(_error: AllocError) -> InputFault {
-        InputFault::Memory
-    }
-}
-
-/// The most bytes of one read.
-const PIECE: usize = 4096;
-
-/// The input up to one byte behind the encapsulation that it claims, or to its end. Where the size
-/// is none, no more than the size is read. What was read of a source that fails is lost.
-pub fn read_input<S: Source>(alloc: Global, source: &mut S) -> Result<Vec<u8>, InputFault>
-    ensures read { IfOk result (λ got. ReadsInput (S.left source.old) (S.left source.new) got.items) }
-    ensures later { S.faults source.old ≤ S.faults source.new }
-    ensures failed { result ≡ Err InputFault.Failed → Rose (S.faults source.old) (S.faults source.new) }
+/// The input up to one byte after the encapsulation that it claims, or to its end. Where the size
+/// is none, no more than the size is read. What was read of a source that fails is lost; that was
+/// no more either. (Ice manual, "Encapsulations".)
+pub fn read_input<S: Source>(alloc: Global, source: &mut S) -> Result<Vec<u8>, PortFault>
+    ensures read { IfOk result (λ got.
+        ReadsInput (S.left source.old) (S.left source.new) got.items) }
+    ensures taken { TakesFrugally (S.left source.old) (S.left source.new) }
+    ensures count { S.failures source.new ≡ count_after (S.failures source.old) (is_failed result) }
 {
     let mut input = Vec::new(alloc);
-    read_up_to(source, &mut input, 4)?;
+    read_up_to(source, &mut input, SIZE_BYTES)?;
     let Some(size) = claimed_size(input.as_slice()) else {
         return Ok(input);
     };
@@ -59,28 +28,31 @@ pub fn read_input<S: Source>(alloc: Global, source: &mut S) -> Result<Vec<u8>, I
     Ok(input)
 }
 
-/// The size of the encapsulation that begins with these bytes; None where they are fewer than four,
-/// or where they claim a size that no encapsulation has.
+/// The size of the encapsulation that begins with these bytes; None where they are fewer than a
+/// size has, or where they claim a size that no encapsulation has.
 fn claimed_size(bytes: &[u8]) -> Option<usize>
-    requires { length bytes.now ≤ 4 }
+    requires { length bytes.now ≤ SIZE_BYTES }
     ensures { ClaimsSize bytes.now result }
 {
     match Cursor::new(bytes).take_int() {
-        Ok(size) if 6 <= size && size <= LARGEST => Some(size as usize),
+        Ok(size) if SMALLEST as i32 <= size && size <= LARGEST as i32 => Some(size as usize),
         _ => None,
     }
 }
 
-/// Reads behind the bytes that are there until there are so many in all, or until the input ends.
-fn read_up_to<S: Source>(source: &mut S, bytes: &mut Vec<u8>, goal: usize) -> Result<(), InputFault>
+/// Reads after the bytes that are there until there are so many in all, or until the input ends.
+/// After a fault no more than that was taken.
+fn read_up_to<S: Source>(source: &mut S, bytes: &mut Vec<u8>, goal: usize) -> Result<(), PortFault>
     requires { vec_len bytes.old ≤ goal }
-    ensures read { OnOk result (ReadsUpTo goal (S.left source.old) (S.left source.new) bytes.old.items bytes.new.items) }
-    ensures later { S.faults source.old ≤ S.faults source.new }
-    ensures failed { result ≡ Err InputFault.Failed → Rose (S.faults source.old) (S.faults source.new) }
+    ensures read { OnOk result (ReadsUpTo goal
+        (S.left source.old) (S.left source.new) bytes.old.items bytes.new.items) }
+    ensures taken { OnErr result (TakesUpTo goal
+        (S.left source.old) (S.left source.new) bytes.old.items) }
+    ensures count { S.failures source.new ≡ count_after (S.failures source.old) (is_failed result) }
 {
-    let mut buffer = [0; PIECE];
+    let mut buffer = [0; MOST_OF_A_READ];
     while bytes.len() < goal {
-        let most = (goal - bytes.len()).min(PIECE);
+        let most = (goal - bytes.len()).min(MOST_OF_A_READ);
         let piece = &mut buffer[..most];
         let count = source.read(piece)?;
         if count == 0 {

@@ -10,11 +10,11 @@ mod relay;
 mod top_call;
 mod words;
 
-pub use encapsulation::{LARGEST, decode, encode};
+pub use encapsulation::{LARGEST, SIZE_BYTES, SMALLEST, decode, encode};
 pub use help::{HELP, VERSION};
-pub use input::{InputFault, read_input};
+pub use input::read_input;
 pub use outcome::Outcome;
-pub use output::write_all;
+pub use output::{print, report, write_all};
 pub use top_call::{answers_apart, node};
 pub use words::{Command, command_of, forms_apart};
 

@@ -1,19 +1,56 @@
-//! Bytes to a sink.
+//! Bytes to a sink: an answer, or the line that says why there is none.
 
-ghost use Rattle.std.specs.Prelude.{◌≡◌};
-ghost use Rattle.ice_ports.specs.Causes.{HasCause};
-ghost use Rattle.ice_node.specs.Streams.{Wrote};
+ghost use Rattle.std.specs.Prelude.{◌≡◌, ℕ, List};
+ghost use Rattle.std.specs.List.{flat_map};
+ghost use Rattle.ice_node.specs.Streams.{Writes};
+ghost use Rattle.ice_node.specs.Statuses.{status, Outputs, GetsLine};
+ghost use Rattle.ice_node.specs.Outcomes.{Prints, answer_of};
 
+use crate::outcome::Outcome;
 use ice_ports::{Failed, Sink};
 
-/// Writes all of the bytes. A sink that fails has taken a front of them.
+/// Writes the whole answer. A sink that fails has taken a prefix of it, and is not asked again.
+pub fn print<K: Sink>(bytes: &[u8], sink: &mut K) -> Outcome<'static>
+    ensures outcome { Prints (K.failures sink.old) (K.failures sink.new) result }
+    ensures output { Outputs (K.taken sink.old) (K.taken sink.new) (answer_of result bytes.now) }
+{
+    match write_all(sink, bytes) {
+        Ok(()) => Outcome::Done,
+        Err(Failed) => Outcome::WriteFailed,
+    }
+}
+
+/// Writes the outcome's line to the sink of errors, and answers the status to end with. A line that
+/// cannot be written leaves the status as it is.
+pub fn report<E: Sink>(outcome: Outcome<'_>, errors: &mut E) -> u8
+    ensures status { (bytes : List ℕ) → result ≡ status (answer_of outcome.entry bytes) }
+    ensures line { (bytes : List ℕ) → GetsLine (E.taken errors.old) (E.taken errors.new)
+        (E.failures errors.old) (E.failures errors.new) (answer_of outcome.entry bytes) }
+{
+    let _ = write_pieces(errors, &outcome.line());
+    outcome.status()
+}
+
+/// Writes all of the bytes. A sink that fails has taken a prefix of them, and is not asked again.
 pub fn write_all<K: Sink>(sink: &mut K, bytes: &[u8]) -> Result<(), Failed>
-    ensures wrote { Wrote (K.taken sink.old) (K.taken sink.new) result bytes.now }
-    ensures cause { HasCause (K.faults sink.old) (K.faults sink.new) result }
+    ensures { Writes (K.taken sink.old) (K.taken sink.new)
+        (K.failures sink.old) (K.failures sink.new) result bytes.now }
 {
     let mut at = 0;
     while at < bytes.len() {
         at += sink.write(&bytes[at..])?;
+    }
+    Ok(())
+}
+
+/// Writes the texts one after the other.
+fn write_pieces<K: Sink>(sink: &mut K, pieces: &[&str]) -> Result<(), Failed>
+    ensures { Writes (K.taken sink.old) (K.taken sink.new)
+        (K.failures sink.old) (K.failures sink.new) result
+        (flat_map (λ piece. piece.now) pieces.now) }
+{
+    for piece in pieces {
+        write_all(sink, piece.as_bytes())?;
     }
     Ok(())
 }

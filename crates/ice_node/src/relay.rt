@@ -1,79 +1,39 @@
 //! `relay FILE TYPE`: one encapsulation in, the canonical one out.
 
-ghost use Rattle.std.specs.Prelude.{◌⊎◌};
-ghost use Rattle.ice_ports.specs.Causes.{Rose};
-ghost use Rattle.ice_node.specs.Outcomes.{Prints, Finds, FindsSchema, RelayRan, Canonicalizes, Leaves, LeavesFound, bytes_found};
+ghost use Rattle.std.specs.Prelude.{ℕ};
+ghost use Rattle.ice_node.specs.Outside.{counts};
+ghost use Rattle.ice_node.specs.Outcomes.{FindsSchema, FindsBytes, TakesFound, Canonicalizes, bytes_found};
 
 use crate::encapsulation::{decode, encode};
-use crate::input::{InputFault, read_input};
+use crate::input::read_input;
 use crate::outcome::Outcome;
-use crate::output::write_all;
-use ice_ports::{Shelf, ShelfFault, Sink, Source};
+use ice_ports::{Shelf, Source};
 use ice_prims::ReadFault;
 use ice_types::{Schema, TypeRef};
-use slice_check::{TextFault, schema_of};
+use slice_check::schema_of;
 use std::alloc::Global;
 
-/// Relays one encapsulation of the type from the source to the sink. Nothing is written before the
-/// whole input is read and accepted.
-pub fn relay<'a, H: Shelf, S: Source, K: Sink>(
+/// The canonical encapsulation of the value of the type that the source holds, or why there is
+/// none. Only a source of which a value is asked is read.
+pub fn relay<'a, H: Shelf, S: Source>(
     alloc: Global,
-    file: &'a str,
-    kind: &'a str,
-    shelf: &mut H,
-    source: &mut S,
-    sink: &mut K,
-) -> Outcome<'a>
-    ensures did { RelayRan (H.files shelf.old) (S.left source.old) file.now kind.now
-        (Rose (H.faults shelf.old) (H.faults shelf.new) ⊎ Rose (S.faults source.old) (S.faults source.new))
-        (Rose (K.faults sink.old) (K.faults sink.new)) (K.taken sink.old) (K.taken sink.new) result }
-    ensures used { Leaves (S.left source.old) (S.left source.new) result }
-{
-    match answer(alloc, file, kind, shelf, source) {
-        Ok(bytes) => print(bytes.as_slice(), sink),
-        Err(outcome) => outcome,
-    }
-}
-
-/// Writes all of the bytes.
-pub fn print<K: Sink>(bytes: &[u8], sink: &mut K) -> Outcome<'static>
-    ensures { Prints (K.taken sink.old) (K.taken sink.new) (Rose (K.faults sink.old) (K.faults sink.new)) bytes.now result }
-{
-    match write_all(sink, bytes) {
-        Ok(()) => Outcome::Done,
-        Err(_) => Outcome::WriteFailed,
-    }
-}
-
-/// The bytes to be written, or why there are none.
-fn answer<'a, H: Shelf, S: Source>(
-    alloc: Global,
-    file: &'a str,
+    file: &str,
     kind: &'a str,
     shelf: &mut H,
     source: &mut S,
 ) -> Result<Vec<u8>, Outcome<'a>>
-    ensures found { Finds (H.files shelf.old) (S.left source.old) file.now kind.now
-        (Rose (H.faults shelf.old) (H.faults shelf.new) ⊎ Rose (S.faults source.old) (S.faults source.new)) (bytes_found result) }
-    ensures used { LeavesFound (S.left source.old) (S.left source.new) result }
+    ensures found { (sink : ℕ)
+        → FindsBytes (H.files shelf.old) (S.left source.old) file.now kind.now
+        (counts (H.failures shelf.old) (S.failures source.old) sink)
+        (counts (H.failures shelf.new) (S.failures source.new) sink) (bytes_found result) }
+    ensures taken { TakesFound file.now kind.now (S.left source.old) (S.left source.new) result }
 {
-    let schema = match load_schema(alloc, file, shelf) {
-        Ok(schema) => schema,
-        Err(outcome) => return Err(outcome),
-    };
+    let schema = load_schema(alloc, file, shelf)?;
     let Some(kind) = schema.type_named(kind) else {
         return Err(Outcome::NoSuchName(kind));
     };
-    let input = match read_input(alloc, source) {
-        Ok(input) => input,
-        Err(InputFault::Failed) => return Err(Outcome::ReadFailed),
-        Err(InputFault::Memory) => return Err(Outcome::Memory),
-    };
-    match canonical_of(alloc, &schema, kind, input.as_slice()) {
-        Ok(bytes) => Ok(bytes),
-        Err(ReadFault::Broken(_)) => Err(Outcome::InputRefused),
-        Err(ReadFault::Memory) => Err(Outcome::Memory),
-    }
+    let input = read_input(alloc, source)?;
+    Ok(canonical_of(alloc, &schema, kind, input.as_slice())?)
 }
 
 /// The schema that the file on the shelf means.
@@ -82,19 +42,13 @@ fn load_schema<H: Shelf>(
     file: &str,
     shelf: &mut H,
 ) -> Result<Schema, Outcome<'static>>
-    ensures { FindsSchema (H.files shelf.old) file.now (Rose (H.faults shelf.old) (H.faults shelf.new)) result }
+    ensures { FindsSchema (H.files shelf.old) file.now
+        (H.failures shelf.old) (H.failures shelf.new) result }
 {
-    let text = match shelf.load(alloc, file) {
-        Ok(Some(text)) => text,
-        Ok(None) => return Err(Outcome::SliceRefused),
-        Err(ShelfFault::Failed) => return Err(Outcome::ReadFailed),
-        Err(ShelfFault::Memory) => return Err(Outcome::Memory),
+    let Some(text) = shelf.load(alloc, file)? else {
+        return Err(Outcome::SliceRefused);
     };
-    match schema_of(alloc, text.as_slice()) {
-        Ok(schema) => Ok(schema),
-        Err(TextFault::Refused) => Err(Outcome::SliceRefused),
-        Err(TextFault::Memory) => Err(Outcome::Memory),
-    }
+    Ok(schema_of(alloc, text.as_slice())?)
 }
 
 /// The canonical encapsulation of the value that the whole input holds.
@@ -106,8 +60,6 @@ fn canonical_of(
 ) -> Result<Vec<u8>, ReadFault>
     ensures { Canonicalizes schema.now kind input.now result }
 {
-    match decode(alloc, schema, kind, input) {
-        Ok(value) => Ok(encode(alloc, &value)?),
-        Err(fault) => Err(fault),
-    }
+    let value = decode(alloc, schema, kind, input)?;
+    Ok(encode(alloc, &value)?)
 }

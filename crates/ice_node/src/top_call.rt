@@ -1,77 +1,67 @@
 //! All that the program does.
 
-ghost use Rattle.std.specs.Prelude.{◌≡◌, ◌⊎◌, List, ℕ, Some};
-ghost use Rattle.std.specs.List.{flat_map};
-ghost use Rattle.ice_ports.specs.Causes.{Rose, HasCause};
-ghost use Rattle.ice_node.specs.Words.{Word, words_of};
-ghost use Rattle.ice_node.specs.Streams.{Wrote};
-ghost use Rattle.ice_node.specs.Statuses.{World, Files, Answer, Answered, Decides, Ends, Uses};
-ghost use Rattle.ice_node.specs.Outcomes.{Ran, answer_of};
+ghost use Rattle.std.specs.Prelude.{◌≡◌, List, ℕ, Option, Some};
+ghost use Rattle.ice_node.specs.Words.{Word, Command as Asked, Asks, words_of};
+ghost use Rattle.ice_node.specs.Outside.{Files, Outside, counts};
+ghost use Rattle.ice_node.specs.Statuses.{Answer, Answered, Decided, Ends, Causes, Takes, Outputs};
+ghost use Rattle.ice_node.specs.Outcomes.{answer_of};
 
 use crate::help::{HELP, VERSION};
 use crate::outcome::Outcome;
-use crate::output::write_all;
-use crate::relay::{print, relay};
+use crate::output::{print, report};
+use crate::relay::relay;
 use crate::words::{Command, command_of};
-use ice_ports::{Failed, Shelf, Sink, Source};
+use ice_ports::{Shelf, Sink, Source};
 use std::alloc::Global;
 
 /// Does what the words ask for and answers the status that the program ends with: reads Slice files
-/// from the shelf, the input from the source, writes the answer to the sink and a line on why there
-/// is none to the sink of faults.
+/// from the shelf and the input from the source, and writes the answer to the sink, or to the sink
+/// of errors a line on why there is none.
 pub fn node<H: Shelf, S: Source, K: Sink, E: Sink>(
     alloc: Global,
     words: &[String],
     shelf: &mut H,
     source: &mut S,
     sink: &mut K,
-    faults: &mut E,
+    errors: &mut E,
 ) -> u8
     // There is one answer: its status is returned, it comes for its cause, no more of the input was
     // taken than it says, and the sinks got what it says.
-    ensures answered { (answer : Answer) × Answered
-        (record { words = words_of words.now; files = H.files shelf.old; input = S.left source.old }) (S.left source.new)
-        (Rose (H.faults shelf.old) (H.faults shelf.new) ⊎ Rose (S.faults source.old) (S.faults source.new))
-        (Rose (K.faults sink.old) (K.faults sink.new)) (Rose (E.faults faults.old) (E.faults faults.new))
-        (K.taken sink.old) (K.taken sink.new) (E.taken faults.old) (E.taken faults.new) result answer }
+    ensures answered { let before : Outside = record {
+      files = H.files shelf.old;
+      input = S.left source.old;
+      output = K.taken sink.old;
+      errors = E.taken errors.old;
+      failures = counts (H.failures shelf.old) (S.failures source.old) (K.failures sink.old);
+      error_failures = E.failures errors.old;
+    } in
+        let after : Outside = record {
+          files = H.files shelf.new;
+          input = S.left source.new;
+          output = K.taken sink.new;
+          errors = E.taken errors.new;
+          failures = counts (H.failures shelf.new) (S.failures source.new) (K.failures sink.new);
+          error_failures = E.failures errors.new;
+        } in
+        (answer : Answer) × Answered (words_of words.now) before after result answer }
 
     // Where the outside tells what it holds, and that decides an answer, no other answer comes,
-    // unless a read, a write or memory failed.
-    ensures exactly { (files : Files) (input : List ℕ) (answer : Answer) → H.files shelf.old ≡ Some files → S.left source.old ≡ Some input
-        → Decides (record { words = words_of words.now; files = Some files; input = Some input }) answer → Ends result answer }
-{
-    respond(alloc, words, shelf, source, sink, faults)
-}
-
-/// The same.
-fn respond<H: Shelf, S: Source, K: Sink, E: Sink>(
-    alloc: Global,
-    words: &[String],
-    shelf: &mut H,
-    source: &mut S,
-    sink: &mut K,
-    faults: &mut E,
-) -> u8
-    ensures { (answer : Answer) × Answered
-        (record { words = words_of words.now; files = H.files shelf.old; input = S.left source.old }) (S.left source.new)
-        (Rose (H.faults shelf.old) (H.faults shelf.new) ⊎ Rose (S.faults source.old) (S.faults source.new))
-        (Rose (K.faults sink.old) (K.faults sink.new)) (Rose (E.faults faults.old) (E.faults faults.new))
-        (K.taken sink.old) (K.taken sink.new) (E.taken faults.old) (E.taken faults.new) result answer }
+    // unless a read or a write failed, or memory ran out.
+    ensures exactly { (files : Files) (input : List ℕ) (answer : Answer)
+        → H.files shelf.old ≡ Some files → S.left source.old ≡ Some input
+        → Decided (words_of words.now) files input answer → Ends result answer }
 {
     let outcome = run(alloc, words, shelf, source, sink);
-    // A line that cannot be written leaves the status as it is.
-    let _ = write_pieces(faults, &outcome.line());
-    outcome.status()
+    report(outcome, errors)
 }
 
-/// At most one answer is decided where the outside tells what it holds.
+/// Words, files and an input decide at most one answer.
 pub fn answers_apart()
     ensures { (words : List Word) (files : Files) (input : List ℕ) (a b : Answer)
-        → Decides (record { words = words; files = Some files; input = Some input }) a
-        → Decides (record { words = words; files = Some files; input = Some input }) b → a ≡ b }
+        → Decided words files input a → Decided words files input b → a ≡ b }
 {}
 
-/// Does what the words ask for.
+/// Does what the words ask for, up to the answer's last byte.
 fn run<'a, H: Shelf, S: Source, K: Sink>(
     alloc: Global,
     words: &'a [String],
@@ -79,26 +69,21 @@ fn run<'a, H: Shelf, S: Source, K: Sink>(
     source: &mut S,
     sink: &mut K,
 ) -> Outcome<'a>
-    ensures did { Ran (record { words = words_of words.now; files = H.files shelf.old; input = S.left source.old })
-        (Rose (H.faults shelf.old) (H.faults shelf.new) ⊎ Rose (S.faults source.old) (S.faults source.new))
-        (Rose (K.faults sink.old) (K.faults sink.new)) (K.taken sink.old) (K.taken sink.new) result }
-    ensures used { (bytes : List ℕ) → Uses (words_of words.now) (S.left source.old) (S.left source.new) (answer_of result bytes) }
+    ensures { (bytes : List ℕ) × (asked : Option Asked) × Asks (words_of words.now) asked
+        × Causes asked (H.files shelf.old) (S.left source.old)
+        (counts (H.failures shelf.old) (S.failures source.old) (K.failures sink.old))
+        (counts (H.failures shelf.new) (S.failures source.new) (K.failures sink.new))
+        (answer_of result bytes)
+        × Takes asked (S.left source.old) (S.left source.new) (answer_of result bytes)
+        × Outputs (K.taken sink.old) (K.taken sink.new) (answer_of result bytes) }
 {
     match command_of(words) {
-        Some(Command::Relay { file, kind }) => relay(alloc, file, kind, shelf, source, sink),
+        Some(Command::Relay { file, kind }) => match relay(alloc, file, kind, shelf, source) {
+            Ok(bytes) => print(bytes.as_slice(), sink),
+            Err(outcome) => outcome,
+        },
         Some(Command::Help) => print(HELP.as_bytes(), sink),
         Some(Command::Version) => print(VERSION.as_bytes(), sink),
         None => Outcome::Usage,
     }
-}
-
-/// Writes the texts one after the other.
-fn write_pieces<K: Sink>(sink: &mut K, pieces: &[&str]) -> Result<(), Failed>
-    ensures wrote { Wrote (K.taken sink.old) (K.taken sink.new) result (flat_map (λ piece. piece.now) pieces.now) }
-    ensures cause { HasCause (K.faults sink.old) (K.faults sink.new) result }
-{
-    for piece in pieces {
-        write_all(sink, piece.as_bytes())?;
-    }
-    Ok(())
 }

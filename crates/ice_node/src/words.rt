@@ -1,10 +1,10 @@
 //! The command line.
 
 ghost use Rattle.std.specs.Prelude.{◌≡◌, List, [], ◌∷◌};
-ghost use Rattle.ice_node.specs.Words.{Word, Command as Asked, Form, Asks, words_of};
+ghost use Rattle.ice_node.specs.Words.{Word, Command as Asked, Form, Asks, asked_of, words_of};
 
-/// No word of a listed form is longer.
-const MOST_BYTES: usize = 8192;
+/// The most bytes of a word that is the file or the type of a listed form.
+const MOST_OF_A_WORD: usize = 8192;
 
 /// What the words ask the program to do.
 #[derive(Clone, Copy, Debug, PartialEq, Eq)]
@@ -19,7 +19,7 @@ pub enum Command<'a> {
 
 /// The command that the words ask for, None where they are no listed form.
 pub fn command_of(words: &[String]) -> Option<Command<'_>>
-    ensures { Asks result (words_of words.now) }
+    ensures { Asks (words_of words.now) (asked_of result) }
 {
     match words {
         [option] => option_of(option.as_str()),
@@ -29,7 +29,7 @@ pub fn command_of(words: &[String]) -> Option<Command<'_>>
 }
 
 fn option_of(word: &str) -> Option<Command<'_>>
-    ensures { Asks result (word.now ∷ []) }
+    ensures { Asks (word.now ∷ []) (asked_of result) }
 {
     match word {
         "--help" => Some(Command::Help),
@@ -39,9 +39,9 @@ fn option_of(word: &str) -> Option<Command<'_>>
 }
 
 fn relay_of<'a>(word: &'a str, file: &'a str, kind: &'a str) -> Option<Command<'a>>
-    ensures { Asks result (word.now ∷ file.now ∷ kind.now ∷ []) }
+    ensures { Asks (word.now ∷ file.now ∷ kind.now ∷ []) (asked_of result) }
 {
-    if word == "relay" && file.len() <= MOST_BYTES && kind.len() <= MOST_BYTES {
+    if word == "relay" && file.len() <= MOST_OF_A_WORD && kind.len() <= MOST_OF_A_WORD {
         Some(Command::Relay { file, kind })
     } else {
         None

@@ -1,4 +1,4 @@
-pub mod Causes
+pub mod Failures
 pub mod Files
 pub mod Plan
 pub mod Memory

@@ -2,7 +2,7 @@
 use Rattle.std.specs.Prelude.{ℕ, List, Bool, ◌==◌}
 use Rattle.std.specs.List.{list_any}
 use Rattle.ice_ports.specs.declared.fault_plan.FaultPlan.{FaultPlan}
-use Rattle.ice_ports.specs.Causes.{one_more, count_after}
+use Rattle.ice_ports.specs.Failures.{one_more, count_after}
 
 -- a plan of which no call was made yet
 abbrev pub new_plan : List ℕ → FaultPlan
@@ -14,4 +14,5 @@ fails_now p = list_any (λ call. call == p.calls) p.fails
 
 -- the plan after a call, which failed or not
 abbrev pub after_call : FaultPlan → Bool → FaultPlan
-after_call p failed = record { fails = p.fails; calls = one_more p.calls; failures = count_after p.failures failed }
+after_call p failed =
+    record { fails = p.fails; calls = one_more p.calls; failures = count_after p.failures failed }

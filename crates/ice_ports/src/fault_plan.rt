@@ -1,6 +1,5 @@
 //! Which calls of an object in memory fail.
 ghost use Rattle.std.specs.Prelude.{◌≡◌, is_err};
-ghost use Rattle.ice_ports.specs.Causes.{HasCause};
 ghost use Rattle.ice_ports.specs.Plan.{new_plan, fails_now, after_call};
 
 use super::ports::Failed;
@@ -38,7 +37,6 @@ impl FaultPlan {
     pub fn count(&mut self, failed: bool) -> Result<(), Failed>
         ensures fails { is_err result ≡ failed }
         ensures plan { self.new ≡ after_call self.old failed }
-        ensures cause { HasCause self.old.failures self.new.failures result }
     {
         self.calls = self.calls.saturating_add(1);
         if !failed {

@@ -1,10 +1,10 @@
 //! The files of the system as a shelf.
-ghost use Rattle.std.specs.Prelude.{◌≡◌, ◌≤◌, ◌↔◌, None, IfOk, IfErr, IfSome, IsTrue, take};
+ghost use Rattle.std.specs.Prelude.{◌≡◌, ◌↔◌, None, IfOk, IfErr, IfSome, IsTrue, take};
 ghost use Rattle.std.specs.IoError.{error_kind};
-ghost use Rattle.ice_ports.specs.Causes.{Rose, count_after};
-ghost use Rattle.ice_ports.specs.Files.{Finds, IsFront, IsMissing, IsNoFront, is_failed};
+ghost use Rattle.ice_ports.specs.Failures.{count_after};
+ghost use Rattle.ice_ports.specs.Files.{Finds, IsMissing, IsNotOpened, IsPrefix, is_failed};
 
-use super::ports::{Shelf, ShelfFault};
+use super::ports::{PortFault, Shelf};
 use ice_types::{Bytes, List};
 use std::alloc::Global;
 use std::fs::File;
@@ -19,7 +19,7 @@ use std::rt::Files;
 pub struct FolderShelf<R> {
     files: R,
     most: u64,
-    faults: u64,
+    failures: u64,
 }
 
 impl<R> Model for FolderShelf<R> {
@@ -27,19 +27,19 @@ impl<R> Model for FolderShelf<R> {
 
     ghost Value = { Disk };
 
-    ghost view = { λ s. record { most = s.most; failures = s.faults } };
+    ghost view = { λ s. record { most = s.most; failures = s.failures } };
 }
 
 impl<R: Files> FolderShelf<R> {
-    /// The files of this runtime. No more than `most` bytes of a file are read: one that goes on
-    /// behind them is cut there.
+    /// The files of this runtime. No more than `most` bytes of a file are read: a longer one is
+    /// cut there.
     pub fn new(files: R, most: u64) -> FolderShelf<R>
         ensures { result ≡ record { most = most; failures = 0 } }
     {
         FolderShelf {
             files,
             most,
-            faults: 0,
+            failures: 0,
         }
     }
 
@@ -47,49 +47,49 @@ impl<R: Files> FolderShelf<R> {
     pub fn failures(&self) -> u64
         ensures { result ≡ self.now.failures }
     {
-        self.faults
+        self.failures
     }
 }
 
 impl<R: Files> Shelf for FolderShelf<R> {
     ghost files = { λ _. None };
 
-    ghost faults = { λ s. s.failures };
+    ghost failures = { λ s. s.failures };
 
-    fn load(&mut self, alloc: Global, name: &str) -> Result<Option<Bytes>, ShelfFault>
+    fn load(&mut self, alloc: Global, name: &str) -> Result<Option<Bytes>, PortFault>
         ensures found { Finds None name.now result }
-        ensures later { self.old.failures ≤ self.new.failures }
-        ensures failed { result ≡ Err ShelfFault.Failed → Rose self.old.failures self.new.failures }
-        ensures state { self.new ≡ record { most = self.old.most; failures = count_after self.old.failures (is_failed result) } }
+        ensures limit { self.new.most ≡ self.old.most }
+        ensures count { self.new.failures ≡ count_after self.old.failures (is_failed result) }
     {
-        let result = front_of(alloc, File::open(&self.files, name), self.most);
-        if matches!(result, Err(ShelfFault::Failed)) {
-            self.faults = self.faults.saturating_add(1);
+        let result = prefix_of(alloc, File::open(&self.files, name), self.most);
+        if matches!(result, Err(PortFault::Failed)) {
+            self.failures = self.failures.saturating_add(1);
         }
         result
     }
 }
 
 /// So many bytes of a file that was opened, or all of it. None where there is no such file.
-fn front_of<F: Read + Drop>(
+fn prefix_of<F: Read + Drop>(
     alloc: Global,
     opened: io::Result<F>,
     most: u64,
-) -> Result<Option<Bytes>, ShelfFault>
-    ensures opened { IfOk opened (λ file. IsFront (F.remaining file) most result) }
-    ensures unopened { IfErr opened (λ error. IsNoFront (error_kind error) result) }
+) -> Result<Option<Bytes>, PortFault>
+    ensures opened { IfOk opened (λ file. IsPrefix (F.remaining file) most result) }
+    ensures unopened { IfErr opened (λ error. IsNotOpened (error_kind error) result) }
 {
     let file = match opened {
         Ok(file) => file,
         Err(error) if is_missing(&error) => return Ok(None),
         Err(error) => return Err(fault_of(&error)),
     };
-    Ok(Some(read_front(alloc, file, most)?))
+    Ok(Some(read_prefix(alloc, file, most)?))
 }
 
-/// The front of what is left of an open file.
-fn read_front<F: Read + Drop>(alloc: Global, file: F, most: u64) -> Result<Bytes, ShelfFault>
-    ensures { IfOk result (λ content. IfSome (F.remaining file) (λ known. content ≡ take most known)) }
+/// So many bytes of what is left of an open file, or all of it.
+fn read_prefix<F: Read + Drop>(alloc: Global, file: F, most: u64) -> Result<Bytes, PortFault>
+    ensures { IfOk result (λ content.
+        IfSome (F.remaining file) (λ known. content ≡ take most known)) }
 {
     let mut bytes = Vec::new(alloc);
     match file.take(most).read_to_end(&mut bytes) {
@@ -111,11 +111,11 @@ fn is_missing(error: &Error) -> bool
     )
 }
 
-fn fault_of(error: &Error) -> ShelfFault
-    ensures { result ≡ ShelfFault.Memory ↔ error_kind error.now ≡ ErrorKind.OutOfMemory }
+fn fault_of(error: &Error) -> PortFault
+    ensures { result ≡ PortFault.Memory ↔ error_kind error.now ≡ ErrorKind.OutOfMemory }
 {
     match error.kind() {
-        ErrorKind::OutOfMemory => ShelfFault::Memory,
-        _ => ShelfFault::Failed,
+        ErrorKind::OutOfMemory => PortFault::Memory,
+        _ => PortFault::Failed,
     }
 }

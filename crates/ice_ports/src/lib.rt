@@ -1,7 +1,7 @@
 //! The outside, as traits: where bytes come from, where they go, and files by name.
 //!
-//! Each object counts its failures. A call answers a failure only where that count rose in the
-//! call. The versions in memory tell what they hold, so that contracts can speak of it; the
+//! Each object counts its failures: the count rises by one in a call that answers a failure, and in
+//! no other. The versions in memory tell what they hold, so that contracts can speak of it; the
 //! versions over the system tell nothing.
 #![tactic(auto)]
 
@@ -18,7 +18,7 @@ pub use folder_shelf::FolderShelf;
 pub use mem_shelf::MemShelf;
 pub use mem_sink::{MOST_ROOM, MemSink};
 pub use mem_source::MemSource;
-pub use ports::{Failed, Shelf, ShelfFault, Sink, Source};
+pub use ports::{Failed, MOST_OF_A_READ, PortFault, Shelf, ShelfFault, Sink, Source};
 pub use std_streams::{StdSink, StdSource};
 
 #[cfg(test)]

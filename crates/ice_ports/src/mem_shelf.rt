@@ -1,11 +1,10 @@
 //! A shelf of files in memory.
-ghost use Rattle.std.specs.Prelude.{◌≡◌, ◌≤◌, Some, IsSome, IfOk, option_copied};
-ghost use Rattle.ice_ports.specs.Causes.{Rose};
+ghost use Rattle.std.specs.Prelude.{◌≡◌, Some, IsSome, IfOk, option_copied};
 ghost use Rattle.ice_ports.specs.Files.{Finds, file_named, is_failed};
 ghost use Rattle.ice_ports.specs.Plan.{new_plan, fails_now, after_call};
 
 use super::fault_plan::FaultPlan;
-use super::ports::{Shelf, ShelfFault};
+use super::ports::{PortFault, Shelf};
 use ice_types::{Bytes, List, Name};
 use std::alloc::{AllocError, Global};
 use std::marker::Model;
@@ -54,20 +53,19 @@ impl MemShelf {
 impl Shelf for MemShelf {
     ghost files = { λ s. Some s.files };
 
-    ghost faults = { λ s. s.plan.failures };
+    ghost failures = { λ s. s.plan.failures };
 
-    fn load(&mut self, alloc: Global, name: &str) -> Result<Option<Bytes>, ShelfFault>
+    fn load(&mut self, alloc: Global, name: &str) -> Result<Option<Bytes>, PortFault>
         ensures found { Finds (Some self.old.files) name.now result }
         ensures kept { self.new.files ≡ self.old.files }
-        ensures later { self.old.plan.failures ≤ self.new.plan.failures }
-        ensures failed { result ≡ Err ShelfFault.Failed → Rose self.old.plan.failures self.new.plan.failures }
         ensures fails { is_failed result ≡ fails_now self.old.plan }
-        ensures memory { result ≡ Err ShelfFault.Memory → IsSome (file_named self.old.files name.now) }
+        ensures memory { result ≡ Err PortFault.Memory
+            → IsSome (file_named self.old.files name.now) }
         ensures plan { self.new.plan ≡ after_call self.old.plan (fails_now self.old.plan) }
     {
         let fails = self.plan.fails_now();
         if self.plan.count(fails).is_err() {
-            return Err(ShelfFault::Failed);
+            return Err(PortFault::Failed);
         }
         match first_named(self.files.as_slice(), name) {
             Some(content) => Ok(Some(copied(alloc, content)?)),
@@ -88,7 +86,7 @@ fn first_named<'a>(files: &'a [(Name, Bytes)], name: &str) -> Option<&'a Bytes>
     None
 }
 
-/// The same bytes in memory of their own.
+/// A copy of the bytes.
 fn copied(alloc: Global, bytes: &Bytes) -> Result<Bytes, AllocError>
     ensures { IfOk result (λ copy. copy ≡ bytes.now) }
 {

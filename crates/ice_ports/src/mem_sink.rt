@@ -1,10 +1,9 @@
 //! A sink that keeps its bytes in memory.
-ghost use Rattle.std.specs.Prelude.{◌≡◌, ◌≤◌, ◌<◌, ◌-◌, ◌||◌, [], min, length, Some, IfOk, is_err};
+ghost use Rattle.std.specs.Prelude.{◌≡◌, ◌≤◌, ◌<◌, ◌-◌, [], min, length, Some, IfOk, is_err};
 ghost use Rattle.std.specs.Io.{WritesAtMost};
 ghost use Rattle.std.specs.Io.KnownBytes.{WriteAppends};
-ghost use Rattle.ice_ports.specs.Causes.{HasCause};
-ghost use Rattle.ice_ports.specs.Plan.{new_plan, fails_now, after_call};
-ghost use Rattle.ice_ports.specs.Memory.{lacks_room};
+ghost use Rattle.ice_ports.specs.Plan.{new_plan, after_call};
+ghost use Rattle.ice_ports.specs.Memory.{write_fails};
 
 use super::fault_plan::FaultPlan;
 use super::ports::{Failed, Sink};
@@ -73,15 +72,15 @@ impl MemSink {
 impl Sink for MemSink {
     ghost taken = { λ s. Some s.taken };
 
-    ghost faults = { λ s. s.plan.failures };
+    ghost failures = { λ s. s.plan.failures };
 
     fn write(&mut self, piece: &[u8]) -> Result<usize, Failed>
         ensures bound { WritesAtMost result piece.now }
         ensures bytes { WriteAppends (Some self.old.taken) (Some self.new.taken) result piece.now }
         ensures progress { IfOk result (λ n. 0 < length piece.now → 0 < n) }
-        ensures cause { HasCause self.old.plan.failures self.new.plan.failures result }
-        ensures fails { is_err result ≡ (fails_now self.old.plan || lacks_room self.old (length piece.now)) }
-        ensures count { IfOk result (λ n. n ≡ min (length piece.now) (self.old.room - length self.old.taken)) }
+        ensures fails { is_err result ≡ write_fails self.old (length piece.now) }
+        ensures most { IfOk result (λ n.
+            n ≡ min (length piece.now) (self.old.room - length self.old.taken)) }
         ensures room { self.new.room ≡ self.old.room }
         ensures plan { self.new.plan ≡ after_call self.old.plan (is_err result) }
     {

@@ -2,7 +2,6 @@
 ghost use Rattle.std.specs.Prelude.{◌≡◌, ◌<◌, min, length, drop, Some, IfOk, OnErr, is_err};
 ghost use Rattle.std.specs.Io.{ReadsAtMost};
 ghost use Rattle.std.specs.Io.KnownBytes.{ReadConsumes};
-ghost use Rattle.ice_ports.specs.Causes.{HasCause};
 ghost use Rattle.ice_ports.specs.Plan.{new_plan, fails_now, after_call};
 
 use super::fault_plan::FaultPlan;
@@ -62,14 +61,14 @@ impl MemSource {
 impl Source for MemSource {
     ghost left = { λ s. Some s.left };
 
-    ghost faults = { λ s. s.plan.failures };
+    ghost failures = { λ s. s.plan.failures };
 
     fn read(&mut self, into: &mut [u8]) -> Result<usize, Failed>
         ensures bound { ReadsAtMost result into.new }
         ensures bytes { ReadConsumes (Some self.old.left) (Some self.new.left) result into.new }
-        ensures cause { HasCause self.old.plan.failures self.new.plan.failures result }
         ensures fails { is_err result ≡ fails_now self.old.plan }
-        ensures count { IfOk result (λ n. n ≡ min (length into.old) (min self.old.piece (length self.old.left))) }
+        ensures most { IfOk result (λ n.
+            n ≡ min (length into.old) (min self.old.piece (length self.old.left))) }
         ensures rest { IfOk result (λ n. drop n into.new ≡ drop n into.old) }
         ensures untouched { OnErr result (into.new ≡ into.old) }
         ensures piece { self.new.piece ≡ self.old.piece }

@@ -1,34 +1,51 @@
 //! What the outside does, whatever it is made of.
-ghost use Rattle.std.specs.Prelude.{◌≡◌, ℕ, ◌<◌, ◌≤◌, List, Option, length, IfOk};
+ghost use Rattle.std.specs.Prelude.{◌≡◌, ℕ, ◌<◌, ◌≤◌, List, Option, length, IfOk, is_err};
 ghost use Rattle.std.specs.Io.{ReadsAtMost, WritesAtMost};
 ghost use Rattle.std.specs.Io.KnownBytes.{ReadConsumes, WriteAppends};
-ghost use Rattle.ice_ports.specs.Causes.{HasCause, Rose};
-ghost use Rattle.ice_ports.specs.Files.{Finds};
+ghost use Rattle.ice_ports.specs.Failures.{count_after};
+ghost use Rattle.ice_ports.specs.Files.{Finds, IsThere, is_failed};
 
 use ice_types::Bytes;
 use std::alloc::{AllocError, Global};
+
+/// The most bytes that one read asks for.
+pub const MOST_OF_A_READ: usize = 4096;
 
 /// A read or a write failed. The object that was asked has counted it.
 #[derive(Clone, Copy, Debug, PartialEq, Eq)]
 pub struct Failed;
 
-/// Why a shelf gave no answer.
+/// Why an object of the outside gave nothing.
 #[derive(Clone, Copy, Debug, PartialEq, Eq)]
-pub enum ShelfFault {
-    /// The shelf failed, and has counted it.
+pub enum PortFault {
+    /// It failed, and has counted that.
     Failed,
-    /// There was no memory for the file.
+    /// Out of memory for what it gives. It has counted nothing.
     Memory,
 }
 
-impl From<AllocError> for ShelfFault {
+/// Why a shelf gave no answer.
+pub type ShelfFault = PortFault;
+
+impl From<Failed> for PortFault {
     ghost use Rattle.std.specs.Prelude.{◌≡◌};
-    ghost use Rattle.ice_ports.specs.declared.ports.ShelfFault.TheVariants.{Memory};
+    ghost use Rattle.ice_ports.specs.declared.ports.PortFault.TheVariants as faults;
 
-    ghost from_gives = { λ _ e. e ≡ Memory };
+    ghost from_gives = { λ _ fault. fault ≡ faults.Failed };
 
-    fn from(_: AllocError) -> ShelfFault {
-        ShelfFault::Memory
+    fn from(_failed: Failed) -> PortFault {
+        PortFault::Failed
+    }
+}
+
+impl From<AllocError> for PortFault {
+    ghost use Rattle.std.specs.Prelude.{◌≡◌};
+    ghost use Rattle.ice_ports.specs.declared.ports.PortFault.TheVariants as faults;
+
+    ghost from_gives = { λ _ fault. fault ≡ faults.Memory };
+
+    fn from(_error: AllocError) -> PortFault {
+        PortFault::Memory
     }
 }
 
@@ -37,15 +54,17 @@ pub trait Source {
     // The bytes that are not read yet, where the source tells them.
     ghost left: { Self → Option (List ℕ) };
 
-    // How many failures there were.
-    ghost faults: { Self → ℕ };
+    // How many reads failed, as far as u64 counts.
+    ghost failures: { Self → ℕ };
 
-    /// Puts bytes at the front of `into` and answers how many. 0 for a slice that is not empty is
-    /// the end. `Failed` took nothing.
+    /// Puts bytes at the start of `into`, which has at most `MOST_OF_A_READ`, and answers how many.
+    /// 0 for a slice that is not empty is the end. `Failed` took nothing and is counted once; no other
+    /// answer is counted.
     fn read(&mut self, into: &mut [u8]) -> Result<usize, Failed>
+        requires { length into.old ≤ MOST_OF_A_READ }
         ensures bound { ReadsAtMost result into.new }
         ensures bytes { ReadConsumes (left self.old) (left self.new) result into.new }
-        ensures cause { HasCause (faults self.old) (faults self.new) result };
+        ensures count { failures self.new ≡ count_after (failures self.old) (is_err result) };
 }
 
 /// Where bytes go.
@@ -53,16 +72,16 @@ pub trait Sink {
     // The bytes that were taken, where the sink tells them.
     ghost taken: { Self → Option (List ℕ) };
 
-    // How many failures there were.
-    ghost faults: { Self → ℕ };
+    // How many writes failed, as far as u64 counts.
+    ghost failures: { Self → ℕ };
 
-    /// Takes bytes of the front of `piece` and answers how many, 0 of an empty piece alone.
-    /// `Failed` took none.
+    /// Takes a prefix of `piece` and answers its length, 0 for an empty piece alone.
+    /// `Failed` took none and is counted once; no other answer is counted.
     fn write(&mut self, piece: &[u8]) -> Result<usize, Failed>
         ensures bound { WritesAtMost result piece.now }
         ensures bytes { WriteAppends (taken self.old) (taken self.new) result piece.now }
         ensures progress { IfOk result (λ n. 0 < length piece.now → 0 < n) }
-        ensures cause { HasCause (faults self.old) (faults self.new) result };
+        ensures count { failures self.new ≡ count_after (failures self.old) (is_err result) };
 }
 
 /// Files by name.
@@ -70,14 +89,15 @@ pub trait Shelf {
     // The names and contents in order, where the shelf tells them.
     ghost files: { Self → Option (List (List ℕ × List ℕ)) };
 
-    // How many failures there were.
-    ghost faults: { Self → ℕ };
+    // How many loads failed, as far as u64 counts.
+    ghost failures: { Self → ℕ };
 
-    /// The content of the first file of this name, or None where there is none. After `Failed` and
-    /// `Memory` the files are as they were.
-    fn load(&mut self, alloc: Global, name: &str) -> Result<Option<Bytes>, ShelfFault>
+    /// The content of the first file of this name, or None where there is none. `Failed` is counted
+    /// once and no other answer is; `Memory` comes for a file that is there. After each answer the
+    /// files are as they were.
+    fn load(&mut self, alloc: Global, name: &str) -> Result<Option<Bytes>, PortFault>
         ensures found { Finds (files self.old) name.now result }
         ensures kept { files self.new ≡ files self.old }
-        ensures later { faults self.old ≤ faults self.new }
-        ensures failed { result ≡ Err ShelfFault.Failed → Rose (faults self.old) (faults self.new) };
+        ensures count { failures self.new ≡ count_after (failures self.old) (is_failed result) }
+        ensures memory { result ≡ Err PortFault.Memory → IsThere (files self.old) name.now };
 }

@@ -2,7 +2,7 @@
 ghost use Rattle.std.specs.Prelude.{◌≡◌, ◌<◌, length, IfOk, is_err};
 ghost use Rattle.std.specs.Io.{ReadsAtMost, WritesAtMost};
 ghost use Rattle.std.specs.Io.KnownBytes.{ReadConsumes, WriteAppends};
-ghost use Rattle.ice_ports.specs.Causes.{HasCause, count_after};
+ghost use Rattle.ice_ports.specs.Failures.{count_after};
 
 use super::ports::{Failed, Sink, Source};
 use std::io::{ErrorKind, Read, Write};
@@ -14,7 +14,7 @@ use std::rt::{HostRuntime, Stderr, Stdin, Stdout};
 #[derive(Drop)]
 pub struct StdSource<R> {
     input: R,
-    faults: u64,
+    failures: u64,
 }
 
 impl<R> Model for StdSource<R> {
@@ -22,7 +22,7 @@ impl<R> Model for StdSource<R> {
 
     ghost Value = { Counted R };
 
-    ghost view = { λ s. record { stream = s.input; failures = s.faults } };
+    ghost view = { λ s. record { stream = s.input; failures = s.failures } };
 }
 
 impl StdSource<Stdin> {
@@ -32,7 +32,7 @@ impl StdSource<Stdin> {
     {
         StdSource {
             input: rt.stdin(),
-            faults: 0,
+            failures: 0,
         }
     }
 }
@@ -42,24 +42,24 @@ impl<R> StdSource<R> {
     pub fn failures(&self) -> u64
         ensures { result ≡ self.now.failures }
     {
-        self.faults
+        self.failures
     }
 }
 
 impl<R: Read> Source for StdSource<R> {
     ghost left = { λ s. R.remaining s.stream };
 
-    ghost faults = { λ s. s.failures };
+    ghost failures = { λ s. s.failures };
 
     fn read(&mut self, into: &mut [u8]) -> Result<usize, Failed>
         ensures bound { ReadsAtMost result into.new }
-        ensures bytes { ReadConsumes (R.remaining self.old.stream) (R.remaining self.new.stream) result into.new }
-        ensures cause { HasCause self.old.failures self.new.failures result }
+        ensures bytes { ReadConsumes
+            (R.remaining self.old.stream) (R.remaining self.new.stream) result into.new }
         ensures count { self.new.failures ≡ count_after self.old.failures (is_err result) }
     {
         let result = read_once(&mut self.input, into);
         if result.is_err() {
-            self.faults = self.faults.saturating_add(1);
+            self.failures = self.failures.saturating_add(1);
         }
         result
     }
@@ -71,7 +71,7 @@ impl<R: Read> Source for StdSource<R> {
 #[derive(Drop)]
 pub struct StdSink<W> {
     output: W,
-    faults: u64,
+    failures: u64,
 }
 
 impl<W> Model for StdSink<W> {
@@ -79,7 +79,7 @@ impl<W> Model for StdSink<W> {
 
     ghost Value = { Counted W };
 
-    ghost view = { λ s. record { stream = s.output; failures = s.faults } };
+    ghost view = { λ s. record { stream = s.output; failures = s.failures } };
 }
 
 impl StdSink<Stdout> {
@@ -89,7 +89,7 @@ impl StdSink<Stdout> {
     {
         StdSink {
             output: rt.stdout(),
-            faults: 0,
+            failures: 0,
         }
     }
 }
@@ -101,7 +101,7 @@ impl StdSink<Stderr> {
     {
         StdSink {
             output: rt.stderr(),
-            faults: 0,
+            failures: 0,
         }
     }
 }
@@ -111,25 +111,25 @@ impl<W> StdSink<W> {
     pub fn failures(&self) -> u64
         ensures { result ≡ self.now.failures }
     {
-        self.faults
+        self.failures
     }
 }
 
 impl<W: Write> Sink for StdSink<W> {
     ghost taken = { λ s. W.contents s.stream };
 
-    ghost faults = { λ s. s.failures };
+    ghost failures = { λ s. s.failures };
 
     fn write(&mut self, piece: &[u8]) -> Result<usize, Failed>
         ensures bound { WritesAtMost result piece.now }
-        ensures bytes { WriteAppends (W.contents self.old.stream) (W.contents self.new.stream) result piece.now }
+        ensures bytes { WriteAppends
+            (W.contents self.old.stream) (W.contents self.new.stream) result piece.now }
         ensures progress { IfOk result (λ n. 0 < length piece.now → 0 < n) }
-        ensures cause { HasCause self.old.failures self.new.failures result }
         ensures count { self.new.failures ≡ count_after self.old.failures (is_err result) }
     {
         let result = write_once(&mut self.output, piece);
         if result.is_err() {
-            self.faults = self.faults.saturating_add(1);
+            self.failures = self.failures.saturating_add(1);
         }
         result
     }

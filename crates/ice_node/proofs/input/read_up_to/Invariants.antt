@@ -8,7 +8,7 @@ invariant-loop-buffer g l = record {
   parts : l.bytes.items ≡ l.fn.bytes.items ++ more;
   within : vec_len l.bytes ≤ l.goal;
   consumed : Consumes (g.S.Source.left l.fn.source) (g.S.Source.left l.source) more;
-  later : g.S.Source.faults l.fn.source ≤ g.S.Source.faults l.source;
+  count : g.S.Source.failures l.source ≡ g.S.Source.failures l.fn.source;
 }
 
 abbrev pub decreases-loop-buffer : goal.decreases-loop-buffer

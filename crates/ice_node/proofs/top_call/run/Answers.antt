@@ -1,13 +1,18 @@
-use Rattle.std.proofs.Common.{ap}
-use Rattle.ice_node.specs.Words.{help, version}
-use Rattle.ice_node.specs.Statuses.{done}
-use Rattle.ice_node.proofs.Answering.{ran_print}
+use Rattle.std.proofs.Common.{[], Some}
+use Rattle.ice_node.specs.Words.{relay}
+use Rattle.ice_node.proofs.Answering.{printed, outputs_nothing}
 use Rattle.ice_node.proofs.top_call.run.Goals as goal
 
-pub returns-in-Some-Help-clause-did : goal.returns-in-Some-Help-clause-did
-returns-in-Some-Help-clause-did g c =
-    ran_print _ _ _ (g.K.Sink.taken c.args.sink.now) (g.K.Sink.taken c.print.new.sink) help c.as_bytes.result.now c.print.result (rw c.in-Some-Help.field-0-is at c.in-Some-Help.ensures) (ap done c.as_bytes.ensures.value) c.print.ensures
+pub returns-in-Ok : goal.returns-in-Ok
+returns-in-Ok g c =
+    let found = c.in-Ok.ensures.found (g.K.Sink.failures c.args.sink.now) in
+    let asked = Some (relay c.in-Some-Relay.file.now c.in-Some-Relay.kind.now) in
+    let came = printed asked (g.H.Shelf.files c.args.shelf.now) (g.S.Source.left c.args.source.now) (g.S.Source.left c.relay.new.source)
+    (record { shelf = g.H.Shelf.failures c.args.shelf.now; source = g.S.Source.failures c.args.source.now; sink = g.K.Sink.failures c.args.sink.now })
+    (record { shelf = g.H.Shelf.failures c.relay.new.shelf; source = g.S.Source.failures c.relay.new.source; sink = g.K.Sink.failures c.print.new.sink })
+    c.in-Ok.bytes.items c.print.result found.0 found.1.0 found.1.1 c.in-Ok.ensures.taken c.print.ensures.outcome in
+    (c.in-Ok.bytes.items, asked, (rw c.in-Some-Relay.field-0-is at c.in-Some-Relay.ensures), came.0, came.1, (rw c.as_slice.ensures.value at c.print.ensures.output))
 
-pub returns-in-Some-Version-clause-did : goal.returns-in-Some-Version-clause-did
-returns-in-Some-Version-clause-did g c =
-    ran_print _ _ _ (g.K.Sink.taken c.args.sink.now) (g.K.Sink.taken c.print-in-Some-Version.new.sink) version c.as_bytes-in-Some-Version.result.now c.print-in-Some-Version.result (rw c.in-Some-Version.field-0-is at c.in-Some-Version.ensures) (ap done c.as_bytes-in-Some-Version.ensures.value) c.print-in-Some-Version.ensures
+pub returns-in-Err : goal.returns-in-Err
+returns-in-Err g c =
+    ([], Some (relay c.in-Some-Relay.file.now c.in-Some-Relay.kind.now), (rw c.in-Some-Relay.field-0-is at c.in-Some-Relay.ensures), c.in-Err.ensures.found (g.K.Sink.failures c.args.sink.now), c.in-Err.ensures.taken, outputs_nothing (g.K.Sink.taken c.args.sink.now) c.in-Err.outcome)

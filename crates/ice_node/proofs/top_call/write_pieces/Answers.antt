@@ -1,9 +1,0 @@
-use Rattle.std.proofs.lemmas.Result.{err_from_is_err_and}
-use Rattle.ice_node.proofs.Answering.{stops_in, wrote_front}
-use Rattle.ice_node.proofs.top_call.write_pieces.Goals as goal
-
-pub returns-in_err-write_all-clause-wrote : goal.returns-in_err-write_all-clause-wrote
-returns-in_err-write_all-clause-wrote g c =
-    let failed = err_from_is_err_and c.from_residual.result c.from_residual.ensures.1 in
-    wrote_front (g.K.Sink.taken c.args.sink.now) (g.K.Sink.taken c.write_all.new.sink) c.from_residual.result failed.0 _ failed.1
-    (stops_in (g.K.Sink.taken c.args.sink.now) (g.K.Sink.taken c.loop-piece.sink) (g.K.Sink.taken c.write_all.new.sink) c.args.pieces.now c.loop-piece.piece-index _ c.as_bytes.result.now c.loop-piece-test.true c.as_bytes.ensures.value c.loop-piece.invariant.taken c.in_err-write_all.ensures.wrote)
