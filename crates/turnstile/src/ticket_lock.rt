@@ -52,7 +52,7 @@ impl<V: Turned> Turnstile<V> {
     }
 
     // Draws a ticket. None is left at the greatest u64: then the caller waits for good.
-    fn draw<R: Wait>(&self, rt: &R, seat: &mut Seat<V>) -> u64
+    pub(crate) fn draw<R: Wait>(&self, rt: &R, seat: &mut Seat<V>) -> u64
         requires { (seat.old.table_id ≡ self.now.table.shared.table_id) × Rests seat.old.me }
         ensures same { SameSeat seat.old seat.new }
         ensures drawn { seat.new.me ≡ (holding seat.old.me.0 result, []) }
