@@ -104,6 +104,20 @@ impl<V: Turned> Turnstile<V> {
         }
     }
 
+    // Has the object answer the call.
+    fn ask<A: Around<V::Call>>(
+        value: &mut V,
+        call: &V::Call,
+        around: &A,
+    ) -> Result<V::Reply, AllocError>
+        ensures { MatchResult result (λ reply. V.turns value.old call.now reply value.new) (λ _. value.new ≡ value.old) }
+    {
+        around.before(call);
+        let answer = value.turned(call);
+        around.after(call);
+        answer
+    }
+
     // Gives the object back and passes the turn on, with an entry.
     fn pass_on<J: Told<V::Call, V::Reply>>(
         &self,
@@ -155,10 +169,7 @@ impl<V: Turned> Turnstile<V> {
         let ticket = self.draw(rt, seat);
         self.arrive(rt, seat, ticket);
         let Kept { mut value, entries } = self.take(seat);
-        around.before(call);
-        let answer = value.turned(call);
-        around.after(call);
-        match answer {
+        match Self::ask(&mut value, call, around) {
             Ok(reply) => {
                 let kept = Kept {
                     value,

@@ -46,7 +46,7 @@ returns-in-Ok-clause-turn g c =
       seen,
       (
           subst (λ z. IsLegal g.V.Turned.turns c.args.self.now.table.shared.key.value z) (sym seen) (
-            (c.turned-answer.new.self, leads_snoc g.V.Turned.turns _ _ _ _ e i.stands.0 c.in-Ok.ensures),
+            (c.ask.new.value, leads_snoc g.V.Turned.turns _ _ _ _ e i.stands.0 c.in-Ok.ensures),
             (c.draw-ticket.result + 1, rises_snoc 0 c.draw-ticket.result _ c.args.call.now c.in-Ok.reply i.rises),
           )
           ),
