@@ -243,6 +243,5 @@ module _ {X C R : Type 0} (turns : X → C → R → X → Type 0) (key : X) whe
           small,
           (λ n. let o = f.own.1 n in let m = made_times r.holder id n me.0.seen in let w = once 0 r.served n me.0.seen rises in omega arith),
           (λ le. let m = two_beginnings me.0.heard me.0.seen f.heard.0 f.ahead (sym f.heard.1 ∙ f.seen) le in (m.0, m.1)),
-          (λ x o. (subst (λ (z : X). (y : X) × LeadsTo turns z me.0.seen y) (sym (f.opened x o)) (leads_prefix turns key r.legal.0 me.0.seen f.ahead (subst (λ (z : List E). LeadsTo turns key z r.legal.0) f.seen r.legal.1)), (r.served, rises))),
         ),
       )

@@ -4,7 +4,7 @@ use Rattle.atomic_table.specs.Table.{Me, Step}
 use Rattle.turnstile.specs.declared.history.Entry.{Entry}
 use Rattle.turnstile.specs.declared.seats.Known.{Known}
 use Rattle.turnstile.specs.declared.seats.Kept.{Kept}
-use Rattle.turnstile.specs.History.{EachOnce, Rises, IsPrefix, longer, shorter, IsLegal}
+use Rattle.turnstile.specs.History.{EachOnce, Rises, IsPrefix, longer, shorter}
 use Rattle.turnstile.specs.Rule.{StandsFor}
 
 -- what a seat knows, and the slots that it has taken
@@ -66,13 +66,21 @@ module _ {X C R : Type 0} where
 module _ {X C R : Type 0} (turns : X → C → R → X → Type 0) where
   -- The seat with the ticket t has taken the object, and has seen the whole history, for which the object stands
   abbrev pub Arrives : ℕ → Seated X C R → Seated X C R → Type 0
-  Arrives t m n = (k : Kept X) × (log : List (Entry C R)) × (n ≡ (arrived m.0 log, (0, Some k) ∷ m.1)) × IsPrefix m.0.seen log × Rises 0 t log × (length m.0.own ≤ length log)
+  Arrives t m n =
+      (k : Kept X) × (log : List (Entry C R)) × (n ≡ (arrived m.0 log, (0, Some k) ∷ m.1))
+      × IsPrefix m.0.seen log × Rises 0 t log × (length m.0.own ≤ length log)
       × ((x : X) → m.0.opening ≡ Some x → StandsFor turns x log k)
 
   -- where it found its own ticket, the seat is in turn, else nothing changed
   abbrev pub Looks : Seated X C R → ℕ → Seated X C R → Type 0
   Looks m found n = (m.0.ticket ≡ Some found → Arrives found m n) × (¬ (m.0.ticket ≡ Some found) → n ≡ m)
 
+  -- The seat has taken the object. With the entry e behind what the seat has seen, the object k stands for the history
+  abbrev pub StandsWith : X → Seated X C R → Entry C R → Kept X → Type 0
+  StandsWith x m e k = StandsFor turns x (m.0.seen ++ e ∷ []) k
+
   -- what the rule says of one seat
   abbrev pub Learns : Seated X C R → ℕ → Seated X C R → Type 0
-  Learns m found n = (n ≡ m) × (length m.0.own ≤ found) × (found < 2 ^ 64) × EachOnce m.0.own × (length m.0.heard ≤ length m.0.seen → IsPrefix m.0.heard m.0.seen) × ((x : X) → m.0.opening ≡ Some x → IsLegal turns x m.0.seen)
+  Learns m found n =
+      (n ≡ m) × (length m.0.own ≤ found) × (found < 2 ^ 64) × EachOnce m.0.own
+      × (length m.0.heard ≤ length m.0.seen → IsPrefix m.0.heard m.0.seen)

@@ -1,8 +1,8 @@
 //! The turnstile: its steps on the words and the slot, and its calls.
-ghost use Rattle.std.specs.Prelude.{◌≡◌, ℕ, ◌+◌, ◌^◌, ◌<◌, List, [], ◌∷◌, ◌++◌, Some, None, IfOk, length, MatchResult};
+ghost use Rattle.std.specs.Prelude.{◌≡◌, ℕ, ◌+◌, ◌^◌, ◌<◌, [], ◌∷◌, Some, None, IsOk, IfOk, IfErr, OnErr, length};
 ghost use Rattle.turnstile.specs.History.{entry};
 ghost use Rattle.turnstile.specs.Rule.{StandsFor};
-ghost use Rattle.turnstile.specs.Steps.{Rests, Waits, HasTaken, holding, Arrives, passed_on, skipped};
+ghost use Rattle.turnstile.specs.Steps.{Rests, Waits, HasTaken, StandsWith, holding, Arrives, passed_on, skipped};
 
 use crate::passes::{Pass, Seat, Stray};
 use crate::plays::{Draw, Law, Learn, Look, PassOn, Skip, Slot, SplitOff, Together, Told, View};
@@ -110,7 +110,8 @@ impl<V: Turned> Turnstile<V> {
         call: &V::Call,
         around: &A,
     ) -> Result<V::Reply, AllocError>
-        ensures { MatchResult result (λ reply. V.turns value.old call.now reply value.new) (λ _. value.new ≡ value.old) }
+        ensures ok { IfOk result (λ reply. V.turns value.old call.now reply value.new) }
+        ensures err { OnErr result (value.new ≡ value.old) }
     {
         around.before(call);
         let answer = value.turned(call);
@@ -129,9 +130,9 @@ impl<V: Turned> Turnstile<V> {
     )
         requires seat { IsSeatOf self.now seat.old × HasTaken seat.old.me ticket }
         requires told { J.told ≡ Some (entry ticket call.now reply.now) }
-        requires stands { StandsFor V.turns (opening self.now) (seat.old.me.0.seen ++ entry ticket call.now reply.now ∷ []) kept }
+        requires stands { StandsWith V.turns (opening self.now) seat.old.me (entry ticket call.now reply.now) kept }
         ensures same { SameSeat seat.old seat.new }
-        ensures passed_on { seat.new.me ≡ (passed_on seat.old.me.0 (entry ticket call.now reply.now), []) }
+        ensures done { seat.new.me ≡ (passed_on seat.old.me.0 (entry ticket call.now reply.now), []) }
     {
         let _empty = self.table.shared.exchange(seat, OBJECT, Some(kept));
         self.table
@@ -163,7 +164,8 @@ impl<V: Turned> Turnstile<V> {
     ) -> Result<V::Reply, AllocError>
         requires { IsPassOf self.now pass.old }
         ensures pass { IsPassOf self.now pass.new }
-        ensures turn { MatchResult result (λ reply. DidTurn V.turns (opening self.now) pass.old call.now reply pass.new) (λ _. DidNotTurn V.turns (opening self.now) pass.old pass.new) }
+        ensures ok { IfOk result (DidTurn self.now pass.old pass.new call.now) }
+        ensures err { OnErr result (DidNotTurn self.now pass.old pass.new) }
     {
         let Pass { seat, own } = pass;
         let ticket = self.draw(rt, seat);
@@ -197,7 +199,8 @@ impl<V: Turned> Turnstile<V> {
     ) -> Result<V::Reply, AllocError>
         requires { IsPassOf self.now pass.old }
         ensures pass { IsPassOf self.now pass.new }
-        ensures turn { MatchResult result (λ reply. DidTurn V.turns (opening self.now) pass.old call.now reply pass.new) (λ _. DidNotTurn V.turns (opening self.now) pass.old pass.new) }
+        ensures ok { IfOk result (DidTurn self.now pass.old pass.new call.now) }
+        ensures err { OnErr result (DidNotTurn self.now pass.old pass.new) }
     {
         self.turn_around(rt, pass, call, &Nothing)
     }
@@ -209,7 +212,8 @@ impl<V: Turned> Turnstile<V> {
         requires { IsPassOf self.now pass.old }
         ensures pass { IsPassOf self.now pass.new }
         ensures same { (seen pass.new ≡ seen pass.old) × (own pass.new ≡ own pass.old) }
-        ensures made { MatchResult result (λ made. IsPassOf self.now made × IsSplitOf pass.old made) (λ _. ⊥) }
+        ensures ok { IsOk result }
+        ensures made { IfOk result (IsSplitOf self.now pass.old) }
     {
         let seat = self.table.shared.split_seat::<SplitOff>(&mut pass.seat);
         Ok(Pass { seat, own: 0 })
@@ -236,7 +240,8 @@ impl<V: Turned> Turnstile<V> {
     /// Else a `Stray` says what is missing, and the object is gone. No memory is taken, and nobody is waited for.
     pub fn close(self, pass: Pass<V>) -> Result<V, Stray>
         requires { IsPassOf self pass }
-        ensures { MatchResult result (λ value. Closes V.turns (opening self) pass value) (λ stray. Strays V.turns (opening self) pass stray) }
+        ensures ok { IfOk result (Closes self pass) }
+        ensures err { IfErr result (Strays self pass) }
     {
         let Turnstile { table } = self;
         let Pass { seat, own } = pass;
