@@ -1,10 +1,10 @@
 -- What each event keeps of a connection: that it is sound, and that a seat which is doomed stays so.
-use Rattle.std.proofs.Common.{◌≡◌, ℕ, ◌+◌, ◌<◌, ◌≤◌, ◌⊎◌, inl, inr, List, [], ◌∷◌, ◌++◌, length, Option, None, Some, refl, ap, sym, ◌∙◌, subst, arith, Bool, true, false, length-append}
+use Rattle.std.proofs.Common.{◌≡◌, ℕ, ◌+◌, ◌<◌, ◌≤◌, ◌⊎◌, inl, inr, [], ◌∷◌, ◌++◌, length, Option, None, Some, refl, ap, sym, ◌∙◌, subst, arith, Bool, true, false, length-append}
 use Rattle.std.specs.Prelude.{slice_get}
 use Rattle.call_world.specs.Service.{IsRefusal}
 use Rattle.call_world.specs.World.{Connection, Seat, Turn, Dispatched, Refused, Sent, Validate, Answer, Close, fresh}
 use Rattle.call_world.specs.Dead.{IsDeadSeat, NotWhole, Closed, Stale}
-use Rattle.call_world.specs.Connection.{ConnectionEvent, Validates, Hands, Arrives, Answers, Closes, Reads, ClientLeaves, ServerLeaves, ConnectionStep, IsAnswered, IsSettled, IsReady, says, begun, seated, turned, refused}
+use Rattle.call_world.specs.Connection.{ConnectionEvent, Validates, Hands, Arrives, Answers, Closes, Reads, ClientLeaves, ServerLeaves, ConnectionStep, IsSettled, IsReady, says, begun, seated, turned, refused}
 use Rattle.call_world.specs.Reached.{IsSound}
 use Rattle.call_world.proofs.Lists.{get_old, get_last, get_cases, get_within}
 

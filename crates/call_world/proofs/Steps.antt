@@ -1,5 +1,5 @@
 -- What each event keeps of a world.
-use Rattle.std.proofs.Common.{◌≡◌, ℕ, ◌+◌, ◌<◌, ◌⊎◌, inl, inr, List, [], ◌∷◌, ◌++◌, length, Option, None, Some, refl, ap, sym, ◌∙◌, subst, arith, Bool}
+use Rattle.std.proofs.Common.{◌≡◌, ℕ, ◌⊎◌, inl, inr, List, [], ◌∷◌, ◌++◌, length, Option, None, Some, refl, ap, sym, ◌∙◌, subst, Bool}
 use Rattle.std.specs.Prelude.{slice_get}
 use Rattle.call_world.specs.Service.{Rules}
 use Rattle.call_world.specs.World.{World, Connection, Seat, Turn, Dispatched, Refused, Place, Invocation, Outcome, Replied, put_at}

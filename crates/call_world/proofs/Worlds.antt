@@ -1,5 +1,5 @@
 -- What holds of each invocation and each seat of a reached world, and how it goes on when one of them changes.
-use Rattle.std.proofs.Common.{◌≡◌, ℕ, ◌+◌, ◌<◌, ◌⊎◌, inl, inr, List, [], ◌∷◌, ◌++◌, length, Option, None, Some, refl, ap, sym, ◌∙◌, subst, arith, true, false, length-append}
+use Rattle.std.proofs.Common.{◌≡◌, ℕ, ◌+◌, ◌<◌, ◌⊎◌, inl, inr, List, [], ◌∷◌, length, Option, None, Some, refl, ap, sym, ◌∙◌, subst, arith, true, false, length-append}
 use Rattle.std.specs.Prelude.{slice_get}
 use Rattle.call_world.specs.Service.{IsRefusal}
 use Rattle.call_world.specs.World.{World, Connection, Seat, Dispatched, Place, Invocation, Outcome, Replied, Handed, Failed, put_at}

@@ -1,6 +1,6 @@
 -- What can happen on one connection alone.
 -- (Ice manual, "The Ice Protocol", "Protocol Messages" and "Protocol State Diagrams"; "Closing Connections".)
-use Rattle.std.specs.Prelude.{◌≡◌, ℕ, ◌+◌, ◌<◌, ◌≤◌, List, [], ◌∷◌, ◌++◌, Bool, true, false, Some, slice_get, length}
+use Rattle.std.specs.Prelude.{◌≡◌, ℕ, ◌+◌, ◌<◌, ◌≤◌, [], ◌∷◌, ◌++◌, Bool, true, false, Some, slice_get, length}
 use Rattle.call_world.specs.World.{Connection, Seat, Sent, Validate, Answer, Close, Turn, Dispatched, Refused}
 use Rattle.call_world.specs.Dead.{HasRead}
 
