@@ -4,3 +4,4 @@ pub mod Worlds
 pub mod Logs
 pub mod Steps
 pub mod Runs
+pub mod Possible

@@ -6,3 +6,4 @@ pub mod Step
 pub mod Counts
 pub mod Reached
 pub mod Laws
+pub mod Possible

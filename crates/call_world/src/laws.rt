@@ -2,6 +2,7 @@
 
 ghost use Rattle.call_world.specs.Laws.{Always, AtMostOnce, OwnReplies, DeadForGood};
 ghost use Rattle.call_world.specs.Reached.{IsSound, IsSeated, IsLogged};
+ghost use Rattle.call_world.specs.Possible.{CallsCanSucceed, CallsCanRepeat};
 ghost use Rattle.std.specs.Prelude.{ℕ};
 
 use crate::service::Service;
@@ -36,4 +37,15 @@ pub fn connections_sound<S: Service>()
 /// The places of an invocation's attempts are its seats, and there are no other seats.
 pub fn seats_placed<S: Service>()
     ensures { Always S.rules IsSeated }
+{}
+
+/// The laws speak of worlds that there are: with whatever reply the objects may give, a call that is not
+/// idempotent can be finished, and it was dispatched once.
+pub fn calls_can_succeed<S: Service>()
+    ensures { CallsCanSucceed S.rules }
+{}
+
+/// And `at_most_once` needs its premise: an idempotent call can be dispatched again.
+pub fn idempotent_calls_can_repeat<S: Service>()
+    ensures { CallsCanRepeat S.rules }
 {}

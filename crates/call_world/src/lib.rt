@@ -12,6 +12,7 @@ mod service;
 mod tests;
 
 pub use laws::{
-    at_most_once, connections_sound, dead_for_good, dispatches_logged, own_replies, seats_placed,
+    at_most_once, calls_can_succeed, connections_sound, dead_for_good, dispatches_logged,
+    idempotent_calls_can_repeat, own_replies, seats_placed,
 };
 pub use service::Service;
