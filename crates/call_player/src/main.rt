@@ -7,16 +7,20 @@
 #![tactic(auto)]
 
 mod event;
+mod refusal;
+mod told;
 mod world;
 
 use event::event_of;
+use refusal::Refusal;
 use std::alloc::Global;
 use std::io;
 use std::process::ExitCode;
-use world::{Refusal, World};
+use told::Told;
+use world::World;
 
 /// Plays one line. Blank lines, and what stands after a `#`, are passed over: None.
-fn played(alloc: Global, world: &mut World, line: &str) -> Result<Option<String>, Refusal> {
+fn played(alloc: Global, world: &mut World, line: &str) -> Result<Option<Told>, Refusal> {
     match event_of(line)? {
         Some(event) => Ok(Some(world.play(alloc, event)?)),
         None => Ok(None),
@@ -39,8 +43,15 @@ fn main(rt: HostRuntime) -> io::Result<ExitCode> {
             }
         }
     }
-    for number in 0..world.count() {
-        println!(rt; "{}", world.summary(alloc, number)?)?;
+    for (number, call) in world.calls().iter().enumerate() {
+        let kind = if call.is_idempotent {
+            "idempotent"
+        } else {
+            "not idempotent"
+        };
+        let attempts = call.client.attempts();
+        let dispatches = call.dispatches;
+        println!(rt; "call {number}, {kind}: attempts {attempts:?}, dispatches {dispatches}")?;
     }
     Ok(ExitCode::from(u8::from(is_refused)))
 }

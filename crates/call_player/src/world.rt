@@ -1,58 +1,18 @@
 //! The world that is played: calls, each with its client, and connections, each with its server.
 
-use crate::event::{Event, LineFault};
-use retry_core::{Client, ClientAction, ClientEvent, Server, ServerAction, ServerEvent};
-use std::alloc::{AllocError, AllocFailed, Global};
-use thiserror::Error;
+ghost use Rattle.std.specs.Prelude.{◌≡◌, OnErr};
 
-/// Why a line changes nothing.
-#[derive(Debug, Drop, Error)]
-pub enum Refusal {
-    #[error(transparent)]
-    Line(LineFault),
-    #[error("there is no call {0}")]
-    NoCall(usize),
-    #[error("there is no connection {0}")]
-    NoConnection(usize),
-    #[error("the client of call {0} does not wait for that now")]
-    NotOfClient(usize),
-    #[error("the server of connection {0} does not come to that now")]
-    NotOfServer(usize),
-    #[error("the client has left connection {0}")]
-    ClientLeft(usize),
-    #[error("the client has handed over {handed} bytes, of which {arrived} have arrived")]
-    NotHanded { handed: u64, arrived: u64 },
-    #[error("of the request's {length} bytes {arrived} have arrived")]
-    NotWhole { length: u64, arrived: u64 },
-    #[error("the request of connection {0} had its turn")]
-    HadItsTurn(usize),
-    #[error("the server has sent nothing more on connection {0}")]
-    NothingSent(usize),
-    #[error("memory ran out")]
-    Memory,
-}
-
-impl From<LineFault> for Refusal {
-    fn from(fault: LineFault) -> Refusal {
-        Refusal::Line(fault)
-    }
-}
-
-impl From<AllocError> for Refusal {
-    fn from(_error: AllocError) -> Refusal {
-        Refusal::Memory
-    }
-}
-
-impl<T: Drop> From<AllocFailed<T>> for Refusal {
-    fn from(_error: AllocFailed<T>) -> Refusal {
-        Refusal::Memory
-    }
-}
+use crate::event::Event;
+use crate::refusal::Refusal;
+use crate::told::Told;
+use ice_types::List;
+use retry_core::{Client, ClientAction, ClientEvent, Server, ServerEvent};
+use std::alloc::Global;
+use std::marker::Model;
 
 /// A message that a server sent.
 #[derive(Clone, Copy, Debug)]
-enum Message {
+pub enum Message {
     Validate,
     Reply,
     NoObject,
@@ -61,29 +21,42 @@ enum Message {
 
 /// One invocation.
 #[derive(Drop)]
-struct Call {
-    client: Client,
-    length: u64,
-    is_idempotent: bool,
+pub struct Call {
+    pub client: Client,
+    pub length: u64,
+    pub is_idempotent: bool,
+    /// How often it was dispatched.
+    pub dispatches: u64,
     /// The connection that its client is at.
-    connection: Option<usize>,
-    dispatches: u64,
+    pub connection: Option<usize>,
 }
 
-/// One attempt's connection.
+/// The connection of one attempt.
 #[derive(Drop)]
-struct Connection {
-    call: usize,
-    is_cached: bool,
-    server: Server,
-    handed: u64,
-    arrived: u64,
-    /// The request was dispatched or refused.
-    had_its_turn: bool,
-    /// What the server answers the request that has its turn.
-    reply: Message,
-    sent: Vec<Message>,
-    read: usize,
+pub struct Connection {
+    pub call: usize,
+    /// Its place came from a cache.
+    pub is_cached: bool,
+    pub server: Server,
+    pub handed: u64,
+    pub arrived: u64,
+    /// What the server answers, once the request had its turn.
+    pub reply: Option<Message>,
+    pub sent: List<Message>,
+    /// How many of these the client has read.
+    pub read: usize,
+}
+
+impl Connection {
+    /// What the server sends where this comes.
+    fn message_at(&self, event: ServerEvent) -> Option<Message> {
+        match event {
+            ServerEvent::Opened => Some(Message::Validate),
+            ServerEvent::Answered => self.reply,
+            ServerEvent::EnoughRead => Some(Message::Close),
+            _ => None,
+        }
+    }
 }
 
 /// Calls and connections, by their numbers.
@@ -91,6 +64,14 @@ struct Connection {
 pub struct World {
     calls: Vec<Call>,
     connections: Vec<Connection>,
+}
+
+impl Model for World {
+    ghost use Rattle.call_player.specs.Played.{Played};
+
+    ghost Value = { Played };
+
+    ghost view = { λ w. record { calls = w.calls.items; connections = w.connections.items } };
 }
 
 impl World {
@@ -102,32 +83,17 @@ impl World {
         }
     }
 
-    /// How many calls there are.
-    pub fn count(&self) -> usize {
-        self.calls.len()
+    /// The calls, by their numbers.
+    pub fn calls(&self) -> &[Call]
+        ensures { result.now ≡ self.now.calls }
+    {
+        self.calls.as_slice()
     }
 
-    /// What became of a call, in a line.
-    pub fn summary(&self, alloc: Global, number: usize) -> Result<String, AllocError> {
-        match self.calls.get(number) {
-            Some(call) => {
-                let kind = if call.is_idempotent {
-                    "idempotent"
-                } else {
-                    "not idempotent"
-                };
-                let attempts = call.client.attempts();
-                let dispatches = call.dispatches;
-                format!(in alloc;
-                    "call {number}, {kind}: {attempts:?}, dispatched {dispatches} times"
-                )
-            }
-            None => String::from_str(alloc, ""),
-        }
-    }
-
-    /// The event happens. Returns what was done; where it cannot happen, nothing is done.
-    pub fn play(&mut self, alloc: Global, event: Event) -> Result<String, Refusal> {
+    /// The event happens. Where it cannot, the world stays as it was.
+    pub fn play(&mut self, alloc: Global, event: Event) -> Result<Told, Refusal>
+        ensures { OnErr result (self.new ≡ self.old) }
+    {
         match event {
             Event::Call {
                 length,
@@ -135,20 +101,20 @@ impl World {
                 is_idempotent,
             } => self.begin(alloc, length, retries, is_idempotent),
             Event::Connect { call, is_cached } => self.connect(alloc, call, is_cached),
-            Event::Fail(call) => self.tell(alloc, call, ClientEvent::ConnectFailed),
-            Event::Hand(connection, bytes) => self.hand(alloc, connection, bytes),
-            Event::Arrive(connection, bytes) => self.arrive(alloc, connection, bytes),
-            Event::Read(connection) => self.read(alloc, connection),
+            Event::Fail(call) => self.tell(call, ClientEvent::ConnectFailed),
+            Event::Hand(connection, bytes) => self.hand(connection, bytes),
+            Event::Arrive(connection, bytes) => self.arrive(connection, bytes),
+            Event::Read(connection) => self.read(connection),
             Event::Lose(connection) => {
                 let call = self.client_at(connection)?;
-                self.tell(alloc, call, ClientEvent::Lost)
+                self.tell(call, ClientEvent::Lost)
             }
-            Event::Dispatch(connection) => self.take_turn(alloc, connection, Message::Reply),
-            Event::Refuse(connection) => self.take_turn(alloc, connection, Message::NoObject),
-            Event::Validate(connection) => self.serve(alloc, connection, ServerEvent::Opened),
-            Event::Answer(connection) => self.serve(alloc, connection, ServerEvent::Answered),
-            Event::Close(connection) => self.serve(alloc, connection, ServerEvent::EnoughRead),
-            Event::Leave(connection) => self.serve(alloc, connection, ServerEvent::Lost),
+            Event::Dispatch(connection) => self.dispatch(connection),
+            Event::Refuse(connection) => self.refuse(connection),
+            Event::Validate(connection) => self.serve(connection, ServerEvent::Opened),
+            Event::Answer(connection) => self.serve(connection, ServerEvent::Answered),
+            Event::Close(connection) => self.serve(connection, ServerEvent::EnoughRead),
+            Event::Leave(connection) => self.serve(connection, ServerEvent::Lost),
         }
     }
 
@@ -158,47 +124,46 @@ impl World {
         length: u64,
         retries: u32,
         is_idempotent: bool,
-    ) -> Result<String, Refusal> {
-        let number = self.calls.len();
-        let told = format!(in alloc; "call {number}: Connect")?;
+    ) -> Result<Told, Refusal>
+        ensures { OnErr result (self.new ≡ self.old) }
+    {
+        let call = self.calls.len();
         self.calls.push(Call {
             client: Client::new(alloc, is_idempotent, length, retries)?,
             length,
             is_idempotent,
-            connection: None,
             dispatches: 0,
+            connection: None,
         })?;
-        Ok(told)
+        Ok(Told::Begun { call })
     }
 
-    fn connect(
-        &mut self,
-        alloc: Global,
-        number: usize,
-        is_cached: bool,
-    ) -> Result<String, Refusal> {
+    fn connect(&mut self, alloc: Global, number: usize, is_cached: bool) -> Result<Told, Refusal>
+        ensures { OnErr result (self.new ≡ self.old) }
+    {
         let connection = self.connections.len();
         let Some(call) = self.calls.get_mut(number) else {
             return Err(Refusal::NoCall(number));
         };
         if !call.client.accepts(ClientEvent::Connected) {
-            return Err(Refusal::NotOfClient(number));
+            return Err(Refusal::NotToClient(number));
         }
-        let told = format!(in alloc; "connection {connection} of call {number}: AwaitValidate")?;
         self.connections.push(Connection {
             call: number,
             is_cached,
             server: Server::new(),
             handed: 0,
             arrived: 0,
-            had_its_turn: false,
-            reply: Message::Reply,
-            sent: Vec::new(alloc),
+            reply: None,
+            sent: List::new(alloc),
             read: 0,
         })?;
         call.client.step(ClientEvent::Connected);
         call.connection = Some(connection);
-        Ok(told)
+        Ok(Told::Connected {
+            call: number,
+            connection,
+        })
     }
 
     /// The call whose client is at this connection.
@@ -212,45 +177,54 @@ impl World {
         }
     }
 
-    /// The client of a call is told what came, and its attempt may end by it.
-    fn tell(
-        &mut self,
-        alloc: Global,
-        number: usize,
-        event: ClientEvent,
-    ) -> Result<String, Refusal> {
+    /// The client of a call is told what came. Where its attempt ends by that, it leaves its connection.
+    fn tell(&mut self, number: usize, event: ClientEvent) -> Result<Told, Refusal>
+        ensures { OnErr result (self.new ≡ self.old) }
+    {
         let Some(call) = self.calls.get_mut(number) else {
             return Err(Refusal::NoCall(number));
         };
         if !call.client.accepts(event) {
-            return Err(Refusal::NotOfClient(number));
+            return Err(Refusal::NotToClient(number));
         }
         let action = call.client.step(event);
-        match action {
-            ClientAction::Connect | ClientAction::Finish(_) => {
+        match (action, call.client.attempts().last().copied()) {
+            (ClientAction::Connect | ClientAction::Finish(_), Some(attempt)) => {
                 call.connection = None;
-                let attempts = call.client.attempts();
-                Ok(format!(in alloc; "call {number}: {action:?} after {attempts:?}")?)
+                Ok(Told::Ended {
+                    call: number,
+                    attempt,
+                    action,
+                })
             }
-            _ => Ok(format!(in alloc; "call {number}: {action:?}")?),
+            _ => Ok(Told::Client {
+                call: number,
+                action,
+            }),
         }
     }
 
-    fn hand(&mut self, alloc: Global, number: usize, bytes: u64) -> Result<String, Refusal> {
+    /// The connection takes so many bytes more from its client.
+    fn hand(&mut self, number: usize, bytes: u64) -> Result<Told, Refusal>
+        ensures { OnErr result (self.new ≡ self.old) }
+    {
         let call = self.client_at(number)?;
-        let told = self.tell(alloc, call, ClientEvent::Taken(bytes))?;
+        let told = self.tell(call, ClientEvent::Taken(bytes))?;
         if let Some(connection) = self.connections.get_mut(number) {
             connection.handed = connection.handed.saturating_add(bytes);
         }
         Ok(told)
     }
 
-    fn arrive(&mut self, alloc: Global, number: usize, bytes: u64) -> Result<String, Refusal> {
+    /// So many bytes more of those handed over reach the server.
+    fn arrive(&mut self, number: usize, bytes: u64) -> Result<Told, Refusal>
+        ensures { OnErr result (self.new ≡ self.old) }
+    {
         let Some(connection) = self.connections.get_mut(number) else {
             return Err(Refusal::NoConnection(number));
         };
         if !connection.server.accepts(ServerEvent::Lost) {
-            return Err(Refusal::NotOfServer(number));
+            return Err(Refusal::NotToServer(number));
         }
         let arrived = connection.arrived.saturating_add(bytes);
         if arrived > connection.handed {
@@ -259,97 +233,110 @@ impl World {
                 arrived: connection.arrived,
             });
         }
-        let told = format!(in alloc; "connection {number}: {arrived} bytes have arrived")?;
         connection.arrived = arrived;
-        Ok(told)
+        Ok(Told::Arrived {
+            connection: number,
+            bytes: arrived,
+        })
+    }
+
+    /// The message that the client of a connection reads next, as its client is told of it.
+    fn unread(&self, number: usize) -> Result<ClientEvent, Refusal> {
+        let Some(connection) = self.connections.get(number) else {
+            return Err(Refusal::NoConnection(number));
+        };
+        match connection.sent.get(connection.read) {
+            Some(Message::Validate) => Ok(ClientEvent::Validated),
+            Some(Message::Reply) => Ok(ClientEvent::ReplyRead),
+            Some(Message::NoObject) => Ok(ClientEvent::Refused2 {
+                cached: connection.is_cached,
+            }),
+            Some(Message::Close) => Ok(ClientEvent::CloseRead),
+            None => Err(Refusal::NothingSent(number)),
+        }
     }
 
     /// The client reads the next message of its connection.
-    fn read(&mut self, alloc: Global, number: usize) -> Result<String, Refusal> {
+    fn read(&mut self, number: usize) -> Result<Told, Refusal>
+        ensures { OnErr result (self.new ≡ self.old) }
+    {
         let call = self.client_at(number)?;
-        let Some(connection) = self.connections.get_mut(number) else {
-            return Err(Refusal::NoConnection(number));
-        };
-        let Some(message) = connection.sent.get(connection.read).copied() else {
-            return Err(Refusal::NothingSent(number));
-        };
-        let event = match message {
-            Message::Validate => ClientEvent::Validated,
-            Message::Reply => ClientEvent::ReplyRead,
-            Message::NoObject => ClientEvent::Refused2 {
-                cached: connection.is_cached,
-            },
-            Message::Close => ClientEvent::CloseRead,
-        };
-        let told = self.tell(alloc, call, event)?;
+        let event = self.unread(number)?;
+        let told = self.tell(call, event)?;
         if let Some(connection) = self.connections.get_mut(number) {
             connection.read = connection.read.saturating_add(1);
         }
         Ok(told)
     }
 
-    /// The request that arrived whole has its turn: it is dispatched, or there is no such object.
-    fn take_turn(
-        &mut self,
-        alloc: Global,
-        number: usize,
-        reply: Message,
-    ) -> Result<String, Refusal> {
+    /// The server reads the request, which has arrived whole, and will answer it so. Returns its call.
+    fn take_turn(&mut self, number: usize, reply: Message) -> Result<usize, Refusal>
+        ensures { OnErr result (self.new ≡ self.old) }
+    {
         let Some(connection) = self.connections.get_mut(number) else {
             return Err(Refusal::NoConnection(number));
         };
-        let Some(call) = self.calls.get_mut(connection.call) else {
-            return Err(Refusal::NoCall(connection.call));
+        let length = match self.calls.get(connection.call) {
+            Some(call) => call.length,
+            None => return Err(Refusal::NoCall(connection.call)),
         };
-        if connection.had_its_turn {
+        if connection.reply.is_some() {
             return Err(Refusal::HadItsTurn(number));
         }
-        if connection.arrived < call.length {
+        if connection.arrived < length {
             return Err(Refusal::NotWhole {
-                length: call.length,
+                length,
                 arrived: connection.arrived,
             });
         }
         if !connection.server.accepts(ServerEvent::Request) {
-            return Err(Refusal::NotOfServer(number));
+            return Err(Refusal::NotToServer(number));
         }
-        let told = match reply {
-            Message::NoObject => format!(in alloc; "connection {number}: no such object")?,
-            _ => format!(in alloc; "connection {number}: Dispatch of call {}", connection.call)?,
-        };
         connection.server.step(ServerEvent::Request);
-        connection.had_its_turn = true;
-        connection.reply = reply;
-        if matches!(reply, Message::Reply) {
-            call.dispatches = call.dispatches.saturating_add(1);
-        }
-        Ok(told)
+        connection.reply = Some(reply);
+        Ok(connection.call)
     }
 
-    /// The server is told what came, and sends what it then sends.
-    fn serve(
-        &mut self,
-        alloc: Global,
-        number: usize,
-        event: ServerEvent,
-    ) -> Result<String, Refusal> {
+    fn dispatch(&mut self, number: usize) -> Result<Told, Refusal>
+        ensures { OnErr result (self.new ≡ self.old) }
+    {
+        let call = self.take_turn(number, Message::Reply)?;
+        if let Some(it) = self.calls.get_mut(call) {
+            it.dispatches = it.dispatches.saturating_add(1);
+        }
+        Ok(Told::Dispatched {
+            call,
+            connection: number,
+        })
+    }
+
+    fn refuse(&mut self, number: usize) -> Result<Told, Refusal>
+        ensures { OnErr result (self.new ≡ self.old) }
+    {
+        let call = self.take_turn(number, Message::NoObject)?;
+        Ok(Told::NoObject {
+            call,
+            connection: number,
+        })
+    }
+
+    /// The server of a connection is told what came, and sends what it then sends.
+    fn serve(&mut self, number: usize, event: ServerEvent) -> Result<Told, Refusal>
+        ensures { OnErr result (self.new ≡ self.old) }
+    {
         let Some(connection) = self.connections.get_mut(number) else {
             return Err(Refusal::NoConnection(number));
         };
         if !connection.server.accepts(event) {
-            return Err(Refusal::NotOfServer(number));
+            return Err(Refusal::NotToServer(number));
         }
-        connection.sent.reserve(1)?;
-        let action = connection.server.step(event);
-        let message = match action {
-            ServerAction::SendValidate => Some(Message::Validate),
-            ServerAction::SendReply => Some(connection.reply),
-            ServerAction::SendClose => Some(Message::Close),
-            _ => None,
-        };
-        if let Some(message) = message {
+        if let Some(message) = connection.message_at(event) {
             connection.sent.push(message)?;
         }
-        Ok(format!(in alloc; "connection {number}: {action:?}")?)
+        let action = connection.server.step(event);
+        Ok(Told::Server {
+            connection: number,
+            action,
+        })
     }
 }

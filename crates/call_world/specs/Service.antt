@@ -1,4 +1,4 @@
--- What the objects behind a server do with a call. (Ice manual, "The Ice Protocol", "Reply Status".)
+-- What a server's objects do with a call. (Ice manual, "The Ice Protocol", "Reply Status".)
 use Rattle.std.specs.Prelude.{◌≡◌, ℕ, ◌⊎◌}
 
 -- the reply says that there is no such object (2) or no such facet (3), so that nothing was dispatched
