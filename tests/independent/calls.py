@@ -1,7 +1,8 @@
 #!/usr/bin/env python3
 """Searches what can become of calls: every list of events up to a length, in worlds of a few invocations and connections.
 
-usage: tests/independent/calls.py [--events N]    N more events in each search (slow); none: as cases/run wants it
+usage: tests/independent/calls.py [--brief] [--events N]    --brief: without the lists that break something
+                                                            --events N: N more events in each search, which takes long
 
 It is written from the rules of calls alone, as the tables below say them, and not from the sources of this repository. Of
 each world that a list of events reaches it asks three things:
@@ -11,8 +12,8 @@ each world that a list of events reaches it asks three things:
 - each invocation that is finished with a success carries a reply that a dispatch of it recorded.
 
 No list may break one of them. Then each guard of each event is left out in turn. Where the three things rest on it, the
-shortest list that breaks one is printed; where they do not, none may be found. So no guard is there by accident, and none
-is believed to be needed that is not. The last line is `N passed, M failed`, and the status is 0 where M is 0.
+shortest list that breaks one is printed; where they do not, none may be found. So it is known of each guard whether the
+three things rest on it. The last line is `N passed, M failed`, and the status is 0 where M is 0.
 """
 import os
 import sys
@@ -421,18 +422,22 @@ def without(guard, more):
 
 
 def main(words):
-    more = 0
-    if len(words) == 2 and words[0] == "--events" and words[1].isdecimal():
-        more = int(words[1])
-    elif words:
-        sys.exit(__doc__.split("\n\n")[1])
+    is_brief = words[:1] == ["--brief"]
+    match words[is_brief:]:
+        case []:
+            more = 0
+        case ["--events", number] if number.isdecimal():
+            more = int(number)
+        case _:
+            sys.exit(__doc__.split("\n\n")[1])
     with ProcessPoolExecutor(os.cpu_count()) as pool:
         searches = [pool.submit(searched, kinds, most + more) for kinds, most in SEARCHES]
         guards = [pool.submit(without, guard, more) for guard in GUARDS]
         found = [it.result() for it in searches]
         left_out = [it.result() for it in guards]
     shown = {what: any(it[3][what] for it in found) for what in found[0][3]}
-    for told in [it[1] for it in found + left_out if it[1]] + [f"FAILED calls: no world showed {it}" for it in shown if not shown[it]]:
+    lists = [it[1] for it in left_out if it[1] and not (is_brief and it[2])]
+    for told in [it[1] for it in found] + lists + [f"FAILED calls: no world showed {it}" for it in shown if not shown[it]]:
         print(told)
     worlds = sum(it[0] for it in found + left_out)
     print(f"calls: {worlds:,} worlds in all; the three things rest on {sum(GUARDS.values())} of {len(GUARDS)} guards")
