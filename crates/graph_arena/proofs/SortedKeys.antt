@@ -71,7 +71,7 @@ or_right false b e = e
 
 -- a test of two, each of which means something
 or_is : {A B : Type 0} (a b : Bool) → (a ≡ true) ↔ A → (b ≡ true) ↔ B → ((a || b) ≡ true) ↔ (A ⊎ B)
-or_is a b f g = (λ e. elim (either a b e) [ | inl x ↦ inl (f.0 x) | inr y ↦ inr (g.0 y) ], λ h. elim h [ | inl x ↦ or_left a b (f.1 x) | inr y ↦ or_right a b (g.1 y) ])
+or_is a b f g = (λ e. elim (either a b e) [ inl x ↦ inl (f.0 x) | inr y ↦ inr (g.0 y) ], λ h. elim h [ inl x ↦ or_left a b (f.1 x) | inr y ↦ or_right a b (g.1 y) ])
 
 never : {A : Type 0} → (A → ⊥) → (false ≡ true) ↔ A
 never lacks = ((λ e. absurd cc), (λ a. absurd (lacks a)))
@@ -111,7 +111,7 @@ both_ways f g = (λ a. g.0 (f.0 a), λ c. f.1 (g.1 c))
 
 -- where nothing is at the value itself
 inside_alone : {A B : Type 0} → (A → ⊥) → B ↔ (A ⊎ B)
-inside_alone lacks = (λ b. inr b, λ h. elim h [ | inl a ↦ absurd (lacks a) | inr b ↦ b ])
+inside_alone lacks = (λ b. inr b, λ h. elim h [ inl a ↦ absurd (lacks a) | inr b ↦ b ])
 
 mutual
   pub repeats : (v : Tree) → Everywhere HasOrderedKeys v → (has_equal_keys v ≡ true) ↔ Somewhere RepeatsKey v
@@ -131,7 +131,7 @@ mutual
   some_repeats (tree v vs) h = or_is (has_equal_keys v) (some_has_equal_keys vs) (repeats v h.0) (some_repeats vs h.1)
 
   pairs_repeat : (ps : Entries) → AreOrderedKeys ps → InPairs HasOrderedKeys ps → (have_equal_keys ps ≡ true) ↔ (HasKeyTwice ps ⊎ InSomePair RepeatsKey ps)
-  pairs_repeat no_entry o h = never (λ x. elim x [ | inl y ↦ y | inr y ↦ y ])
+  pairs_repeat no_entry o h = never (λ x. elim x [ inl y ↦ y | inr y ↦ y ])
   pairs_repeat (entry k v rest) o h =
       both_ways (or_is (has_sorted_key (sorted k) rest) (has_equal_keys k || (has_equal_keys v || have_equal_keys rest))
       (subst (λ (m : Tree). (has_sorted_key m rest ≡ true) ↔ HasKey k rest) (sym (stays k o.0)) (key_is k rest o.1))

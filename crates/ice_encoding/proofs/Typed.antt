@@ -137,7 +137,7 @@ module _ {R S : Type 0} (port : Port R S) (t : Tables) (rules : IsSchema t) (Ref
       let same = same_each (HasType t Refer levels) q.element n items all in
       (q, row, items, is, subst (λ (i : ℕ). i < 2 ^ 31) (sym same.1) (size_exact.sort front n (front_fits bytes front body parts fits) size), same.0)
   value_typed (suc levels) (kinds.Dict at) bytes v from to fits (d, row, (pairs, is, (n, front, body, parts, size, some))) =
-      let of_key = rules.dicts at d row in
+      let of_key = rules.rows (kinds.Dict at) d row in
       let all = pairs_typed (SpellsValue port t levels d.key) (SpellsValue port t levels d.value) (HasType t no_reference levels d.key) (HasType t Refer levels d.value)
       (key_typed port t 98 levels d.key of_key.0 of_key.2 of_key.3) (value_typed levels d.value) n 0 no_entry body pairs from to (rest_fits bytes front body parts fits) (record { typed = tt; rise = tt; many = refl }) some in
       (d, row, pairs, is, subst (λ (i : ℕ). i < 2 ^ 31) (sym (all.many ∙ omega arith)) (size_exact.sort front n (front_fits bytes front body parts fits) size), all.rise, all.typed)

@@ -4,8 +4,8 @@ use std::test::Fail;
 
 /// Bytes of a part of each sort one after the other, as real Ice writes them.
 const PARTS: &[u8] = &[
-    1, 200, 0xfe, 0xff, 0x78, 0x56, 0x34, 0x12, 0, 0x80, 255, 255, 255, 255, 255, 255, 254, 255, 255,
-    0, 0, 0, 2, 0xc3, 0xa9,
+    1, 200, 0xfe, 0xff, 0x78, 0x56, 0x34, 0x12, 0, 0x80, 255, 255, 255, 255, 255, 255, 254, 255,
+    255, 0, 0, 0, 2, 0xc3, 0xa9,
 ];
 
 #[test]

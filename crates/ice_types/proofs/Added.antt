@@ -9,10 +9,10 @@ use Rattle.ice_types.specs.declared.declarations.Member.{Member}
 use Rattle.ice_types.specs.declared.kind.TypeRef.{TypeRef}
 use Rattle.ice_types.specs.declared.kind.TypeRef.TheVariants as kinds
 use Rattle.ice_types.specs.declared.measure.Measure.{Measure}
-use Rattle.ice_types.specs.Tables.{Tables, no_types, with_seq, with_dict, with_struct, IsTypeId, IsNewId, HasId, seq_ids, dict_ids, struct_ids}
+use Rattle.ice_types.specs.Tables.{Tables, no_types, with_seq, with_dict, with_struct, IsTypeId, IsNewId, HasId, seq_ids, dict_ids, struct_ids, HasTypeId}
 use Rattle.ice_types.specs.Measures.{measure, measured, measure_members, container, structure, sequence_of, dictionary_of, struct_of, small_members, is_small, names_of, SeqFits, DictFits, StructFits}
 use Rattle.ice_types.specs.Names.{AreNew}
-use Rattle.ice_types.specs.Rules.{IsSchema, IsKept, AreMeasures, HasTypeId}
+use Rattle.ice_types.specs.Rules.{HasRoom, RowFits, IsSchema, IsKept, AreMeasures}
 use Rattle.ice_types.proofs.Levels.{Keeps, measure_kept, members_kept}
 
 -- ---- lists with one item more
@@ -116,25 +116,38 @@ no_struct t (suc levels) at e = rw e refl
 
 of_seqs_says : (t : Tables) → IsSchema t → Says t.seqs (λ at. measure t 100 (kinds.Seq at))
 of_seqs_says t kept = record {
-  row = λ at q e. let fits = kept.seqs at q e in (container (suc fits.0.depth), seq_says t 99 at q (container (suc fits.0.depth)) e (rw fits.1 refl));
+  row = λ at q e. let fits = kept.rows (kinds.Seq at) q e in (container (suc fits.0.depth), seq_says t 99 at q (container (suc fits.0.depth)) e (rw fits.1 refl));
   none = no_seq t 100;
 }
 
 of_dicts_says : (t : Tables) → IsSchema t → Says t.dicts (λ at. measure t 100 (kinds.Dict at))
 of_dicts_says t kept = record {
-  row = λ at d e. let fits = kept.dicts at d e in (container (suc (suc (max fits.0.depth fits.1.depth))), dict_says t 98 at d (container (suc (suc (max fits.0.depth fits.1.depth)))) e (rw (fits.2, fits.4) refl));
+  row = λ at d e. let fits = kept.rows (kinds.Dict at) d e in (container (suc (suc (max fits.0.depth fits.1.depth))), dict_says t 98 at d (container (suc (suc (max fits.0.depth fits.1.depth)))) e (rw (fits.2, fits.4) refl));
   none = no_dict t 100;
 }
 
 of_structs_says : (t : Tables) → IsSchema t → Says t.structs (λ at. measure t 100 (kinds.Struct at))
 of_structs_says t kept = record {
-  row = λ at d e. let fits = kept.structs at d e in (structure fits.0, struct_says t 99 at d (structure fits.0) e (rw fits.1 refl));
+  row = λ at d e. let fits = kept.rows (kinds.Struct at) d e in (structure fits.0, struct_says t 99 at d (structure fits.0) e (rw fits.1 refl));
   none = no_struct t 100;
 }
 
 -- ---- the rules that stay
 
 module _ (t u : Tables) (keeps : Keeps t u) where
+  -- the row that was there fits the tables with one row more
+  abbrev StaysIn : TypeRef → Type 0
+  StaysIn (kinds.Seq at) = (q : SeqDecl) → slice_get t.seqs at ≡ Some q → SeqFits u q.element
+  StaysIn (kinds.Dict at) = (d : DictDecl) → slice_get t.dicts at ≡ Some d → DictFits u d.key d.value
+  StaysIn (kinds.Struct at) = (d : StructDecl) → slice_get t.structs at ≡ Some d → StructFits u d.members
+  StaysIn kinds.Bool = Unit {0}
+  StaysIn kinds.Byte = Unit {0}
+  StaysIn kinds.Short = Unit {0}
+  StaysIn kinds.Int = Unit {0}
+  StaysIn kinds.Long = Unit {0}
+  StaysIn kinds.Text = Unit {0}
+  StaysIn (kinds.Class at) = Unit {0}
+
   seq_fits : (element : TypeRef) → SeqFits t element → SeqFits u element
   seq_fits element fits = (fits.0, measure_kept t u keeps 99 element fits.0 fits.1)
 
@@ -144,21 +157,22 @@ module _ (t u : Tables) (keeps : Keeps t u) where
   struct_fits : (members : List Member) → StructFits t members → StructFits u members
   struct_fits members fits = (fits.0, members_kept t u keeps 99 members fits.0 fits.1, fits.2, fits.3, fits.4)
 
+  -- each row that was there is still within the limits
+  row_stays : (kind : TypeRef) → RowFits t kind → StaysIn kind
+  row_stays kinds.Bool h = tt
+  row_stays kinds.Byte h = tt
+  row_stays kinds.Short h = tt
+  row_stays kinds.Int h = tt
+  row_stays kinds.Long h = tt
+  row_stays kinds.Text h = tt
+  row_stays (kinds.Class at) h = tt
+  row_stays (kinds.Seq at) h = λ q is. seq_fits q.element (h q is)
+  row_stays (kinds.Dict at) h = λ d is. dict_fits d.key d.value (h d is)
+  row_stays (kinds.Struct at) h = λ d is. struct_fits d.members (h d is)
+
 -- ids stand in the new row, or where they stood
 abbrev IsSplit : Tables → Tables → List ℕ → TypeRef → Type 0
 IsSplit t u new last = (id : List ℕ) (kind : TypeRef) → HasTypeId u id kind → HasTypeId t id kind ⊎ ((kind ≡ last) × (new ≡ id))
-
-no_type_id : (t : Tables) (id : List ℕ) → IsNewId t id → (kind : TypeRef) → HasTypeId t id kind → ⊥
-no_type_id t id new kinds.Bool h = h
-no_type_id t id new kinds.Byte h = h
-no_type_id t id new kinds.Short h = h
-no_type_id t id new kinds.Int h = h
-no_type_id t id new kinds.Long h = h
-no_type_id t id new kinds.Text h = h
-no_type_id t id new (kinds.Class at) h = h
-no_type_id t id new (kinds.Seq at) h = new.seqs at h
-no_type_id t id new (kinds.Dict at) h = new.dicts at h
-no_type_id t id new (kinds.Struct at) h = new.structs at h
 
 module _ (t u : Tables) (kept : IsSchema t) (new : List ℕ) (last : TypeRef) (split : IsSplit t u new last) (type_id : IsTypeId new) (lacks : IsNewId t new) where
   type_ids : (id : List ℕ) (kind : TypeRef) → HasTypeId u id kind → IsTypeId id
@@ -171,10 +185,10 @@ module _ (t u : Tables) (kept : IsSchema t) (new : List ℕ) (last : TypeRef) (s
   apart id a b p q = elim (split id a p) [
     | inl old ↦ elim (split id b q) [
       | inl older ↦ kept.apart id a b old older
-      | inr last ↦ absurd (no_type_id t new lacks a (subst (λ (x : List ℕ). HasTypeId t x a) (sym last.1) old))
+      | inr last ↦ absurd (lacks a (subst (λ (x : List ℕ). HasTypeId t x a) (sym last.1) old))
     ]
     | inr first ↦ elim (split id b q) [
-      | inl older ↦ absurd (no_type_id t new lacks b (subst (λ (x : List ℕ). HasTypeId t x b) (sym first.1) older))
+      | inl older ↦ absurd (lacks b (subst (λ (x : List ℕ). HasTypeId t x b) (sym first.1) older))
       | inr other ↦ first.0 ∙ sym other.0
     ]
   ]
@@ -238,59 +252,89 @@ keeps_dict t new = record { seqs = λ at q e. e; dicts = λ at d. slice_get-fron
 keeps_struct : (t : Tables) (new : StructDecl) → Keeps t (with_struct t new)
 keeps_struct t new = record { seqs = λ at q e. e; dicts = λ at d e. e; structs = λ at d. slice_get-front t.structs (new ∷ []) at d }
 
+-- The one way to add a row: the tables with it keep each row at its place, have room, and have no other new row or id.
+record IsAdded (t u : Tables) (new : List ℕ) (last : TypeRef) : Type 0 where
+  keeps : Keeps t u
+  room : HasRoom u
+  ids : IsSplit t u new last
+  rows : (kind : TypeRef) → StaysIn t u keeps kind → RowFits u kind
+
+IsSchema-added : (t u : Tables) (new : List ℕ) (last : TypeRef) → IsAdded t u new last → IsTypeId new → IsNewId t new → IsSchema t → IsSchema u
+IsSchema-added t u new last added type_id lacks kept = record {
+  room = added.room;
+  type_ids = type_ids t u kept new last added.ids type_id lacks;
+  apart = apart t u kept new last added.ids type_id lacks;
+  rows = λ kind. added.rows kind (row_stays t u added.keeps kind (kept.rows kind));
+}
+
 IsSchema-seq : (t : Tables) (new : SeqDecl) → IsSchema t → length t.seqs + 1 < 100000000 → IsTypeId new.id → IsNewId t new.id → SeqFits t new.element → IsSchema (with_seq t new)
-IsSchema-seq t new kept room type_id lacks fits =
-    let u = with_seq t new in
-    let keeps = keeps_seq t new in
-    let split = seq_split t new in record {
-      seq_room = omega (arith, length-append t.seqs (new ∷ []));
-      dict_room = kept.dict_room;
-      struct_room = kept.struct_room;
-      type_ids = type_ids t u kept new.id (kinds.Seq (length (seq_ids t))) split type_id lacks;
-      apart = apart t u kept new.id (kinds.Seq (length (seq_ids t))) split type_id lacks;
-      seqs = λ at q is. elim (slice_get-push t.seqs new at q is) [
-        | inl old ↦ seq_fits t u keeps q.element (kept.seqs at q old)
-        | inr last ↦ seq_fits t u keeps q.element (subst (λ (x : SeqDecl). SeqFits t x.element) last.1 fits)
-      ];
-      dicts = λ at d is. dict_fits t u keeps d.key d.value (kept.dicts at d is);
-      structs = λ at d is. struct_fits t u keeps d.members (kept.structs at d is);
-    }
+IsSchema-seq t new kept room type_id lacks fits = IsSchema-added t (with_seq t new) new.id (kinds.Seq (length (seq_ids t))) (record {
+  keeps = keeps_seq t new;
+  room = record { seqs = omega (arith, length-append t.seqs (new ∷ [])); dicts = kept.room.dicts; structs = kept.room.structs };
+  ids = seq_split t new;
+  rows = rows;
+}) type_id lacks kept
+  where
+    rows : (kind : TypeRef) → StaysIn t (with_seq t new) (keeps_seq t new) kind → RowFits (with_seq t new) kind
+    rows kinds.Bool h = tt
+    rows kinds.Byte h = tt
+    rows kinds.Short h = tt
+    rows kinds.Int h = tt
+    rows kinds.Long h = tt
+    rows kinds.Text h = tt
+    rows (kinds.Class at) h = tt
+    rows (kinds.Dict at) h = h
+    rows (kinds.Struct at) h = h
+    rows (kinds.Seq at) h = λ q is. elim (slice_get-push t.seqs new at q is) [
+      | inl old ↦ h q old
+      | inr last ↦ seq_fits t (with_seq t new) (keeps_seq t new) q.element (subst (λ (x : SeqDecl). SeqFits t x.element) last.1 fits)
+    ]
 
 IsSchema-dict : (t : Tables) (new : DictDecl) → IsSchema t → length t.dicts + 1 < 100000000 → IsTypeId new.id → IsNewId t new.id → DictFits t new.key new.value → IsSchema (with_dict t new)
-IsSchema-dict t new kept room type_id lacks fits =
-    let u = with_dict t new in
-    let keeps = keeps_dict t new in
-    let split = dict_split t new in record {
-      seq_room = kept.seq_room;
-      dict_room = omega (arith, length-append t.dicts (new ∷ []));
-      struct_room = kept.struct_room;
-      type_ids = type_ids t u kept new.id (kinds.Dict (length (dict_ids t))) split type_id lacks;
-      apart = apart t u kept new.id (kinds.Dict (length (dict_ids t))) split type_id lacks;
-      seqs = λ at q is. seq_fits t u keeps q.element (kept.seqs at q is);
-      dicts = λ at d is. elim (slice_get-push t.dicts new at d is) [
-        | inl old ↦ dict_fits t u keeps d.key d.value (kept.dicts at d old)
-        | inr last ↦ dict_fits t u keeps d.key d.value (subst (λ (x : DictDecl). DictFits t x.key x.value) last.1 fits)
-      ];
-      structs = λ at d is. struct_fits t u keeps d.members (kept.structs at d is);
-    }
+IsSchema-dict t new kept room type_id lacks fits = IsSchema-added t (with_dict t new) new.id (kinds.Dict (length (dict_ids t))) (record {
+  keeps = keeps_dict t new;
+  room = record { seqs = kept.room.seqs; dicts = omega (arith, length-append t.dicts (new ∷ [])); structs = kept.room.structs };
+  ids = dict_split t new;
+  rows = rows;
+}) type_id lacks kept
+  where
+    rows : (kind : TypeRef) → StaysIn t (with_dict t new) (keeps_dict t new) kind → RowFits (with_dict t new) kind
+    rows kinds.Bool h = tt
+    rows kinds.Byte h = tt
+    rows kinds.Short h = tt
+    rows kinds.Int h = tt
+    rows kinds.Long h = tt
+    rows kinds.Text h = tt
+    rows (kinds.Class at) h = tt
+    rows (kinds.Seq at) h = h
+    rows (kinds.Struct at) h = h
+    rows (kinds.Dict at) h = λ d is. elim (slice_get-push t.dicts new at d is) [
+      | inl old ↦ h d old
+      | inr last ↦ dict_fits t (with_dict t new) (keeps_dict t new) d.key d.value (subst (λ (x : DictDecl). DictFits t x.key x.value) last.1 fits)
+    ]
 
 IsSchema-struct : (t : Tables) (new : StructDecl) → IsSchema t → length t.structs + 1 < 100000000 → IsTypeId new.id → IsNewId t new.id → StructFits t new.members → IsSchema (with_struct t new)
-IsSchema-struct t new kept room type_id lacks fits =
-    let u = with_struct t new in
-    let keeps = keeps_struct t new in
-    let split = struct_split t new in record {
-      seq_room = kept.seq_room;
-      dict_room = kept.dict_room;
-      struct_room = omega (arith, length-append t.structs (new ∷ []));
-      type_ids = type_ids t u kept new.id (kinds.Struct (length (struct_ids t))) split type_id lacks;
-      apart = apart t u kept new.id (kinds.Struct (length (struct_ids t))) split type_id lacks;
-      seqs = λ at q is. seq_fits t u keeps q.element (kept.seqs at q is);
-      dicts = λ at d is. dict_fits t u keeps d.key d.value (kept.dicts at d is);
-      structs = λ at d is. elim (slice_get-push t.structs new at d is) [
-        | inl old ↦ struct_fits t u keeps d.members (kept.structs at d old)
-        | inr last ↦ struct_fits t u keeps d.members (subst (λ (x : StructDecl). StructFits t x.members) last.1 fits)
-      ];
-    }
+IsSchema-struct t new kept room type_id lacks fits = IsSchema-added t (with_struct t new) new.id (kinds.Struct (length (struct_ids t))) (record {
+  keeps = keeps_struct t new;
+  room = record { seqs = kept.room.seqs; dicts = kept.room.dicts; structs = omega (arith, length-append t.structs (new ∷ [])) };
+  ids = struct_split t new;
+  rows = rows;
+}) type_id lacks kept
+  where
+    rows : (kind : TypeRef) → StaysIn t (with_struct t new) (keeps_struct t new) kind → RowFits (with_struct t new) kind
+    rows kinds.Bool h = tt
+    rows kinds.Byte h = tt
+    rows kinds.Short h = tt
+    rows kinds.Int h = tt
+    rows kinds.Long h = tt
+    rows kinds.Text h = tt
+    rows (kinds.Class at) h = tt
+    rows (kinds.Seq at) h = h
+    rows (kinds.Dict at) h = h
+    rows (kinds.Struct at) h = λ d is. elim (slice_get-push t.structs new at d is) [
+      | inl old ↦ h d old
+      | inr last ↦ struct_fits t (with_struct t new) (keeps_struct t new) d.members (subst (λ (x : StructDecl). StructFits t x.members) last.1 fits)
+    ]
 
 -- members that a struct may have are small enough
 pub small_fits : (t : Tables) (members : List Member) → (fits : StructFits t members) → small_members t members ≡ Some fits.0
@@ -400,19 +444,36 @@ IsKept-struct-added seqs dicts rows after of_seqs of_dicts found found_after t n
 pub IsKept-none : IsKept no_types [] [] []
 IsKept-none = record {
   rules = record {
-    seq_room = omega arith;
-    dict_room = omega arith;
-    struct_room = omega arith;
+    room = record { seqs = omega arith; dicts = omega arith; structs = omega arith };
     type_ids = λ id kind h. absurd (no_id id kind h);
     apart = λ id a b h i. absurd (no_id id a h);
-    seqs = λ at q e. absurd cc;
-    dicts = λ at d e. absurd cc;
-    structs = λ at d e. absurd cc;
+    rows = no_row;
   };
   seqs = λ at. sym (no_seq no_types 100 at refl);
   dicts = λ at. sym (no_dict no_types 100 at refl);
   structs = λ at. sym (no_struct no_types 100 at refl);
 }
   where
-    no_id : (id : List ℕ) (kind : TypeRef) → HasTypeId no_types id kind → ⊥
-    no_id id kind h = no_type_id no_types id (record { seqs = λ at e. cc; dicts = λ at e. cc; structs = λ at e. cc }) kind h
+    no_id : (id : List ℕ) → IsNewId no_types id
+    no_id id kinds.Bool h = h
+    no_id id kinds.Byte h = h
+    no_id id kinds.Short h = h
+    no_id id kinds.Int h = h
+    no_id id kinds.Long h = h
+    no_id id kinds.Text h = h
+    no_id id (kinds.Class at) h = h
+    no_id id (kinds.Seq at) h = cc
+    no_id id (kinds.Dict at) h = cc
+    no_id id (kinds.Struct at) h = cc
+
+    no_row : (kind : TypeRef) → RowFits no_types kind
+    no_row kinds.Bool = tt
+    no_row kinds.Byte = tt
+    no_row kinds.Short = tt
+    no_row kinds.Int = tt
+    no_row kinds.Long = tt
+    no_row kinds.Text = tt
+    no_row (kinds.Class at) = tt
+    no_row (kinds.Seq at) = λ q e. absurd cc
+    no_row (kinds.Dict at) = λ d e. absurd cc
+    no_row (kinds.Struct at) = λ d e. absurd cc

@@ -14,15 +14,15 @@ pub record Tables : Type 0 where
 abbrev pub no_types : Tables
 no_types = record { seqs = []; dicts = []; structs = [] }
 
--- the tables with one row more, behind the others
+-- the tables with one row more, after the others
 abbrev pub with_seq : Tables → SeqDecl → Tables
-with_seq t q = record { seqs = t.seqs ++ q ∷ []; dicts = t.dicts; structs = t.structs }
+with_seq t q = record t { seqs = t.seqs ++ q ∷ [] }
 
 abbrev pub with_dict : Tables → DictDecl → Tables
-with_dict t d = record { seqs = t.seqs; dicts = t.dicts ++ d ∷ []; structs = t.structs }
+with_dict t d = record t { dicts = t.dicts ++ d ∷ [] }
 
 abbrev pub with_struct : Tables → StructDecl → Tables
-with_struct t d = record { seqs = t.seqs; dicts = t.dicts; structs = t.structs ++ d ∷ [] }
+with_struct t d = record t { structs = t.structs ++ d ∷ [] }
 
 -- a type id begins with `::`
 abbrev pub IsTypeId : List ℕ → Type 0
@@ -44,11 +44,22 @@ HasId ids id at = slice_get ids at ≡ Some id
 abbrev pub LacksId : List (List ℕ) → List ℕ → Type 0
 LacksId ids id = (at : ℕ) → slice_get ids at ≢ Some id
 
+-- the type of this type id
+abbrev pub HasTypeId : Tables → List ℕ → TypeRef → Type 0
+HasTypeId t id (kinds.Seq at) = HasId (seq_ids t) id at
+HasTypeId t id (kinds.Dict at) = HasId (dict_ids t) id at
+HasTypeId t id (kinds.Struct at) = HasId (struct_ids t) id at
+HasTypeId t id kinds.Bool = ⊥
+HasTypeId t id kinds.Byte = ⊥
+HasTypeId t id kinds.Short = ⊥
+HasTypeId t id kinds.Int = ⊥
+HasTypeId t id kinds.Long = ⊥
+HasTypeId t id kinds.Text = ⊥
+HasTypeId t id (kinds.Class at) = ⊥
+
 -- no type has the id
-pub record IsNewId (t : Tables) (id : List ℕ) : Type 0 where
-  pub seqs : LacksId (seq_ids t) id
-  pub dicts : LacksId (dict_ids t) id
-  pub structs : LacksId (struct_ids t) id
+abbrev pub IsNewId : Tables → List ℕ → Type 0
+IsNewId t id = (kind : TypeRef) → HasTypeId t id kind → ⊥
 
 -- The type that a text names: a built-in type's word, or a type id.
 abbrev pub Names : Tables → List ℕ → TypeRef → Type 0

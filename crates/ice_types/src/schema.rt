@@ -1,10 +1,10 @@
 //! The types of a Slice text by place, under the rules that every schema keeps.
 
 ghost use Rattle.std.specs.Prelude.{◌≡◌, ◌+◌, ◌<◌, ◌≤◌, ◌↔◌, MatchOption, IfOk, IfSome, OnErr, length, IsTrue, Some, []};
-ghost use Rattle.ice_types.specs.Tables.{Tables, no_types, with_seq, with_dict, with_struct, IsTypeId, IsNewId, Names};
+ghost use Rattle.ice_types.specs.Tables.{Tables, no_types, with_seq, with_dict, with_struct, IsTypeId, IsNewId, Names, HasTypeId};
 ghost use Rattle.ice_types.specs.Measures.{measure, sequence_of, dictionary_of, struct_of, small_members, names_of, fixed_size, SeqFits, DictFits, StructFits};
 ghost use Rattle.ice_types.specs.Names.{AreNew};
-ghost use Rattle.ice_types.specs.Rules.{IsSchema, HasTypeId};
+ghost use Rattle.ice_types.specs.Rules.{IsSchema};
 ghost use Rattle.ice_types.specs.declared.kind.TypeRef.{TypeRef};
 
 use crate::declarations::{DictDecl, Member, SeqDecl, StructDecl};

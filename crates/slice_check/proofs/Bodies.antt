@@ -3,8 +3,7 @@ use Rattle.std.proofs.Common.{ℕ, suc, ◌≡◌, ◌+◌, ◌<◌, ◌≤◌, 
 use Rattle.std.specs.Prelude.{String}
 use Rattle.std.specs.BTreeSet.{BTreeSet}
 use Rattle.std.proofs.lemmas.List.{length-append, length-drop}
-use Rattle.ice_types.specs.Tables.{Tables, no_types}
-use Rattle.ice_types.specs.Rules.{HasTypeId}
+use Rattle.ice_types.specs.Tables.{Tables, no_types, HasTypeId}
 use Rattle.ice_types.specs.declared.kind.TypeRef.{TypeRef}
 use Rattle.slice_check.specs.SliceText.{Token, IsNew, IsDefinition, AreDefinitions, IsBody, Fits, closed, type_id, with_definition}
 use Rattle.slice_check.specs.Reading.{Answers, Claims, Defines, Lacks, ReadsFront}

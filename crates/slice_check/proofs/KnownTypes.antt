@@ -2,8 +2,7 @@
 use Rattle.std.proofs.Common.{◌≡◌, Bool, true, false, cond, Option, Some, refl, sym, ap, ◌∙◌, subst, inl, inr}
 use Rattle.std.specs.Str.{bytes_eq}
 use Rattle.std.proofs.lemmas.Slice.Eq.{bytes_eq-Decides}
-use Rattle.ice_types.specs.Tables.{Tables}
-use Rattle.ice_types.specs.Rules.{HasTypeId}
+use Rattle.ice_types.specs.Tables.{Tables, HasTypeId}
 use Rattle.ice_types.specs.declared.kind.TypeRef.{TypeRef}
 use Rattle.slice_check.specs.SliceText.{Token, IsName, type_id, with_definition}
 use Rattle.slice_check.specs.Reading.{Knows, known, place}

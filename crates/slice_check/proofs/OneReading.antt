@@ -1,8 +1,7 @@
 -- A text has one reading at most.
 use Rattle.std.proofs.Common.{ℕ, ◌≡◌, List, [], ◌∷◌, Some, codes, Contains, refl, sym, ap, ◌∙◌, subst, arith, inl, inr}
 use Rattle.case_tables.specs.Tables.{keyword_names}
-use Rattle.ice_types.specs.Tables.{Tables, Names, no_types}
-use Rattle.ice_types.specs.Rules.{HasTypeId}
+use Rattle.ice_types.specs.Tables.{Tables, Names, no_types, HasTypeId}
 use Rattle.ice_types.specs.declared.kind.TypeRef.{TypeRef}
 use Rattle.ice_types.specs.declared.kind.TypeRef.TheVariants as kinds
 use Rattle.ice_types.specs.declared.declarations.Member.{Member}

@@ -3,8 +3,7 @@ use Rattle.std.proofs.Common.{ℕ, suc, ◌≡◌, ◌≢◌, List, [], ◌∷�
 use Rattle.std.specs.Str.{str_to_ascii_lowercase}
 use Rattle.std.proofs.lemmas.List.{append_cancel_left, map-append}
 use Rattle.std.proofs.lemmas.List.Elements.{All-contains}
-use Rattle.ice_types.specs.Tables.{Tables, HasId, IsNewId, no_types}
-use Rattle.ice_types.specs.Rules.{HasTypeId}
+use Rattle.ice_types.specs.Tables.{Tables, HasId, IsNewId, no_types, HasTypeId}
 use Rattle.ice_types.specs.declared.kind.TypeRef.{TypeRef}
 use Rattle.ice_types.specs.declared.kind.TypeRef.TheVariants as kinds
 use Rattle.ice_types.proofs.Added.{slice_get-front, slice_get-push}
@@ -102,9 +101,6 @@ no_type id (kinds.Struct at) h = cc
 pub same_name : (module_name a b : Token) → type_id module_name a ≡ type_id module_name b → a ≡ b
 same_name module_name a b e = let tails : module_name ++ 58 ∷ 58 ∷ a ≡ module_name ++ 58 ∷ 58 ∷ b = cc in
     let ends : 58 ∷ 58 ∷ a ≡ 58 ∷ 58 ∷ b = append_cancel_left module_name _ _ tails in cc
-
-pub is_new_id : (t : Tables) (id : List ℕ) → ((kind : TypeRef) → HasTypeId t id kind → ⊥) → IsNewId t id
-is_new_id t id none = record { seqs = λ at is. none (kinds.Seq at) is; dicts = λ at is. none (kinds.Dict at) is; structs = λ at is. none (kinds.Struct at) is }
 
 -- each type has the id of one of the names, and no two types have one id
 pub record Named (module_name : Token) (names : List Token) (t : Tables) : Type 0 where

@@ -7,8 +7,7 @@ use Rattle.std.specs.Cmp.Lexicographic.{slice_cmp}
 use Rattle.std.specs.BTreeMap.{BTreeMap, get_by}
 use Rattle.std.specs.BTreeSet.{BTreeSet, contains_text}
 use Rattle.ice_types.specs.Names.{HoldsNames}
-use Rattle.ice_types.specs.Tables.{Tables}
-use Rattle.ice_types.specs.Rules.{HasTypeId}
+use Rattle.ice_types.specs.Tables.{Tables, HasTypeId}
 use Rattle.ice_types.specs.declared.kind.TypeRef.{TypeRef}
 use Rattle.ice_types.specs.declared.kind.TypeRef.TheVariants as kinds
 use Rattle.ice_types.specs.declared.declarations.Member.{Member}

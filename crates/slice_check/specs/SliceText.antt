@@ -14,9 +14,8 @@ use Rattle.std.specs.List.{list_all}
 use Rattle.std.specs.Str.{str_to_ascii_lowercase}
 use Rattle.case_tables.specs.Tables.{keyword_names}
 use Rattle.ice_types.specs.Names.{IsFree, AreNew}
-use Rattle.ice_types.specs.Tables.{Tables, Names, no_types, with_seq, with_dict, with_struct}
+use Rattle.ice_types.specs.Tables.{Tables, Names, no_types, with_seq, with_dict, with_struct, HasTypeId}
 use Rattle.ice_types.specs.Measures.{SeqFits, DictFits, StructFits, names_of}
-use Rattle.ice_types.specs.Rules.{HasTypeId}
 use Rattle.ice_types.specs.declared.kind.TypeRef.{TypeRef}
 use Rattle.ice_types.specs.declared.declarations.Member.{Member}
 use Rattle.slice_check.specs.declared.definition.Definition.{Definition}

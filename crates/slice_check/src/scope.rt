@@ -2,7 +2,6 @@
 
 ghost use Rattle.std.specs.Prelude.{◌≡◌, ◌+◌, ◌≤◌, IfOk, MatchOption, length};
 ghost use Rattle.ice_types.specs.Tables.{Names, no_types};
-ghost use Rattle.ice_types.specs.Rules.{HasTypeId};
 ghost use Rattle.ice_types.specs.declared.kind.TypeRef.{TypeRef};
 ghost use Rattle.slice_check.specs.SliceText.{IsName, IsType, type_id};
 ghost use Rattle.slice_check.specs.Reading.{Defines, Knows};
@@ -24,8 +23,7 @@ pub struct Scope<'a> {
 
 impl<'a> Scope<'a> {
     ghost use Rattle.std.specs.Prelude.{◌≡◌, ◌+◌, ◌≤◌, MatchOption, length};
-    ghost use Rattle.ice_types.specs.Tables.{no_types};
-    ghost use Rattle.ice_types.specs.Rules.{HasTypeId};
+    ghost use Rattle.ice_types.specs.Tables.{no_types, IsNewId};
     ghost use Rattle.ice_types.specs.declared.kind.TypeRef.{TypeRef};
     ghost use Rattle.slice_check.specs.SliceText.{IsName, IsType, OwnNames, type_id};
     ghost use Rattle.slice_check.specs.Reading.{Defines, Knows};
@@ -66,7 +64,7 @@ impl<'a> Scope<'a> {
         requires knows { Knows self.old }
         requires is_name { IsName name.now }
         requires own_names { OwnNames definition }
-        requires new { (kind : TypeRef) → HasTypeId self.old.schema (type_id self.old.module_name.now name.now) kind → ⊥ }
+        requires new { IsNewId self.old.schema (type_id self.old.module_name.now name.now) }
         ensures { Defines self.old self.new name.now definition result }
     {
         let id = type_id(alloc, self.module_name, name)?;

@@ -1,16 +1,15 @@
+use Rattle.ice_types.specs.Tables.{HasTypeId}
 use Rattle.std.proofs.Common.{◌≡◌, cond, List, ℕ, Some, ap, subst, sym, refl, ◌∙◌}
 use Rattle.std.specs.Str.{bytes_eq}
 use Rattle.std.proofs.lemmas.Map.Text.{btree_map_updates_str}
-use Rattle.ice_types.specs.Rules.{HasTypeId}
 use Rattle.slice_check.specs.SliceText.{Token, with_definition, type_id}
 use Rattle.slice_check.specs.Reading.{place, known}
-use Rattle.slice_check.proofs.TypeIds.{is_new_id}
 use Rattle.slice_check.proofs.KnownTypes.{knows_on}
 use Rattle.slice_check.proofs.scope.Scope.define.Goals as goal
 
 pub add_definition-requires-clause-new_id : goal.add_definition-requires-clause-new_id
 add_definition-requires-clause-new_id c =
-    is_new_id c.args.self.now.schema c.in_ok-id.id (λ kind h. c.requires.new kind (subst (λ (id : List ℕ). HasTypeId c.args.self.now.schema id kind) c.in_ok-id.ensures h))
+    λ kind h. c.requires.new kind (subst (λ (id : List ℕ). HasTypeId c.args.self.now.schema id kind) c.in_ok-id.ensures h)
 
 pub returns : goal.returns
 returns c =
