@@ -2,9 +2,8 @@
 
 ghost use Rattle.std.specs.Prelude.{◌≡◌, true, Ok, IfOk};
 ghost use Rattle.ice_encoding.specs.Order.{IsOrdered, IsRising};
-ghost use Rattle.ice_encoding.specs.Tree.{no_entry};
-ghost use Rattle.graph_arena.specs.Sorted.{sorted, sorted_each, sorted_onto, has_equal_keys, some_has_equal_keys, have_equal_keys};
-ghost use Rattle.graph_arena.specs.Sorting.{Sorts, UnlessEqual, Puts};
+ghost use Rattle.graph_arena.specs.Sorted.{sorted, has_equal_keys};
+ghost use Rattle.graph_arena.specs.Sorting.{Sorts, SortsEach, SortsPairs, UnlessEqual, Puts};
 ghost use Rattle.graph_arena.specs.View.{view, view_all, view_pairs};
 
 use crate::Value;
@@ -63,7 +62,7 @@ fn sorted_copy(alloc: Global, value: &Value) -> Result<Option<Value>, AllocError
 /// The items, each with its dictionaries in order, or None where keys are equal.
 #[cycle(copies)]
 fn sorted_items(alloc: Global, items: &[Value]) -> Result<Option<List<Value>>, AllocError>
-    ensures { IfOk result (UnlessEqual view_all (some_has_equal_keys (view_all items.now)) (sorted_each (view_all items.now))) }
+    ensures { IfOk result (SortsEach (view_all items.now)) }
 {
     let mut copies = List::new(alloc);
     for item in items {
@@ -81,7 +80,7 @@ fn by_key(
     alloc: Global,
     pairs: &[(Value, Value)],
 ) -> Result<Option<BTreeMap<Value, Value>>, AllocError>
-    ensures { IfOk result (UnlessEqual (λ m. view_pairs m.entries) (have_equal_keys (view_pairs pairs.now)) (sorted_onto no_entry (view_pairs pairs.now))) }
+    ensures { IfOk result (SortsPairs (view_pairs pairs.now)) }
 {
     let mut map = BTreeMap::new(alloc);
     for pair in pairs {

@@ -30,7 +30,7 @@ insert_count k v no_entry = refl
 insert_count k v (entry l w rest) =
     by_test (is_lt (tree_cmp k l)) (λ ps. entry_count ps ≡ suc (suc (entry_count rest))) (entry k v (entry l w rest)) (entry l w (insert k v rest)) refl (ap suc (insert_count k v rest))
 
--- ---- pairs in rising order are put one behind the other
+-- ---- pairs in rising order are put one after the other
 
 abbrev pub join : Entries → Entries → Entries
 join no_entry others = others

@@ -32,7 +32,7 @@ tables = record { seqs = record { id = []; element = kinds.Byte } ∷ record { i
 abbrev reads : TypeRef → List ℕ → Result Tree Fault
 reads kind bytes = encapsulation_at tables kind (whole bytes)
 
--- an encapsulation's size below 256, its version, and what the input has behind them
+-- an encapsulation's size below 256, its version, and what the input has after them
 abbrev headed : ℕ → List ℕ → List ℕ
 headed size bytes = size ∷ 0 ∷ 0 ∷ 0 ∷ 1 ∷ 1 ∷ bytes
 
@@ -119,7 +119,7 @@ too_large = refl
 other_version : reads kinds.Bool (7 ∷ 0 ∷ 0 ∷ 0 ∷ 1 ∷ 0 ∷ 1 ∷ []) ≡ fault 4 BadVersion
 other_version = refl
 
--- a wrong bool, and a byte behind the encapsulation
+-- a wrong bool, and a byte after the encapsulation
 bad_bool : reads kinds.Bool (headed 7 (2 ∷ 1 ∷ [])) ≡ fault 6 BadBool
 unfolding plain_value_at
 bad_bool = refl
@@ -146,7 +146,7 @@ negative_size : reads kinds.Text (headed 11 (255 ∷ 0 ∷ 0 ∷ 0 ∷ 128 ∷ [
 unfolding plain_value_at
 negative_size = refl
 
--- the place is that of the string's bytes, behind its size
+-- the place is that of the string's bytes, after its size
 text_cut_short : reads kinds.Text (headed 8 (5 ∷ 104 ∷ [])) ≡ fault 7 Short
 unfolding plain_value_at
 text_cut_short = refl

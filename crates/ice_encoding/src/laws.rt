@@ -43,46 +43,54 @@ pub fn values_typed()
 /// The canonical bytes of each value of a type spell it, and no spelling is shorter. So they are read
 /// as this value again.
 pub fn values_canonical()
-    ensures values { (t : Tables) (kind : TypeRef) (v : Tree) → IsValue t kind v → SpellsPlainValue t kind (canonical v) v }
+    ensures values { (t : Tables) (kind : TypeRef) (v : Tree)
+        → IsValue t kind v → SpellsPlainValue t kind (canonical v) v }
     ensures spelled { (t : Tables) (kind : TypeRef) (bytes : List ℕ) (v : Tree) → IsBytes bytes
         → SpellsPlainValue t kind bytes v → SpellsPlainValue t kind (canonical v) v × (length (canonical v) ≤ length bytes) }
 {}
 
 /// The keys of each dictionary in a value that bytes spell rise, in whatever order the bytes have them.
 pub fn values_ordered()
-    ensures { (t : Tables) (kind : TypeRef) (bytes : List ℕ) (v : Tree) → SpellsPlainValue t kind bytes v → IsOrdered v }
+    ensures { (t : Tables) (kind : TypeRef) (bytes : List ℕ) (v : Tree)
+        → SpellsPlainValue t kind bytes v → IsOrdered v }
 {}
 
 /// Each size of a value that bytes spell is at most the greatest int.
 pub fn values_have_sizes()
-    ensures { (t : Tables) (kind : TypeRef) (bytes : List ℕ) (v : Tree) → SpellsPlainValue t kind bytes v → HasSizes v }
+    ensures { (t : Tables) (kind : TypeRef) (bytes : List ℕ) (v : Tree)
+        → SpellsPlainValue t kind bytes v → HasSizes v }
 {}
 
 /// Values of a type are the same, in whatever order the pairs of their dictionaries stand, exactly
 /// where their canonical bytes are equal.
 pub fn equal_values()
-    ensures values { (t : Tables) (kind : TypeRef) (v w : Tree) → IsValue t kind v → IsValue t kind w → Same v w → v ≡ w }
+    ensures values { (t : Tables) (kind : TypeRef) (v w : Tree)
+        → IsValue t kind v → IsValue t kind w → Same v w → v ≡ w }
     ensures bytes { (t : Tables) (kind : TypeRef) (v w : Tree)
         → IsValue t kind v → IsValue t kind w → Same v w ↔ (canonical v ≡ canonical w) }
 {}
 
 /// Two pairs come to the same places whichever of them is put first.
 pub fn pairs_in_any_order()
-    ensures { (k v l w : Tree) (pairs : Entries) → k ≢ l → insert k v (insert l w pairs) ≡ insert l w (insert k v pairs) }
+    ensures { (k v l w : Tree) (pairs : Entries)
+        → k ≢ l → insert k v (insert l w pairs) ≡ insert l w (insert k v pairs) }
 {}
 
 /// A type of a schema nests at most a hundred levels deep, so reading within more of them answers the
 /// same: no value is refused because the levels ran out.
 pub fn levels_suffice()
-    ensures { (t : Tables) (kind : TypeRef) (m : Measure) → measure t 100 kind ≡ Some m → (levels : ℕ) → 100 ≤ levels
+    ensures { (t : Tables) (kind : TypeRef) (m : Measure)
+        → measure t 100 kind ≡ Some m → (levels : ℕ) → 100 ≤ levels
         → (r : Rest) → value_at by_number t levels kind tt r ≡ value_at by_number t 100 kind tt r }
 {}
 
 /// An encapsulation is read as its value, whatever follows it, and nothing else is: so one may stand
 /// after the other.
 pub fn encapsulations_in_a_row()
-    ensures found { (t : Tables) (kind : TypeRef) → FoundPart (encapsulated_at (plain_value_at t kind)) (SpellsEncapsulation t kind) }
-    ensures only { (t : Tables) (kind : TypeRef) → OnlyPart (encapsulated_at (plain_value_at t kind)) (SpellsEncapsulation t kind) }
+    ensures found { (t : Tables) (kind : TypeRef)
+        → FoundPart (encapsulated_at (plain_value_at t kind)) (SpellsEncapsulation t kind) }
+    ensures only { (t : Tables) (kind : TypeRef)
+        → OnlyPart (encapsulated_at (plain_value_at t kind)) (SpellsEncapsulation t kind) }
 {}
 
 /// A value is read from an input exactly where the whole input is an encapsulation of it; so every
@@ -106,7 +114,8 @@ pub fn encapsulations_apart()
 
 /// The canonical encapsulation of a value that an encapsulation holds is one of it, and is not longer.
 pub fn encapsulations_canonical()
-    ensures { (t : Tables) (kind : TypeRef) (bytes : List ℕ) (v : Tree) → IsBytes bytes → SpellsEncapsulation t kind bytes v
+    ensures { (t : Tables) (kind : TypeRef) (bytes : List ℕ) (v : Tree)
+        → IsBytes bytes → SpellsEncapsulation t kind bytes v
         → SpellsEncapsulation t kind (encapsulation_bytes v) v × (length (encapsulation_bytes v) ≤ length bytes) }
 {}
 

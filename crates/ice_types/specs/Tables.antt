@@ -1,5 +1,5 @@
 -- What a schema tells: which types there are, by place, and what they are called.
-use Rattle.std.specs.Prelude.{ℕ, ◌≡◌, ◌≢◌, List, [], ◌∷◌, ◌++◌, map, Some, take, slice_get, codes}
+use Rattle.std.specs.Prelude.{ℕ, ◌≡◌, ◌≢◌, List, [], ◌∷◌, ◌++◌, map, Some, take, slice_get, codes, Option, MatchOption}
 use Rattle.ice_types.specs.declared.kind.TypeRef.{TypeRef}
 use Rattle.ice_types.specs.declared.kind.TypeRef.TheVariants as kinds
 use Rattle.ice_types.specs.declared.declarations.SeqDecl.{SeqDecl}
@@ -73,3 +73,7 @@ Names t text (kinds.Seq at) = HasId (seq_ids t) text at
 Names t text (kinds.Dict at) = HasId (dict_ids t) text at
 Names t text (kinds.Struct at) = HasId (struct_ids t) text at
 Names t text (kinds.Class at) = ⊥
+
+-- the type that is so, or none where no type is
+abbrev pub FindsKind : (TypeRef → Type 0) → Option TypeRef → Type 0
+FindsKind Is result = MatchOption result ((kind : TypeRef) → Is kind → ⊥) Is

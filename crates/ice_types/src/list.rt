@@ -82,7 +82,7 @@ impl<T> List<T> {
 impl<T: Drop> List<T> {
     ghost use Rattle.std.specs.Prelude.{◌≡◌, [], ◌∷◌, ◌++◌, OnOk, OnErr};
 
-    /// Puts the item last. Want of memory leaves the list as it was.
+    /// Puts the item last. Out of memory leaves the list as it was.
     pub fn push(&mut self, item: T) -> Result<(), AllocError>
         ensures ok { OnOk result (self.new ≡ self.old ++ item ∷ []) }
         ensures err { OnErr result (self.new ≡ self.old) }

@@ -65,7 +65,7 @@ impl<T> Rows<T> {
 }
 
 impl<T: Drop> Rows<T> {
-    /// Adds a row. Want of memory leaves the rows as they were.
+    /// Adds a row. Out of memory leaves the rows as they were.
     pub fn add(&mut self, decl: T, measure: Measure) -> Result<(), AllocError>
         ensures decls { OnOk result (self.new.decls ≡ self.old.decls ++ decl ∷ []) }
         ensures measures { OnOk result (self.new.measures ≡ self.old.measures ++ measure ∷ []) }

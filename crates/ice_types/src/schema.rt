@@ -1,7 +1,7 @@
 //! The types of a Slice text by place, under the rules that every schema keeps.
 
-ghost use Rattle.std.specs.Prelude.{◌≡◌, ◌+◌, ◌<◌, ◌≤◌, ◌↔◌, MatchOption, IfOk, IfSome, OnErr, length, IsTrue, Some, []};
-ghost use Rattle.ice_types.specs.Tables.{Tables, no_types, with_seq, with_dict, with_struct, IsTypeId, IsNewId, Names, HasTypeId};
+ghost use Rattle.std.specs.Prelude.{◌≡◌, ◌+◌, ◌<◌, ◌≤◌, ◌↔◌, IfOk, IfSome, OnErr, length, IsTrue, Some, []};
+ghost use Rattle.ice_types.specs.Tables.{Tables, no_types, with_seq, with_dict, with_struct, IsTypeId, IsNewId, Names, HasTypeId, FindsKind};
 ghost use Rattle.ice_types.specs.Measures.{measure, sequence_of, dictionary_of, struct_of, small_members, names_of, fixed_size, SeqFits, DictFits, StructFits};
 ghost use Rattle.ice_types.specs.Names.{AreNew};
 ghost use Rattle.ice_types.specs.Rules.{IsSchema};
@@ -37,7 +37,8 @@ impl Model for Schema {
 
     ghost view = { λ s. record { seqs = s.seqs.decls; dicts = s.dicts.decls; structs = s.structs.decls } };
 
-    ghost invariant = { λ s. IsKept (record { seqs = s.seqs.decls; dicts = s.dicts.decls; structs = s.structs.decls }) s.seqs.measures s.dicts.measures s.structs.measures };
+    ghost invariant = { λ s. IsKept (record { seqs = s.seqs.decls; dicts = s.dicts.decls; structs = s.structs.decls })
+        s.seqs.measures s.dicts.measures s.structs.measures };
 }
 
 impl Schema {
@@ -199,7 +200,7 @@ impl Schema {
         is_type_id(id) && self.type_named(id).is_none()
     }
 
-    /// Adds a sequence and answers its place. Want of memory leaves the schema as it was.
+    /// Adds a sequence and answers its place. Out of memory leaves the schema as it was.
     pub fn add_seq(&mut self, decl: SeqDecl) -> Result<u32, AllocError>
         requires room { length self.old.seqs + 1 < MOST_ROWS }
         requires type_id { IsTypeId decl.id }
@@ -217,7 +218,7 @@ impl Schema {
         Ok(at)
     }
 
-    /// Adds a dictionary and answers its place. Want of memory leaves the schema as it was.
+    /// Adds a dictionary and answers its place. Out of memory leaves the schema as it was.
     pub fn add_dict(&mut self, decl: DictDecl) -> Result<u32, AllocError>
         requires room { length self.old.dicts + 1 < MOST_ROWS }
         requires type_id { IsTypeId decl.id }
@@ -235,7 +236,7 @@ impl Schema {
         Ok(at)
     }
 
-    /// Adds a struct and answers its place. Want of memory leaves the schema as it was.
+    /// Adds a struct and answers its place. Out of memory leaves the schema as it was.
     pub fn add_struct(&mut self, decl: StructDecl) -> Result<u32, AllocError>
         requires room { length self.old.structs + 1 < MOST_ROWS }
         requires type_id { IsTypeId decl.id }
@@ -256,7 +257,7 @@ impl Schema {
     /// The type that the text names: a built-in type by its word, every other one by its type id.
     /// None where there is no such type. It takes no memory.
     pub fn type_named(&self, text: &str) -> Option<TypeRef>
-        ensures named { MatchOption result ((kind : TypeRef) → ¬ Names self.now text.now kind) (Names self.now text.now) }
+        ensures named { FindsKind (Names self.now text.now) result }
         ensures only { IfSome result (λ kind. (other : TypeRef) → Names self.now text.now other → other ≡ kind) }
     {
         self.rules();
@@ -273,7 +274,7 @@ impl Schema {
 
     /// The type of this type id.
     fn type_of_id(&self, id: &str) -> Option<TypeRef>
-        ensures { MatchOption result ((kind : TypeRef) → ¬ HasTypeId self.now id.now kind) (HasTypeId self.now id.now) }
+        ensures { FindsKind (HasTypeId self.now id.now) result }
     {
         if let Some(at) = place_of(self.seqs.decls.as_slice(), id) {
             return Some(TypeRef::Seq(at));

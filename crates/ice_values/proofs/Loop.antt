@@ -42,7 +42,7 @@ regroup : {S : Type 0} (front : Trees) (t : Tree) (read : Result (Trees × S × 
 regroup {S} front t (Ok x) = ap (λ (ts : Trees). answer {S = S} (ts, x.1, x.2)) (join-tree front t x.0)
 regroup front t (Err f) = refl
 
--- Of the types that are left the first is this one, and these are behind it.
+-- Of the types that are left the first is this one, and these are after it.
 module _ {S : Type 0} (of : TypeRef → Reader S Tree) (kind : TypeRef) (left behind : List TypeRef) (is : left ≡ kind ∷ behind) (front : Trees) (s : S) (r : Rest)
     (total : Result (Trees × S × Rest) Fault) (so_far : with_front front (each_at of left s r) ≡ total) where
   pub goes_on : (mid : S) (after : Rest) (t : Tree) → of kind s r ≡ Ok (t, mid, after) → with_front (join front (tree t none)) (each_at of behind mid after) ≡ total

@@ -1,4 +1,4 @@
--- The tokens at the front, and what stands behind them.
+-- The tokens at the front, and what stands after them.
 use Rattle.std.proofs.Common.{ℕ, zero, suc, ◌≡◌, ◌+◌, ◌-◌, ◌≤◌, List, [], ◌∷◌, length, take, drop, get_or, Bool, false, IsTrue, codes, refl, sym, ap, ◌∙◌, subst, arith, Bor}
 use Rattle.std.proofs.Math.Seq.{take-length, drop-nil}
 use Rattle.std.proofs.lemmas.List.{drop-map, length-drop, length-map}
@@ -12,7 +12,7 @@ use Rattle.slice_check.specs.declared.definition.Definition.TheVariants as defin
 abbrev pub token_at : List (Bor Token) → ℕ → Token
 token_at found i = (get_or found i (record { ref_ptr = (0, 0); now = [] })).now
 
--- what is behind some tokens
+-- what is after some tokens
 pub behind : (n : ℕ) (found : List (Bor Token)) → drop n (tokens_seen found) ≡ tokens_seen (take (length found - n) (drop n found))
 behind n found =
     let all : take (length found - n) (drop n found) ≡ drop n found = ap (λ k. take k (drop n found)) (sym (length-drop n found)) ∙ take-length (drop n found) in
@@ -26,7 +26,7 @@ drop_more n (suc at) (x ∷ xs) = let count : suc (at + n) ≡ suc at + n = omeg
 pub seen_count : (found : List (Bor Token)) → length (tokens_seen found) ≡ length found
 seen_count found = length-map found (λ (token : Bor Token). token.now)
 
--- how many tokens are behind
+-- how many tokens are after
 pub behind_count : (n : ℕ) (found : List (Bor Token)) → length (tokens_seen (take (length found - n) (drop n found))) ≡ length found - n
 behind_count n found = ap length (sym (behind n found)) ∙ length-drop n (tokens_seen found) ∙ ap (λ k. k - n) (seen_count found)
 

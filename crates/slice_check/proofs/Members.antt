@@ -115,7 +115,7 @@ module _ (module_name : Token) (t : Tables) (found : List (Bor Token)) (names : 
 
 -- ---- the struct around them
 
--- what stands behind the three tokens at a struct's front
+-- what stands after the three tokens at a struct's front
 abbrev pub inside : List (Bor Token) → List Token
 inside found = tokens_seen (take (length found - 3) (drop 3 found))
 

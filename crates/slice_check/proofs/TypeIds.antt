@@ -1,9 +1,9 @@
--- The type ids of a module's tables, and the names behind them.
+-- The type ids of a module's tables, and the names that they have.
 use Rattle.std.proofs.Common.{ℕ, suc, ◌≡◌, ◌≢◌, List, [], ◌∷◌, ◌++◌, length, map, Contains, refl, sym, ap, ◌∙◌, subst, arith, inl, inr, ◌⊎◌}
 use Rattle.std.specs.Str.{str_to_ascii_lowercase}
 use Rattle.std.proofs.lemmas.List.{append_cancel_left, map-append}
 use Rattle.std.proofs.lemmas.List.Elements.{All-contains}
-use Rattle.ice_types.specs.Tables.{Tables, HasId, IsNewId, no_types, HasTypeId}
+use Rattle.ice_types.specs.Tables.{Tables, HasId, no_types, HasTypeId}
 use Rattle.ice_types.specs.declared.kind.TypeRef.{TypeRef}
 use Rattle.ice_types.specs.declared.kind.TypeRef.TheVariants as kinds
 use Rattle.ice_types.proofs.Added.{slice_get-front, slice_get-push}

@@ -1,17 +1,16 @@
 -- How the program holds what it has read of a text, and what its steps answer.
-use Rattle.std.specs.Prelude.{ℕ, ◌≡◌, ◌≤◌, Bool, true, false, List, [], ◌∷◌, length, drop, map, if◌then◌else◌, Option, Some, Result, Ok, Err, String}
+use Rattle.std.specs.Prelude.{ℕ, ◌≡◌, ◌≤◌, List, [], ◌∷◌, length, drop, map, codes, MatchOption, Option, Some, Result, Ok, Err, String}
 use Rattle.std.specs.Borrow.{Bor}
-use Rattle.std.specs.Str.{bytes_eq, str_to_ascii_lowercase}
 use Rattle.std.specs.Ordering.{nat_cmp}
 use Rattle.std.specs.Cmp.Lexicographic.{slice_cmp}
 use Rattle.std.specs.BTreeMap.{BTreeMap, get_by}
-use Rattle.std.specs.BTreeSet.{BTreeSet, contains_text}
+use Rattle.std.specs.BTreeSet.{BTreeSet}
 use Rattle.ice_types.specs.Names.{HoldsNames}
-use Rattle.ice_types.specs.Tables.{Tables, HasTypeId}
+use Rattle.ice_types.specs.Tables.{Tables, HasTypeId, FindsKind}
 use Rattle.ice_types.specs.declared.kind.TypeRef.{TypeRef}
 use Rattle.ice_types.specs.declared.kind.TypeRef.TheVariants as kinds
 use Rattle.ice_types.specs.declared.declarations.Member.{Member}
-use Rattle.slice_check.specs.SliceText.{Token, IsName, IsNew, IsMember, AreMembers, IsDefinition, Fits, type_id, with_definition}
+use Rattle.slice_check.specs.SliceText.{Token, IsName, IsNew, IsType, IsMember, AreMembers, IsDefinition, Fits, type_id, with_definition}
 use Rattle.slice_check.specs.declared.definition.Definition.{Definition}
 use Rattle.slice_check.specs.declared.definition.Definition.TheVariants as definitions
 use Rattle.slice_check.specs.declared.definition_fronts.Front.{Front}
@@ -23,7 +22,7 @@ use Rattle.slice_check.specs.declared.fault.TextFault.TheVariants as faults
 abbrev pub tokens_seen : List (Bor Token) → List Token
 tokens_seen found = map (λ token. token.now) found
 
--- The answer to what may mean something. Want of memory says nothing of it.
+-- The answer to what may mean something. Out of memory says nothing of it.
 abbrev pub Answers : {A : Type 0} → (A → Type 0) → Result A TextFault → Type 0
 Answers Meant (Ok meaning) = Meant meaning
 Answers {A} Meant (Err faults.Refused) = (meaning : A) → Meant meaning → ⊥
@@ -91,3 +90,38 @@ abbrev pub ReadsFront : Type 0 → Token → Tables → List Token → Result Fr
 ReadsFront Lacking module_name t text (Ok front) = IsFront module_name t text front
 ReadsFront Lacking module_name t text (Err faults.Refused) = Lacking
 ReadsFront Lacking module_name t text (Err faults.Memory) = Unit {0}
+
+-- ---- the same of a scope and its tokens
+
+-- no definition of this sort stands first
+abbrev pub LacksSort : {A : Type 0} → (A → Definition) → Scope → List (Bor Token) → Type 0
+LacksSort sort scope text = Lacks sort scope.module_name.now scope.schema (tokens_seen text)
+
+-- the definition of this sort that stands first, none where there is none
+abbrev pub FindsFront : {A : Type 0} → (A → Definition) → Scope → List (Bor Token) → Option Front → Type 0
+FindsFront sort scope text result = MatchOption result (LacksSort sort scope text) (IsFront scope.module_name.now scope.schema (tokens_seen text))
+
+-- the same, or why there is none
+abbrev pub AnswersFront : {A : Type 0} → (A → Definition) → Scope → List (Bor Token) → Result Front TextFault → Type 0
+AnswersFront sort scope text result = ReadsFront (LacksSort sort scope text) scope.module_name.now scope.schema (tokens_seen text) result
+
+abbrev pub AnswersMembers : Scope → List (Bor Token) → Result (List Member × ℕ) TextFault → Type 0
+AnswersMembers scope text result = ReadsMembers scope.module_name.now scope.schema (tokens_seen text) result
+
+-- a member after others of a struct, whose names the set holds
+abbrev pub AnswersMember : {Y : Type 0} → Scope → List (Bor Token) → BTreeSet (String Y) → BTreeSet (String Y) → Result Member TextFault → Type 0
+AnswersMember scope text old new result = (before : List Token) → HoldsNames old before → ReadsMember scope.module_name.now scope.schema before (tokens_seen text) new result
+
+abbrev pub any_sort : Definition → Definition
+any_sort definition = definition
+
+abbrev pub dictionary_of : TypeRef × TypeRef → Definition
+dictionary_of parts = definitions.Dictionary parts.0 parts.1
+
+-- the type that the word means in a module
+abbrev pub FindsType : Scope → Token → Option TypeRef → Type 0
+FindsType scope word result = FindsKind (IsType scope.module_name.now scope.schema word) result
+
+-- "module" name "{" stand first
+abbrev pub BeginsModule : List Token → Type 0
+BeginsModule text = (name : Token) × (text ≡ codes "module" ∷ name ∷ codes "{" ∷ drop 3 text) × IsName name

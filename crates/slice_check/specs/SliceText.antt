@@ -8,10 +8,9 @@
 --
 -- A type is one of the six built-in words, or the name of an earlier definition. Blanks alone stand between tokens. No two
 -- definitions have names that are equal without regard to case, and no two members of one struct.
-use Rattle.std.specs.Prelude.{ℕ, ◌≡◌, ◌≢◌, ◌≤◌, ◌⊎◌, Bool, false, IsTrue, ◌&&◌, List, [], ◌∷◌, ◌++◌, length, All, Contains, codes, if◌then◌else◌}
+use Rattle.std.specs.Prelude.{ℕ, ◌+◌, ◌≡◌, ◌≢◌, ◌≤◌, ◌⊎◌, Bool, false, IsTrue, ◌&&◌, List, [], ◌∷◌, ◌++◌, length, Contains, codes, if◌then◌else◌}
 use Rattle.std.specs.Char.{is_ascii_alphanumeric, is_ascii_alphabetic, is_ascii_whitespace}
 use Rattle.std.specs.List.{list_all}
-use Rattle.std.specs.Str.{str_to_ascii_lowercase}
 use Rattle.case_tables.specs.Tables.{keyword_names}
 use Rattle.ice_types.specs.Names.{IsFree, AreNew}
 use Rattle.ice_types.specs.Tables.{Tables, Names, no_types, with_seq, with_dict, with_struct, HasTypeId}
@@ -50,14 +49,14 @@ is_word (first ∷ others) = is_ascii_alphabetic first && list_all is_ascii_alph
 abbrev pub IsName : Token → Type 0
 IsName token = IsTrue (is_word token) × (Contains keyword_names token → ⊥)
 
--- a name for one more behind those of a scope
+-- a name for one more after those of a scope
 abbrev pub IsNew : List Token → Token → Type 0
 IsNew names name = IsName name × IsFree names name
 
 abbrev pub type_id : Token → Token → List ℕ
 type_id module_name name = codes "::" ++ (module_name ++ (codes "::" ++ name))
 
--- "}" ";" and what is behind it
+-- "}" ";" and what is after it
 abbrev pub closed : List Token → List Token
 closed after = codes "}" ∷ codes ";" ∷ after
 
@@ -66,16 +65,16 @@ module _ (module_name : Token) (t : Tables) where
   abbrev pub IsType : Token → TypeRef → Type 0
   IsType word kind = Names no_types word kind ⊎ HasTypeId t (type_id module_name word) kind
 
-  -- type name ";" behind members of some names
+  -- type name ";" after members of some names
   abbrev pub IsMember : List Token → List Token → Member → List Token → Type 0
   IsMember names text member after = (word : Token) × (text ≡ word ∷ member.name ∷ codes ";" ∷ after) × IsType word member.kind × IsNew names member.name
 
-  -- { member } "}" ";" behind members of some names
+  -- { member } "}" ";" after members of some names
   abbrev pub AreMembers : List Token → List Token → List Member → List Token → Type 0
   AreMembers names text [] after = text ≡ closed after
   AreMembers names text (member ∷ members) after = (mid : List Token) × IsMember names text member mid × AreMembers (member.name ∷ names) mid members after
 
-  -- what is defined, its name, and the text behind it
+  -- what is defined, its name, and the text after it
   abbrev pub IsDefinition : List Token → Definition → Token → List Token → Type 0
   IsDefinition text (definitions.Struct members) name after = (body : List Token)
       × (text ≡ codes "struct" ∷ name ∷ codes "{" ∷ body) × (members ≢ []) × AreMembers [] body members after
@@ -96,13 +95,17 @@ Fits t (definitions.Struct members) = StructFits t members
 Fits t (definitions.Sequence element) = SeqFits t element
 Fits t (definitions.Dictionary key value) = DictFits t key value
 
--- the tables with a definition under this id, behind the others of its sort
+-- the tables with a definition under this id, after the others of its sort
 abbrev pub with_definition : Tables → List ℕ → Definition → Tables
 with_definition t id (definitions.Struct members) = with_struct t (record { id = id; members = members })
 with_definition t id (definitions.Sequence element) = with_seq t (record { id = id; element = element })
 with_definition t id (definitions.Dictionary key value) = with_dict t (record { id = id; key = key; value = value })
 
--- { definition } "}" ";" behind some names and tables: the names that are defined, and the tables at the end
+-- how many definitions the tables have
+abbrev pub definition_count : Tables → ℕ
+definition_count t = length t.seqs + length t.dicts + length t.structs
+
+-- { definition } "}" ";" after some names and tables: the names that are defined, and the tables at the end
 abbrev pub AreDefinitions : Token → List Token → Tables → List Token → List Token → Tables → Type 0
 AreDefinitions module_name names t text [] end = (text ≡ closed []) × (end ≡ t)
 AreDefinitions module_name names t text (name ∷ others) end = (definition : Definition) × (after : List Token)

@@ -2,10 +2,11 @@
 
 ghost use Rattle.std.specs.Prelude.{◌≡◌, ◌+◌, ◌≤◌, ◌↔◌, IsTrue, OnErr, length};
 ghost use Rattle.ice_types.specs.Tables.{IsTypeId, IsNewId};
-ghost use Rattle.slice_check.specs.SliceText.{Fits, OwnNames};
+ghost use Rattle.slice_check.specs.SliceText.{Fits, OwnNames, definition_count};
 ghost use Rattle.slice_check.specs.Reading.{Adds};
 
 use crate::fault::TextFault;
+use crate::file::MOST_BYTES;
 use ice_types::{DictDecl, List, Member, Name, Schema, SeqDecl, StructDecl, TypeRef};
 
 /// What is defined, without its name.
@@ -23,7 +24,7 @@ pub fn add_definition(
     id: Name,
     definition: Definition,
 ) -> Result<TypeRef, TextFault>
-    requires room { length schema.old.seqs + length schema.old.dicts + length schema.old.structs ≤ 1000000 }
+    requires room { definition_count schema.old ≤ MOST_BYTES }
     requires type_id { IsTypeId id }
     requires new_id { IsNewId schema.old id }
     requires own_names { OwnNames definition }

@@ -1,12 +1,8 @@
 //! The definition at the front of some tokens.
 
-ghost use Rattle.std.specs.Prelude.{◌≡◌, ◌↔◌, IsTrue, List, MatchOption, drop};
-ghost use Rattle.ice_types.specs.Names.{HoldsNames};
-ghost use Rattle.ice_types.specs.declared.kind.TypeRef.{TypeRef};
-ghost use Rattle.ice_types.specs.declared.declarations.Member.{Member};
-ghost use Rattle.slice_check.specs.SliceText.{Token, closed};
-ghost use Rattle.slice_check.specs.Reading.{IsFront, Knows, Lacks, ReadsFront, ReadsMember, ReadsMembers, tokens_seen};
-ghost use Rattle.slice_check.specs.declared.definition.Definition.{Definition};
+ghost use Rattle.std.specs.Prelude.{◌≡◌, ◌↔◌, IsTrue, drop};
+ghost use Rattle.slice_check.specs.SliceText.{closed};
+ghost use Rattle.slice_check.specs.Reading.{AnswersFront, AnswersMember, AnswersMembers, FindsFront, Knows, any_sort, dictionary_of, tokens_seen};
 ghost use Rattle.slice_check.specs.declared.definition.Definition.TheVariants as definitions;
 
 use crate::definition::Definition;
@@ -35,7 +31,7 @@ pub fn definition_at<'a>(
     tokens: &[&'a [u8]],
 ) -> Result<Front<'a>, TextFault>
     requires { Knows scope.now }
-    ensures { ReadsFront (Lacks (λ (definition : Definition). definition) scope.now.module_name.now scope.now.schema (tokens_seen tokens.now)) scope.now.module_name.now scope.now.schema (tokens_seen tokens.now) result }
+    ensures { AnswersFront any_sort scope.now tokens.now result }
 {
     if let Some(front) = sequence_at(alloc, scope, tokens) {
         return Ok(front);
@@ -49,7 +45,7 @@ pub fn definition_at<'a>(
 /// The sequence at the front, None where there is none.
 fn sequence_at<'a>(alloc: Global, scope: &Scope<'a>, tokens: &[&'a [u8]]) -> Option<Front<'a>>
     requires { Knows scope.now }
-    ensures { MatchOption result (Lacks definitions.Sequence scope.now.module_name.now scope.now.schema (tokens_seen tokens.now)) (IsFront scope.now.module_name.now scope.now.schema (tokens_seen tokens.now)) }
+    ensures { FindsFront definitions.Sequence scope.now tokens.now result }
 {
     let [keyword, open, element, close, name, end, ..] = tokens else {
         return None;
@@ -72,7 +68,7 @@ fn sequence_at<'a>(alloc: Global, scope: &Scope<'a>, tokens: &[&'a [u8]]) -> Opt
 /// The dictionary at the front, None where there is none.
 fn dictionary_at<'a>(alloc: Global, scope: &Scope<'a>, tokens: &[&'a [u8]]) -> Option<Front<'a>>
     requires { Knows scope.now }
-    ensures { MatchOption result (Lacks (λ (parts : TypeRef × TypeRef). definitions.Dictionary parts.0 parts.1) scope.now.module_name.now scope.now.schema (tokens_seen tokens.now)) (IsFront scope.now.module_name.now scope.now.schema (tokens_seen tokens.now)) }
+    ensures { FindsFront dictionary_of scope.now tokens.now result }
 {
     let [keyword, open, key, comma, value, close, name, end, ..] = tokens else {
         return None;
@@ -101,7 +97,7 @@ fn struct_at<'a>(
     tokens: &[&'a [u8]],
 ) -> Result<Front<'a>, TextFault>
     requires { Knows scope.now }
-    ensures { ReadsFront (Lacks definitions.Struct scope.now.module_name.now scope.now.schema (tokens_seen tokens.now)) scope.now.module_name.now scope.now.schema (tokens_seen tokens.now) result }
+    ensures { AnswersFront definitions.Struct scope.now tokens.now result }
 {
     let [keyword, name, open, body @ ..] = tokens else {
         return Err(TextFault::Refused);
@@ -127,7 +123,7 @@ fn members_at(
     tokens: &[&[u8]],
 ) -> Result<(List<Member>, usize), TextFault>
     requires { Knows scope.now }
-    ensures { ReadsMembers scope.now.module_name.now scope.now.schema (tokens_seen tokens.now) result }
+    ensures { AnswersMembers scope.now tokens.now result }
 {
     let mut names = BTreeSet::new(alloc);
     let mut members = Vec::new(alloc);
@@ -151,7 +147,7 @@ fn member_at(
     tokens: &[&[u8]],
 ) -> Result<Member, TextFault>
     requires { Knows scope.now }
-    ensures { (before : List Token) → HoldsNames names.old before → ReadsMember scope.now.module_name.now scope.now.schema before (tokens_seen tokens.now) names.new result }
+    ensures { AnswersMember scope.now tokens.now names.old names.new result }
 {
     let [word, name, end, ..] = tokens else {
         return Err(TextFault::Refused);

@@ -3,7 +3,7 @@
 ghost use Rattle.std.specs.Prelude.{ℕ, ◌≡◌, ◌≤◌, ◌↔◌, IsTrue, List, [], ◌∷◌, codes, drop, length};
 ghost use Rattle.ice_types.specs.Tables.{Tables};
 ghost use Rattle.slice_check.specs.SliceText.{IsBody, IsFile, IsName, Means, Token, closed};
-ghost use Rattle.slice_check.specs.Reading.{Answers, tokens_seen};
+ghost use Rattle.slice_check.specs.Reading.{Answers, tokens_seen, BeginsModule};
 
 use crate::definition_fronts::definition_at;
 use crate::fault::TextFault;
@@ -15,7 +15,7 @@ use std::alloc::Global;
 use std::collections::BTreeSet;
 
 /// No text that means a schema is longer.
-const MOST_BYTES: usize = 1_000_000;
+pub const MOST_BYTES: usize = 1_000_000;
 
 /// The schema that the text means. A text that means none, also one of more than 1,000,000 bytes, is refused.
 pub fn schema_of(alloc: Global, text: &[u8]) -> Result<Schema, TextFault>
@@ -38,7 +38,7 @@ pub fn texts_apart()
 fn file_of(alloc: Global, tokens: &[&[u8]]) -> Result<Schema, TextFault>
     requires { length tokens.now ≤ MOST_BYTES }
     ensures meaning { Answers (IsFile (tokens_seen tokens.now)) result }
-    ensures memory { result ≡ Err TextFault.Memory → (name : Token) × (tokens_seen tokens.now ≡ codes "module" ∷ name ∷ codes "{" ∷ drop 3 (tokens_seen tokens.now)) × IsName name }
+    ensures memory { result ≡ Err TextFault.Memory → BeginsModule (tokens_seen tokens.now) }
 {
     let [keyword, name, open, body @ ..] = tokens else {
         return Err(TextFault::Refused);

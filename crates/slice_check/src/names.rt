@@ -21,7 +21,8 @@ pub fn claim<'a>(
     token: &'a [u8],
 ) -> Result<&'a str, TextFault>
     ensures memory { result ≡ Err TextFault.Memory → IsName token.now }
-    ensures claims { (before : List Token) → HoldsNames names.old before → Claims before token.now names.new result }
+    ensures claims { (before : List Token) → HoldsNames names.old before
+        → Claims before token.now names.new result }
 {
     let Some(name) = name_of(token) else {
         return Err(TextFault::Refused);

@@ -1,13 +1,14 @@
 //! What a module defines so far.
 
 ghost use Rattle.std.specs.Prelude.{◌≡◌, ◌+◌, ◌≤◌, IfOk, MatchOption, length};
-ghost use Rattle.ice_types.specs.Tables.{Names, no_types};
+ghost use Rattle.ice_types.specs.Tables.{FindsKind, Names, no_types};
 ghost use Rattle.ice_types.specs.declared.kind.TypeRef.{TypeRef};
 ghost use Rattle.slice_check.specs.SliceText.{IsName, IsType, type_id};
 ghost use Rattle.slice_check.specs.Reading.{Defines, Knows};
 
 use crate::definition::{Definition, add_definition};
 use crate::fault::TextFault;
+use crate::file::MOST_BYTES;
 use ice_types::{Name, Schema, TypeRef};
 use std::alloc::{AllocError, Global};
 use std::collections::BTreeMap;
@@ -25,8 +26,8 @@ impl<'a> Scope<'a> {
     ghost use Rattle.std.specs.Prelude.{◌≡◌, ◌+◌, ◌≤◌, MatchOption, length};
     ghost use Rattle.ice_types.specs.Tables.{no_types, IsNewId};
     ghost use Rattle.ice_types.specs.declared.kind.TypeRef.{TypeRef};
-    ghost use Rattle.slice_check.specs.SliceText.{IsName, IsType, OwnNames, type_id};
-    ghost use Rattle.slice_check.specs.Reading.{Defines, Knows};
+    ghost use Rattle.slice_check.specs.SliceText.{IsName, OwnNames, definition_count, type_id};
+    ghost use Rattle.slice_check.specs.Reading.{Defines, FindsType, Knows};
 
     /// A module without definitions.
     pub fn new(alloc: Global, module_name: &'a str) -> Scope<'a>
@@ -44,7 +45,7 @@ impl<'a> Scope<'a> {
     /// The type that the word means, None where it means none.
     pub fn type_of(&self, alloc: Global, word: &[u8]) -> Option<TypeRef>
         requires { Knows self.now }
-        ensures { MatchOption result ((kind : TypeRef) → IsType self.now.module_name.now self.now.schema word.now kind → ⊥) (IsType self.now.module_name.now self.now.schema word.now) }
+        ensures { FindsType self.now word.now result }
     {
         match built_in(alloc, word) {
             Some(kind) => Some(kind),
@@ -60,7 +61,7 @@ impl<'a> Scope<'a> {
         name: &'a str,
         definition: Definition,
     ) -> Result<(), TextFault>
-        requires room { length self.old.schema.seqs + length self.old.schema.dicts + length self.old.schema.structs ≤ 1000000 }
+        requires room { definition_count self.old.schema ≤ MOST_BYTES }
         requires knows { Knows self.old }
         requires is_name { IsName name.now }
         requires own_names { OwnNames definition }
@@ -76,7 +77,7 @@ impl<'a> Scope<'a> {
 
 /// The built-in type of this word.
 fn built_in(alloc: Global, word: &[u8]) -> Option<TypeRef>
-    ensures { MatchOption result ((kind : TypeRef) → Names no_types word.now kind → ⊥) (Names no_types word.now) }
+    ensures { FindsKind (Names no_types word.now) result }
 {
     match std::str::from_utf8(word) {
         Ok(text) => Schema::new(alloc).type_named(text),

@@ -87,7 +87,7 @@ AreSpans place (token ∷ tokens) end = (place ≤ token.from) × (token.from < 
 abbrev pub HasToken : List ℕ → Type 0
 HasToken text = (tokens : List Token) × (place : ℕ) × (kind : TokenKind) × (size : ℕ) × Reads text tokens place × StandsAt text place (pieces.Token kind size)
 
--- The answer to a text. Memory is wanted for tokens alone.
+-- The answer to a text. Memory is taken for tokens alone.
 abbrev pub Answers : List ℕ → Result (List Token) LexFault → Type 0
 Answers text (Ok tokens) = (length text ≤ MOST_BYTES) × Lexes text tokens
 Answers text (Err faults.TooLong) = MOST_BYTES < length text

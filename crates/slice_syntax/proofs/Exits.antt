@@ -13,7 +13,7 @@ stop_takes : {X Y Z : Type 0} (stop : Stop) (result : Result Y Stop) (new : Lexe
 stop_takes stops.Refused result new inner outer view h pass = pass new h
 stop_takes stops.Memory result new inner outer view h pass = tt
 
--- a call that never wants memory
+-- a call that never is out of memory
 pub no_memory_takes : {X Y : Type 0} (view : X → Y) (result : Result X Stop) (new : Lexemes) (r : Reading Y) → TakesNoMemory view result new r → Takes view result new r
 no_memory_takes view (Ok x) new r h = h
 no_memory_takes view (Err stops.Refused) new r h = h

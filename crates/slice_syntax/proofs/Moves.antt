@@ -146,7 +146,7 @@ pub hold_stop : (ls mid left : Lexemes) → begins (close_brace ∷ []) ls ≡ f
 unfolding inner_move
 hold_stop ls mid left b e d f = let h = not_begun close (close_brace ∷ []) ls starts_close b in let k = not_begun head (word_module ∷ []) mid starts_head d in rw (h, e, k, f) refl
 
--- what a last call answers, which fails for want of memory alone
+-- what a last call answers, which fails out of memory alone
 pub last_with : {A B : Type 0} (Holds : A → B → Type 0) (P : Type 0) (result : Result A Stop) (new : Lexemes) (r : Reading B) (b : B) → OnOk result P → OnErr result (result ≡ Err stops.Memory) → r ≡ Ok (b, new) → ((a : A) → P → Holds a b) → TakesWith Holds result new r
 last_with Holds P (Ok a) new r b ok err e make = (b, e, make a ok)
 last_with Holds P (Err stop) new r b ok err e make = let same : stop ≡ stops.Memory = cc in subst (λ (s : Stop). TakesWith Holds (Err s) new r) (sym same) tt
