@@ -1,5 +1,5 @@
 -- Pairs in rising order: the last of them, and taking them from the end into a map.
-use Rattle.std.proofs.Common.{◌≡◌, ◌↔◌, ℕ, zero, suc, Bool, true, false, IsTrue, List, [], ◌∷◌, ◌++◌, ◌-◌, length, map, Option, Some, None, refl, sym, ap, subst, ◌∙◌, arith}
+use Rattle.std.proofs.Common.{◌≡◌, ◌↔◌, ℕ, zero, suc, Bool, true, false, IsTrue, List, [], ◌∷◌, ◌++◌, ◌-◌, length, Some, refl, sym, ap, subst, ◌∙◌, arith}
 use Rattle.std.specs.Prelude.{slice_get}
 use Rattle.std.specs.Ordering.{is_lt}
 use Rattle.std.specs.declared.cmp.Ordering.{Ordering}
@@ -7,9 +7,9 @@ use Rattle.std.specs.declared.cmp.Ordering.TheVariants.{Less, Equal, Greater}
 use Rattle.ice_encoding.specs.Tree.{Tree, Entries, no_entry, entry}
 use Rattle.ice_encoding.specs.Order.{tree_cmp, IsRising, AreBelow, insert, has_key}
 use Rattle.ice_encoding.proofs.Order.{less_then, tail_rising}
-use Rattle.ice_encoding.proofs.Inserting.{join, join_none, join_join}
+use Rattle.ice_encoding.proofs.Inserting.{join, join_join}
 use Rattle.graph_arena.specs.declared.value.Value.{Value}
-use Rattle.graph_arena.specs.View.{view, view_pair, view_pairs, entries_of}
+use Rattle.graph_arena.specs.View.{view, view_pairs}
 use Rattle.graph_arena.specs.Sorting.{Puts}
 
 -- ---- the last key

@@ -1,5 +1,5 @@
 -- Pairs put at their places while they are read.
-use Rattle.std.proofs.Common.{◌≡◌, Bool, true, false, List, ◌∷◌, [], ◌++◌, refl, sym, ap, subst, ◌∙◌}
+use Rattle.std.proofs.Common.{◌≡◌, Bool, true, false, List, ◌∷◌, [], ◌++◌, sym, ap, ◌∙◌}
 use Rattle.ice_encoding.specs.Tree.{Tree, Entries}
 use Rattle.ice_encoding.specs.Order.{IsRising, AreBelow, insert, has_key}
 use Rattle.ice_encoding.proofs.Order.{has_none, insert_rising}

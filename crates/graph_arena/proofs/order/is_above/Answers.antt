@@ -1,4 +1,4 @@
-use Rattle.std.proofs.Common.{◌≡◌, suc, ◌-◌, length, subst, ap, sym, ◌∙◌, IsTrue, ◌↔◌, Bool, arith}
+use Rattle.std.proofs.Common.{◌-◌, length, subst, ap, sym, ◌∙◌, IsTrue, ◌↔◌, Bool}
 use Rattle.std.specs.Ordering.{is_lt}
 use Rattle.ice_encoding.specs.Order.{AreBelow}
 use Rattle.graph_arena.specs.View.{view, view_pairs}

@@ -1,6 +1,6 @@
 use Rattle.graph_arena.specs.View.{view_pairs}
 use Rattle.ice_encoding.proofs.Inserting.{join_none}
-use Rattle.graph_arena.proofs.RisingPairs.{pair_moved, all_moved}
+use Rattle.graph_arena.proofs.RisingPairs.{pair_moved}
 use Rattle.graph_arena.proofs.sort.keyed.Goals as goal
 
 pub loop-key-init : goal.loop-key-init

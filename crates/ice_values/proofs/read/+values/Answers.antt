@@ -1,4 +1,4 @@
-use Rattle.std.proofs.Common.{◌≡◌, ℕ, true, false, IsTrue, ◌+◌, ◌-◌, drop, replicate, rules, refl, sym, ap, subst, ◌∙◌, arith, inr, List}
+use Rattle.std.proofs.Common.{◌≡◌, true, false, ◌+◌, ◌-◌, drop, replicate, rules, refl, sym, subst, ◌∙◌, inr, List}
 use Rattle.std.specs.Ordering.{on}
 use Rattle.std.proofs.lemmas.List.{map_push}
 use Rattle.ice_encoding.specs.Port.{by_number}
