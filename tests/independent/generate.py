@@ -59,8 +59,8 @@ def tokens_of(module, definitions):
 class SchemaMaker:
     """Makes a text definition by definition, each a list of tokens, and keeps the kinds of what it has made."""
 
-    def __init__(self, chance, has_names):
-        self.chance, self.has_names = chance, has_names
+    def __init__(self, chance):
+        self.chance = chance
         self.module, self.kinds, self.definitions = chance.choice(NAMES), {}, []
 
     def tokens(self):
@@ -73,7 +73,7 @@ class SchemaMaker:
 
     def type(self, is_key=False):
         """Returns the word and the kind of a type, of which the later definitions are the likelier."""
-        named = [it for it in self.kinds.items() if it[1].smallest <= MOST_PART and it[1].depth < 90] if self.has_names else []
+        named = [it for it in self.kinds.items() if it[1].smallest <= MOST_PART and it[1].depth < 90]
         if is_key:
             named = [it for it in named if it[1].may_be_key]
         if named and self.chance.random() < 0.6:
@@ -81,7 +81,7 @@ class SchemaMaker:
         return self.chance.choice(list(slice_text.BUILT_IN.items()))
 
     def add(self):
-        sort = self.chance.choice(["struct", "struct", "sequence", "dictionary", "dictionary"] if self.has_names else ["sequence", "dictionary"])
+        sort = self.chance.choice(["struct", "struct", "sequence", "dictionary", "dictionary"])
         if sort == "struct":
             self.add_struct([self.type() for _ in range(self.chance.choice([1, 1, 2, 2, 3, 4, 6]))])
         elif sort == "sequence":
@@ -346,7 +346,7 @@ def wrong_words(module, names, chance):
 def trials_of(maker, chance, rooms, broken):
     """Yields good and broken inputs of each type of a schema, and of one built-in type; `broken` is the number of broken ones."""
     text = text_of(maker.tokens(), chance)
-    schema = slice_text.read(text, maker.has_names)
+    schema = slice_text.read(text)
     for word in [*(f"::{maker.module}::{name}" for name in maker.kinds), chance.choice(list(slice_text.BUILT_IN))]:
         kind, inputs = schema.kind(word), []
         for room in rooms:
@@ -376,8 +376,8 @@ def text_trials(maker, chance):
         yield Trial("another word", text_of(maker.tokens(), chance), word, b"\x07\0\0\0\1\1\0")
 
 
-def usual_lot(chance, has_names):
-    maker = SchemaMaker(chance, has_names)
+def usual_lot(chance):
+    maker = SchemaMaker(chance)
     for _ in range(chance.choice([1, 2, 3, 5, 8])):
         maker.add()
     yield from trials_of(maker, chance, (4, 12, 40), 2 if len(maker.kinds) < 4 else 1)
@@ -386,7 +386,7 @@ def usual_lot(chance, has_names):
 
 def keyed_lot(chance):
     """Structs as keys: of built-in types, of one of these structs, and a dictionary of each."""
-    maker = SchemaMaker(chance, True)
+    maker = SchemaMaker(chance)
     types = list(slice_text.BUILT_IN.items())
     texts = [("string", slice_text.BUILT_IN["string"])] * 2
     maker.add_struct(texts if chance.random() < 0.3 else [chance.choice(types) for _ in range(chance.choice([1, 2, 3]))])
@@ -399,7 +399,7 @@ def keyed_lot(chance):
 
 def deep_lot(chance, wanted):
     """A type of a depth, or of one more: each definition stands on the one before it."""
-    maker = SchemaMaker(chance, True)
+    maker = SchemaMaker(chance)
     maker.add()
     while maker.last()[1].depth < wanted:
         maker.deepen()
@@ -414,7 +414,7 @@ def deep_lot(chance, wanted):
 
 def big_lot(chance, leaf, more):
     """A struct whose smallest spelling is that many bytes more than the most."""
-    maker = SchemaMaker(chance, True)
+    maker = SchemaMaker(chance)
     base = chance.choice([2, 3, 7, 16, 100])
     parts = [(leaf, slice_text.BUILT_IN[leaf])]
     while parts[-1][1].smallest * base <= slice_text.MOST_SMALLEST:
@@ -432,14 +432,12 @@ def big_lot(chance, leaf, more):
     yield Trial("big", text, f"::{maker.module}::{maker.last()[0]}", values.encapsulated(b"\1" * chance.choice([0, 1, 1_000])))
 
 
-def lot(seed, number, has_names):
+def lot(seed, number):
     """Returns the trials of one schema."""
     chance = random.Random(f"{seed} {number}")
-    trials = list(usual_lot(chance, has_names))
-    if has_names:
-        trials += keyed_lot(chance)
-        for wanted in (99, 100, 100, 101):
-            trials += deep_lot(chance, wanted)
-        for more in (-1, 0, 0, 1, 1, chance.choice([2, 8, 1_000_000])):
-            trials += big_lot(chance, chance.choice(list(slice_text.BUILT_IN)), more)
+    trials = list(usual_lot(chance)) + list(keyed_lot(chance))
+    for wanted in (99, 100, 100, 101):
+        trials += deep_lot(chance, wanted)
+    for more in (-1, 0, 0, 1, 1, chance.choice([2, 8, 1_000_000])):
+        trials += big_lot(chance, chance.choice(list(slice_text.BUILT_IN)), more)
     return trials

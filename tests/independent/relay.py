@@ -3,10 +3,10 @@ import slice_text
 import values
 
 
-def answer(text, word, data, has_names=True):
+def answer(text, word, data):
     """Returns the answer for the text of FILE, for TYPE and for the input, and where one is refused, why."""
     try:
-        schema = slice_text.read(text, has_names)
+        schema = slice_text.read(text)
     except slice_text.Refused as why:
         return (3, b"", b"ice: slice refused\n"), str(why)
     kind = schema.kind(word)

@@ -90,10 +90,10 @@ def tokens_of(text):
 
 
 class Reader:
-    """Takes one token after the other. Without `has_names` there are no structs, and no name of a definition is a type."""
+    """Takes one token after the other."""
 
-    def __init__(self, tokens, has_names):
-        self.tokens, self.at, self.has_names = tokens, 0, has_names
+    def __init__(self, tokens):
+        self.tokens, self.at = tokens, 0
         self.kinds, self.scope = {}, set()
 
     def next(self):
@@ -123,7 +123,7 @@ class Reader:
         word = self.next()
         if word in BUILT_IN:
             found = BUILT_IN[word]
-        elif self.has_names and word in self.kinds:
+        elif word in self.kinds:
             found = self.kinds[word]
         else:
             raise Refused(f"token {self.at}: a type is wanted, and {word} stands there")
@@ -158,9 +158,7 @@ class Reader:
         return self.new_name(self.scope), dictionary(key, value)
 
     def definition(self):
-        sorts = {"sequence": self.sequence, "dictionary": self.dictionary}
-        if self.has_names:
-            sorts["struct"] = self.struct
+        sorts = {"sequence": self.sequence, "dictionary": self.dictionary, "struct": self.struct}
         word = self.next()
         if word not in sorts:
             raise Refused(f"token {self.at}: a definition is wanted, and {word} stands there")
@@ -186,8 +184,8 @@ class Reader:
         return Schema(name, self.kinds)
 
 
-def read(text, has_names=True):
+def read(text):
     """Returns the schema of a text, given as bytes, or raises `Refused`."""
     if len(text) > MOST_BYTES:
         raise Refused(f"{len(text)} bytes")
-    return Reader(tokens_of(text), has_names).module()
+    return Reader(tokens_of(text)).module()
