@@ -7,6 +7,7 @@ use Rattle.ice_types.specs.declared.kind.TypeRef.TheVariants as kinds
 use Rattle.ice_types.specs.declared.declarations.SeqDecl.{SeqDecl}
 use Rattle.ice_types.specs.declared.declarations.DictDecl.{DictDecl}
 use Rattle.ice_types.specs.declared.declarations.StructDecl.{StructDecl}
+use Rattle.ice_types.specs.declared.schema.TheConstants.{MOST_DEPTH}
 use Rattle.ice_types.specs.Tables.{Tables}
 use Rattle.ice_encoding.specs.Tree.{Tree, boolean, byte, short, int, long, text, sequence, dictionary, struct, reference, Trees, none, tree, tree_count, Entries, no_entry, entry, entry_count}
 use Rattle.ice_encoding.specs.Order.{IsRising}
@@ -59,4 +60,4 @@ by_size declared n = size_of n < 2 ^ 31
 
 -- a value by itself: each reference in it is a number
 unfoldable pub IsValue : Tables → TypeRef → Tree → Type 0
-IsValue t kind v = HasType t by_size 100 kind v
+IsValue t kind v = HasType t by_size MOST_DEPTH kind v

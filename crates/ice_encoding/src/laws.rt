@@ -6,6 +6,7 @@ ghost use Rattle.ice_types.specs.Measures.{measure, fixed_size};
 ghost use Rattle.ice_types.specs.Rules.{IsSchema};
 ghost use Rattle.ice_types.specs.declared.measure.Measure.{Measure};
 ghost use Rattle.ice_types.specs.declared.kind.TypeRef.{TypeRef};
+ghost use Rattle.ice_types.specs.declared.schema.TheConstants.{MOST_DEPTH};
 ghost use Rattle.ice_prims.specs.Rest.{Rest, IsBytes, whole};
 ghost use Rattle.ice_prims.specs.Laws.{FoundPart, OnlyPart};
 ghost use Rattle.ice_encoding.specs.Tree.{Tree, Entries};
@@ -46,7 +47,8 @@ pub fn values_canonical()
     ensures values { (t : Tables) (kind : TypeRef) (v : Tree)
         → IsValue t kind v → SpellsPlainValue t kind (canonical v) v }
     ensures spelled { (t : Tables) (kind : TypeRef) (bytes : List ℕ) (v : Tree) → IsBytes bytes
-        → SpellsPlainValue t kind bytes v → SpellsPlainValue t kind (canonical v) v × (length (canonical v) ≤ length bytes) }
+        → SpellsPlainValue t kind bytes v → SpellsPlainValue t kind (canonical v) v
+        × (length (canonical v) ≤ length bytes) }
 {}
 
 /// The keys of each dictionary in a value that bytes spell rise, in whatever order the bytes have them.
@@ -80,8 +82,8 @@ pub fn pairs_in_any_order()
 /// same: no value is refused because the levels ran out.
 pub fn levels_suffice()
     ensures { (t : Tables) (kind : TypeRef) (m : Measure)
-        → measure t 100 kind ≡ Some m → (levels : ℕ) → 100 ≤ levels
-        → (r : Rest) → value_at by_number t levels kind tt r ≡ value_at by_number t 100 kind tt r }
+        → measure t MOST_DEPTH kind ≡ Some m → (levels : ℕ) → MOST_DEPTH ≤ levels
+        → (r : Rest) → value_at by_number t levels kind tt r ≡ value_at by_number t MOST_DEPTH kind tt r }
 {}
 
 /// An encapsulation is read as its value, whatever follows it, and nothing else is: so one may stand
@@ -130,7 +132,7 @@ pub fn relaying_again()
 /// No spelling of a type is shorter than the smallest that the schema tells.
 pub fn smallest_spellings()
     ensures { (t : Tables) (kind : TypeRef) (m : Measure) (bytes : List ℕ) (v : Tree)
-        → measure t 100 kind ≡ Some m → SpellsPlainValue t kind bytes v → m.smallest ≤ length bytes }
+        → measure t MOST_DEPTH kind ≡ Some m → SpellsPlainValue t kind bytes v → m.smallest ≤ length bytes }
 {}
 
 /// Each spelling of a type of fixed size has that size.

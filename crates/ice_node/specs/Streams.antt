@@ -5,7 +5,7 @@ use Rattle.std.specs.Int.{w32}
 use Rattle.std.specs.Io.KnownBytes.{Appends, Consumes, IsAtEnd}
 use Rattle.ice_prims.specs.Number.{SpellsSigned}
 use Rattle.ice_ports.specs.Failures.{one_more}
-use Rattle.ice_node.specs.declared.encapsulation.TheConstants.{SMALLEST, LARGEST, SIZE_BYTES}
+use Rattle.ice_encoding.specs.declared.encapsulation.TheConstants.{SMALLEST, LARGEST, SIZE_BYTES}
 
 -- ---- input
 

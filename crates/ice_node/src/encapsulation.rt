@@ -1,30 +1,22 @@
 //! A value in an encapsulation: its size, the version 1.1, and the value. (Ice manual, "Basic Data
 //! Encoding", "Encapsulations".)
 
-ghost use Rattle.std.specs.Prelude.{◌≡◌, ◌++◌, ◌∷◌, ◌+◌, ◌<◌, ◌≤◌, ◌^◌, pos, length, drop, IfOk, vec_len};
+ghost use Rattle.std.specs.Prelude.{◌≡◌, ◌++◌, ◌+◌, ◌<◌, ◌≤◌, ◌^◌, length, drop, IfOk, vec_len};
 ghost use Rattle.std.specs.Int.{w32};
 ghost use Rattle.ice_prims.specs.Rest.{whole};
 ghost use Rattle.ice_prims.specs.Bytes.{signed_bytes};
-ghost use Rattle.ice_prims.specs.Taking.{TakesUnlessMemory, GivesUnlessMemory};
+ghost use Rattle.ice_prims.specs.Taking.{GivesUnlessMemory};
 ghost use Rattle.ice_encoding.specs.Canonical.{canonical, HasSizes};
-ghost use Rattle.ice_encoding.specs.Encapsulation.{encapsulation_size, version_at, encapsulation_at, encapsulation_bytes};
+ghost use Rattle.ice_encoding.specs.Encapsulation.{version_at, encapsulation_at, encapsulation_bytes};
 ghost use Rattle.graph_arena.specs.View.{view};
 ghost use Rattle.ice_node.specs.Steps.{Bounds, TakesVersion, IsEnd};
 
 use graph_arena::Value;
+use ice_encoding::{LARGEST, SIZE_BYTES, SMALLEST};
 use ice_prims::{Cursor, Fault, Kind, ReadFault, put_byte, put_int};
 use ice_types::{Schema, TypeRef};
 use ice_values::{read_value, write_value};
 use std::alloc::{AllocError, Global};
-
-/// How many bytes the size has that an encapsulation begins with.
-pub const SIZE_BYTES: usize = 4;
-
-/// The smallest size of an encapsulation, in bytes: that of its size and version.
-pub const SMALLEST: usize = 6;
-
-/// The greatest size of an encapsulation, in bytes.
-pub const LARGEST: usize = 1_048_576;
 
 /// The value of the type that the whole input holds in one encapsulation, or the first fault from
 /// the left. Nothing may follow the value, or the encapsulation.

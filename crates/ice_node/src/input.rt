@@ -1,11 +1,11 @@
 //! An encapsulation from a source.
 
-ghost use Rattle.std.specs.Prelude.{◌≡◌, ◌≤◌, ℕ, pos, length, IfOk, OnOk, OnErr, MatchOption, vec_len};
+ghost use Rattle.std.specs.Prelude.{◌≡◌, ◌≤◌, length, IfOk, OnOk, OnErr, vec_len};
 ghost use Rattle.ice_ports.specs.Failures.{count_after};
 ghost use Rattle.ice_ports.specs.Files.{is_failed};
 ghost use Rattle.ice_node.specs.Streams.{ReadsUpTo, TakesUpTo, ReadsInput, TakesFrugally, ClaimsSize};
 
-use crate::encapsulation::{LARGEST, SIZE_BYTES, SMALLEST};
+use ice_encoding::{LARGEST, SIZE_BYTES, SMALLEST};
 use ice_ports::{MOST_OF_A_READ, PortFault, Source};
 use ice_prims::Cursor;
 use std::alloc::Global;

@@ -10,7 +10,7 @@ mod relay;
 mod top_call;
 mod words;
 
-pub use encapsulation::{LARGEST, SIZE_BYTES, SMALLEST, decode, encode};
+pub use encapsulation::{decode, encode};
 pub use help::{HELP, VERSION};
 pub use input::read_input;
 pub use outcome::Outcome;

@@ -1,9 +1,10 @@
 -- How deep a type nests, and how long its spellings are at least.
-use Rattle.std.specs.Prelude.{ℕ, zero, suc, ◌≡◌, ◌≢◌, ◌≤◌, ◌+◌, max, Bool, true, false, ◌&&◌, List, [], ◌∷◌, map, Option, None, Some, slice_get, if◌then◌else◌, nat_le}
+use Rattle.std.specs.Prelude.{ℕ, zero, suc, ◌≡◌, ◌≢◌, ◌≤◌, ◌+◌, ◌-◌, max, Bool, true, false, ◌&&◌, List, [], ◌∷◌, map, Option, None, Some, slice_get, if◌then◌else◌, nat_le}
 use Rattle.ice_types.specs.declared.kind.TypeRef.{TypeRef}
 use Rattle.ice_types.specs.declared.kind.TypeRef.TheVariants as kinds
 use Rattle.ice_types.specs.declared.declarations.Member.{Member}
 use Rattle.ice_types.specs.declared.measure.Measure.{Measure}
+use Rattle.ice_types.specs.declared.schema.TheConstants.{MOST_DEPTH, MOST_SMALLEST}
 use Rattle.ice_types.specs.Tables.{Tables}
 use Rattle.ice_types.specs.Names.{AreNew}
 
@@ -69,7 +70,7 @@ measure t (suc levels) (kinds.Struct at) = measured (slice_get t.structs at) (λ
 
 -- the length of each spelling, where they are of one length
 abbrev pub fixed_size : Tables → TypeRef → Option ℕ
-fixed_size t kind = measured (measure t 100 kind) (λ m. if m.is_fixed then Some m.smallest else None)
+fixed_size t kind = measured (measure t MOST_DEPTH kind) (λ m. if m.is_fixed then Some m.smallest else None)
 
 -- ---- what may be added to the tables, where no type nests deeper than a hundred levels
 
@@ -77,19 +78,19 @@ abbrev pub names_of : List Member → List (List ℕ)
 names_of members = map (λ m. m.name) members
 
 abbrev pub SeqFits : Tables → TypeRef → Type 0
-SeqFits t element = (m : Measure) × (measure t 99 element ≡ Some m)
+SeqFits t element = (m : Measure) × (measure t (MOST_DEPTH - 1) element ≡ Some m)
 
 abbrev pub DictFits : Tables → TypeRef → TypeRef → Type 0
-DictFits t key value = (k v : Measure) × (measure t 98 key ≡ Some k) × (k.is_key ≡ true) × (measure t 98 value ≡ Some v)
+DictFits t key value = (k v : Measure) × (measure t (MOST_DEPTH - 2) key ≡ Some k) × (k.is_key ≡ true) × (measure t (MOST_DEPTH - 2) value ≡ Some v)
 
 -- and no struct's smallest spelling is longer than 1,048,576 bytes
 abbrev pub is_small : Measure → Bool
-is_small m = nat_le m.smallest 1048576
+is_small m = nat_le m.smallest MOST_SMALLEST
 
 -- members together, where a struct may have them by the length of their smallest spelling
 abbrev pub small_members : Tables → List Member → Option Measure
-small_members t members = measured (measure_members (measure t 99) members) (λ m. if is_small m then Some m else None)
+small_members t members = measured (measure_members (measure t (MOST_DEPTH - 1)) members) (λ m. if is_small m then Some m else None)
 
 -- at least one member, each with a name of its own, and together they are small
 abbrev pub StructFits : Tables → List Member → Type 0
-StructFits t members = (m : Measure) × (measure_members (measure t 99) members ≡ Some m) × (m.smallest ≤ 1048576) × (members ≢ []) × AreNew [] (names_of members)
+StructFits t members = (m : Measure) × (measure_members (measure t (MOST_DEPTH - 1)) members ≡ Some m) × (m.smallest ≤ MOST_SMALLEST) × (members ≢ []) × AreNew [] (names_of members)

@@ -6,14 +6,16 @@ use Rattle.ice_types.specs.declared.declarations.SeqDecl.{SeqDecl}
 use Rattle.ice_types.specs.declared.declarations.DictDecl.{DictDecl}
 use Rattle.ice_types.specs.declared.declarations.StructDecl.{StructDecl}
 use Rattle.ice_types.specs.declared.measure.Measure.{Measure}
+use Rattle.ice_types.specs.declared.rows.TheConstants.{MOST_ROWS}
+use Rattle.ice_types.specs.declared.schema.TheConstants.{MOST_DEPTH}
 use Rattle.ice_types.specs.Tables.{Tables, HasTypeId, IsTypeId}
 use Rattle.ice_types.specs.Measures.{measure, SeqFits, DictFits, StructFits}
 
 -- how many rows the tables have
 pub record HasRoom (t : Tables) : Type 0 where
-  pub seqs : length t.seqs < 100000000
-  pub dicts : length t.dicts < 100000000
-  pub structs : length t.structs < 100000000
+  pub seqs : length t.seqs < MOST_ROWS
+  pub dicts : length t.dicts < MOST_ROWS
+  pub structs : length t.structs < MOST_ROWS
 
 -- The row of a type, where it has one, is within the limits, and a dictionary's key may be one.
 abbrev pub RowFits : Tables → TypeRef → Type 0
@@ -37,7 +39,7 @@ pub record IsSchema (t : Tables) : Type 0 where
 
 -- what is kept of each row beside it is what the schema says of its type
 abbrev pub AreMeasures : Tables → (ℕ → TypeRef) → List Measure → Type 0
-AreMeasures t kind found = (at : ℕ) → slice_get found at ≡ measure t 100 (kind at)
+AreMeasures t kind found = (at : ℕ) → slice_get found at ≡ measure t MOST_DEPTH (kind at)
 
 pub record IsKept (t : Tables) (of_seqs of_dicts of_structs : List Measure) : Type 0 where
   pub rules : IsSchema t

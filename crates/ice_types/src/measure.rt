@@ -1,6 +1,6 @@
 //! What a schema says of each of its types.
 
-ghost use Rattle.std.specs.Prelude.{◌≡◌, ◌+◌, ◌<◌, ◌^◌, suc};
+ghost use Rattle.std.specs.Prelude.{◌≡◌, ◌+◌, ◌<◌, ◌^◌};
 ghost use Rattle.ice_types.specs.Measures.{built_in, reference, container, no_members, with_member, structure};
 
 /// What a schema says of a type.

@@ -1,6 +1,6 @@
 //! The types of a Slice text by place, under the rules that every schema keeps.
 
-ghost use Rattle.std.specs.Prelude.{◌≡◌, ◌+◌, ◌<◌, ◌≤◌, ◌↔◌, IfOk, IfSome, OnErr, length, IsTrue, Some, []};
+ghost use Rattle.std.specs.Prelude.{◌≡◌, ◌+◌, ◌-◌, ◌<◌, ◌≤◌, ◌↔◌, IfOk, IfSome, OnErr, length, IsTrue, Some, []};
 ghost use Rattle.ice_types.specs.Tables.{Tables, no_types, with_seq, with_dict, with_struct, IsTypeId, IsNewId, Names, HasTypeId, FindsKind};
 ghost use Rattle.ice_types.specs.Measures.{measure, sequence_of, dictionary_of, struct_of, small_members, names_of, fixed_size, SeqFits, DictFits, StructFits};
 ghost use Rattle.ice_types.specs.Names.{AreNew};
@@ -83,7 +83,7 @@ impl Schema {
 
     /// What the schema says of the type, None where it is of another schema.
     fn measure(&self, kind: TypeRef) -> Option<Measure>
-        ensures { result ≡ measure self.now 100 kind }
+        ensures { result ≡ measure self.now MOST_DEPTH kind }
     {
         match kind {
             TypeRef::Bool | TypeRef::Byte => Some(Measure::built_in(1, true)),
@@ -114,7 +114,7 @@ impl Schema {
 
     /// What the schema would say of a sequence of this element, None where it does not fit.
     fn measure_seq(&self, element: TypeRef) -> Option<Measure>
-        ensures { result ≡ sequence_of (measure self.now 99 element) }
+        ensures { result ≡ sequence_of (measure self.now (MOST_DEPTH - 1) element) }
     {
         let element = self.measure_within(MOST_DEPTH - 1, element)?;
         Some(Measure::container(element.depth + 1))
@@ -122,7 +122,8 @@ impl Schema {
 
     /// What the schema would say of a dictionary of these parts, None where it nests too deep.
     fn measure_dict(&self, key: TypeRef, value: TypeRef) -> Option<Measure>
-        ensures { result ≡ dictionary_of (measure self.now 98 key) (measure self.now 98 value) }
+        ensures { result ≡
+            dictionary_of (measure self.now (MOST_DEPTH - 2) key) (measure self.now (MOST_DEPTH - 2) value) }
     {
         let key = self.measure_within(MOST_DEPTH - 2, key)?;
         let value = self.measure_within(MOST_DEPTH - 2, value)?;

@@ -7,6 +7,7 @@ use Rattle.ice_types.specs.declared.declarations.SeqDecl.{SeqDecl}
 use Rattle.ice_types.specs.declared.declarations.DictDecl.{DictDecl}
 use Rattle.ice_types.specs.declared.declarations.StructDecl.{StructDecl}
 use Rattle.ice_types.specs.declared.declarations.Member.{Member}
+use Rattle.ice_types.specs.declared.schema.TheConstants.{MOST_DEPTH}
 use Rattle.ice_types.specs.Tables.{Tables}
 use Rattle.ice_prims.specs.declared.fault.Fault.{Fault}
 use Rattle.ice_prims.specs.Rest.{Rest}
@@ -44,4 +45,4 @@ module _ (t : Tables) where
   FirstBegins levels = BeginsFirst (Begins levels)
 
 unfoldable pub HasBegun : Tables → TypeRef → Rest → Type 0
-HasBegun t kind r = Begins t 100 kind r
+HasBegun t kind r = Begins t MOST_DEPTH kind r

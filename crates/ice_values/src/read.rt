@@ -7,7 +7,7 @@ ghost use Rattle.ice_encoding.specs.Order.{IsRising};
 ghost use Rattle.ice_encoding.specs.Reading.{value_at};
 ghost use Rattle.ice_encoding.specs.Tree.{no_entry};
 ghost use Rattle.ice_encoding.specs.Value.{plain_value_at};
-ghost use Rattle.graph_arena.specs.View.{view, view_all, view_pairs};
+ghost use Rattle.graph_arena.specs.View.{view, view_pairs};
 ghost use Rattle.ice_values.specs.Reads.{Reads, ReadsPlain, ReadsEach, ReadsPairs};
 ghost use Rattle.ice_values.specs.Begun.{Begins, FirstBegins, HasBegun};
 

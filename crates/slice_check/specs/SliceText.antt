@@ -18,6 +18,7 @@ use Rattle.ice_types.specs.Measures.{SeqFits, DictFits, StructFits, names_of}
 use Rattle.ice_types.specs.declared.kind.TypeRef.{TypeRef}
 use Rattle.ice_types.specs.declared.declarations.Member.{Member}
 use Rattle.slice_check.specs.declared.definition.Definition.{Definition}
+use Rattle.slice_check.specs.declared.file.TheConstants.{MOST_BYTES}
 use Rattle.slice_check.specs.declared.definition.Definition.TheVariants as definitions
 
 abbrev pub Token : Type 0
@@ -122,4 +123,4 @@ IsFile text schema = (module_name : Token) × (body : List Token)
     × (text ≡ codes "module" ∷ module_name ∷ codes "{" ∷ body) × IsName module_name × IsBody module_name body schema
 
 abbrev pub Means : List ℕ → Tables → Type 0
-Means text schema = (length text ≤ 1000000) × IsFile (tokens text) schema
+Means text schema = (length text ≤ MOST_BYTES) × IsFile (tokens text) schema

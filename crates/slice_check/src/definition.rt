@@ -1,6 +1,6 @@
 //! What a definition defines, and the schema with it.
 
-ghost use Rattle.std.specs.Prelude.{◌≡◌, ◌+◌, ◌≤◌, ◌↔◌, IsTrue, OnErr, length};
+ghost use Rattle.std.specs.Prelude.{◌≡◌, ◌≤◌, ◌↔◌, IsTrue, OnErr};
 ghost use Rattle.ice_types.specs.Tables.{IsTypeId, IsNewId};
 ghost use Rattle.slice_check.specs.SliceText.{Fits, OwnNames, definition_count};
 ghost use Rattle.slice_check.specs.Reading.{Adds};

@@ -1,8 +1,8 @@
 //! The schema that a whole Slice text means.
 
-ghost use Rattle.std.specs.Prelude.{ℕ, ◌≡◌, ◌≤◌, ◌↔◌, IsTrue, List, [], ◌∷◌, codes, drop, length};
+ghost use Rattle.std.specs.Prelude.{ℕ, ◌≡◌, ◌≤◌, ◌↔◌, IsTrue, List, [], length};
 ghost use Rattle.ice_types.specs.Tables.{Tables};
-ghost use Rattle.slice_check.specs.SliceText.{IsBody, IsFile, IsName, Means, Token, closed};
+ghost use Rattle.slice_check.specs.SliceText.{IsBody, IsFile, Means, closed};
 ghost use Rattle.slice_check.specs.Reading.{Answers, tokens_seen, BeginsModule};
 
 use crate::definition_fronts::definition_at;
@@ -17,7 +17,7 @@ use std::collections::BTreeSet;
 /// No text that means a schema is longer.
 pub const MOST_BYTES: usize = 1_000_000;
 
-/// The schema that the text means. A text that means none, also one of more than 1,000,000 bytes, is refused.
+/// The schema that the text means. A text that means none, also one of more than `MOST_BYTES` bytes, is refused.
 pub fn schema_of(alloc: Global, text: &[u8]) -> Result<Schema, TextFault>
     ensures meaning { Answers (Means text.now) result }
     ensures memory { result ≡ Err TextFault.Memory → length text.now ≤ MOST_BYTES }

@@ -10,7 +10,7 @@ mod scope;
 mod tokens;
 
 pub use fault::TextFault;
-pub use file::{schema_of, texts_apart};
+pub use file::{MOST_BYTES, schema_of, texts_apart};
 
 #[cfg(test)]
 mod tests;

@@ -1,9 +1,9 @@
 //! What a module defines so far.
 
-ghost use Rattle.std.specs.Prelude.{◌≡◌, ◌+◌, ◌≤◌, IfOk, MatchOption, length};
+ghost use Rattle.std.specs.Prelude.{◌≡◌, ◌≤◌, IfOk};
 ghost use Rattle.ice_types.specs.Tables.{FindsKind, Names, no_types};
 ghost use Rattle.ice_types.specs.declared.kind.TypeRef.{TypeRef};
-ghost use Rattle.slice_check.specs.SliceText.{IsName, IsType, type_id};
+ghost use Rattle.slice_check.specs.SliceText.{IsName, type_id};
 ghost use Rattle.slice_check.specs.Reading.{Defines, Knows};
 
 use crate::definition::{Definition, add_definition};
@@ -23,7 +23,7 @@ pub struct Scope<'a> {
 }
 
 impl<'a> Scope<'a> {
-    ghost use Rattle.std.specs.Prelude.{◌≡◌, ◌+◌, ◌≤◌, MatchOption, length};
+    ghost use Rattle.std.specs.Prelude.{◌≡◌, ◌≤◌};
     ghost use Rattle.ice_types.specs.Tables.{no_types, IsNewId};
     ghost use Rattle.ice_types.specs.declared.kind.TypeRef.{TypeRef};
     ghost use Rattle.slice_check.specs.SliceText.{IsName, OwnNames, definition_count, type_id};

@@ -1,5 +1,6 @@
 pub mod Sizes
 pub mod Stretches
+pub mod Searches
 pub mod Branches
 pub mod Longest
 pub mod Agree

@@ -151,10 +151,10 @@ string_found (byte ∷ bytes) taken h =
     string_by taken byte bytes (string_found bytes) (byte == newline) (byte == quote) (byte == backslash) refl refl refl h
 
 -- a comment reaches to its first `*/`
-abbrev close_here : ℕ → List ℕ → Bool
+abbrev pub close_here : ℕ → List ℕ → Bool
 close_here byte bytes = begins_with (codes "*/") (byte ∷ bytes)
 
-close_marks : (byte : ℕ) (bytes : List ℕ) → close_here byte bytes ≡ true → (rest : List ℕ) × (byte ∷ bytes ≡ codes "*/" ++ rest)
+pub close_marks : (byte : ℕ) (bytes : List ℕ) → close_here byte bytes ≡ true → (rest : List ℕ) × (byte ∷ bytes ≡ codes "*/" ++ rest)
 close_marks byte [] h = absurd grind (arith, nat_tests)
 close_marks byte (next ∷ bytes) h =
     let one : byte ≡ 42 = grind (arith, nat_tests) in

@@ -2,15 +2,12 @@
 use Rattle.std.specs.Prelude.{ℕ, ◌≡◌, ◌+◌, ◌<◌, ◌≤◌, List, [], ◌∷◌, length, take, drop, slice_get, slice_range, Contains, Some, Result, Ok, Err}
 use Rattle.slice_lexer.specs.declared.fault.LexFault.{LexFault}
 use Rattle.slice_lexer.specs.declared.fault.LexFault.TheVariants as faults
+use Rattle.slice_lexer.specs.declared.lexer.TheConstants.{MOST_BYTES}
 use Rattle.slice_lexer.specs.declared.token.Token.{Token}
 use Rattle.slice_lexer.specs.declared.token.TokenKind.{TokenKind}
 use Rattle.slice_lexer.specs.declared.piece.Piece.{Piece}
 use Rattle.slice_lexer.specs.declared.piece.Piece.TheVariants as pieces
 use Rattle.slice_lexer.specs.Tokens.{Begins, Breaks, TokenStands}
-
--- the most bytes of a text
-abbrev pub MOST_BYTES : ℕ
-MOST_BYTES = 1000000
 
 -- This piece stands at a place of the text.
 abbrev pub StandsAt : List ℕ → ℕ → Piece → Type 0

@@ -1,9 +1,8 @@
 //! What stands at a place of a text: a blank, a comment, a token or a defect.
 
-ghost use Rattle.std.specs.Prelude.{◌≡◌, ◌<◌, ◌≤◌, ◌^◌, MatchOption, Ok, length};
-ghost use Rattle.std.specs.Str.Parse.{digits_value};
+ghost use Rattle.std.specs.Prelude.{◌≡◌, ◌<◌, ◌≤◌, ◌^◌, Ok, length};
 ghost use Rattle.slice_lexer.specs.Bytes.{digits};
-ghost use Rattle.slice_lexer.specs.Lexing.{MOST_BYTES};
+ghost use Rattle.slice_lexer.specs.declared.lexer.TheConstants.{MOST_BYTES};
 ghost use Rattle.slice_lexer.specs.Pieces.{FitsValue, front_at, base_of, comment_at, directive_at, escaped_at, number_at, prefix_of, string_at, symbol_at, symbol_code, word_at, word_kind};
 
 use crate::fault::LexFault;

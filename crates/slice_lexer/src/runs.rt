@@ -4,6 +4,8 @@ ghost use Rattle.std.specs.Prelude.{◌≡◌, ◌≤◌, false, length};
 ghost use Rattle.std.specs.Char.{digit_value};
 ghost use Rattle.slice_lexer.specs.Bytes.{is_letter, is_word_byte, spoils_number, line, word, digits, is_line_blank, before_close, string_length};
 
+use memchr::{memchr, memmem};
+
 pub fn is_letter(byte: u8) -> bool
     ensures { result ≡ is_letter byte }
 {
@@ -34,7 +36,7 @@ pub fn digit_value(byte: u8) -> u8
 pub fn line_length(bytes: &[u8]) -> usize
     ensures { result ≡ length (line bytes.now) }
 {
-    bytes.iter().take_while(|byte| **byte != b'\n').count()
+    memchr(b'\n', bytes).unwrap_or(bytes.len())
 }
 
 /// How long the run of letters, digits and `_` is.
@@ -69,16 +71,7 @@ pub fn is_line_blank(before: &[u8]) -> bool
 pub fn before_close(bytes: &[u8]) -> usize
     ensures { result ≡ before_close bytes.now }
 {
-    let mut count = 0;
-    let mut rest = bytes;
-    while let [_, others @ ..] = rest {
-        if rest.starts_with(b"*/") {
-            return count;
-        }
-        count += 1;
-        rest = others;
-    }
-    count
+    memmem::find(bytes, b"*/").unwrap_or(bytes.len())
 }
 
 /// How many bytes a string has after its opening quote, up to its closing quote or its line's end.

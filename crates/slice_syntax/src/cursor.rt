@@ -1,11 +1,11 @@
 //! Tokens that are taken from the left, one by one.
 
-ghost use Rattle.std.specs.Prelude.{◌≡◌, [], ◌∷◌, drop};
+ghost use Rattle.std.specs.Prelude.{◌≡◌, drop};
 ghost use Rattle.std.specs.Option.{option_map};
 ghost use Rattle.slice_lexer.specs.declared.token.Token.{Token};
 ghost use Rattle.slice_lexer.specs.Lexing.{Lexes};
 ghost use Rattle.slice_syntax.specs.declared.sort.Sort.{Sort};
-ghost use Rattle.slice_syntax.specs.Lexemes.{Lexeme, lexemes, begins, sort_of, next, seen};
+ghost use Rattle.slice_syntax.specs.Lexemes.{lexemes, begins, sort_of, next, seen};
 ghost use Rattle.slice_syntax.specs.Grammar.{one, optional};
 ghost use Rattle.slice_syntax.specs.Rules.{word};
 ghost use Rattle.slice_syntax.specs.Reading.{read, token_at};

@@ -1,7 +1,8 @@
 //! From the tokens of a text to what it declares.
 
 ghost use Rattle.std.specs.Prelude.{◌≡◌, ◌≤◌, ◌⊎◌, [], ◌∷◌, length};
-ghost use Rattle.slice_lexer.specs.Lexing.{Lexes, MOST_BYTES};
+ghost use Rattle.slice_lexer.specs.Lexing.{Lexes};
+ghost use Rattle.slice_lexer.specs.declared.lexer.TheConstants.{MOST_BYTES};
 ghost use Rattle.slice_syntax.specs.declared.sort.Sort.TheVariants as sorts;
 ghost use Rattle.slice_syntax.specs.Lexemes.{Lexemes};
 ghost use Rattle.slice_syntax.specs.Reading.{read, token_at};
