@@ -315,7 +315,7 @@ def other(byte, chance):
 
 
 def broken_inputs(data, chance):
-    """Yields an input with each byte changed, cut and doubled in turn; behind the size also with the size that fits then."""
+    """Yields an input with each byte changed, cut and doubled in turn; after the size also with the size that fits then."""
     for at, byte in enumerate(data):
         yield "a byte changed", data[:at] + bytes([other(byte, chance)]) + data[at + 1 :]
         for what, changed in (

@@ -180,7 +180,7 @@ class Reader:
         self.take("}")
         self.take(";")
         if self.next() is not None:
-            raise Refused(f"token {self.at} stands behind the module: {self.next()}")
+            raise Refused(f"token {self.at} stands after the module: {self.next()}")
         return Schema(name, self.kinds)
 
 

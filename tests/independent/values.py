@@ -57,7 +57,7 @@ class Cursor:
         return number == 1
 
     def string(self):
-        """Returns the bytes of a string. They are a part of their own, behind the size."""
+        """Returns the bytes of a string. They are a part of their own, after the size."""
         count = self.size()
         first = self.at
         text = self.take(count)
