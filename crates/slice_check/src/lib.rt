@@ -11,6 +11,3 @@ mod tokens;
 
 pub use fault::TextFault;
 pub use file::{MOST_BYTES, schema_of, texts_apart};
-
-#[cfg(test)]
-mod tests;
