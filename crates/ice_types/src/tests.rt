@@ -29,10 +29,13 @@ fn types_by_name(rt: HostRuntime) {
     }
 }
 
+/// Names that are equal without regard to case.
+const EQUAL_NAMES: &[&str] = &["member", "MEMBER"];
+
 #[test]
 fn names_without_regard_to_case(rt: HostRuntime) -> Result<(), Fail> {
     let mut members = List::new(rt.alloc());
-    for text in ["member", "MEMBER"] {
+    for text in EQUAL_NAMES {
         let name = Name::of(rt.alloc(), text)?;
         let kind = TypeRef::Int;
         members.push(Member { name, kind })?;
