@@ -7,8 +7,6 @@ mod fault;
 mod front;
 mod laws;
 mod put;
-#[cfg(test)]
-mod tests;
 
 pub use cursor::Cursor;
 pub use fault::{Fault, Kind, ReadFault};

@@ -10,8 +10,6 @@ mod name;
 mod own_names;
 mod rows;
 mod schema;
-#[cfg(test)]
-mod tests;
 
 pub use declarations::{DictDecl, Member, SeqDecl, StructDecl};
 pub use kind::TypeRef;
