@@ -39,6 +39,10 @@ class Scope:
 class ShelfMaker:
     """Makes one shelf. `rate` is how often it slips."""
 
+    # Of definitions, of their parts, and of modules
+    names, parts, modules = NAMES, NAMES, NAMES
+    joined = 0.15  # how many modules are of the form `module A::B`
+
     def __init__(self, chance, rate):
         self.chance, self.rate = chance, rate
         self.declared, self.scopes, self.open = [], {(): Scope()}, ()
@@ -62,19 +66,19 @@ class ShelfMaker:
     def other_case(self, name):
         return self.chance.choice([name.swapcase(), name.upper(), name.lower(), name])
 
-    def new_name(self):
+    def new_name(self, pool=None):
         """Returns a name that the open scope has not, but at a slip."""
         names = self.scopes[self.open].names
         if names and self.slips():
             return self.other_case(self.chance.choice(list(names.values())))
-        free = [it for it in NAMES if it.lower() not in names]
+        free = [it for it in pool or self.names if it.lower() not in names]
         return self.chance.choice(free) if free else f"n{len(names)}"
 
     def distinct(self, count):
         """Returns names for the parts of one definition."""
         names = []
         while len(names) < count:
-            name = self.chance.choice(NAMES)
+            name = self.chance.choice(self.parts)
             if name not in names:
                 names.append(name)
         if count > 1 and self.slips():
@@ -319,8 +323,8 @@ class ShelfMaker:
 
     def module(self):
         before = [it for it in self.declared if it.sort == "module" and it.path[:-1] == self.open]
-        names = [self.chance.choice(before).path[-1] if before and self.likely(0.5) else self.new_name()]
-        names += [self.chance.choice(NAMES)] if self.likely(0.15) else []
+        names = [self.chance.choice(before).path[-1] if before and self.likely(0.5) else self.new_name(self.modules)]
+        names += [self.chance.choice(self.modules)] if self.likely(self.joined) else []
         tokens, outer = ["module"], self.open
         for at, name in enumerate(names):
             tokens += ["::"] if at else []
@@ -396,9 +400,9 @@ def names_of(count, folders=("",)):
     return [FILE, *(f"{folders[number % len(folders)]}b{number}.ice" for number in range(1, count))]
 
 
-def usual(chance):
+def usual(chance, make=ShelfMaker, write=text_of):
     """Some files, the last of which is FILE, each of which includes some of those before it."""
-    maker = ShelfMaker(chance, chance.choice([0, 0, 0.004, 0.01, 0.02, 0.04]))
+    maker = make(chance, chance.choice([0, 0, 0.004, 0.01, 0.02, 0.04]))
     count = chance.choice([1, 1, 1, 2, 3, 4])
     files, names = {}, names_of(count, chance.choice([("",), ("",), ("lib/",), ("", "lib/a/", "of mine/")]))[::-1]
     for number, name in enumerate(names):
@@ -412,7 +416,7 @@ def usual(chance):
         maker.open = ()
         tokens = [token for _ in range(chance.choice([1, 1, 2, 3])) for token in maker.module()]
         tokens += maker.undefined() if name == FILE else []
-        files[name] = text_of([*front, *tokens, *back], chance)
+        files[name] = write([*front, *tokens, *back], chance)
     return files
 
 
