@@ -48,7 +48,7 @@ class Tags:
         self.rules, self.seen = rules, set()
 
     def take(self, value):
-        tag = self.rules.integer(value)
+        tag = self.rules.tag(value)
         if tag is None or not 0 <= tag <= MOST_TAG or tag in self.seen:
             self.rules.faults.add(value.place, "BadTag")
         self.seen.add(tag)
@@ -57,8 +57,8 @@ class Tags:
 class Rules:
     """Looks at one definition after the other, over the names that are there so far."""
 
-    def __init__(self):
-        self.names, self.faults, self.file = names.Names(), Faults(), 0
+    def __init__(self, names_so_far=None):
+        self.names, self.faults, self.file = names_so_far or names.Names(), Faults(), 0
         self.classes, self.enumerators = [], {}  # in the order of their first declarations; the names by the enum's kind
         self.counts = {"types": 0, "classes": 0, "exceptions": 0, "interfaces": 0}
 
@@ -126,9 +126,12 @@ class Rules:
 
     def key(self, word):
         kind = self.type(word)
-        if kind and not kind.may_be_key:
+        if kind and not self.may_be_key(kind):
             self.faults.add(word.place, "BadKey")
         return kind
+
+    def may_be_key(self, kind):
+        return kind.may_be_key
 
     def define(self, word, declared):
         self.claim(word)
@@ -165,8 +168,11 @@ class Rules:
             return getattr(self.constant_of(value.given), "number", None)
         return value.given if type(value.given) is int else None
 
+    def tag(self, value):
+        return self.integer(value)
+
     def is_of(self, value, kind):
-        """Says whether a value is of a type and in its range."""
+        """Says whether a value is of a type and in its range. Only integers, bools, strings and enums have values."""
         if isinstance(value.given, grammar.Path):
             return self.is_named_of(value.given, kind)
         if kind.sort in kinds.INTEGERS:
@@ -200,8 +206,6 @@ class Rules:
         if not kind:
             return
         self.value(item.value, kind)
-        if kind.sort not in ("bool", "string", "enum", *kinds.INTEGERS):
-            self.faults.add(item.value.place, "BadValue")
         if not self.faults.found:
             number = self.integer(item.value) if kind.sort in kinds.INTEGERS else None
             self.names.declare(item.word.name, names.Constant(kind, number))
@@ -270,7 +274,7 @@ class Rules:
         bases = []
         for path in item.bases:
             base = self.found(path, names.Interface)
-            if base and (not base.is_defined or base in bases):
+            if base and not self.may_be_base(base, bases):
                 self.faults.add(path.place, "BadBase")
             bases += [base] if base else []
         paths = sum(1 + it.paths for it in bases)
@@ -280,6 +284,9 @@ class Rules:
         for it in item.operations:
             self.operation(it, distinct)
         declared.paths, declared.is_defined = paths, True
+
+    def may_be_base(self, base, others):
+        return base.is_defined and base not in others
 
     def operation(self, item, distinct):
         arguments, results, parameters = Tags(self), Tags(self), Distinct(self.faults)
