@@ -57,8 +57,8 @@ class Tags:
 class Rules:
     """Looks at one definition after the other, over the names that are there so far."""
 
-    def __init__(self, names_so_far=None):
-        self.names, self.faults, self.file = names_so_far or names.Names(), Faults(), 0
+    def __init__(self):
+        self.names, self.faults, self.file = names.Names(), Faults(), 0
         self.classes, self.enumerators = [], {}  # in the order of their first declarations; the names by the enum's kind
         self.counts = {"types": 0, "classes": 0, "exceptions": 0, "interfaces": 0}
 
