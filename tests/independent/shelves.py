@@ -83,7 +83,7 @@ class ShelfMaker:
             name = self.chance.choice(self.parts)
             if name not in names:
                 names.append(name)
-        if count > 1 and self.slips():
+        if count > 1 and self.slips(4):
             at = self.chance.randrange(1, count)
             names[at] = self.other_case(names[self.chance.randrange(at)])
         return names
@@ -145,6 +145,10 @@ class ShelfMaker:
 
     def any_value(self):
         found = self.one_of(("const", "enum", "struct", "module"))
+        enum = self.one_of(("enum",))
+        if enum and enum.entries and self.likely(0.3):
+            entry = self.chance.choice(enum.entries)
+            return self.chance.choice([self.path((*enum.path, entry)), self.spelled(entry), ["::", *self.spelled(entry)]])
         number = self.number(self.chance.choice([0, 1, -1, 300, 2**31, 2**63, -(2**63)]))
         some = [["true"], ["false"], ['"a"'], number, ["Nothing"]]
         return self.path(found.path) if found and self.likely(0.4) else self.chance.choice(some)
@@ -152,7 +156,7 @@ class ShelfMaker:
     def integer(self, least, most):
         """Returns the tokens of an integer between these, or just past them at a slip, and the integer."""
         found = self.one_of(("const",))
-        if found and found.number is not None and self.likely(0.4) and (least <= found.number <= most or self.slips()):
+        if found and found.number is not None and self.likely(0.4) and (least <= found.number <= most or self.slips(8)):
             return self.path(found.path), found.number
         near = min(most, max(least, self.chance.randint(-9, 9)))
         number = self.chance.choice([least, most, near, near, self.chance.randint(least, most)])
@@ -163,7 +167,7 @@ class ShelfMaker:
 
     def value(self, type):
         """Returns the tokens of a value of a type, and the integer that it is, or None."""
-        if self.slips():
+        if self.slips(3 if isinstance(type, str) else 10):
             return self.any_value(), None
         if type in INTEGERS:
             return self.integer(*INTEGERS[type])
@@ -211,20 +215,29 @@ class ShelfMaker:
         name, tokens = self.begin("enum")
         entries = self.distinct(0 if self.slips() else self.chance.choice([1, 2, 3, 5]))
         tokens.append("{")
-        last = -1
+        last, taken = -1, set()
         for entry in entries:
             last += 1
             tokens += self.spelled(entry)
-            if self.likely(0.35) or last > MOST_TAG and not self.slips():
-                most = MOST_TAG if self.likely(0.2) else last + 3
-                least = 0 if self.slips() else min(last, MOST_TAG)
-                most = max(least, min(most, MOST_TAG))
-                value, last = (self.any_value(), last) if self.slips() else self.integer(least, most)
+            if self.likely(0.35) or (last > MOST_TAG or last in taken) and not self.slips(4):
+                value, last = self.entry_value(last, taken)
                 tokens += ["=", *value]
+            taken.add(last)
             tokens.append(",")
         tokens = tokens[:-1] if entries and self.likely(0.8) else tokens
         self.declare("enum", name, entries=tuple(entries), may_be_key=True)
         return [*tokens, "}", *self.end()]
+
+    def entry_value(self, last, taken):
+        """Returns the tokens of an enumerator's value, which none has yet but at a slip, and the value."""
+        if self.slips():
+            return self.any_value(), last
+        least = self.chance.choice([0, 0, min(last, MOST_TAG - 8), MOST_TAG - 8])
+        value, number = self.integer(least, least + 8)
+        if number in taken and not self.slips(6):
+            number = next(it for it in range(len(taken) + 1) if it not in taken)
+            value = self.number(number)
+        return value, number
 
     def tag(self, used):
         """Returns the tokens of `optional(TAG)` with a tag that is not used yet, but at a slip."""
@@ -262,7 +275,7 @@ class ShelfMaker:
     def forward(self, sort):
         """Returns the name of a class or an interface that is defined now: one that waits for it in this scope, or a new one."""
         here = [it for it in self.declared if it.sort == sort and it.path[:-1] == self.open]
-        waiting = [it for it in here if not it.is_defined or self.slips()]
+        waiting = [it for it in here if not it.is_defined or self.slips(6)]
         if waiting and self.likely(0.7):
             found = self.chance.choice(waiting)
             name = self.other_case(found.path[-1]) if self.slips() else found.path[-1]
@@ -327,7 +340,8 @@ class ShelfMaker:
             tokens += self.tag(results if is_out else arguments) if self.likely(0.3) else []
             tokens += [*self.type()[0], *self.spelled(it)]
         tokens.append(")")
-        thrown = [it[0] for it in (self.named("exception") for _ in range(self.chance.choice([0, 0, 1, 2]))) if it]
+        sorts = ("class",) if self.slips(8) else ("exception",)
+        thrown = [it[0] for it in (self.named(*sorts) for _ in range(self.chance.choice([0, 0, 1, 2]))) if it]
         for at, it in enumerate(thrown):
             tokens += ["," if at else "throws", *it]
         return [*tokens, ";"]
@@ -356,7 +370,7 @@ class ShelfMaker:
     def definitions(self, count):
         makers = [self.struct, self.sequence, self.dictionary, self.enum, self.constant]
         makers += [self.class_, self.exception, self.interface, self.declaration]
-        weights = [4, 3, 3, 3, 4, 4, 2, 4, 2]
+        weights = [4, 3, 3, 3, 4, 4, 2, 4, 3]
         tokens = []
         for _ in range(count):
             is_module = len(self.open) < 4 and self.likely(0.2)
@@ -446,7 +460,8 @@ def broken(chance):
 def deep(chance):
     """Types around one another, up to about the greatest depth."""
     depth, wanted = 1, chance.choice([98, 99, 100, 100, 101, 101, 102])
-    last, tokens, number = chance.choice(["int", "string", "C", "Object", "I*"]), [], 0
+    is_key = chance.random() < 0.2
+    last, tokens, number = "int" if is_key else chance.choice(["int", "string", "C", "Object", "I*"]), [], 0
     while depth < wanted:
         number += 1
         name = f"T{number}"
@@ -454,8 +469,13 @@ def deep(chance):
             "sequence": (1, f"sequence<{last}> {name};"),
             "struct": (1, f"struct {name} {{ int a; {last} b; }};"),
             "dictionary": (2, f"dictionary<int, {last}> {name};"),
+            "key": (2, f"dictionary<{last}, int> {name};"),
         }
-        levels, text = around[chance.choice(list(around) if wanted - depth > 1 else ["sequence", "struct"])]
+        if is_key:
+            ways = ["key"] if wanted - depth == 2 else ["struct"]
+        else:
+            ways = ["sequence", "struct", "dictionary"] if wanted - depth > 1 else ["sequence", "struct"]
+        levels, text = around[chance.choice(ways)]
         depth += levels
         tokens.append(text)
         last = name
@@ -467,7 +487,7 @@ def deep(chance):
 
 def big(chance):
     """Structs that hold the one before them several times, and one of about the greatest smallest spelling."""
-    leaf, size = chance.choice([("byte", 1), ("string", 1), ("E", 1), ("Object*", 2), ("Object", 1), ("int", 4), ("long", 8)])
+    leaf, size = chance.choice([("byte", 1), ("string", 1), ("E", 1), ("Object*", 2), ("I*", 2), ("C", 1), ("int", 4), ("long", 8)])
     base, left = chance.choice([2, 3, 7, 16]), 1_048_576 + chance.choice([-1, 0, 0, 1, 1, 1_000_000])
     parts, lines = [(leaf, size)], []
     while parts[-1][1] * base <= 1_048_576:
@@ -479,8 +499,10 @@ def big(chance):
         members += [part] * (left // each)
         left %= each
     chance.shuffle(members)
+    if chance.random() < 0.3:
+        members[chance.randrange(len(members))] = chance.choice(["float", "Zed", "I"])
     last = "struct Last { " + " ".join(f"{it} m{at};" for at, it in enumerate(members)) + " };"
-    return {FILE: " ".join(["module M { enum E { a };", *lines, last, "};"]).encode()}
+    return {FILE: " ".join(["module M { enum E { a }; interface I { }; class C { };", *lines, last, "};"]).encode()}
 
 
 def based(chance):
@@ -512,13 +534,13 @@ def many(chance):
             chance.shuffle(includes)
         front = "".join(include(it, chance) + "\n" for it in includes)
         files[name] = (front + f"module M {{ struct S{at if chance.random() < 0.998 else 3} {{ int x; }}; }};").encode()
-    if chance.random() < 0.1:
-        del files[chance.choice(names[1:])]
+    if chance.random() < 0.2:
+        del files[chance.choice(names[1:] if chance.random() < 0.4 else names[99:] or names[1:])]
     return files
 
 
 def shelf(seed, number):
     """Returns the shelf of this number."""
     chance = random.Random(f"shelf {seed} {number}")
-    makers, weights = [usual, broken, deep, big, based, many], [160, 20, 5, 2, 5, 1]
+    makers, weights = [usual, broken, deep, big, based, many], [160, 20, 5, 3, 5, 3]
     return chance.choices(makers, weights)[0](chance)
