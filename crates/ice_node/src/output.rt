@@ -3,11 +3,13 @@
 ghost use Rattle.std.specs.Prelude.{◌≡◌, ℕ, List};
 ghost use Rattle.std.specs.List.{flat_map};
 ghost use Rattle.ice_node.specs.Streams.{Writes};
-ghost use Rattle.ice_node.specs.Statuses.{status, Outputs, GetsLine};
+ghost use Rattle.ice_node.specs.Answers.{status};
+ghost use Rattle.ice_node.specs.Effects.{Outputs, GetsLine};
 ghost use Rattle.ice_node.specs.Outcomes.{Prints, answer_of};
 
 use crate::outcome::Outcome;
 use ice_ports::{Failed, Sink};
+use itoa::Buffer;
 
 /// Writes the whole answer. A sink that fails has taken a prefix of it, and is not asked again.
 pub fn print<K: Sink>(bytes: &[u8], sink: &mut K) -> Outcome<'static>
@@ -27,7 +29,8 @@ pub fn report<E: Sink>(outcome: Outcome<'_>, errors: &mut E) -> u8
     ensures line { (bytes : List ℕ) → GetsLine (E.taken errors.old) (E.taken errors.new)
         (E.failures errors.old) (E.failures errors.new) (answer_of outcome.entry bytes) }
 {
-    let _ = write_pieces(errors, &outcome.line());
+    let mut digits = Buffer::new();
+    let _ = write_pieces(errors, &outcome.line(&mut digits));
     outcome.status()
 }
 
