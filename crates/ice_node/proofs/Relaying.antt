@@ -16,13 +16,15 @@ use Rattle.ice_encoding.specs.Encapsulation.{SpellsEncapsulation, encapsulation_
 use Rattle.ice_encoding.proofs.Plain.{plain_sizes}
 use Rattle.ice_encoding.proofs.Encapsulations.{encapsulation_found, encapsulation_only, encapsulation_canon}
 use Rattle.node_scaffold.specs.Loading.{IsBuilt}
+use Rattle.ice_relay.specs.Relaying.{Canonicalizes}
+use Rattle.ice_relay.proofs.Values.{claims_length}
 use Rattle.ice_node.specs.Words.{Word, relay, check}
-use Rattle.ice_node.specs.Streams.{Claims, IsSize, ReadsInput}
+use Rattle.ice_relay.specs.Streams.{Claims, IsSize, ReadsInput}
 use Rattle.ice_node.specs.Outside.{Files, Failures, NoneFailed, counts}
 use Rattle.ice_node.specs.Answers.{Answer, done, usage, no_such_name, not_built, slice_refused, input_refused, read_failed, write_failed, no_memory}
 use Rattle.ice_node.specs.Decided.{IsSchema, IsNamed, WithType, WithBuilt, IsValue, HasNoValue}
 use Rattle.ice_node.specs.Causes.{Causes}
-use Rattle.ice_node.specs.Outcomes.{Canonicalizes, GivesNoSchema, FindsSchema, FindsType, answer_of, of_load, of_read}
+use Rattle.ice_node.specs.Outcomes.{GivesNoSchema, FindsSchema, FindsType, answer_of, of_load, of_read}
 use Rattle.ice_node.specs.declared.outcome.Outcome.{Outcome}
 use Rattle.node_scaffold.specs.Loading.{Answers}
 use Rattle.node_scaffold.specs.declared.LoadFault.{LoadFault}
@@ -63,31 +65,12 @@ relay_untyped files input file word t before after answer schema none (inr (kind
 -- ---- the value
 
 module _ (t : Tables) (kind : TypeRef) where
-  pub value_fits : (input : List ℕ) (v : Tree) → IsBytes input → encapsulation_at t kind (whole input) ≡ Ok v → SpellsEncapsulation t kind input v × HasSizes v × (length (canonical v) + 6 < 2 ^ 31)
-  value_fits input v fits e =
-      let h = encapsulation_found t kind input v fits e in
-      let canon = encapsulation_canon t kind input v fits h in
-      let long : length (encapsulation_bytes v) ≡ length (canonical v) + 6 = length-append (signed_bytes w32 (pos (length (canonical v) + 6))) (1 ∷ 1 ∷ canonical v) ∙ omega arith in
-      (h, plain_sizes t kind h.1 v h.5, omega (arith, long, canon.1, h.4))
-
-  pub none_fits : (input : List ℕ) (fault : Fault) → encapsulation_at t kind (whole input) ≡ Err fault → (v : Tree) → SpellsEncapsulation t kind input v → ⊥
-  none_fits input fault e v h = let read = encapsulation_only t kind input v h in cc
-
-  -- the first four bytes claim one size
-  claims_length : (bytes got rest : List ℕ) (v : Tree) (z : ℤ) → bytes ≡ got ++ rest → Claims got z → SpellsEncapsulation t kind bytes v → IsSize z (length bytes)
-  claims_length bytes got rest v z e c h =
-      let all : c.size ++ (c.more ++ rest) ≡ h.0 ++ 1 ∷ 1 ∷ h.1 = sym (append_assoc c.size c.more rest) ∙ ap (λ (l : List ℕ). l ++ rest) (sym c.parts) ∙ sym e ∙ h.2 in
-      let same : c.size ≡ h.0 = sym (take_at c.size (c.more ++ rest) 4 c.spelled.0) ∙ ap (take 4) all ∙ take_at h.0 (1 ∷ 1 ∷ h.1) 4 h.3.0 in
-      let claimed : z ≡ pos (length bytes) = c.spelled.1 ∙ ap (λ (l : List ℕ). cast_signed w32 (from_le_bytes w32 l)) same ∙ sym h.3.1 in
-      let long : length bytes ≡ length h.0 + length (1 ∷ 1 ∷ h.1) = ap length h.2 ∙ length-append h.0 (1 ∷ 1 ∷ h.1) in
-      (claimed, omega (arith, long, h.3.0), h.4)
-
   pub value_read : (before now : Option (List ℕ)) (got : List ℕ) (v : Tree) → ReadsInput before now got → SpellsEncapsulation t kind got v → IsValue before t kind v
   value_read None now got v r h = tt
   value_read (Some known) None got v r h = absurd r.0
   value_read (Some known) (Some rest) got v r h = elim r.1 [
     | inl end ↦ let same : got ≡ known = sym (r.0 ∙ ap (λ (l : List ℕ). got ++ l) end ∙ append-nil got) in subst (λ (l : List ℕ). SpellsEncapsulation t kind l v) same h
-    | inr past ↦ absurd (let size = claims_length got got [] v past.0 (sym (append-nil got)) past.1 h in let below : length got < length got = past.2 (length got) size in omega arith)
+    | inr past ↦ absurd (let size = claims_length t kind got got [] v past.0 (sym (append-nil got)) past.1 h in let below : length got < length got = past.2 (length got) size in omega arith)
   ]
 
   pub no_value_read : (before now : Option (List ℕ)) (got : List ℕ) → ReadsInput before now got → ((v : Tree) → SpellsEncapsulation t kind got v → ⊥) → HasNoValue before t kind
@@ -96,15 +79,10 @@ module _ (t : Tables) (kind : TypeRef) where
   no_value_read (Some known) (Some rest) got r none = λ v h. elim r.1 [
     | inl end ↦ let same : known ≡ got = r.0 ∙ ap (λ (l : List ℕ). got ++ l) end ∙ append-nil got in none v (subst (λ (l : List ℕ). SpellsEncapsulation t kind l v) same h)
     | inr past ↦
-        let size = claims_length known got rest v past.0 r.0 past.1 h in
+        let size = claims_length t kind known got rest v past.0 r.0 past.1 h in
         let below : length known < length got = past.2 (length known) size in
         omega (arith, ap length r.0, length-append got rest)
   ]
-
-  -- no value where reading failed, unless memory ran out
-  pub none_canonical : (input : List ℕ) (fault : ReadFault) → Fails fault (encapsulation_at t kind (whole input)) → Canonicalizes t kind input (Err fault)
-  none_canonical input faults.Memory h = tt
-  none_canonical input (faults.Broken fault) h = none_fits input fault h
 
 -- an input that holds no value, or for which memory ran out
 pub input_gives_none : (files : Option Files) (input now : Option (List ℕ)) (file word : Word) (t : Tables) (kind : TypeRef) (got : List ℕ) (before after : Failures) (fault : ReadFault) (outcome : Outcome) → outcome ≡ of_read fault

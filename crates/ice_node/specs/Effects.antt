@@ -3,7 +3,7 @@ use Rattle.std.specs.Prelude.{ℕ, ◌≡◌, ◌⊎◌, List, Option, Some, Non
 use Rattle.std.specs.Io.KnownBytes.{Keeps, Appends}
 use Rattle.ice_ports.specs.Failures.{one_more}
 use Rattle.ice_node.specs.Words.{Command, relay, check, help, version}
-use Rattle.ice_node.specs.Streams.{TakesFrugally, AppendsPrefix}
+use Rattle.ice_relay.specs.Streams.{TakesFrugally, AppendsPrefix}
 use Rattle.ice_node.specs.Answers.{Answer, done, usage, no_such_name, not_built, slice_refused, input_refused, read_failed, write_failed, no_memory, error_line}
 
 -- no more of the input than the encapsulation that it claims and one byte, for `relay` alone

@@ -1,6 +1,4 @@
 pub mod Words
-pub mod Steps
-pub mod Streams
 pub mod Outside
 pub mod Answers
 pub mod Decided

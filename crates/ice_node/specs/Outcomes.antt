@@ -106,11 +106,3 @@ bytes_found (Err e) = Err e
 abbrev pub text_found : {E : Type 0} → Result (String Global) E → Result (List ℕ) E
 text_found (Ok found) = Ok (string_bytes found)
 text_found (Err e) = Err e
-
--- the canonical encapsulation of the value that the input holds, or that it holds none
-abbrev pub Canonicalizes : Tables → TypeRef → List ℕ → Result (Vec ℕ Global) ReadFault → Type 0
-Canonicalizes t kind input (Ok bytes) =
-    (v : Tree) × SpellsEncapsulation t kind input v × (bytes.items ≡ encapsulation_bytes v)
-Canonicalizes t kind input (Err (read_faults.Broken fault)) =
-    (v : Tree) → SpellsEncapsulation t kind input v → ⊥
-Canonicalizes t kind input (Err read_faults.Memory) = Unit {0}

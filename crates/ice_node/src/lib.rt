@@ -2,9 +2,7 @@
 #![tactic(auto)]
 
 mod check;
-mod encapsulation;
 mod help;
-mod input;
 mod loading;
 mod outcome;
 mod output;
@@ -12,11 +10,9 @@ mod relay;
 mod top_call;
 mod words;
 
-pub use encapsulation::{decode, encode};
 pub use help::{HELP, VERSION};
-pub use input::read_input;
 pub use outcome::{Line, Outcome};
-pub use output::{print, report, write_all};
+pub use output::{print, report};
 pub use top_call::{answers_apart, node};
 pub use words::{Command, command_of, forms_apart};
 

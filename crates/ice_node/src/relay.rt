@@ -3,14 +3,12 @@
 ghost use Rattle.std.specs.Prelude.{ℕ};
 ghost use Rattle.ice_node.specs.Words.{relay as wanted};
 ghost use Rattle.ice_node.specs.Outside.{counts};
-ghost use Rattle.ice_node.specs.Outcomes.{FindsType, FindsBytes, TakesFound, Canonicalizes, bytes_found};
+ghost use Rattle.ice_node.specs.Outcomes.{FindsType, FindsBytes, TakesFound, bytes_found};
 
-use crate::encapsulation::{decode, encode};
-use crate::input::read_input;
 use crate::loading::load_schema;
 use crate::outcome::Outcome;
 use ice_ports::{Shelf, Source};
-use ice_prims::ReadFault;
+use ice_relay::{canonical_of, read_input};
 use ice_types::{Schema, TypeRef};
 use node_scaffold::is_built;
 use std::alloc::Global;
@@ -47,17 +45,4 @@ fn built_type<'a>(schema: &Schema, word: &'a str) -> Result<TypeRef, Outcome<'a>
         return Err(Outcome::NotBuilt(word));
     }
     Ok(kind)
-}
-
-/// The canonical encapsulation of the value that the whole input holds.
-fn canonical_of(
-    alloc: Global,
-    schema: &Schema,
-    kind: TypeRef,
-    input: &[u8],
-) -> Result<Vec<u8>, ReadFault>
-    ensures { Canonicalizes schema.now kind input.now result }
-{
-    let value = decode(alloc, schema, kind, input)?;
-    Ok(encode(alloc, &value)?)
 }

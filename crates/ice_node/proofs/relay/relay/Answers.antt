@@ -1,7 +1,7 @@
 use Rattle.std.proofs.Common.{ℕ, List, Err, refl, ap, subst, inr}
 use Rattle.std.proofs.lemmas.Result.{err_from_is_err_and}
 use Rattle.ice_node.specs.Answers.{done}
-use Rattle.ice_node.specs.Outcomes.{Canonicalizes}
+use Rattle.ice_relay.specs.Relaying.{Canonicalizes}
 use Rattle.ice_node.proofs.Relaying.{value_read, input_gives_none, relay_untyped, relay_unloaded}
 use Rattle.ice_node.proofs.relay.relay.Goals as goal
 

@@ -1,5 +1,6 @@
-use Rattle.std.proofs.Common.{[], Some, string_bytes}
-use Rattle.ice_node.specs.Words.{relay, check}
+use Rattle.std.proofs.Common.{[], Some, string_bytes, refl}
+use Rattle.ice_node.specs.Words.{relay, check, help}
+use Rattle.ice_node.specs.declared.help.TheConstants.{HELP}
 use Rattle.ice_node.specs.Outcomes.{answer_of}
 use Rattle.ice_node.proofs.Answering.{printed, outputs_nothing, keeps_itself, check_takes_nothing}
 use Rattle.ice_node.proofs.top_call.run.Goals as goal
@@ -34,3 +35,12 @@ returns-in-Err-check g c =
     let input = g.S.Source.left c.args.source.now in
     let found = c.in-Err-check.ensures input (g.S.Source.failures c.args.source.now) (g.K.Sink.failures c.args.sink.now) in
     ([], Some (check c.in-Some-Check.file.now), (rw c.in-Some-Check.field-0-is at c.in-Some-Check.ensures), found, check_takes_nothing c.in-Some-Check.file.now input (answer_of c.in-Err-check.outcome []), outputs_nothing (g.K.Sink.taken c.args.sink.now) c.in-Err-check.outcome)
+
+pub returns-in-Some-Help : goal.returns-in-Some-Help
+returns-in-Some-Help g c =
+    let input = g.S.Source.left c.args.source.now in
+    let came = printed (Some help) (g.H.Shelf.files c.args.shelf.now) input input
+    (record { shelf = g.H.Shelf.failures c.args.shelf.now; source = g.S.Source.failures c.args.source.now; sink = g.K.Sink.failures c.args.sink.now })
+    (record { shelf = g.H.Shelf.failures c.args.shelf.now; source = g.S.Source.failures c.args.source.now; sink = g.K.Sink.failures c.print-in-Some-Help.new.sink })
+    HELP.now c.print-in-Some-Help.result refl refl refl (keeps_itself input) c.print-in-Some-Help.ensures.outcome in
+    (HELP.now, Some help, (rw c.in-Some-Help.field-0-is at c.in-Some-Help.ensures), came.0, came.1, (rw c.as_bytes-in-Some-Help.ensures.value at c.print-in-Some-Help.ensures.output))

@@ -1,6 +1,6 @@
 use Rattle.std.proofs.Common.{ℕ, ◌≡◌, ◌-◌, ◌≤◌, List, ◌++◌, vec_len}
 use Rattle.std.specs.Io.KnownBytes.{Consumes}
-use Rattle.ice_node.proofs.input.read_up_to.Given as goal
+use Rattle.ice_relay.proofs.input.read_up_to.Given as goal
 
 abbrev pub invariant-loop-buffer : goal.invariant-loop-buffer
 invariant-loop-buffer g l = record {

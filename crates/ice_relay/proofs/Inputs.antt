@@ -2,8 +2,8 @@
 use Rattle.std.proofs.Common.{◌≡◌, ℕ, ℤ, pos, ◌+◌, ◌-◌, ◌<◌, ◌≤◌, List, [], ◌++◌, length, take, Option, None, Some, Result, Ok, Err, OnErr, refl, sym, ap, subst, ◌∙◌, append_assoc, arith, inl, inr, ◌⊎◌}
 use Rattle.std.proofs.lemmas.List.{length-append, length-take}
 use Rattle.std.specs.Io.KnownBytes.{Consumes, Keeps, IsAtEnd}
-use Rattle.ice_node.specs.Streams.{ReadsUpTo, TakesUpTo, Claims, IsSize, ClaimsSize, IsPastSize, ReadsInput, TakesFrugally}
-use Rattle.ice_node.proofs.KnownBytes.{Consumes-none, Consumes-kept, Consumes-then}
+use Rattle.ice_relay.specs.Streams.{ReadsUpTo, TakesUpTo, Claims, IsSize, ClaimsSize, IsPastSize, ReadsInput, TakesFrugally}
+use Rattle.ice_relay.proofs.KnownBytes.{Consumes-none, Consumes-kept, Consumes-then}
 
 all_new : (got more : List ℕ) → got ≡ [] ++ more → more ≡ got
 all_new got more e = sym e

@@ -9,7 +9,7 @@ ghost use Rattle.ice_prims.specs.Taking.{GivesUnlessMemory};
 ghost use Rattle.ice_encoding.specs.Canonical.{canonical, HasSizes};
 ghost use Rattle.ice_encoding.specs.Encapsulation.{version_at, encapsulation_at, encapsulation_bytes};
 ghost use Rattle.graph_arena.specs.View.{view};
-ghost use Rattle.ice_node.specs.Steps.{Bounds, TakesVersion, IsEnd};
+ghost use Rattle.ice_relay.specs.Steps.{Bounds, TakesVersion, IsEnd};
 
 use graph_arena::Value;
 use ice_encoding::{LARGEST, SIZE_BYTES, SMALLEST};

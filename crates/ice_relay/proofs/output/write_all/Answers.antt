@@ -3,9 +3,9 @@ use Rattle.std.proofs.lemmas.List.{take-append-drop, length-drop}
 use Rattle.std.proofs.lemmas.Result.{err_from_is_err_and}
 use Rattle.ice_prims.proofs.Texts.{from_here}
 use Rattle.ice_ports.specs.Failures.{one_more}
-use Rattle.ice_node.proofs.KnownBytes.{Appends-kept, Appends-more}
-use Rattle.ice_node.proofs.Answering.{writes_prefix}
-use Rattle.ice_node.proofs.output.write_all.Goals as goal
+use Rattle.ice_relay.proofs.KnownBytes.{Appends-kept, Appends-more}
+use Rattle.ice_relay.proofs.Written.{writes_prefix}
+use Rattle.ice_relay.proofs.output.write_all.Goals as goal
 
 pub returns-in_err-at : goal.returns-in_err-at
 returns-in_err-at g c =

@@ -1,6 +1,6 @@
 use Rattle.std.proofs.Common.{rules}
-use Rattle.ice_node.proofs.Inputs.{on_err, lost_within}
-use Rattle.ice_node.proofs.input.read_up_to.Goals as goal
+use Rattle.ice_relay.proofs.Inputs.{on_err, lost_within}
+use Rattle.ice_relay.proofs.input.read_up_to.Goals as goal
 
 pub returns-in_err-extend_from_slice-clause-taken : goal.returns-in_err-extend_from_slice-clause-taken
 returns-in_err-extend_from_slice-clause-taken g c =

@@ -1,8 +1,8 @@
 use Rattle.std.proofs.Common.{arith}
 use Rattle.std.proofs.lemmas.Result.{err_from_is_err_and}
 use Rattle.graph_arena.specs.View.{view}
-use Rattle.ice_node.proofs.Relaying.{value_fits, none_canonical}
-use Rattle.ice_node.proofs.relay.canonical_of.Goals as goal
+use Rattle.ice_relay.proofs.Values.{value_fits, none_canonical}
+use Rattle.ice_relay.proofs.relay.canonical_of.Goals as goal
 
 pub encode-requires-clause-sizes : goal.encode-requires-clause-sizes
 encode-requires-clause-sizes c = (value_fits c.args.schema.now c.args.kind c.args.input.now (view c.in_ok-value.value) (λ i. omega (arith, c.type_inv.input i)) c.in_ok-value.ensures).1

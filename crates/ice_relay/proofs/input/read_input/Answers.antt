@@ -1,5 +1,5 @@
-use Rattle.ice_node.proofs.Inputs.{first_is_enough, rest_is_enough, rest_is_frugal, reads_frugally}
-use Rattle.ice_node.proofs.input.read_input.Goals as goal
+use Rattle.ice_relay.proofs.Inputs.{first_is_enough, rest_is_enough, rest_is_frugal, reads_frugally}
+use Rattle.ice_relay.proofs.input.read_input.Goals as goal
 
 pub returns-in_default-clause-read : goal.returns-in_default-clause-read
 returns-in_default-clause-read g c =
