@@ -203,10 +203,14 @@ fn shelf(alloc: Global, failing: &[u64]) -> Result<MemShelf, AllocError> {
     Ok(MemShelf::new(files, calls(alloc, failing)?))
 }
 
-fn words_of(alloc: Global, texts: &[&str]) -> Result<Vec<String>, AllocError> {
-    let mut words = Vec::new(alloc);
+fn word(alloc: Global, text: &str) -> Result<String, AllocError> {
+    String::from_str(alloc, text)
+}
+
+fn words_of(alloc: Global, texts: &[&str]) -> Result<List<String>, AllocError> {
+    let mut words = List::new(alloc);
     for text in texts {
-        words.push(String::from_str(alloc, text)?)?;
+        words.push(word(alloc, text)?)?;
     }
     Ok(words)
 }
