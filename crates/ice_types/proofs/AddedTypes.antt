@@ -1,5 +1,5 @@
 -- What a schema keeps when a sequence, a dictionary or a struct is added.
-use Rattle.std.proofs.Common.{◌≡◌, ℕ, suc, ◌+◌, ◌<◌, ◌≤◌, List, [], ◌∷◌, ◌++◌, length, Some, refl, sym, ap, ◌∙◌, arith}
+use Rattle.std.proofs.Common.{◌≡◌, ℕ, suc, ◌+◌, ◌<◌, ◌≤◌, List, [], ◌∷◌, ◌++◌, length, Some, refl, sym, ap, subst, ◌∙◌, arith}
 use Rattle.std.specs.Prelude.{slice_get}
 use Rattle.std.proofs.lemmas.List.{length-append}
 use Rattle.ice_types.specs.declared.declarations.SeqDecl.{SeqDecl}
@@ -82,10 +82,10 @@ kept_seq t beside kept new m room type_id lacks fits is =
 -- the same of a schema's fields, where contracts see them as these tables
 pub added_seq : (old : TableRows) (after : Rows SeqDecl Measure) (t : Tables) (new : SeqDecl) (m : Measure) → IsKept (tables_of old) (beside_of old) → tables_of old ≡ t → after.decls ≡ old.seqs.decls ++ new ∷ [] → after.beside ≡ old.seqs.beside ++ m ∷ []
     → length t.seqs + 1 < 100000000 → IsTypeId new.id → IsNewId t new.id → SeqFits t new.element → Some m ≡ sequence_of (measure t 99 new.element) → IsKept (tables_of (record old { seqs = after })) (beside_of (record old { seqs = after }))
-added_seq old after t new m kept view_is row beside room type_id lacks fits is = rw (row, beside) (at_tables t view_is room type_id lacks fits is)
-  where
-    at_tables : (t : Tables) → tables_of old ≡ t → length t.seqs + 1 < 100000000 → IsTypeId new.id → IsNewId t new.id → SeqFits t new.element → Some m ≡ sequence_of (measure t 99 new.element) → IsKept (with_seq (tables_of old) new) (record (beside_of old) { seqs = old.seqs.beside ++ m ∷ [] })
-    at_tables .(tables_of old) refl room type_id lacks fits is = kept_seq (tables_of old) (beside_of old) kept new m room type_id lacks fits is
+added_seq old after t new m kept view_is row beside room type_id lacks fits is =
+    let pushed : with_seq t new ≡ tables_of (record old { seqs = after }) = rw (row, ← view_is) refl in
+    rw beside (subst (λ (u : Tables). IsKept u (record (beside_of old) { seqs = old.seqs.beside ++ m ∷ [] })) pushed
+    (kept_seq t (beside_of old) (subst (λ (u : Tables). IsKept u (beside_of old)) view_is kept) new m room type_id lacks fits is))
 
 -- ---- a dictionary
 
@@ -146,10 +146,10 @@ kept_dict t beside kept new m room type_id lacks fits is =
 -- the same of a schema's fields, where contracts see them as these tables
 pub added_dict : (old : TableRows) (after : Rows DictDecl Measure) (t : Tables) (new : DictDecl) (m : Measure) → IsKept (tables_of old) (beside_of old) → tables_of old ≡ t → after.decls ≡ old.dicts.decls ++ new ∷ [] → after.beside ≡ old.dicts.beside ++ m ∷ []
     → length t.dicts + 1 < 100000000 → IsTypeId new.id → IsNewId t new.id → DictFits t new.key new.value → Some m ≡ dictionary_of (measure t 98 new.key) (measure t 98 new.value) → IsKept (tables_of (record old { dicts = after })) (beside_of (record old { dicts = after }))
-added_dict old after t new m kept view_is row beside room type_id lacks fits is = rw (row, beside) (at_tables t view_is room type_id lacks fits is)
-  where
-    at_tables : (t : Tables) → tables_of old ≡ t → length t.dicts + 1 < 100000000 → IsTypeId new.id → IsNewId t new.id → DictFits t new.key new.value → Some m ≡ dictionary_of (measure t 98 new.key) (measure t 98 new.value) → IsKept (with_dict (tables_of old) new) (record (beside_of old) { dicts = old.dicts.beside ++ m ∷ [] })
-    at_tables .(tables_of old) refl room type_id lacks fits is = kept_dict (tables_of old) (beside_of old) kept new m room type_id lacks fits is
+added_dict old after t new m kept view_is row beside room type_id lacks fits is =
+    let pushed : with_dict t new ≡ tables_of (record old { dicts = after }) = rw (row, ← view_is) refl in
+    rw beside (subst (λ (u : Tables). IsKept u (record (beside_of old) { dicts = old.dicts.beside ++ m ∷ [] })) pushed
+    (kept_dict t (beside_of old) (subst (λ (u : Tables). IsKept u (beside_of old)) view_is kept) new m room type_id lacks fits is))
 
 -- ---- a struct
 
@@ -209,7 +209,7 @@ kept_struct t beside kept new m room type_id lacks fits is =
 -- the same of a schema's fields, where contracts see them as these tables
 pub added_struct : (old : TableRows) (after : Rows StructDecl Measure) (t : Tables) (new : StructDecl) (m : Measure) → IsKept (tables_of old) (beside_of old) → tables_of old ≡ t → after.decls ≡ old.structs.decls ++ new ∷ [] → after.beside ≡ old.structs.beside ++ m ∷ []
     → length t.structs + 1 < 100000000 → IsTypeId new.id → IsNewId t new.id → StructFits t new.members → Some m ≡ struct_of (small_members t new.members) → IsKept (tables_of (record old { structs = after })) (beside_of (record old { structs = after }))
-added_struct old after t new m kept view_is row beside room type_id lacks fits is = rw (row, beside) (at_tables t view_is room type_id lacks fits is)
-  where
-    at_tables : (t : Tables) → tables_of old ≡ t → length t.structs + 1 < 100000000 → IsTypeId new.id → IsNewId t new.id → StructFits t new.members → Some m ≡ struct_of (small_members t new.members) → IsKept (with_struct (tables_of old) new) (record (beside_of old) { structs = old.structs.beside ++ m ∷ [] })
-    at_tables .(tables_of old) refl room type_id lacks fits is = kept_struct (tables_of old) (beside_of old) kept new m room type_id lacks fits is
+added_struct old after t new m kept view_is row beside room type_id lacks fits is =
+    let pushed : with_struct t new ≡ tables_of (record old { structs = after }) = rw (row, ← view_is) refl in
+    rw beside (subst (λ (u : Tables). IsKept u (record (beside_of old) { structs = old.structs.beside ++ m ∷ [] })) pushed
+    (kept_struct t (beside_of old) (subst (λ (u : Tables). IsKept u (beside_of old)) view_is kept) new m room type_id lacks fits is))

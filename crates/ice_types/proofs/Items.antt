@@ -29,7 +29,7 @@ both_end [] (y ∷ ys) e at none = absurd (omega (arith, e))
 both_end (x ∷ xs) (y ∷ ys) e zero none = absurd cc
 both_end (x ∷ xs) (y ∷ ys) e (suc at) none = both_end xs ys (omega (arith, e)) at none
 
-pub AreBoth : {A B : Type 0} → List A → List B → Type 0
+unfoldable pub AreBoth : {A B : Type 0} → List A → List B → Type 0
 AreBoth {A} {B} xs ys = (at : ℕ) → ((x : A) → slice_get xs at ≡ Some x → (y : B) × (slice_get ys at ≡ Some y)) × (slice_get xs at ≡ None → slice_get ys at ≡ None)
 
 pub one_length : {A B : Type 0} (xs : List A) (ys : List B) → AreBoth xs ys → length xs ≡ length ys

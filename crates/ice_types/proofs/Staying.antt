@@ -1,6 +1,6 @@
 -- What fits a schema's tables fits them when they have grown.
 use Rattle.std.proofs.Common.{◌≡◌, ℕ, suc, ◌≤◌, ◌<◌, ◌+◌, true, List, [], ◌∷◌, length, Option, Some, None, refl, sym, ap, subst, ◌∙◌, arith}
-use Rattle.std.specs.Prelude.{slice_get, IsTrue, All, sum_by}
+use Rattle.std.specs.Prelude.{slice_get, IsTrue, All, sum_by, slice_index_or}
 use Rattle.std.proofs.lemmas.List.Sums.{sum_by-cons}
 use Rattle.std.proofs.lemmas.List.Elements.{All-head, All-tail}
 use Rattle.ice_types.specs.declared.declarations.Member.{Member}
@@ -62,6 +62,6 @@ module _ (t u : Tables) (grows : Grows t u) where
   pub interface_stays : (bases : List ℕ) (ops : List OpDecl) → InterfaceFits t bases ops → InterfaceFits u bases ops
   interface_stays bases ops fits = (
     (λ k d lt. grows.interfaces _ (fits.0.0 k d lt), fits.0.1, subst (λ (n : ℕ). n ≤ 1000) (paths_stay bases fits.0.0) fits.0.2),
-    λ k d lt. op_stays _ (fits.1 k d lt),
+    λ k d lt. op_stays (slice_index_or ops k d) (fits.1 k d lt),
     fits.2,
   )

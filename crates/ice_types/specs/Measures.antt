@@ -62,6 +62,11 @@ dictionary_of key value = measured key (λ k. measured value (λ v. Some (contai
 abbrev pub struct_of : Option Measure → Option Measure
 struct_of members = measured members (λ m. Some (structure m))
 
+-- a proxy or a reference of any, or of the row at a place
+abbrev pub of_any : {A : Type 0} → List A → Option ℕ → Measure → Option Measure
+of_any rows None m = Some m
+of_any rows (Some at) m = measured (slice_get rows at) (λ _. Some m)
+
 -- Some where the type is of these tables and nests at most so deep.
 unfoldable pub measure : Tables → ℕ → TypeRef → Option Measure
 measure t zero kind = None
@@ -76,10 +81,8 @@ measure t (suc zero) (kinds.Dict at) = None
 measure t (suc (suc levels)) (kinds.Dict at) = measured (slice_get t.dicts at) (λ d. dictionary_of (measure t levels d.key) (measure t levels d.value))
 measure t (suc levels) (kinds.Struct at) = measured (slice_get t.structs at) (λ d. struct_of (measure_members (measure t levels) d.members))
 measure t (suc levels) (kinds.Enum at) = measured (slice_get t.enums at) (λ _. Some enumeration)
-measure t (suc levels) (kinds.Proxy None) = Some proxy
-measure t (suc levels) (kinds.Proxy (Some at)) = measured (slice_get t.interfaces at) (λ _. Some proxy)
-measure t (suc levels) (kinds.Class None) = Some reference
-measure t (suc levels) (kinds.Class (Some at)) = measured (slice_get t.classes at) (λ _. Some reference)
+measure t (suc levels) (kinds.Proxy at) = of_any t.interfaces at proxy
+measure t (suc levels) (kinds.Class at) = of_any t.classes at reference
 
 -- the length of each spelling, where they are of one length
 abbrev pub fixed_size : Tables → TypeRef → Option ℕ

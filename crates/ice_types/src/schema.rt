@@ -2,7 +2,7 @@
 
 ghost use Rattle.std.specs.Prelude.{◌≡◌, ◌+◌, ◌-◌, ◌<◌, ◌≤◌, ◌↔◌, IfOk, IfSome, OnErr, length, IsTrue, Some, []};
 ghost use Rattle.ice_types.specs.Tables.{Tables, no_types, with_seq, with_dict, with_struct, IsTypeId, IsNewId, Names, HasTypeId, HasRowId, Finds, FindsKind};
-ghost use Rattle.ice_types.specs.Measures.{measure, sequence_of, dictionary_of, struct_of, fixed_size};
+ghost use Rattle.ice_types.specs.Measures.{measure, sequence_of, dictionary_of, struct_of, of_any, fixed_size};
 ghost use Rattle.ice_types.specs.Fits.{small_members, names_of, AreRequired, SeqFits, DictFits, StructFits};
 ghost use Rattle.ice_types.specs.Names.{AreNew};
 ghost use Rattle.ice_types.specs.Rules.{IsSchema};
@@ -128,20 +128,8 @@ impl Schema {
             TypeRef::Dict(at) => self.rows.dicts.beside.get(at as usize).copied(),
             TypeRef::Struct(at) => self.rows.structs.beside.get(at as usize).copied(),
             TypeRef::Enum(at) => self.rows.enums.beside.get(at as usize).copied(),
-            TypeRef::Proxy(None) => Some(Measure::proxy()),
-            TypeRef::Proxy(Some(at)) => self
-                .rows
-                .interfaces
-                .decls
-                .get(at as usize)
-                .map(|_| Measure::proxy()),
-            TypeRef::Class(None) => Some(Measure::reference()),
-            TypeRef::Class(Some(at)) => self
-                .rows
-                .classes
-                .decls
-                .get(at as usize)
-                .map(|_| Measure::reference()),
+            TypeRef::Proxy(at) => of_any(&self.rows.interfaces.decls, at, Measure::proxy()),
+            TypeRef::Class(at) => of_any(&self.rows.classes.decls, at, Measure::reference()),
         }
     }
 
@@ -328,6 +316,7 @@ impl Schema {
     fn type_of_id(&self, id: &str) -> Option<TypeRef>
         ensures { FindsKind (HasTypeId self.now id.now) result }
     {
+        self.rules();
         match self.row_of_id(id)? {
             RowRef::Seq(at) => Some(TypeRef::Seq(at)),
             RowRef::Dict(at) => Some(TypeRef::Dict(at)),
@@ -363,6 +352,17 @@ impl Schema {
         }
         place_of(rows.interfaces.decls.as_slice(), id).map(RowRef::Interface)
     }
+}
+
+/// What is said of a proxy or a reference, of any or of the row at a place.
+fn of_any<T>(rows: &List<T>, at: Option<u32>, measure: Measure) -> Option<Measure>
+    ensures { result ≡ of_any rows.now at measure }
+{
+    let Some(at) = at else {
+        return Some(measure);
+    };
+    rows.get(at as usize)?;
+    Some(measure)
 }
 
 fn is_type_id(id: &str) -> bool
