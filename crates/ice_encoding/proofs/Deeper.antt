@@ -81,6 +81,8 @@ module _ {R S : Type 0} (port : Port R S) (t : Tables) where
   value_alike (suc levels) (suc more) le kinds.Int m e s r = refl
   value_alike (suc levels) (suc more) le kinds.Long m e s r = refl
   value_alike (suc levels) (suc more) le kinds.Text m e s r = refl
+  value_alike (suc levels) (suc more) le (kinds.Enum at) m e s r = refl
+  value_alike (suc levels) (suc more) le (kinds.Proxy at) m e s r = refl
   value_alike (suc levels) (suc more) le (kinds.Class at) m e s r = refl
   value_alike (suc levels) (suc more) le (kinds.Seq at) m e s r =
       found_by (slice_get t.seqs at) (λ q. sequence_of (measure t levels q.element)) m e λ q q_is parts.

@@ -63,6 +63,8 @@ module _ {R S : Type 0} (port : Port R S) (t : Tables) where
   key_typed (suc levels) (suc other) kinds.Int m e k bytes v from to fits h = (h.0, int_exact.sort bytes h.0 fits h.2.0, h.1)
   key_typed (suc levels) (suc other) kinds.Long m e k bytes v from to fits h = (h.0, long_exact.sort bytes h.0 fits h.2.0, h.1)
   key_typed (suc levels) (suc other) kinds.Text m e k bytes v from to fits h = let is = text_exact.sort bytes h.0 fits h.2.0 in (h.0, is.0, is.1, h.1)
+  key_typed (suc levels) (suc other) (kinds.Enum at) m e k bytes v from to fits h = h
+  key_typed (suc levels) (suc other) (kinds.Proxy at) m e k bytes v from to fits h = h
   key_typed (suc levels) (suc other) (kinds.Class at) m e k bytes v from to fits h = no_key null m e refl k
   key_typed (suc levels) (suc other) (kinds.Seq at) m e k bytes v from to fits h =
       found_by (slice_get t.seqs at) (λ q. sequence_of (measure t levels q.element)) m e λ q q_is parts.
@@ -131,6 +133,8 @@ module _ {R S : Type 0} (port : Port R S) (t : Tables) (rules : IsSchema t) (Ref
   value_typed (suc levels) kinds.Int bytes v from to fits h = (h.0, int_exact.sort bytes h.0 fits h.2.0, h.1)
   value_typed (suc levels) kinds.Long bytes v from to fits h = (h.0, long_exact.sort bytes h.0 fits h.2.0, h.1)
   value_typed (suc levels) kinds.Text bytes v from to fits h = let is = text_exact.sort bytes h.0 fits h.2.0 in (h.0, is.0, is.1, h.1)
+  value_typed (suc levels) (kinds.Enum at) bytes v from to fits h = h
+  value_typed (suc levels) (kinds.Proxy at) bytes v from to fits h = h
   value_typed (suc levels) (kinds.Class declared) bytes v from to fits h = (h.0, refers declared bytes h.0 from to fits h.2, h.1)
   value_typed (suc levels) (kinds.Seq at) bytes v from to fits (q, row, (items, is, (n, front, body, parts, size, each))) =
       let all = each_typed (SpellsValue port t levels) (HasType t Refer levels) (value_typed levels) (replicate n q.element) body items from to (rest_fits bytes front body parts fits) each in
@@ -166,6 +170,8 @@ typed_ordered t Refer (suc levels) kinds.Short v h = rw h.2 tt
 typed_ordered t Refer (suc levels) kinds.Int v h = rw h.2 tt
 typed_ordered t Refer (suc levels) kinds.Long v h = rw h.2 tt
 typed_ordered t Refer (suc levels) kinds.Text v h = rw h.3 tt
+typed_ordered t Refer (suc levels) (kinds.Enum at) v h = absurd h
+typed_ordered t Refer (suc levels) (kinds.Proxy at) v h = absurd h
 typed_ordered t Refer (suc levels) (kinds.Class declared) v h = rw h.2 tt
 typed_ordered t Refer (suc levels) (kinds.Seq at) v (q, row, items, is, many, all) = rw is (tt, all_ordered (HasType t Refer levels q.element) (typed_ordered t Refer levels q.element) items all)
 typed_ordered t Refer (suc levels) (kinds.Dict at) v (d, row, pairs, is, many, rising, all) =

@@ -110,6 +110,9 @@ fn read_parts(
             }
             None => Err(ReadFault::Broken(cursor.fault(Kind::LeftOver))),
         },
+        TypeRef::Enum(_) | TypeRef::Proxy(_) => {
+            Err(ReadFault::Broken(cursor.fault(Kind::LeftOver)))
+        }
         TypeRef::Class(_) => Ok(Value::Reference(number_of(cursor.take_size()?))),
     }
 }
