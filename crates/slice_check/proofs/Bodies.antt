@@ -3,8 +3,7 @@ use Rattle.std.proofs.Common.{ℕ, suc, ◌≡◌, ◌+◌, ◌<◌, ◌≤◌, 
 use Rattle.std.specs.Prelude.{String}
 use Rattle.std.specs.BTreeSet.{BTreeSet}
 use Rattle.std.proofs.lemmas.List.{length-append, length-drop}
-use Rattle.ice_types.specs.Tables.{Tables, no_types, HasTypeId}
-use Rattle.ice_types.specs.declared.kind.TypeRef.{TypeRef}
+use Rattle.ice_types.specs.Tables.{Tables, no_types, IsNewId}
 use Rattle.slice_check.specs.SliceText.{Token, IsNew, IsDefinition, AreDefinitions, IsBody, Fits, closed, type_id, with_definition}
 use Rattle.slice_check.specs.Reading.{Answers, Claims, Defines, Lacks, ReadsFront}
 use Rattle.slice_check.specs.declared.definition.Definition.{Definition}
@@ -12,7 +11,7 @@ use Rattle.slice_check.specs.declared.definition.Definition.TheVariants as defin
 use Rattle.slice_check.specs.declared.fault.TextFault.{TextFault}
 use Rattle.slice_check.specs.declared.fault.TextFault.TheVariants as faults
 use Rattle.slice_check.specs.declared.scope.Scope.{Scope}
-use Rattle.slice_check.proofs.TypeIds.{Named, named_none, named_on, no_type_yet}
+use Rattle.slice_check.proofs.TypeIds.{Named, named_none, named_on, new_id_yet}
 use Rattle.slice_check.proofs.OneReading.{one_named, definition_same, no_definition}
 use Rattle.slice_check.proofs.Members.{members_shorter}
 
@@ -111,8 +110,9 @@ module _ (module_name known_as : Token) (same : known_as ≡ module_name) (body 
         let now : with_definition t (type_id module_name token) d ≡ u = rw (sym same, sym is_token) (sym added) in
         subst (λ (v : Tables). Reading module_name body (token ∷ names) v after) now (body_on module_name body names t rest r d token after (here d token after is) new fits)
 
-  pub fresh : (name token : Token) → name ≡ token → IsNew names token → (kind : TypeRef) → HasTypeId t (type_id known_as name) kind → ⊥
-  fresh name token is_token new kind h = no_type_yet module_name names t r.named token new kind (subst (λ (x : Token). HasTypeId t (type_id module_name x) kind) is_token (subst (λ (m : Token). HasTypeId t (type_id m name) kind) same h))
+  pub fresh : (name token : Token) → name ≡ token → IsNew names token → IsNewId t (type_id known_as name)
+  fresh name token is_token new =
+      subst (λ (m : Token). IsNewId t (type_id m name)) (sym same) (subst (λ (x : Token). IsNewId t (type_id module_name x)) (sym is_token) (new_id_yet module_name names t r.named token new))
 
 pub count_some : (module_name : Token) (t : Tables) (text : List Token) (d : Definition) (name : Token) (n : ℕ) → IsDefinition module_name t text d name (drop n text) → 0 < n
 count_some module_name t text d name n is = omega (arith, shorter module_name t text d name (drop n text) is, length-drop n text)

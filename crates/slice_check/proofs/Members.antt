@@ -1,5 +1,5 @@
 -- Reading the members of a struct from the left.
-use Rattle.std.proofs.Common.{ℕ, ◌≡◌, ◌≢◌, ◌≤◌, ◌+◌, ◌-◌, List, [], ◌∷◌, ◌++◌, length, take, drop, codes, Result, Ok, Err, refl, sym, ap, ◌∙◌, subst, arith, append_assoc, Bor}
+use Rattle.std.proofs.Common.{ℕ, ◌≡◌, ◌≢◌, ◌≤◌, ◌+◌, ◌-◌, List, [], ◌∷◌, ◌++◌, length, take, drop, codes, None, Result, Ok, Err, refl, sym, ap, ◌∙◌, subst, arith, append_assoc, Bor}
 use Rattle.std.proofs.lemmas.List.{append-nil}
 use Rattle.ice_types.specs.Tables.{Tables}
 use Rattle.ice_types.specs.declared.kind.TypeRef.{TypeRef}
@@ -15,7 +15,8 @@ use Rattle.slice_check.specs.declared.definition.Definition.TheVariants as defin
 use Rattle.slice_check.specs.declared.definition_fronts.Front.{Front}
 use Rattle.slice_check.proofs.Fronts.{token_at, three, behind, behind_count, seen_count, drop_more}
 use Rattle.ice_types.specs.Names.{HoldsNames, AreNew}
-use Rattle.ice_types.specs.Measures.{names_of}
+use Rattle.ice_types.specs.Fits.{AreRequired, names_of}
+use Rattle.std.proofs.lemmas.List.Elements.{All-nil, All-cons}
 use Rattle.slice_check.proofs.OneReading.{OneType, no_member, member_same}
 
 pub closed_front : (text after : List Token) → text ≡ closed after → text ≡ closed (drop 2 text)
@@ -70,11 +71,11 @@ members_shorter module_name t names text (m ∷ ms) after h = omega (arith, memb
 -- ---- one member
 
 module _ (module_name : Token) (t : Tables) (names : List Token) (found : List (Bor Token)) (enough : 3 ≤ length found) (ends : token_at found 2 ≡ codes ";") where
-  pub member_read : {Y : Type 0} (held : BTreeSet (String Y)) (member : Member) → member.name ≡ token_at found 1 → IsType module_name t (token_at found 0) member.kind → IsNew names (token_at found 1)
+  pub member_read : {Y : Type 0} (held : BTreeSet (String Y)) (member : Member) → member.tag ≡ None → member.name ≡ token_at found 1 → IsType module_name t (token_at found 0) member.kind → IsNew names (token_at found 1)
       → HoldsNames held (token_at found 1 ∷ names) → ReadsMember module_name t names (tokens_seen found) held (Ok member)
-  member_read held member is kind new holds =
+  member_read held member untagged is kind new holds =
       let parts = three found enough in
-      ((token_at found 0, rw (is, sym ends) parts, kind, rw is new), rw is holds)
+      ((token_at found 0, rw (is, sym ends) parts, kind, rw is new, untagged), rw is holds)
 
   pub member_refused : {Y : Type 0} (held : BTreeSet (String Y)) (fault : TextFault) → Claims names (token_at found 1) held (Err fault) → ReadsMember module_name t names (tokens_seen found) held (Err fault)
   member_refused held faults.Refused none = λ member after is.
@@ -169,13 +170,17 @@ front_or module_name t text no_sequence no_dictionary (Err faults.Refused) no_st
     none (definitions.Sequence element) name after is = no_sequence element name after is
     none (definitions.Dictionary key value) name after is = no_dictionary (key, value) name after is
 
--- ---- names of their own
+-- ---- names of their own, and no tags
 
 members_own : (module_name : Token) (t : Tables) (names text : List Token) (members : List Member) (after : List Token) → AreMembers module_name t names text members after → AreNew names (names_of members)
 members_own module_name t names text [] after h = tt
 members_own module_name t names text (member ∷ members) after (mid, is, more) = (is.3.1, members_own module_name t (member.name ∷ names) mid members after more)
 
+members_untagged : (module_name : Token) (t : Tables) (names text : List Token) (members : List Member) (after : List Token) → AreMembers module_name t names text members after → AreRequired members
+members_untagged module_name t names text [] after h = All-nil (λ m. m.tag ≡ None)
+members_untagged module_name t names text (member ∷ members) after (mid, is, more) = All-cons (λ m. m.tag ≡ None) member members is.4 (members_untagged module_name t (member.name ∷ names) mid members after more)
+
 pub own_names : (module_name : Token) (t : Tables) (text : List Token) (d : Definition) (name : Token) (after : List Token) → IsDefinition module_name t text d name after → OwnNames d
-own_names module_name t text (definitions.Struct members) name after (body, is, some, are) = members_own module_name t [] body members after are
+own_names module_name t text (definitions.Struct members) name after (body, is, some, are) = (members_own module_name t [] body members after are, members_untagged module_name t [] body members after are)
 own_names module_name t text (definitions.Sequence element) name after h = tt
 own_names module_name t text (definitions.Dictionary key value) name after h = tt

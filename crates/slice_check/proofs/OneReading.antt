@@ -1,11 +1,11 @@
 -- A text has one reading at most.
-use Rattle.std.proofs.Common.{ℕ, ◌≡◌, List, [], ◌∷◌, Some, codes, Contains, refl, sym, ap, ◌∙◌, subst, arith, inl, inr}
+use Rattle.std.proofs.Common.{ℕ, ◌≡◌, List, [], ◌∷◌, Some, None, codes, Contains, refl, sym, ap, ◌∙◌, subst, arith, inl, inr}
 use Rattle.case_tables.specs.Tables.{keyword_names}
 use Rattle.ice_types.specs.Tables.{Tables, Names, no_types, HasTypeId}
 use Rattle.ice_types.specs.declared.kind.TypeRef.{TypeRef}
 use Rattle.ice_types.specs.declared.kind.TypeRef.TheVariants as kinds
 use Rattle.ice_types.specs.declared.declarations.Member.{Member}
-use Rattle.ice_types.proofs.Added.{IsKept-none}
+use Rattle.ice_types.proofs.NoRows.{kept_nothing}
 use Rattle.ice_types.proofs.Naming.{names_apart}
 use Rattle.slice_check.specs.SliceText.{Token, IsName, IsType, IsMember, AreMembers, IsDefinition, AreDefinitions, IsBody, IsFile, Means, closed, tokens, type_id, with_definition}
 use Rattle.slice_check.specs.declared.definition.Definition.{Definition}
@@ -24,13 +24,16 @@ word_kept word kinds.Short h = rw h (23, omega arith, refl)
 word_kept word kinds.Int h = rw h (13, omega arith, refl)
 word_kept word kinds.Long h = rw h (17, omega arith, refl)
 word_kept word kinds.Text h = rw h (24, omega arith, refl)
-word_kept word (kinds.Class at) h = absurd h
+word_kept word (kinds.Enum at) h = absurd (no_type word (kinds.Enum at) h)
+word_kept word (kinds.Proxy at) h = absurd h
+word_kept word (kinds.Class None) h = absurd h
+word_kept word (kinds.Class (Some at)) h = absurd (no_type word (kinds.Class (Some at)) h)
 word_kept word (kinds.Seq at) h = absurd (no_type word (kinds.Seq at) h)
 word_kept word (kinds.Dict at) h = absurd (no_type word (kinds.Dict at) h)
 word_kept word (kinds.Struct at) h = absurd (no_type word (kinds.Struct at) h)
 
 words_apart : (word : Token) (a b : TypeRef) → Names no_types word a → Names no_types word b → a ≡ b
-words_apart word a b = names_apart no_types IsKept-none.rules word a b
+words_apart word a b = names_apart no_types kept_nothing.rules word a b
 
 -- a word is one type at most
 abbrev pub OneType : Token → Tables → Type 0
@@ -77,7 +80,8 @@ module _ (module_name : Token) (t : Tables) (one : OneType module_name t) where
       let word : g.0 ≡ h.0 = cc (g.1, h.1) in
       let name : x.name ≡ y.name = cc (g.1, h.1) in
       let kind : x.kind ≡ y.kind = one_type_at g.0 h.0 x.kind y.kind word g.2 h.2 in
-      (λ i. record { name = name i; kind = kind i }, cc (g.1, h.1))
+      let tag : x.tag ≡ y.tag = g.4 ∙ sym h.4 in
+      (λ i. record { name = name i; kind = kind i; tag = tag i }, cc (g.1, h.1))
 
   pub members_same : (names text : List Token) (xs ys : List Member) (a b : List Token) → AreMembers module_name t names text xs a → AreMembers module_name t names text ys b → (xs ≡ ys) × (a ≡ b)
   members_same names text [] [] a b g h = (refl, cc (g, h))

@@ -37,7 +37,7 @@ id = refl
 
 -- a built-in word, and the name of the sequence that the tables have
 one_sequence : Tables
-one_sequence = record { seqs = record { id = codes "::M::Q"; element = kinds.Byte } ∷ []; dicts = []; structs = [] }
+one_sequence = record no_types { seqs = record { id = codes "::M::Q"; element = kinds.Byte } ∷ [] }
 
 built_in_type : IsType (codes "M") no_types (codes "int") kinds.Int
 built_in_type = inl refl

@@ -8,13 +8,13 @@
 --
 -- A type is one of the six built-in words, or the name of an earlier definition. Blanks alone stand between tokens. No two
 -- definitions have names that are equal without regard to case, and no two members of one struct.
-use Rattle.std.specs.Prelude.{ℕ, ◌+◌, ◌≡◌, ◌≢◌, ◌≤◌, ◌⊎◌, Bool, false, IsTrue, ◌&&◌, List, [], ◌∷◌, ◌++◌, length, Contains, codes, if◌then◌else◌}
+use Rattle.std.specs.Prelude.{ℕ, ◌+◌, ◌≡◌, ◌≢◌, ◌≤◌, ◌⊎◌, Bool, false, IsTrue, ◌&&◌, List, [], ◌∷◌, ◌++◌, length, Contains, codes, None, if◌then◌else◌}
 use Rattle.std.specs.Char.{is_ascii_alphanumeric, is_ascii_alphabetic, is_ascii_whitespace}
 use Rattle.std.specs.List.{list_all}
 use Rattle.case_tables.specs.Tables.{keyword_names}
 use Rattle.ice_types.specs.Names.{IsFree, AreNew}
 use Rattle.ice_types.specs.Tables.{Tables, Names, no_types, with_seq, with_dict, with_struct, HasTypeId}
-use Rattle.ice_types.specs.Measures.{SeqFits, DictFits, StructFits, names_of}
+use Rattle.ice_types.specs.Fits.{SeqFits, DictFits, StructFits, AreRequired, names_of}
 use Rattle.ice_types.specs.declared.kind.TypeRef.{TypeRef}
 use Rattle.ice_types.specs.declared.declarations.Member.{Member}
 use Rattle.slice_check.specs.declared.definition.Definition.{Definition}
@@ -66,9 +66,9 @@ module _ (module_name : Token) (t : Tables) where
   abbrev pub IsType : Token → TypeRef → Type 0
   IsType word kind = Names no_types word kind ⊎ HasTypeId t (type_id module_name word) kind
 
-  -- type name ";" after members of some names
+  -- type name ";" after members of some names, without a tag
   abbrev pub IsMember : List Token → List Token → Member → List Token → Type 0
-  IsMember names text member after = (word : Token) × (text ≡ word ∷ member.name ∷ codes ";" ∷ after) × IsType word member.kind × IsNew names member.name
+  IsMember names text member after = (word : Token) × (text ≡ word ∷ member.name ∷ codes ";" ∷ after) × IsType word member.kind × IsNew names member.name × (member.tag ≡ None)
 
   -- { member } "}" ";" after members of some names
   abbrev pub AreMembers : List Token → List Token → List Member → List Token → Type 0
@@ -84,9 +84,9 @@ module _ (module_name : Token) (t : Tables) where
   IsDefinition text (definitions.Dictionary key value) name after = (first second : Token)
       × (text ≡ codes "dictionary" ∷ codes "<" ∷ first ∷ codes "," ∷ second ∷ codes ">" ∷ name ∷ codes ";" ∷ after) × IsType first key × IsType second value
 
--- the members of a struct have names of their own
+-- the members of a struct have names of their own, and no tags
 abbrev pub OwnNames : Definition → Type 0
-OwnNames (definitions.Struct members) = AreNew [] (names_of members)
+OwnNames (definitions.Struct members) = AreNew [] (names_of members) × AreRequired members
 OwnNames (definitions.Sequence element) = Unit {0}
 OwnNames (definitions.Dictionary key value) = Unit {0}
 

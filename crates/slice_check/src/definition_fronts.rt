@@ -162,6 +162,7 @@ fn member_at(
         Ok(name) => Ok(Member {
             name: Name::of(alloc, name)?,
             kind,
+            tag: None,
         }),
         Err(fault) => Err(fault),
     }

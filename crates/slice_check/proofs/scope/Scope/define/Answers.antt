@@ -1,4 +1,5 @@
-use Rattle.ice_types.specs.Tables.{HasTypeId}
+use Rattle.ice_types.specs.Tables.{HasRowId}
+use Rattle.ice_types.proofs.TypeIds.{no_row}
 use Rattle.std.proofs.Common.{◌≡◌, cond, List, ℕ, Some, ap, subst, sym, refl, ◌∙◌}
 use Rattle.std.specs.Str.{bytes_eq}
 use Rattle.std.proofs.lemmas.Map.Text.{btree_map_updates_str}
@@ -9,7 +10,7 @@ use Rattle.slice_check.proofs.scope.Scope.define.Goals as goal
 
 pub add_definition-requires-clause-new_id : goal.add_definition-requires-clause-new_id
 add_definition-requires-clause-new_id c =
-    λ kind h. c.requires.new kind (subst (λ (id : List ℕ). HasTypeId c.args.self.now.schema id kind) c.in_ok-id.ensures h)
+    λ row h. c.requires.new row (subst (λ (id : List ℕ). HasRowId c.args.self.now.schema id row) c.in_ok-id.ensures h)
 
 pub returns : goal.returns
 returns c =
@@ -21,5 +22,5 @@ returns c =
       schema,
       refl,
       knows_on c.args.self.now (record { module_name = c.args.self.now.module_name; schema = c.add_definition.new.schema; types = c.insert.new.self }) c.args.name.now c.args.definition
-          c.requires.is_name c.requires.new c.requires.knows refl schema put,
+          c.requires.is_name (no_row c.args.self.now.schema (type_id c.args.self.now.module_name.now c.args.name.now) c.requires.new) c.requires.knows refl schema put,
     )
