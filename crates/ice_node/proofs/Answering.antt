@@ -15,6 +15,7 @@ use Rattle.ice_node.specs.Effects.{TakesInput, Takes, Outputs}
 use Rattle.ice_node.specs.declared.outcome.Outcome.{Outcome}
 use Rattle.ice_node.specs.declared.outcome.Outcome.TheVariants as outcomes
 use Rattle.ice_node.specs.Outcomes.{Prints, answer_of}
+use Rattle.ice_node.proofs.Keeping.{keeps_itself}
 use Rattle.ice_relay.proofs.KnownBytes.{Appends-none, Appends-then}
 
 -- what was decided was written, or a write of it failed
@@ -22,10 +23,6 @@ pub printed : (asked : Option Command) (files : Option Files) (input left : Opti
     → Prints before.sink after.sink outcome → Causes asked files input before after (answer_of outcome bytes) × Takes asked input left (answer_of outcome bytes)
 printed asked files input left before after bytes outcome decided shelf source taken (inl p) = rw p.0 ((decided, (shelf, source, p.1)), taken)
 printed asked files input left before after bytes outcome decided shelf source taken (inr p) = rw p.0 ((decided, (shelf, source, p.1)), taken)
-
-pub keeps_itself : (old : Option (List ℕ)) → Keeps old old
-keeps_itself None = tt
-keeps_itself (Some bytes) = refl
 
 -- `check` takes nothing of the input, whatever the answer
 pub check_takes_nothing : (file : Word) (old : Option (List ℕ)) (answer : Answer) → Takes (Some (check file)) old old answer

@@ -1,3 +1,4 @@
+pub mod Keeping
 pub mod CommandForms
 pub mod Relaying
 pub mod Answering

@@ -5,11 +5,12 @@ use Rattle.ice_types.specs.Tables.{Tables}
 use Rattle.ice_encoding.specs.Tree.{Tree}
 use Rattle.ice_encoding.specs.Encapsulation.{SpellsEncapsulation, encapsulation_bytes}
 use Rattle.ice_encoding.proofs.Encapsulations.{encapsulation_apart}
-use Rattle.node_scaffold.specs.Loading.{LoadBreak, Loads, LoadBreaks, IsBuilt}
+use Rattle.slice_meaning.specs.Printed.{LoadBreak}
+use Rattle.slice_meaning.specs.Loading.{Loads, LoadBreaks}
 use Rattle.ice_node.specs.Words.{Word, Command, relay, check, help, version, Asks}
 use Rattle.ice_node.specs.Outside.{Files, Failures}
 use Rattle.ice_node.specs.Answers.{Answer, done, usage, no_such_name, not_built, slice_refused, input_refused, read_failed, write_failed, no_memory, status}
-use Rattle.ice_node.specs.Decided.{WithSchema, WithType, WithBuilt, WithValue, Relays, Checks, Decides, Decided}
+use Rattle.ice_node.specs.Decided.{IsBuilt, WithSchema, WithType, WithBuilt, WithValue, Relays, Checks, Decides, Decided}
 use Rattle.ice_node.specs.Causes.{Causes}
 use Rattle.ice_node.specs.Statuses.{Ends}
 use Rattle.ice_node.proofs.CommandForms.{asks_apart}

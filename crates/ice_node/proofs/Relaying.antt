@@ -15,20 +15,23 @@ use Rattle.ice_encoding.specs.Canonical.{canonical, HasSizes}
 use Rattle.ice_encoding.specs.Encapsulation.{SpellsEncapsulation, encapsulation_at, encapsulation_bytes}
 use Rattle.ice_encoding.proofs.Plain.{plain_sizes}
 use Rattle.ice_encoding.proofs.Encapsulations.{encapsulation_found, encapsulation_only, encapsulation_canon}
-use Rattle.node_scaffold.specs.Loading.{IsBuilt}
 use Rattle.ice_relay.specs.Relaying.{Canonicalizes}
 use Rattle.ice_relay.proofs.Values.{claims_length}
 use Rattle.ice_node.specs.Words.{Word, relay, check}
-use Rattle.ice_relay.specs.Streams.{Claims, IsSize, ReadsInput}
+use Rattle.ice_ports.specs.declared.ports.PortFault.{PortFault}
+use Rattle.ice_ports.specs.declared.ports.PortFault.TheVariants as ports
+use Rattle.ice_ports.specs.Failures.{count_after}
+use Rattle.ice_ports.specs.Files.{is_failed}
+use Rattle.ice_relay.specs.Streams.{Claims, IsSize, ReadsInput, TakesFrugally}
+use Rattle.ice_relay.proofs.Inputs.{nothing_is_frugal}
+use Rattle.ice_node.proofs.Keeping.{keeps_itself}
 use Rattle.ice_node.specs.Outside.{Files, Failures, NoneFailed, counts}
 use Rattle.ice_node.specs.Answers.{Answer, done, usage, no_such_name, not_built, slice_refused, input_refused, read_failed, write_failed, no_memory}
-use Rattle.ice_node.specs.Decided.{IsSchema, IsNamed, WithType, WithBuilt, IsValue, HasNoValue}
+use Rattle.ice_node.specs.Decided.{IsBuilt, IsSchema, IsNamed, WithType, WithBuilt, IsValue, HasNoValue}
 use Rattle.ice_node.specs.Causes.{Causes}
-use Rattle.ice_node.specs.Outcomes.{GivesNoSchema, FindsSchema, FindsType, answer_of, of_load, of_read}
+use Rattle.ice_node.specs.Effects.{Takes}
+use Rattle.ice_node.specs.Outcomes.{GivesNoSchema, FindsSchema, FindsType, answer_of, of_port, of_read}
 use Rattle.ice_node.specs.declared.outcome.Outcome.{Outcome}
-use Rattle.node_scaffold.specs.Loading.{Answers}
-use Rattle.node_scaffold.specs.declared.LoadFault.{LoadFault}
-use Rattle.node_scaffold.specs.declared.LoadFault.TheVariants as load_faults
 
 -- ---- the file
 
@@ -55,12 +58,48 @@ check_unloaded files input file before after source sink (not_built name) h = ab
 check_unloaded files input file before after source sink input_refused h = absurd h
 check_unloaded files input file before after source sink (write_failed bytes) h = absurd h
 
+-- nothing was taken of the input by then
+pub unloaded_takes : (files : Option Files) (file word : Word) (before after : ℕ) (old : Option (List ℕ)) (answer : Answer) → GivesNoSchema files file before after answer → Takes (Some (relay file word)) old old answer
+unloaded_takes files file word before after old (slice_refused broken) h = keeps_itself old
+unloaded_takes files file word before after old read_failed h = nothing_is_frugal old old (keeps_itself old)
+unloaded_takes files file word before after old no_memory h = nothing_is_frugal old old (keeps_itself old)
+unloaded_takes files file word before after old (done bytes) h = absurd h
+unloaded_takes files file word before after old usage h = absurd h
+unloaded_takes files file word before after old (no_such_name name) h = absurd h
+unloaded_takes files file word before after old (not_built name) h = absurd h
+unloaded_takes files file word before after old input_refused h = absurd h
+unloaded_takes files file word before after old (write_failed bytes) h = absurd h
+
 -- ---- the type
+
+pub unbuilt : (t : Tables) (word : Word) (kind : TypeRef) (answer : Answer) → IsNamed t word kind → (IsBuilt t kind → ⊥) → answer ≡ not_built word → WithType t word answer (λ k. WithBuilt t k word answer ⊥)
+unbuilt t word kind answer named no_values is = inr (kind, named, inl (no_values, is))
 
 pub relay_untyped : (files : Option Files) (input : Option (List ℕ)) (file word : Word) (t : Tables) (before after : Failures) (answer : Answer) → IsSchema files file t → NoneFailed before after → WithType t word answer (λ kind. WithBuilt t kind word answer ⊥) → Causes (Some (relay file word)) files input before after answer
 relay_untyped files input file word t before after answer schema none (inl unnamed) = rw unnamed.1 (inr (t, schema, inl (unnamed.0, refl)), none)
 relay_untyped files input file word t before after answer schema none (inr (kind, named, inl unbuilt)) = rw unbuilt.1 (inr (t, schema, inr (kind, named, inl (unbuilt.0, refl))), none)
 relay_untyped files input file word t before after answer schema none (inr (kind, named, inr never)) = absurd never.1
+
+pub untyped_takes : (file word : Word) (t : Tables) (old : Option (List ℕ)) (answer : Answer) → WithType t word answer (λ kind. WithBuilt t kind word answer ⊥) → Takes (Some (relay file word)) old old answer
+untyped_takes file word t old answer (inl unnamed) = rw unnamed.1 (keeps_itself old)
+untyped_takes file word t old answer (inr (kind, named, inl no_values)) = rw no_values.1 (keeps_itself old)
+untyped_takes file word t old answer (inr (kind, named, inr never)) = absurd never.1
+
+-- ---- the input
+
+-- a read of it failed, or there was no memory for it
+pub input_unread : (files : Option Files) (input : Option (List ℕ)) (file word : Word) (t : Tables) (kind : TypeRef) (before after : Failures) (fault : PortFault) (outcome : Outcome) → outcome ≡ of_port fault → IsSchema files file t → IsNamed t word kind → IsBuilt t kind
+    → after.shelf ≡ before.shelf → after.source ≡ count_after before.source (is_failed {T = List ℕ} (Err fault)) → after.sink ≡ before.sink → Causes (Some (relay file word)) files input before after (answer_of outcome [])
+input_unread files input file word t kind before after ports.Failed outcome from schema named built shelf source sink = rw from (inr ((t, kind, schema, named, built), (shelf, source, sink)))
+input_unread files input file word t kind before after ports.Memory outcome from schema named built shelf source sink = rw from (tt, (shelf, source, sink))
+
+pub unread_takes : (file word : Word) (old now : Option (List ℕ)) (fault : PortFault) (outcome : Outcome) → outcome ≡ of_port fault → TakesFrugally old now → Takes (Some (relay file word)) old now (answer_of outcome [])
+unread_takes file word old now ports.Failed outcome from taken = rw from taken
+unread_takes file word old now ports.Memory outcome from taken = rw from taken
+
+pub unfound_takes : (file word : Word) (old now : Option (List ℕ)) (fault : ReadFault) (outcome : Outcome) → outcome ≡ of_read fault → TakesFrugally old now → Takes (Some (relay file word)) old now (answer_of outcome [])
+unfound_takes file word old now (faults.Broken fault) outcome from taken = rw from taken
+unfound_takes file word old now faults.Memory outcome from taken = rw from taken
 
 -- ---- the value
 

@@ -1,7 +1,7 @@
 -- What the program answers: the table of statuses, with the line of each.
 use Rattle.std.specs.Prelude.{ℕ, List, [], ◌++◌, codes}
 use Rattle.std.specs.Fmt.{decimal}
-use Rattle.node_scaffold.specs.Loading.{LoadBreak}
+use Rattle.slice_meaning.specs.Printed.{LoadBreak}
 use Rattle.ice_node.specs.Words.{Word}
 
 pub data Answer : Type 0 where

@@ -2,11 +2,10 @@
 use Rattle.std.specs.Prelude.{ℕ, ◌⊎◌, List, Option, Some, None}
 use Rattle.ice_types.specs.declared.kind.TypeRef.{TypeRef}
 use Rattle.ice_types.specs.Tables.{Tables}
-use Rattle.node_scaffold.specs.Loading.{IsBuilt}
 use Rattle.ice_node.specs.Words.{Word, Command, relay, check, help, version}
 use Rattle.ice_node.specs.Outside.{Files, Failures, NoneFailed, ShelfFailed, SourceFailed, SinkFailed}
 use Rattle.ice_node.specs.Answers.{Answer, done, usage, no_such_name, not_built, slice_refused, input_refused, read_failed, write_failed, no_memory}
-use Rattle.ice_node.specs.Decided.{IsSchema, IsNamed, Decides}
+use Rattle.ice_node.specs.Decided.{IsBuilt, IsSchema, IsNamed, Decides}
 
 -- FILE means a schema in which the word names a type whose values are built: only then is the
 -- input read

@@ -1,13 +1,17 @@
 -- What each command comes to by its words, the files and the input, where the outside tells them.
 -- Each step decides only what those before it let through: the Slice file, the name of the type,
 -- whether its values are built, the input.
-use Rattle.std.specs.Prelude.{ℕ, ◌≡◌, ◌+◌, ◌⊎◌, List, ◌++◌, length, Option, Some, None, IfSome, codes}
+use Rattle.std.specs.Prelude.{ℕ, true, ◌≡◌, ◌+◌, ◌⊎◌, List, ◌++◌, length, Option, Some, None, IfSome, codes}
 use Rattle.std.specs.Fmt.{decimal}
 use Rattle.ice_types.specs.declared.kind.TypeRef.{TypeRef}
+use Rattle.ice_types.specs.declared.measure.Measure.{Measure}
+use Rattle.ice_types.specs.declared.schema.TheConstants.{MOST_DEPTH}
 use Rattle.ice_types.specs.Tables.{Tables, Names}
+use Rattle.ice_types.specs.Measures.{measure}
 use Rattle.ice_encoding.specs.Tree.{Tree}
 use Rattle.ice_encoding.specs.Encapsulation.{SpellsEncapsulation, encapsulation_bytes}
-use Rattle.node_scaffold.specs.Loading.{LoadBreak, Loads, LoadBreaks, IsBuilt}
+use Rattle.slice_meaning.specs.Printed.{LoadBreak}
+use Rattle.slice_meaning.specs.Loading.{Loads, LoadBreaks}
 use Rattle.ice_node.specs.declared.help.TheConstants.{HELP, VERSION}
 use Rattle.ice_node.specs.Words.{Word, Command, relay, check, help, version, Asks}
 use Rattle.ice_node.specs.Outside.{Files}
@@ -39,7 +43,11 @@ WithType t word answer Next =
     (((kind : TypeRef) → Names t word kind → ⊥) × (answer ≡ no_such_name word))
     ⊎ ((kind : TypeRef) × IsNamed t word kind × Next kind)
 
--- the type that the word names has values that are not built, or it goes on
+-- Values of the type are carried: it reaches no enum, class or proxy through elements, keys and members.
+abbrev pub IsBuilt : Tables → TypeRef → Type 0
+IsBuilt t kind = (m : Measure) × (measure t MOST_DEPTH kind ≡ Some m) × (m.is_built ≡ true)
+
+-- the type that the word names has values that are not carried yet, or it goes on
 abbrev pub WithBuilt : Tables → TypeRef → Word → Answer → Type 0 → Type 0
 WithBuilt t kind word answer Next =
     ((IsBuilt t kind → ⊥) × (answer ≡ not_built word)) ⊎ (IsBuilt t kind × Next)
@@ -77,8 +85,8 @@ count_line types classes exceptions interfaces = codes "ok: " ++ (decimal types
 
 -- of the rows of the tables: the types are the sequences, dictionaries, structs and enums
 abbrev pub summary : Tables → List ℕ
-summary t = count_line (length t.seqs + length t.dicts + length t.structs + length t.structs)
-    (length t.seqs) (length t.dicts) (length t.structs)
+summary t = count_line (length t.seqs + length t.dicts + length t.structs + length t.enums)
+    (length t.classes) (length t.exceptions) (length t.interfaces)
 
 -- `check FILE`: how many there are of each sort of definition
 abbrev pub Checks : Option Files → Word → Answer → Type 0

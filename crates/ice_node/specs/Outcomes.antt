@@ -10,15 +10,14 @@ use Rattle.ice_prims.specs.declared.fault.ReadFault.TheVariants as read_faults
 use Rattle.ice_ports.specs.declared.ports.PortFault.{PortFault}
 use Rattle.ice_ports.specs.declared.ports.PortFault.TheVariants as port_faults
 use Rattle.ice_ports.specs.Failures.{one_more}
-use Rattle.node_scaffold.specs.Loading.{IsBuilt}
-use Rattle.node_scaffold.specs.declared.LoadFault.{LoadFault}
-use Rattle.node_scaffold.specs.declared.LoadFault.TheVariants as load_faults
+use Rattle.node_scaffold.specs.declared.fault.LoadFault.{LoadFault}
+use Rattle.node_scaffold.specs.declared.fault.LoadFault.TheVariants as load_faults
 use Rattle.ice_node.specs.declared.outcome.Outcome.{Outcome}
 use Rattle.ice_node.specs.declared.outcome.Outcome.TheVariants as outcomes
 use Rattle.ice_node.specs.Words.{Word, Command}
 use Rattle.ice_node.specs.Outside.{Files, Failures, NoneFailed}
 use Rattle.ice_node.specs.Answers.{Answer, done, usage, no_such_name, not_built, slice_refused, input_refused, read_failed, write_failed, no_memory}
-use Rattle.ice_node.specs.Decided.{IsSchema, IsFault, IsNamed, WithType, WithBuilt, Decides}
+use Rattle.ice_node.specs.Decided.{IsBuilt, IsSchema, IsFault, IsNamed, WithType, WithBuilt, Decides}
 use Rattle.ice_node.specs.Causes.{Causes}
 use Rattle.ice_node.specs.Effects.{TakesInput, Takes}
 

@@ -31,9 +31,10 @@ fn summary(alloc: Global, schema: &Schema) -> Result<String, AllocError>
     let types = schema.seqs().len() as u128
         + schema.dicts().len() as u128
         + schema.structs().len() as u128
-        + schema.structs().len() as u128;
-    let (classes, exceptions) = (schema.seqs().len(), schema.dicts().len());
-    count_line(alloc, types, classes, exceptions, schema.structs().len())
+        + schema.enums().len() as u128;
+    let (classes, exceptions) = (schema.classes().len(), schema.exceptions().len());
+    let interfaces = schema.interfaces().len();
+    count_line(alloc, types, classes, exceptions, interfaces)
 }
 
 /// The line that tells so many definitions of each sort.

@@ -1,6 +1,7 @@
 //! `relay FILE TYPE`: one encapsulation in, the canonical one out.
 
-ghost use Rattle.std.specs.Prelude.{ℕ};
+ghost use Rattle.std.specs.Prelude.{ℕ, ◌↔◌, IsTrue};
+ghost use Rattle.ice_node.specs.Decided.{IsBuilt};
 ghost use Rattle.ice_node.specs.Words.{relay as wanted};
 ghost use Rattle.ice_node.specs.Outside.{counts};
 ghost use Rattle.ice_node.specs.Outcomes.{FindsType, FindsBytes, TakesFound, bytes_found};
@@ -9,8 +10,7 @@ use crate::loading::load_schema;
 use crate::outcome::Outcome;
 use ice_ports::{Shelf, Source};
 use ice_relay::{canonical_of, read_input};
-use ice_types::{Schema, TypeRef};
-use node_scaffold::is_built;
+use ice_types::{MOST_DEPTH, Schema, TypeRef};
 use std::alloc::Global;
 
 /// The canonical encapsulation of the value of the type that the source holds, or why there is
@@ -45,4 +45,14 @@ fn built_type<'a>(schema: &Schema, word: &'a str) -> Result<TypeRef, Outcome<'a>
         return Err(Outcome::NotBuilt(word));
     }
     Ok(kind)
+}
+
+/// Whether the node carries values of the type.
+fn is_built(schema: &Schema, kind: TypeRef) -> bool
+    ensures { IsTrue result ↔ IsBuilt schema.now kind }
+{
+    match schema.measure_within(MOST_DEPTH, kind) {
+        Some(found) => found.is_built,
+        None => false,
+    }
 }

@@ -2,7 +2,8 @@ use Rattle.std.proofs.Common.{[], Some, string_bytes, refl}
 use Rattle.ice_node.specs.Words.{relay, check, help}
 use Rattle.ice_node.specs.declared.help.TheConstants.{HELP}
 use Rattle.ice_node.specs.Outcomes.{answer_of}
-use Rattle.ice_node.proofs.Answering.{printed, outputs_nothing, keeps_itself, check_takes_nothing}
+use Rattle.ice_node.proofs.Answering.{printed, outputs_nothing, check_takes_nothing}
+use Rattle.ice_node.proofs.Keeping.{keeps_itself}
 use Rattle.ice_node.proofs.top_call.run.Goals as goal
 
 pub returns-in-Ok : goal.returns-in-Ok
