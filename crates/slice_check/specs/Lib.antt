@@ -1,2 +1,1 @@
-pub mod SliceText
-pub mod Reading
+pub mod Answers

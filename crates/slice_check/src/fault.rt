@@ -1,31 +1,21 @@
-//! Why a Slice text gave no schema.
+//! Why files on a shelf gave no schema.
 
-ghost use Rattle.std.specs.Prelude.{◌≡◌};
-ghost use Rattle.slice_check.specs.declared.fault.TextFault.TheVariants as faults;
+use ice_types::Name;
 
-use std::alloc::{AllocError, AllocFailed};
-
-/// Why a Slice text gave no schema.
-#[derive(Clone, Copy, Debug, PartialEq, Eq)]
-pub enum TextFault {
-    /// The text means none.
-    Refused,
-    /// Memory ran out.
+/// Why a file on a shelf, with all that it includes, gave no schema.
+#[derive(Debug, Drop)]
+pub enum LoadFault {
+    /// A text, an include or a declaration is at fault.
+    Text {
+        /// The name on the shelf of the file that the fault is in.
+        file: Name,
+        /// The first byte of what is wrong, counted from 0.
+        place: u32,
+        /// The word that is printed for what is wrong.
+        kind: Name,
+    },
+    /// The shelf failed, and has counted that.
+    Shelf,
+    /// Memory ran out, which may come in place of any other answer.
     Memory,
-}
-
-impl From<AllocError> for TextFault {
-    ghost from_gives = { λ _ fault. fault ≡ faults.Memory };
-
-    fn from(_error: AllocError) -> TextFault {
-        TextFault::Memory
-    }
-}
-
-impl<T: Drop> From<AllocFailed<T>> for TextFault {
-    ghost from_gives = { λ _ fault. fault ≡ faults.Memory };
-
-    fn from(_error: AllocFailed<T>) -> TextFault {
-        TextFault::Memory
-    }
 }

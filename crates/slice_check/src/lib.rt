@@ -1,13 +1,8 @@
-//! From a Slice text to its schema.
+//! From a file of Slice on a shelf, with all that it includes, to its schema.
 #![tactic(auto)]
 
-mod definition;
-mod definition_fronts;
 mod fault;
-mod file;
-mod names;
-mod scope;
-mod tokens;
+mod loading;
 
-pub use fault::TextFault;
-pub use file::{MOST_BYTES, schema_of, texts_apart};
+pub use fault::LoadFault;
+pub use loading::load;

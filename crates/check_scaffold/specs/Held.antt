@@ -1,0 +1,17 @@
+-- What `check` answers.
+use Rattle.std.specs.Prelude.{ℕ, ◌≡◌, List, length, Result, Ok, Err}
+use Rattle.slice_syntax.specs.declared.tree.File.{File}
+use Rattle.schema_rows.specs.Tables.{Tables}
+use Rattle.slice_meaning.specs.Meaning.{Means, CheckBreaks}
+use Rattle.check_scaffold.specs.declared.CheckFault.{CheckFault}
+use Rattle.check_scaffold.specs.declared.CheckFault.TheVariants as faults
+
+-- no name has a colon
+abbrev pub IsPlain : File → Type 0
+IsPlain f = Unit {0}
+
+-- the answer to files
+abbrev pub Checks : List File → Result Tables CheckFault → Type 0
+Checks files (Ok t) = Means files t
+Checks files (Err (faults.At file place kind)) = CheckBreaks files file (record { place = place; kind = kind })
+Checks files (Err faults.Memory) = Unit {0}
