@@ -1,6 +1,15 @@
 //! Why files on a shelf gave no schema.
 
+ghost use Rattle.std.specs.Prelude.{◌≡◌};
+ghost use Rattle.slice_meaning.specs.Loading.{lexer_break, row_name};
+ghost use Rattle.slice_check.specs.Answers.{IsFault, of_port};
+ghost use Rattle.slice_check.specs.declared.fault.LoadFault.TheVariants as faults;
+
+use ice_ports::PortFault;
 use ice_types::Name;
+use slice_lexer::LexFault;
+use slice_meaning::CheckKind;
+use std::alloc::{AllocError, AllocFailed, Global};
 
 /// Why a file on a shelf, with all that it includes, gave no schema.
 #[derive(Debug, Drop)]
@@ -18,4 +27,76 @@ pub enum LoadFault {
     Shelf,
     /// Memory ran out, which may come in place of any other answer.
     Memory,
+}
+
+impl From<AllocError> for LoadFault {
+    ghost from_gives = { λ _ fault. fault ≡ faults.Memory };
+
+    fn from(_error: AllocError) -> LoadFault {
+        LoadFault::Memory
+    }
+}
+
+impl<T: Drop> From<AllocFailed<T>> for LoadFault {
+    ghost from_gives = { λ _ fault. fault ≡ faults.Memory };
+
+    fn from(_error: AllocFailed<T>) -> LoadFault {
+        LoadFault::Memory
+    }
+}
+
+impl From<PortFault> for LoadFault {
+    ghost from_gives = { λ given fault. fault ≡ of_port given };
+
+    fn from(fault: PortFault) -> LoadFault {
+        match fault {
+            PortFault::Failed => LoadFault::Shelf,
+            PortFault::Memory => LoadFault::Memory,
+        }
+    }
+}
+
+/// This fault, or want of memory for its words.
+pub(crate) fn text_fault(alloc: Global, file: &str, place: u32, kind: &str) -> LoadFault
+    ensures { IsFault (record { file = file.now; place = place; kind = kind.now }) result }
+{
+    match (Name::of(alloc, file), Name::of(alloc, kind)) {
+        (Ok(file), Ok(kind)) => LoadFault::Text { file, place, kind },
+        _ => LoadFault::Memory,
+    }
+}
+
+/// A fault of the lexer, or want of memory.
+pub(crate) fn lexer_fault(alloc: Global, file: &str, fault: LexFault) -> LoadFault
+    ensures fault { IsFault (lexer_break file.now fault) result }
+    ensures memory { fault ≡ LexFault.Memory → result ≡ LoadFault.Memory }
+{
+    match fault {
+        LexFault::BadByte(place) => text_fault(alloc, file, place, "BadByte"),
+        LexFault::OpenString(place) => text_fault(alloc, file, place, "OpenString"),
+        LexFault::OpenComment(place) => text_fault(alloc, file, place, "OpenComment"),
+        LexFault::BadNumber(place) => text_fault(alloc, file, place, "BadNumber"),
+        LexFault::TooLong => text_fault(alloc, file, 0, "TooLong"),
+        LexFault::Memory => LoadFault::Memory,
+    }
+}
+
+/// The word that is printed for a row of the checker.
+pub(crate) fn row_name(kind: CheckKind) -> &'static str
+    ensures { result.now ≡ row_name kind }
+{
+    match kind {
+        CheckKind::FloatUsed => "FloatUsed",
+        CheckKind::Unknown => "Unknown",
+        CheckKind::WrongUse => "WrongUse",
+        CheckKind::Clash => "Clash",
+        CheckKind::BadKey => "BadKey",
+        CheckKind::BadTag => "BadTag",
+        CheckKind::BadBase => "BadBase",
+        CheckKind::BadValue => "BadValue",
+        CheckKind::NoMembers => "NoMembers",
+        CheckKind::TooDeep => "TooDeep",
+        CheckKind::TooBig => "TooBig",
+        CheckKind::Undefined => "Undefined",
+    }
 }

@@ -3,6 +3,7 @@
 
 mod fault;
 mod loading;
+mod text;
 
 pub use fault::LoadFault;
 pub use loading::load;
