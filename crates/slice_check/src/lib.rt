@@ -3,6 +3,7 @@
 
 mod fault;
 mod loading;
+mod names;
 mod text;
 
 pub use fault::LoadFault;
