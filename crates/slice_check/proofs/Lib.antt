@@ -1,3 +1,4 @@
 mod Texts
 mod Steps
 mod Sets
+mod Includes

@@ -1,3 +1,4 @@
 pub mod Answers
 pub mod Walking
 pub mod Held
+pub mod Opening

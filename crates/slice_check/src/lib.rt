@@ -2,8 +2,11 @@
 #![tactic(auto)]
 
 mod fault;
+mod files;
+mod including;
 mod loading;
 mod names;
+mod open;
 mod text;
 
 pub use fault::LoadFault;

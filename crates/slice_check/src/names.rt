@@ -10,7 +10,8 @@ pub(crate) struct Names {
 }
 
 impl Names {
-    ghost use Rattle.std.specs.Prelude.{◌≡◌, ◌↔◌, List, [], ◌∷◌, IsTrue, length, Contains, OnOk};
+    ghost use Rattle.std.specs.Prelude.{◌≡◌, List, [], ◌∷◌, length, Contains, OnOk};
+    ghost use Rattle.std.specs.BTreeSet.{contains_text};
     ghost use Rattle.slice_meaning.specs.Names.{Name};
     ghost use Rattle.slice_check.specs.Held.{Holds};
 
@@ -32,7 +33,7 @@ impl Names {
 
     /// Whether the name is there.
     pub(crate) fn has(&self, name: &str) -> bool
-        ensures { (names : List Name) → Holds self.now.held names → IsTrue result ↔ Contains names name.now }
+        ensures { result ≡ contains_text self.now.held name.now }
     {
         self.held.contains(name)
     }
