@@ -19,8 +19,8 @@ pub struct Schema {
     pub classes: List<schema_rows::ClassDecl>,
     pub exceptions: List<schema_rows::ExceptionDecl>,
     pub interfaces: List<schema_rows::InterfaceDecl>,
-    pub defined_classes: List<u32>,
-    pub defined_interfaces: List<u32>,
+    pub defined_classes: List<bool>,
+    pub defined_interfaces: List<bool>,
 }
 
 impl Model for Schema {

@@ -2,3 +2,4 @@ mod Texts
 mod Steps
 mod Sets
 mod Includes
+mod Coming

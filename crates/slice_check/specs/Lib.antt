@@ -2,3 +2,4 @@ pub mod Answers
 pub mod Walking
 pub mod Held
 pub mod Opening
+pub mod Standing

@@ -3,8 +3,11 @@ use Rattle.std.specs.Prelude.{ℕ, ◌≡◌, ◌<◌, List, ◌∷◌, length, 
 use Rattle.std.specs.BTreeSet.{BTreeSet}
 use Rattle.ice_ports.specs.Files.{file_named}
 use Rattle.slice_syntax.specs.declared.tree.File.{File}
+use Rattle.slice_syntax.specs.Places.{AreNamesPlain}
 use Rattle.slice_meaning.specs.Names.{Name}
-use Rattle.slice_meaning.specs.Loading.{Shelf, LoadBreak, IsTree, WalkBreaks}
+use Rattle.slice_meaning.specs.declared.limits.TheConstants.{MOST_FILES}
+use Rattle.slice_meaning.specs.Printed.{LoadBreak}
+use Rattle.slice_meaning.specs.Loading.{Shelf, Includes, IsTree, WalkBreaks}
 use Rattle.slice_check.specs.declared.fault.LoadFault.{LoadFault}
 use Rattle.slice_check.specs.declared.open.Open.{Open}
 use Rattle.slice_check.specs.Answers.{IfText}
@@ -22,14 +25,15 @@ HasTree name tree shelf = (text : List ℕ) × (file_named shelf name ≡ Some t
 pub record IsNew {Y : Type 0} (files : Option Shelf) (loaded : List Name) (name : Name) (names : BTreeSet (String Y)) (o : Open) : Type 0 where
   pub named : o.name ≡ name
   pub next : o.next ≡ 0
-  pub few : length loaded < 100
+  pub few : length loaded < MOST_FILES
   pub held : Holds names (name ∷ loaded)
+  pub plain : AreNamesPlain o.tree
   pub found : Told files (HasTree name o.tree)
 
 -- the fault that the walk has at the include of a name at a place of another file, whatever includes stand behind it
 abbrev pub BreaksThere : Option Shelf → List Name → Name → Name → ℕ → LoadBreak → Type 0
 BreaksThere files loaded user name place broken =
-    Told files (λ shelf. (others : List (Name × ℕ)) → WalkBreaks shelf loaded user ((name, place) ∷ others) broken)
+    Told files (λ shelf. (others : Includes) → WalkBreaks shelf loaded user ((name, place) ∷ others) broken)
 
 -- the answer to such an include: the file, or that fault
 abbrev pub Opens : {Y : Type 0} → Option Shelf → List Name → Name → Name → ℕ → BTreeSet (String Y)

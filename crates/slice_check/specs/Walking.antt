@@ -2,13 +2,14 @@
 use Rattle.std.specs.Prelude.{ℕ, ◌≡◌, ◌⊎◌, List, [], ◌∷◌, ◌++◌}
 use Rattle.slice_syntax.specs.declared.tree.File.{File}
 use Rattle.slice_meaning.specs.Names.{Name}
-use Rattle.slice_meaning.specs.Loading.{Shelf, LoadBreak, Loaded, Walk, WalkBreaks, whole}
+use Rattle.slice_meaning.specs.Printed.{LoadBreak}
+use Rattle.slice_meaning.specs.Loading.{Shelf, Includes, Loaded, Walk, WalkBreaks, whole}
 
 -- a file that the walk is inside of: its name, its tree, and its includes that are left
 pub record Inside : Type 0 where
   pub name : Name
   pub tree : File
-  pub left : List (Name × ℕ)
+  pub left : Includes
 
 -- The walk ends with these names loaded. These trees come on the way, each behind those that it includes.
 abbrev pub Ends : Shelf → List Name → List Inside → List Name → List Loaded → Type 0

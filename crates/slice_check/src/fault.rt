@@ -1,14 +1,13 @@
 //! Why files on a shelf gave no schema.
 
 ghost use Rattle.std.specs.Prelude.{◌≡◌};
-ghost use Rattle.slice_meaning.specs.Loading.{lexer_break, row_name};
+ghost use Rattle.slice_meaning.specs.Printed.{broken_at, lexer_name, lexer_place};
 ghost use Rattle.slice_check.specs.Answers.{IsFault, of_port};
 ghost use Rattle.slice_check.specs.declared.fault.LoadFault.TheVariants as faults;
 
 use ice_ports::PortFault;
 use ice_types::Name;
 use slice_lexer::LexFault;
-use slice_meaning::CheckKind;
 use std::alloc::{AllocError, AllocFailed, Global};
 
 /// Why a file on a shelf, with all that it includes, gave no schema.
@@ -58,7 +57,7 @@ impl From<PortFault> for LoadFault {
 
 /// This fault, or want of memory for its words.
 pub(crate) fn text_fault(alloc: Global, file: &str, place: u32, kind: &str) -> LoadFault
-    ensures { IsFault (record { file = file.now; place = place; kind = kind.now }) result }
+    ensures { IsFault (broken_at file.now place kind.now) result }
 {
     match (Name::of(alloc, file), Name::of(alloc, kind)) {
         (Ok(file), Ok(kind)) => LoadFault::Text { file, place, kind },
@@ -68,7 +67,7 @@ pub(crate) fn text_fault(alloc: Global, file: &str, place: u32, kind: &str) -> L
 
 /// A fault of the lexer, or want of memory.
 pub(crate) fn lexer_fault(alloc: Global, file: &str, fault: LexFault) -> LoadFault
-    ensures fault { IsFault (lexer_break file.now fault) result }
+    ensures fault { IsFault (broken_at file.now (lexer_place fault) (lexer_name fault)) result }
     ensures memory { fault ≡ LexFault.Memory → result ≡ LoadFault.Memory }
 {
     match fault {
@@ -78,25 +77,5 @@ pub(crate) fn lexer_fault(alloc: Global, file: &str, fault: LexFault) -> LoadFau
         LexFault::BadNumber(place) => text_fault(alloc, file, place, "BadNumber"),
         LexFault::TooLong => text_fault(alloc, file, 0, "TooLong"),
         LexFault::Memory => LoadFault::Memory,
-    }
-}
-
-/// The word that is printed for a row of the checker.
-pub(crate) fn row_name(kind: CheckKind) -> &'static str
-    ensures { result.now ≡ row_name kind }
-{
-    match kind {
-        CheckKind::FloatUsed => "FloatUsed",
-        CheckKind::Unknown => "Unknown",
-        CheckKind::WrongUse => "WrongUse",
-        CheckKind::Clash => "Clash",
-        CheckKind::BadKey => "BadKey",
-        CheckKind::BadTag => "BadTag",
-        CheckKind::BadBase => "BadBase",
-        CheckKind::BadValue => "BadValue",
-        CheckKind::NoMembers => "NoMembers",
-        CheckKind::TooDeep => "TooDeep",
-        CheckKind::TooBig => "TooBig",
-        CheckKind::Undefined => "Undefined",
     }
 }

@@ -1,8 +1,5 @@
 //! The files that are complete.
 
-ghost use Rattle.std.specs.Prelude.{All};
-ghost use Rattle.check_scaffold.specs.Held.{IsPlain};
-
 use ice_types::{List, Name};
 use slice_syntax::File;
 use std::alloc::{AllocError, Global};
@@ -12,12 +9,10 @@ use std::alloc::{AllocError, Global};
 pub(crate) struct Files {
     pub(crate) names: List<Name>,
     pub(crate) trees: List<File>,
-    ghost plain: { All IsPlain trees },
 }
 
 impl Files {
     ghost use Rattle.std.specs.Prelude.{◌≡◌, [], ◌∷◌, ◌++◌, OnOk};
-    ghost use Rattle.check_scaffold.specs.Held.{IsPlain};
 
     /// No files.
     pub(crate) fn new(alloc: Global) -> Files
@@ -32,7 +27,6 @@ impl Files {
 
     /// Puts a file last.
     pub(crate) fn push(&mut self, name: Name, tree: File) -> Result<(), AllocError>
-        requires { IsPlain tree }
         ensures names { OnOk result (self.new.names ≡ self.old.names ++ name ∷ []) }
         ensures trees { OnOk result (self.new.trees ≡ self.old.trees ++ tree ∷ []) }
     {

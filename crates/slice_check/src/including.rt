@@ -14,10 +14,8 @@ use crate::open::Open;
 use crate::text::text_tree;
 use ice_ports::Shelf;
 use ice_types::Name;
+use slice_meaning::MOST_FILES;
 use std::alloc::Global;
-
-/// The most files that one file may bring with it, itself among them.
-pub const MOST_FILES: usize = 100;
 
 /// The place, from one on, of the first include of a file that is not loaded, or how many includes there are.
 pub(crate) fn next_new(included: &[(Name, u32)], from: usize, names: &Names) -> usize
@@ -47,7 +45,7 @@ pub(crate) fn opened<H: Shelf>(
     let Some(text) = shelf.load(alloc, name)? else {
         return Err(text_fault(alloc, user, place, "NoFile"));
     };
-    if names.len() >= MOST_FILES {
+    if names.len() >= MOST_FILES as usize {
         return Err(text_fault(alloc, user, place, "TooManyFiles"));
     }
     let tree = text_tree(alloc, name, text.as_slice())?;

@@ -8,6 +8,7 @@ mod loading;
 mod names;
 mod open;
 mod text;
+mod walk;
 
 pub use fault::LoadFault;
 pub use loading::load;

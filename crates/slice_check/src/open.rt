@@ -1,7 +1,5 @@
 //! A file that a walk over includes is inside of.
 
-ghost use Rattle.check_scaffold.specs.Held.{IsPlain};
-
 use ice_types::Name;
 use slice_syntax::File;
 
@@ -12,5 +10,4 @@ pub(crate) struct Open {
     pub(crate) tree: File,
     /// How many of its includes were gone through.
     pub(crate) next: usize,
-    ghost plain: { IsPlain tree },
 }
