@@ -1,15 +1,10 @@
 -- What `check` answers.
 use Rattle.std.specs.Prelude.{ℕ, ◌≡◌, List, length, Result, Ok, Err}
 use Rattle.slice_syntax.specs.declared.tree.File.{File}
-use Rattle.slice_syntax.specs.Places.{AreNamesPlain}
-use Rattle.schema_rows.specs.Tables.{Tables}
+use Rattle.ice_types.specs.Tables.{Tables}
 use Rattle.slice_meaning.specs.Meaning.{Means, CheckBreaks}
 use Rattle.check_scaffold.specs.declared.CheckFault.{CheckFault}
 use Rattle.check_scaffold.specs.declared.CheckFault.TheVariants as faults
-
--- no name has a colon
-abbrev pub IsPlain : File → Type 0
-IsPlain f = AreNamesPlain f
 
 -- the answer to files
 abbrev pub Checks : List File → Result Tables CheckFault → Type 0

@@ -8,7 +8,7 @@ use Rattle.std.proofs.lemmas.Option.{get_or_from_slice_get, slice_get_within, sl
 use Rattle.std.proofs.lemmas.List.{append-nil, reverse-append, map-append, drop_more, length-append}
 use Rattle.std.proofs.lemmas.List.Elements.{All-nil, All-push, All-cons, All-head, All-tail, All-same}
 use Rattle.slice_syntax.specs.declared.tree.File.{File}
-use Rattle.slice_syntax.specs.Places.{AreNamesPlain}
+use Rattle.slice_syntax.specs.Places.{AreRegular}
 use Rattle.slice_meaning.specs.declared.limits.TheConstants.{MOST_FILES}
 use Rattle.slice_meaning.specs.Names.{Name}
 use Rattle.slice_meaning.specs.Printed.{broken_at}
@@ -88,9 +88,9 @@ comes_out files file names f g user around next e none named read s = record {
   those = record {
     named = named ∙ (ap (λ (n : List Name). n ++ user.name ∷ []) s.those.named ∙ sym (map-append (λ (l : Loaded). l.0) s.complete ((user.name, user.tree) ∷ [])));
     read = read ∙ (ap (λ (t : List File). t ++ user.tree ∷ []) s.those.read ∙ sym (map-append (λ (l : Loaded). l.1) s.complete ((user.name, user.tree) ∷ [])));
-    plain = All-same AreNamesPlain g.trees (f.trees ++ user.tree ∷ []) read (All-push AreNamesPlain f.trees user.tree s.those.plain (All-head (λ (o : Open). AreNamesPlain o.tree) user around s.plain));
+    regular = All-same AreRegular g.trees (f.trees ++ user.tree ∷ []) read (All-push AreRegular f.trees user.tree s.those.regular (All-head (λ (o : Open). AreRegular o.tree) user around s.regular));
   };
-  plain = All-tail (λ (o : Open). AreNamesPlain o.tree) user around s.plain;
+  regular = All-tail (λ (o : Open). AreRegular o.tree) user around s.regular;
   goes_on = λ shelf is. completes shelf file s.loaded s.complete (record { name = user.name; tree = user.tree; left = drop next user.tree.included }) (map inside around) (none_left user.tree.included next none)
       (passing files file names f user around next e s shelf is);
 }
@@ -115,9 +115,9 @@ goes_in files file names more f user inner around next name place e some s is = 
   held = is.held;
   few = omega (arith, is.few);
   those = s.those;
-  plain = All-cons (λ (o : Open). AreNamesPlain o.tree) inner (record { name = user.name; tree = user.tree; next = next + 1 } ∷ around) is.plain
-      (All-cons (λ (o : Open). AreNamesPlain o.tree) (record { name = user.name; tree = user.tree; next = next + 1 }) around (All-head (λ (o : Open). AreNamesPlain o.tree) user around s.plain)
-      (All-tail (λ (o : Open). AreNamesPlain o.tree) user around s.plain));
+  regular = All-cons (λ (o : Open). AreRegular o.tree) inner (record { name = user.name; tree = user.tree; next = next + 1 } ∷ around) is.regular
+      (All-cons (λ (o : Open). AreRegular o.tree) (record { name = user.name; tree = user.tree; next = next + 1 }) around (All-head (λ (o : Open). AreRegular o.tree) user around s.regular)
+      (All-tail (λ (o : Open). AreRegular o.tree) user around s.regular));
   goes_on = λ shelf told.
       let found = is.found shelf told in
       let there = passing files file names f user around next e s shelf told in
@@ -179,8 +179,8 @@ begins files file names f o named read is = record {
   complete = [];
   held = is.held;
   few = omega arith;
-  those = record { named = named; read = read; plain = All-same AreNamesPlain f.trees [] read (All-nil AreNamesPlain) };
-  plain = All-cons (λ (o : Open). AreNamesPlain o.tree) o [] is.plain (All-nil (λ (o : Open). AreNamesPlain o.tree));
+  those = record { named = named; read = read; regular = All-same AreRegular f.trees [] read (All-nil AreRegular) };
+  regular = All-cons (λ (o : Open). AreRegular o.tree) o [] is.regular (All-nil (λ (o : Open). AreRegular o.tree));
   goes_on = λ shelf told. let found = is.found shelf told in
       subst (λ (i : Inside). GoesOn shelf file (file ∷ []) [] (i ∷ [])) (sym (just_opened file o is.named is.next)) (starts shelf file found.0 o.tree found.1 found.2);
 }

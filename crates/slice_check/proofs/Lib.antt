@@ -3,3 +3,5 @@ mod Steps
 mod Sets
 mod Includes
 mod Coming
+mod Ranges
+mod Faults

@@ -3,7 +3,7 @@ use Rattle.std.specs.Prelude.{ℕ, ◌≡◌, ◌<◌, List, ◌∷◌, length, 
 use Rattle.std.specs.BTreeSet.{BTreeSet}
 use Rattle.ice_ports.specs.Files.{file_named}
 use Rattle.slice_syntax.specs.declared.tree.File.{File}
-use Rattle.slice_syntax.specs.Places.{AreNamesPlain}
+use Rattle.slice_syntax.specs.Places.{AreRegular}
 use Rattle.slice_meaning.specs.Names.{Name}
 use Rattle.slice_meaning.specs.declared.limits.TheConstants.{MOST_FILES}
 use Rattle.slice_meaning.specs.Printed.{LoadBreak}
@@ -27,7 +27,7 @@ pub record IsNew {Y : Type 0} (files : Option Shelf) (loaded : List Name) (name 
   pub next : o.next ≡ 0
   pub few : length loaded < MOST_FILES
   pub held : Holds names (name ∷ loaded)
-  pub plain : AreNamesPlain o.tree
+  pub regular : AreRegular o.tree
   pub found : Told files (HasTree name o.tree)
 
 -- the fault that the walk has at the include of a name at a place of another file, whatever includes stand behind it

@@ -2,7 +2,7 @@
 use Rattle.std.specs.Prelude.{ℕ, ◌≡◌, ◌≤◌, ◌+◌, ◌-◌, ◌*◌, List, [], ◌∷◌, map, reverse, drop, length, All, String, Option, Result, Ok, Err}
 use Rattle.std.specs.BTreeSet.{BTreeSet, btree_set_len}
 use Rattle.slice_syntax.specs.declared.tree.File.{File}
-use Rattle.slice_syntax.specs.Places.{AreNamesPlain}
+use Rattle.slice_syntax.specs.Places.{AreRegular}
 use Rattle.slice_meaning.specs.declared.limits.TheConstants.{MOST_FILES}
 use Rattle.slice_meaning.specs.Names.{Name}
 use Rattle.slice_meaning.specs.Loading.{Shelf, Loaded, trees_of, whole}
@@ -32,7 +32,7 @@ names_of trees = map (λ l. l.0) trees
 pub record AreFiles (f : Files) (trees : List Loaded) : Type 0 where
   pub named : f.names ≡ names_of trees
   pub read : f.trees ≡ trees_of trees
-  pub plain : All AreNamesPlain f.trees
+  pub regular : All AreRegular f.trees
 
 -- the walk from FILE has come so far, with these names loaded and these files complete, and is inside of these
 pub record HasCome {Y : Type 0} (files : Option Shelf) (file : Name) (names : BTreeSet (String Y)) (f : Files) (around : List Open) : Type 0 where
@@ -41,7 +41,7 @@ pub record HasCome {Y : Type 0} (files : Option Shelf) (file : Name) (names : BT
   pub held : Holds names loaded
   pub few : length loaded ≤ MOST_FILES
   pub those : AreFiles f complete
-  pub plain : All (λ o. AreNamesPlain o.tree) around
+  pub regular : All (λ o. AreRegular o.tree) around
   pub goes_on : Told files (λ shelf. GoesOn shelf file loaded complete (map inside around))
 
 -- the walk from FILE has come so far, and is inside of these files

@@ -1,6 +1,8 @@
 //! The files that are complete.
 
+use crate::fault::{LoadFault, text_fault};
 use ice_types::{List, Name};
+use slice_meaning::CheckKind;
 use slice_syntax::File;
 use std::alloc::{AllocError, Global};
 
@@ -12,7 +14,10 @@ pub(crate) struct Files {
 }
 
 impl Files {
-    ghost use Rattle.std.specs.Prelude.{◌≡◌, [], ◌∷◌, ◌++◌, OnOk};
+    ghost use Rattle.std.specs.Prelude.{◌≡◌, ◌<◌, [], ◌∷◌, ◌++◌, OnOk, Some, length, slice_get};
+    ghost use Rattle.slice_meaning.specs.Names.{Name};
+    ghost use Rattle.slice_meaning.specs.Printed.{broken_at, row_name};
+    ghost use Rattle.slice_check.specs.Answers.{IsFault};
 
     /// No files.
     pub(crate) fn new(alloc: Global) -> Files
@@ -32,5 +37,14 @@ impl Files {
     {
         self.names.push(name)?;
         self.trees.push(tree)
+    }
+
+    /// A fault in the file at a place among them.
+    pub(crate) fn fault(&self, alloc: Global, at: u32, place: u32, kind: CheckKind) -> LoadFault
+        requires { at < length self.now.names }
+        ensures { (name : Name) → slice_get self.now.names at ≡ Some name → IsFault (broken_at name place (row_name kind)) result }
+    {
+        let name = &self.names.as_slice()[at as usize];
+        text_fault(alloc, name.as_str(), place, kind.name())
     }
 }

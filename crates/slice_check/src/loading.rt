@@ -5,8 +5,10 @@ ghost use Rattle.ice_ports.specs.Failures.{count_after};
 ghost use Rattle.slice_check.specs.Answers.{Answers, is_failed};
 
 use crate::fault::LoadFault;
-use check_scaffold::Schema;
+use crate::walk::walk_from;
+use check_scaffold::{CheckFault, check};
 use ice_ports::Shelf;
+use ice_types::Schema;
 use std::alloc::Global;
 
 /// The schema that the file of this name means with all that it includes.
@@ -25,5 +27,10 @@ pub fn load<H: Shelf>(alloc: Global, shelf: &mut H, name: &str) -> Result<Schema
     ensures kept { H.files shelf.new ≡ H.files shelf.old }
     ensures count { H.failures shelf.new ≡ count_after (H.failures shelf.old) (is_failed result) }
 {
-    Err(LoadFault::Memory)
+    let files = walk_from(alloc, shelf, name)?;
+    match check(alloc, files.trees.as_slice()) {
+        Ok(schema) => Ok(schema),
+        Err(CheckFault::At { file, place, kind }) => Err(files.fault(alloc, file, place, kind)),
+        Err(CheckFault::Memory) => Err(LoadFault::Memory),
+    }
 }

@@ -1,7 +1,7 @@
 //! From one text to its tree.
 
 ghost use Rattle.std.specs.Prelude.{IfOk};
-ghost use Rattle.slice_syntax.specs.Places.{AreNamesPlain};
+ghost use Rattle.slice_syntax.specs.Places.{AreRegular};
 ghost use Rattle.slice_check.specs.Answers.{Parses};
 
 use crate::fault::{LoadFault, lexer_fault, text_fault};
@@ -12,7 +12,7 @@ use std::alloc::Global;
 /// The tree of the text of a file with this name, or its first fault: of the lexer, else of the parser.
 pub(crate) fn text_tree(alloc: Global, file: &str, text: &[u8]) -> Result<File, LoadFault>
     ensures answer { Parses file.now text.now result }
-    ensures plain { IfOk result AreNamesPlain }
+    ensures regular { IfOk result AreRegular }
 {
     let tokens = match tokens(alloc, text) {
         Ok(tokens) => tokens,

@@ -41,7 +41,7 @@ loop-user-preserved g c =
     record {
       stands = subst (λ (f : Option Shelf). Stands f c.args.name.now c.step.new.self (stack c.step.new.self)) i.files (c.in_ok-step.ensures.answer c.args.name.now there);
       files = c.in_ok-step.ensures.kept ∙ i.files;
-      count = c.in_ok-step.ensures.count ∙ i.count;
+      count = ◌∙◌ {b = g.H.Shelf.failures c.loop-user.shelf} c.in_ok-step.ensures.count i.count;
     }
 
 pub returns-in_err-step-clause-answer : goal.returns-in_err-step-clause-answer
