@@ -10,8 +10,8 @@ use Rattle.ice_prims.specs.declared.fault.ReadFault.TheVariants as read_faults
 use Rattle.ice_ports.specs.declared.ports.PortFault.{PortFault}
 use Rattle.ice_ports.specs.declared.ports.PortFault.TheVariants as port_faults
 use Rattle.ice_ports.specs.Failures.{one_more}
-use Rattle.node_scaffold.specs.declared.fault.LoadFault.{LoadFault}
-use Rattle.node_scaffold.specs.declared.fault.LoadFault.TheVariants as load_faults
+use Rattle.slice_check.specs.declared.fault.LoadFault.{LoadFault}
+use Rattle.slice_check.specs.declared.fault.LoadFault.TheVariants as load_faults
 use Rattle.ice_node.specs.declared.outcome.Outcome.{Outcome}
 use Rattle.ice_node.specs.declared.outcome.Outcome.TheVariants as outcomes
 use Rattle.ice_node.specs.Words.{Word, Command}

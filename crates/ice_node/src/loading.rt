@@ -5,7 +5,7 @@ ghost use Rattle.ice_node.specs.Outcomes.{FindsSchema};
 use crate::outcome::Outcome;
 use ice_ports::Shelf;
 use ice_types::Schema;
-use node_scaffold::load;
+use slice_check::load;
 use std::alloc::Global;
 
 /// The schema that the file on the shelf means, or why there is none.

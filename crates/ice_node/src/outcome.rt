@@ -9,7 +9,7 @@ use ice_ports::PortFault;
 use ice_prims::ReadFault;
 use ice_types::Name;
 use itoa::Buffer;
-use node_scaffold::LoadFault;
+use slice_check::LoadFault;
 use std::alloc::AllocError;
 
 /// What the program's work came to.

@@ -1,13 +1,14 @@
-//! From a Slice text to its schema.
+//! From a file of Slice on a shelf, with all that it includes, to its schema.
 #![tactic(auto)]
 
-mod definition;
-mod definition_fronts;
 mod fault;
-mod file;
+mod files;
+mod including;
+mod loading;
 mod names;
-mod scope;
-mod tokens;
+mod open;
+mod text;
+mod walk;
 
-pub use fault::TextFault;
-pub use file::{MOST_BYTES, schema_of, texts_apart};
+pub use fault::LoadFault;
+pub use loading::load;
