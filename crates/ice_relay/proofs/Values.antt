@@ -1,5 +1,5 @@
 -- The value of an input, as reading finds it.
-use Rattle.std.proofs.Common.{◌≡◌, ℕ, ℤ, pos, ◌+◌, ◌<◌, ◌^◌, List, [], ◌∷◌, ◌++◌, length, take, Result, Ok, Err, sym, ap, ◌∙◌, append_assoc, arith}
+use Rattle.std.proofs.Common.{◌≡◌, ℕ, ℤ, pos, ◌+◌, ◌<◌, ◌^◌, List, ◌∷◌, ◌++◌, length, take, Ok, Err, sym, ap, ◌∙◌, append_assoc, arith}
 use Rattle.std.specs.Int.{w32, from_le_bytes, cast_signed}
 use Rattle.std.proofs.lemmas.List.{length-append, take_at}
 use Rattle.ice_types.specs.declared.kind.TypeRef.{TypeRef}
