@@ -91,8 +91,8 @@ pub no_name : (name : Name) (names : List Name) → count (is_name (str_to_ascii
 no_name name [] h = All-nil (λ other. str_to_ascii_lowercase other ≢ str_to_ascii_lowercase name)
 no_name name (other ∷ names) h =
     let free : str_to_ascii_lowercase other ≢ str_to_ascii_lowercase name = (λ same.
-        let e : is_name (str_to_ascii_lowercase name) other ≡ true = (bytes_eq-Decides (str_to_ascii_lowercase other) (str_to_ascii_lowercase name)).1 same in
-        let one : one_if (is_name (str_to_ascii_lowercase name) other) ≡ 1 = ap one_if e in omega (arith, h, one)) in
+    let e : is_name (str_to_ascii_lowercase name) other ≡ true = (bytes_eq-Decides (str_to_ascii_lowercase other) (str_to_ascii_lowercase name)).1 same in
+    let one : one_if (is_name (str_to_ascii_lowercase name) other) ≡ 1 = ap one_if e in omega (arith, h, one)) in
     All-cons (λ x. str_to_ascii_lowercase x ≢ str_to_ascii_lowercase name) other names free (no_name name names (omega (arith, h)))
 
 -- names of which none stands twice are new, each after those before it
