@@ -5,8 +5,7 @@ use Rattle.ice_types.specs.Tables.{Tables}
 use Rattle.ice_encoding.specs.Tree.{Tree}
 use Rattle.ice_encoding.specs.Encapsulation.{SpellsEncapsulation, encapsulation_bytes}
 use Rattle.ice_encoding.proofs.Encapsulations.{encapsulation_apart}
-use Rattle.slice_meaning.specs.Printed.{LoadBreak}
-use Rattle.slice_meaning.specs.Loading.{Loads, LoadBreaks}
+use Rattle.slice_meaning.proofs.Loads.{one_meaning, one_break, never_both}
 use Rattle.ice_node.specs.Words.{Word, Command, relay, check, help, version, Asks}
 use Rattle.ice_node.specs.Outside.{Files, Failures}
 use Rattle.ice_node.specs.Answers.{Answer, done, usage, no_such_name, not_built, slice_refused, input_refused, read_failed, write_failed, no_memory, status}
@@ -15,23 +14,13 @@ use Rattle.ice_node.specs.Causes.{Causes}
 use Rattle.ice_node.specs.Statuses.{Ends}
 use Rattle.ice_node.proofs.CommandForms.{asks_apart}
 
--- scaffolding
-loads_apart : (files : Files) (file : Word) (t u : Tables) → Loads files file t → Loads files file u → t ≡ u
-loads_apart files file t u p q = ?
-
-loads_or_breaks : (files : Files) (file : Word) (t : Tables) (broken : LoadBreak) → Loads files file t → LoadBreaks files file broken → ⊥
-loads_or_breaks files file t broken p q = ?
-
-breaks_apart : (files : Files) (file : Word) (a b : LoadBreak) → LoadBreaks files file a → LoadBreaks files file b → a ≡ b
-breaks_apart files file a b p q = ?
-
 -- ---- a step of two answers: where both go on, they go on alike
 
 schema_apart : (files : Files) (file : Word) (a b : Answer) (Next Other : Tables → Type 0) → ((t : Tables) → Next t → Other t → a ≡ b) → WithSchema (Some files) file a Next → WithSchema (Some files) file b Other → a ≡ b
-schema_apart files file a b Next Other one (inl p) (inl q) = p.2 ∙ ap slice_refused (breaks_apart files file p.0 q.0 p.1 q.1) ∙ sym q.2
-schema_apart files file a b Next Other one (inl p) (inr q) = absurd (loads_or_breaks files file q.0 p.0 q.1 p.1)
-schema_apart files file a b Next Other one (inr p) (inl q) = absurd (loads_or_breaks files file p.0 q.0 p.1 q.1)
-schema_apart files file a b Next Other one (inr p) (inr q) = one q.0 (subst Next (loads_apart files file p.0 q.0 p.1 q.1) p.2) q.2
+schema_apart files file a b Next Other one (inl p) (inl q) = p.2 ∙ ap slice_refused (one_break files file p.0 q.0 p.1 q.1) ∙ sym q.2
+schema_apart files file a b Next Other one (inl p) (inr q) = absurd (never_both files file q.0 p.0 q.1 p.1)
+schema_apart files file a b Next Other one (inr p) (inl q) = absurd (never_both files file p.0 q.0 p.1 q.1)
+schema_apart files file a b Next Other one (inr p) (inr q) = one q.0 (subst Next (one_meaning files file p.0 q.0 p.1 q.1) p.2) q.2
 
 type_apart : (t : Tables) (word : Word) (a b : Answer) (Next Other : TypeRef → Type 0) → ((kind : TypeRef) → Next kind → Other kind → a ≡ b) → WithType t word a Next → WithType t word b Other → a ≡ b
 type_apart t word a b Next Other one (inl p) (inl q) = p.1 ∙ sym q.1
