@@ -1,6 +1,5 @@
 -- What a schema keeps when a sequence, a dictionary or a struct is added.
-use Rattle.std.proofs.Common.{◌≡◌, ℕ, suc, ◌+◌, ◌<◌, ◌≤◌, List, [], ◌∷◌, ◌++◌, length, Some, refl, sym, ap, subst, ◌∙◌, arith}
-use Rattle.std.specs.Prelude.{slice_get}
+use Rattle.std.proofs.Common.{◌≡◌, ◌+◌, ◌<◌, [], ◌∷◌, ◌++◌, length, Some, refl, sym, ap, subst, ◌∙◌, arith}
 use Rattle.std.proofs.lemmas.List.{length-append}
 use Rattle.ice_types.specs.declared.declarations.SeqDecl.{SeqDecl}
 use Rattle.ice_types.specs.declared.declarations.DictDecl.{DictDecl}
@@ -22,7 +21,7 @@ use Rattle.ice_types.proofs.Staying.{Grows}
 use Rattle.ice_types.proofs.Ids.{ids_more, seq_split, dict_split, struct_split}
 use Rattle.ice_types.proofs.Grown.{all_old, one_new, IsSchema-grown}
 use Rattle.ice_types.proofs.StructSizes.{small_fits}
-use Rattle.ice_types.proofs.Measured.{AreMeasured, measured_kept}
+use Rattle.ice_types.proofs.Measured.{measured_kept}
 
 -- ---- a sequence
 

@@ -1,5 +1,5 @@
 -- Tables that have grown keep the rules.
-use Rattle.std.proofs.Common.{◌≡◌, ℕ, List, [], ◌∷◌, ◌++◌, length, Option, Some, refl, subst, ◌⊎◌, inl, inr, ◌<◌}
+use Rattle.std.proofs.Common.{◌≡◌, ℕ, List, [], ◌∷◌, ◌++◌, length, Some, subst, ◌⊎◌, inl, inr, ◌<◌}
 use Rattle.std.specs.Prelude.{slice_get}
 use Rattle.ice_types.specs.Tables.{Tables}
 use Rattle.ice_types.specs.Fits.{SeqFits, DictFits, StructFits, EnumFits, ClassFits, ExceptionFits, InterfaceFits}

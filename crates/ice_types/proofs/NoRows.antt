@@ -1,6 +1,5 @@
 -- A schema without rows.
-use Rattle.std.proofs.Common.{◌≡◌, ℕ, List, refl, sym, arith}
-use Rattle.ice_types.specs.declared.kind.RowRef.{RowRef}
+use Rattle.std.proofs.Common.{ℕ, List, refl, sym, arith}
 use Rattle.ice_types.specs.declared.kind.RowRef.TheVariants as rows
 use Rattle.ice_types.specs.Tables.{no_types, IsNewId}
 use Rattle.ice_types.specs.Rules.{nothing, IsKept}

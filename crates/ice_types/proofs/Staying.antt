@@ -1,6 +1,6 @@
 -- What fits a schema's tables fits them when they have grown.
-use Rattle.std.proofs.Common.{◌≡◌, ℕ, suc, ◌≤◌, ◌<◌, ◌+◌, true, List, [], ◌∷◌, length, Option, Some, None, refl, sym, ap, subst, ◌∙◌, arith}
-use Rattle.std.specs.Prelude.{slice_get, IsTrue, All, sum_by, slice_index_or}
+use Rattle.std.proofs.Common.{◌≡◌, ℕ, suc, ◌≤◌, ◌+◌, List, [], ◌∷◌, length, Option, Some, None, refl, sym, ap, subst, ◌∙◌, arith}
+use Rattle.std.specs.Prelude.{IsTrue, All, sum_by, slice_index_or}
 use Rattle.std.proofs.lemmas.List.Sums.{sum_by-cons}
 use Rattle.std.proofs.lemmas.List.Elements.{All-head, All-tail}
 use Rattle.ice_types.specs.declared.declarations.Member.{Member}
@@ -8,9 +8,9 @@ use Rattle.ice_types.specs.declared.declarations.Shape.{Shape}
 use Rattle.ice_types.specs.declared.declarations.OpDecl.{OpDecl}
 use Rattle.ice_types.specs.declared.kind.TypeRef.{TypeRef}
 use Rattle.ice_types.specs.Tables.{Tables, is_defined}
-use Rattle.ice_types.specs.Measures.{measure, paths_of}
-use Rattle.ice_types.specs.Fits.{SeqFits, DictFits, StructFits, IsOf, AreOf, MembersFit, ClassBaseFits, ClassFits, ExceptionBaseFits, ExceptionFits, ShapeFits, OpFits, BasesFit, InterfaceFits, paths_over}
-use Rattle.ice_types.proofs.Levels.{Keeps, keeps_all, measure_kept, members_kept}
+use Rattle.ice_types.specs.Measures.{paths_of}
+use Rattle.ice_types.specs.Fits.{SeqFits, DictFits, StructFits, AreOf, MembersFit, ClassFits, ExceptionFits, ShapeFits, OpFits, InterfaceFits, paths_over}
+use Rattle.ice_types.proofs.Levels.{Keeps, measure_kept, members_kept}
 
 -- the tables keep each type, each definition, each exception, and the bases of what is defined
 pub record Grows (t u : Tables) : Type 0 where
