@@ -1,11 +1,10 @@
 pub mod NamesOf
-pub mod Lookups
 pub mod Items
 pub mod Levels
 pub mod Said
 pub mod StructSizes
 pub mod Staying
-pub mod Ids
+pub mod RowIds
 pub mod Grown
 pub mod Measured
 pub mod AddedTypes
