@@ -99,14 +99,15 @@ kept_seq t beside kept new m room type_id lacks fits is =
 
 -- the same of a schema's fields, where contracts see them as these tables
 pub added_seq : (old : TableRows) (after : Rows SeqDecl Measure) (t : Tables) (row_of now : List ℕ → Option RowRef) → IsHeld (tables_of old) (beside_of old) row_of → tables_of old ≡ t → (new : SeqDecl) (m : Measure)
-    → after.decls ≡ old.seqs.decls ++ new ∷ [] → after.beside ≡ old.seqs.beside ++ m ∷ [] → ((id : List ℕ) → now id ≡ cond (bytes_eq new.id id) (Some (rows.Seq (length t.seqs))) (row_of id))
+    → after.decls ≡ old.seqs.decls ++ new ∷ [] → after.beside ≡ old.seqs.beside ++ m ∷ [] → (at : ℕ) → at ≡ length old.seqs.decls → ((id : List ℕ) → now id ≡ cond (bytes_eq new.id id) (Some (rows.Seq at)) (row_of id))
     → length t.seqs + 1 < 100000000 → IsTypeId new.id → IsNewId t new.id → SeqFits t new.element → Some m ≡ sequence_of (measure t 99 new.element) → IsHeld (tables_of (record old { seqs = after })) (beside_of (record old { seqs = after })) now
-added_seq old after t row_of now held view_is new m row beside put room type_id lacks fits is =
+added_seq old after t row_of now held view_is new m row beside at end put room type_id lacks fits is =
     let pushed : with_seq t new ≡ tables_of (record old { seqs = after }) = rw (row, ← view_is) refl in
     let was : IsHeld t (beside_of old) row_of = subst (λ (t : Tables). IsHeld t (beside_of old) row_of) view_is held in
     rw beside (subst (λ (u : Tables). IsHeld u (record (beside_of old) { seqs = old.seqs.beside ++ m ∷ [] }) now) pushed (record {
       kept = kept_seq t (beside_of old) was.kept new m room type_id lacks fits is;
-      found = found_more t (with_seq t new) new.id (rows.Seq (length t.seqs)) (last_seq t new) row_of now was.found put;
+      found = found_more t (with_seq t new) new.id (rows.Seq (length t.seqs)) (last_seq t new) row_of now was.found
+          (subst (λ (at : ℕ). (id : List ℕ) → now id ≡ cond (bytes_eq new.id id) (Some (rows.Seq at)) (row_of id)) (end ∙ ap (λ (t : Tables). length t.seqs) view_is) put);
     }))
 
 -- ---- a dictionary
@@ -182,14 +183,15 @@ kept_dict t beside kept new m room type_id lacks fits is =
 
 -- the same of a schema's fields, where contracts see them as these tables
 pub added_dict : (old : TableRows) (after : Rows DictDecl Measure) (t : Tables) (row_of now : List ℕ → Option RowRef) → IsHeld (tables_of old) (beside_of old) row_of → tables_of old ≡ t → (new : DictDecl) (m : Measure)
-    → after.decls ≡ old.dicts.decls ++ new ∷ [] → after.beside ≡ old.dicts.beside ++ m ∷ [] → ((id : List ℕ) → now id ≡ cond (bytes_eq new.id id) (Some (rows.Dict (length t.dicts))) (row_of id))
+    → after.decls ≡ old.dicts.decls ++ new ∷ [] → after.beside ≡ old.dicts.beside ++ m ∷ [] → (at : ℕ) → at ≡ length old.dicts.decls → ((id : List ℕ) → now id ≡ cond (bytes_eq new.id id) (Some (rows.Dict at)) (row_of id))
     → length t.dicts + 1 < 100000000 → IsTypeId new.id → IsNewId t new.id → DictFits t new.key new.value → Some m ≡ dictionary_of (measure t 98 new.key) (measure t 98 new.value) → IsHeld (tables_of (record old { dicts = after })) (beside_of (record old { dicts = after })) now
-added_dict old after t row_of now held view_is new m row beside put room type_id lacks fits is =
+added_dict old after t row_of now held view_is new m row beside at end put room type_id lacks fits is =
     let pushed : with_dict t new ≡ tables_of (record old { dicts = after }) = rw (row, ← view_is) refl in
     let was : IsHeld t (beside_of old) row_of = subst (λ (t : Tables). IsHeld t (beside_of old) row_of) view_is held in
     rw beside (subst (λ (u : Tables). IsHeld u (record (beside_of old) { dicts = old.dicts.beside ++ m ∷ [] }) now) pushed (record {
       kept = kept_dict t (beside_of old) was.kept new m room type_id lacks fits is;
-      found = found_more t (with_dict t new) new.id (rows.Dict (length t.dicts)) (last_dict t new) row_of now was.found put;
+      found = found_more t (with_dict t new) new.id (rows.Dict (length t.dicts)) (last_dict t new) row_of now was.found
+          (subst (λ (at : ℕ). (id : List ℕ) → now id ≡ cond (bytes_eq new.id id) (Some (rows.Dict at)) (row_of id)) (end ∙ ap (λ (t : Tables). length t.dicts) view_is) put);
     }))
 
 -- ---- a struct
@@ -264,14 +266,15 @@ kept_struct t beside kept new m room type_id lacks fits is =
 
 -- the same of a schema's fields, where contracts see them as these tables
 pub added_struct : (old : TableRows) (after : Rows StructDecl Measure) (t : Tables) (row_of now : List ℕ → Option RowRef) → IsHeld (tables_of old) (beside_of old) row_of → tables_of old ≡ t → (new : StructDecl) (m : Measure)
-    → after.decls ≡ old.structs.decls ++ new ∷ [] → after.beside ≡ old.structs.beside ++ m ∷ [] → ((id : List ℕ) → now id ≡ cond (bytes_eq new.id id) (Some (rows.Struct (length t.structs))) (row_of id))
+    → after.decls ≡ old.structs.decls ++ new ∷ [] → after.beside ≡ old.structs.beside ++ m ∷ [] → (at : ℕ) → at ≡ length old.structs.decls → ((id : List ℕ) → now id ≡ cond (bytes_eq new.id id) (Some (rows.Struct at)) (row_of id))
     → length t.structs + 1 < 100000000 → IsTypeId new.id → IsNewId t new.id → StructFits t new.members → Some m ≡ struct_of (small_members t new.members) → IsHeld (tables_of (record old { structs = after })) (beside_of (record old { structs = after })) now
-added_struct old after t row_of now held view_is new m row beside put room type_id lacks fits is =
+added_struct old after t row_of now held view_is new m row beside at end put room type_id lacks fits is =
     let pushed : with_struct t new ≡ tables_of (record old { structs = after }) = rw (row, ← view_is) refl in
     let was : IsHeld t (beside_of old) row_of = subst (λ (t : Tables). IsHeld t (beside_of old) row_of) view_is held in
     rw beside (subst (λ (u : Tables). IsHeld u (record (beside_of old) { structs = old.structs.beside ++ m ∷ [] }) now) pushed (record {
       kept = kept_struct t (beside_of old) was.kept new m room type_id lacks fits is;
-      found = found_more t (with_struct t new) new.id (rows.Struct (length t.structs)) (last_struct t new) row_of now was.found put;
+      found = found_more t (with_struct t new) new.id (rows.Struct (length t.structs)) (last_struct t new) row_of now was.found
+          (subst (λ (at : ℕ). (id : List ℕ) → now id ≡ cond (bytes_eq new.id id) (Some (rows.Struct at)) (row_of id)) (end ∙ ap (λ (t : Tables). length t.structs) view_is) put);
     }))
 
 -- ---- an enum
@@ -344,12 +347,13 @@ kept_enum t beside kept new m room type_id lacks fits is =
 
 -- the same of a schema's fields, where contracts see them as these tables
 pub added_enum : (old : TableRows) (after : Rows EnumDecl Measure) (t : Tables) (row_of now : List ℕ → Option RowRef) → IsHeld (tables_of old) (beside_of old) row_of → tables_of old ≡ t → (new : EnumDecl) (m : Measure)
-    → after.decls ≡ old.enums.decls ++ new ∷ [] → after.beside ≡ old.enums.beside ++ m ∷ [] → ((id : List ℕ) → now id ≡ cond (bytes_eq new.id id) (Some (rows.Enum (length t.enums))) (row_of id))
+    → after.decls ≡ old.enums.decls ++ new ∷ [] → after.beside ≡ old.enums.beside ++ m ∷ [] → (at : ℕ) → at ≡ length old.enums.decls → ((id : List ℕ) → now id ≡ cond (bytes_eq new.id id) (Some (rows.Enum at)) (row_of id))
     → length t.enums + 1 < 100000000 → IsTypeId new.id → IsNewId t new.id → EnumFits new.entries → m ≡ enumeration → IsHeld (tables_of (record old { enums = after })) (beside_of (record old { enums = after })) now
-added_enum old after t row_of now held view_is new m row beside put room type_id lacks fits is =
+added_enum old after t row_of now held view_is new m row beside at end put room type_id lacks fits is =
     let pushed : with_enum t new ≡ tables_of (record old { enums = after }) = rw (row, ← view_is) refl in
     let was : IsHeld t (beside_of old) row_of = subst (λ (t : Tables). IsHeld t (beside_of old) row_of) view_is held in
     rw beside (subst (λ (u : Tables). IsHeld u (record (beside_of old) { enums = old.enums.beside ++ m ∷ [] }) now) pushed (record {
       kept = kept_enum t (beside_of old) was.kept new m room type_id lacks fits is;
-      found = found_more t (with_enum t new) new.id (rows.Enum (length t.enums)) (last_enum t new) row_of now was.found put;
+      found = found_more t (with_enum t new) new.id (rows.Enum (length t.enums)) (last_enum t new) row_of now was.found
+          (subst (λ (at : ℕ). (id : List ℕ) → now id ≡ cond (bytes_eq new.id id) (Some (rows.Enum at)) (row_of id)) (end ∙ ap (λ (t : Tables). length t.enums) view_is) put);
     }))

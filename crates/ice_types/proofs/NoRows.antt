@@ -1,5 +1,5 @@
 -- A schema without rows.
-use Rattle.std.proofs.Common.{ℕ, List, refl, sym, subst, arith}
+use Rattle.std.proofs.Common.{◌≡◌, ℕ, List, refl, sym, subst, arith}
 use Rattle.ice_types.specs.declared.kind.RowRef.{RowRef}
 use Rattle.ice_types.specs.declared.kind.RowRef.TheVariants as rows
 use Rattle.std.specs.Prelude.{Option, None}

@@ -5,7 +5,9 @@ ghost use Rattle.ice_types.specs.Measures.{paths_of};
 ghost use Rattle.ice_types.specs.Fits.{ClassBaseFits, ExceptionBaseFits, paths_over};
 ghost use Rattle.ice_types.specs.Bases.{HasBases, HasBasesFrom, class_base, exception_base};
 ghost use Rattle.ice_types.specs.Rules.{defined};
+ghost use Rattle.ice_types.specs.Kept.{counted};
 
+use crate::list::List;
 use crate::rows::MOST_ROWS;
 use crate::schema::{MOST_BASES, Schema};
 
@@ -15,10 +17,7 @@ impl Schema {
     pub fn paths(&self, at: u32) -> u32
         ensures { result ≡ paths_of self.now (suc MOST_BASES) at }
     {
-        match self.rows.interfaces.beside.get(at as usize) {
-            Some(Some(paths)) => *paths,
-            _ => 0,
-        }
+        counted(&self.rows.interfaces.beside, at)
     }
 
     /// How many bases, by paths, an interface has whose next bases are these.
@@ -40,10 +39,7 @@ impl Schema {
         ensures most { result ≤ defined self.now.defined_classes }
         ensures room { result < MOST_ROWS }
     {
-        match self.rows.classes.beside.get(at as usize) {
-            Some(Some(bases)) => *bases,
-            _ => 0,
-        }
+        counted(&self.rows.classes.beside, at)
     }
 
     /// How many bases the exception at this place has, one above the other.
@@ -52,12 +48,10 @@ impl Schema {
         ensures bases { HasBases (exception_base self.now) at result }
         ensures most { result ≤ at }
     {
-        self.rows
-            .exceptions
-            .beside
-            .get(at as usize)
-            .copied()
-            .unwrap_or(0)
+        match self.rows.exceptions.beside.get(at as usize) {
+            Some(bases) => *bases,
+            None => 0,
+        }
     }
 
     /// How many bases a class has whose base is this one.
@@ -66,6 +60,7 @@ impl Schema {
         ensures bases { HasBasesFrom (class_base self.now) base result }
         ensures most { result ≤ suc (defined self.now.defined_classes) }
     {
+        self.rules();
         match base {
             Some(base) => self.class_bases(base) + 1,
             None => 0,
@@ -78,9 +73,20 @@ impl Schema {
         ensures bases { HasBasesFrom (exception_base self.now) base result }
         ensures most { result ≤ length self.now.exceptions }
     {
+        self.rules();
         match base {
             Some(base) => self.exception_bases(base) + 1,
             None => 0,
         }
+    }
+}
+
+/// The number beside the row at this place, 0 where the row is only declared.
+fn counted(beside: &List<Option<u32>>, at: u32) -> u32
+    ensures { result ≡ counted beside.now at }
+{
+    match beside.get(at as usize) {
+        Some(number) => number.unwrap_or(0),
+        None => 0,
     }
 }
