@@ -1,5 +1,5 @@
 -- What a schema tells: which types, exceptions and interfaces there are, by place, and what they are called.
-use Rattle.std.specs.Prelude.{ℕ, zero, suc, ◌≡◌, ◌≢◌, Bool, true, false, List, [], ◌∷◌, ◌++◌, map, None, Some, take, slice_get, codes, Option, MatchOption, unwrap_or, ◌⊎◌}
+use Rattle.std.specs.Prelude.{ℕ, zero, suc, ◌≡◌, Bool, true, false, List, [], ◌∷◌, ◌++◌, map, None, Some, take, slice_get, codes, Option, MatchOption, unwrap_or, ◌⊎◌}
 use Rattle.ice_types.specs.declared.kind.TypeRef.{TypeRef}
 use Rattle.ice_types.specs.declared.kind.TypeRef.TheVariants as kinds
 use Rattle.ice_types.specs.declared.kind.RowRef.{RowRef}
@@ -108,12 +108,9 @@ exception_ids t = map (λ e. e.id) t.exceptions
 abbrev pub interface_ids : Tables → List (List ℕ)
 interface_ids t = map (λ i. i.id) t.interfaces
 
--- the id stands at this place, or nowhere
+-- the id stands at this place
 abbrev pub HasId : List (List ℕ) → List ℕ → ℕ → Type 0
 HasId ids id at = slice_get ids at ≡ Some id
-
-abbrev pub LacksId : List (List ℕ) → List ℕ → Type 0
-LacksId ids id = (at : ℕ) → slice_get ids at ≢ Some id
 
 -- the ids of the table that a row is of, and its place there
 abbrev pub row_ids : Tables → RowRef → List (List ℕ)
