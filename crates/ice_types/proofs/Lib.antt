@@ -13,3 +13,6 @@ pub mod NoRows
 pub mod TypeIds
 pub mod Naming
 pub mod Leading
+pub mod ByPaths
+pub mod Searching
+pub mod Counted

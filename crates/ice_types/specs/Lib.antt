@@ -7,3 +7,4 @@ pub mod Bases
 pub mod Rules
 pub mod Kept
 pub mod Parts
+pub mod Inherited

@@ -2,6 +2,7 @@
 #![tactic(auto)]
 
 mod declarations;
+mod inheritance;
 mod kind;
 mod laws;
 mod list;

@@ -33,7 +33,7 @@ pub const MOST_NUMBER: u32 = 2_147_483_647;
 /// Which types, exceptions and interfaces a Slice text defines. Contracts see its tables.
 #[derive(Debug, Drop)]
 pub struct Schema {
-    rows: TableRows,
+    pub(crate) rows: TableRows,
 }
 
 impl Model for Schema {
