@@ -8,3 +8,4 @@ pub mod Rules
 pub mod Kept
 pub mod Parts
 pub mod Inherited
+pub mod Formats
