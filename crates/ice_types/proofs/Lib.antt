@@ -16,3 +16,5 @@ pub mod Leading
 pub mod ByPaths
 pub mod Searching
 pub mod Counted
+pub mod RowIdentity
+pub mod Alike

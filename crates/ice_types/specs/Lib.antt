@@ -9,3 +9,4 @@ pub mod Kept
 pub mod Parts
 pub mod Inherited
 pub mod Formats
+pub mod Lacking

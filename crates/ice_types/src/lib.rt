@@ -4,6 +4,7 @@
 mod declarations;
 mod inheritance;
 mod kind;
+mod lacking;
 mod laws;
 mod list;
 mod measure;
@@ -23,7 +24,8 @@ pub use list::{Bytes, List};
 pub use measure::Measure;
 pub use name::Name;
 pub use optional_format::{
-    FORMAT_CLASS, FORMAT_F1, FORMAT_F2, FORMAT_F4, FORMAT_F8, FORMAT_FSIZE, FORMAT_SIZE, FORMAT_VSIZE,
+    FORMAT_CLASS, FORMAT_F1, FORMAT_F2, FORMAT_F4, FORMAT_F8, FORMAT_FSIZE, FORMAT_SIZE,
+    FORMAT_VSIZE,
 };
 pub use own_names::have_own_names;
 pub use rows::MOST_ROWS;

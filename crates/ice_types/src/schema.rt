@@ -108,7 +108,7 @@ impl Schema {
     }
 
     /// What every schema keeps.
-    fn rules(&self)
+    pub(crate) fn rules(&self)
         ensures { IsSchema self.now }
     {
         let _ = &self.rows;
@@ -328,7 +328,7 @@ impl Schema {
     }
 
     /// The row of this id.
-    fn row_of_id(&self, id: &str) -> Option<RowRef>
+    pub fn row_of_id(&self, id: &str) -> Option<RowRef>
         ensures { Finds (HasRowId self.now id.now) result }
     {
         let rows = &self.rows;
