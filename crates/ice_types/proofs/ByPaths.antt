@@ -7,7 +7,8 @@ use Rattle.std.specs.Option.{option_and_then}
 use Rattle.std.proofs.lemmas.Grind.{common_steps}
 use Rattle.std.proofs.lemmas.List.Sums.{sum_by-cons}
 use Rattle.ice_types.specs.Measures.{bases_in}
-use Rattle.ice_types.specs.Inherited.{Reaches, Here, Onward, all_bases, located, count_in, bases_by_path, CountsBases, InterfaceIsA}
+use Rattle.ice_types.specs.Inherited.{Reaches, Here, Onward, all_bases, located, bases_by_path, CountsBases, InterfaceIsA}
+use Rattle.ice_types.specs.Kept.{counted}
 use Rattle.ice_types.specs.declared.declarations.InterfaceDecl.{InterfaceDecl}
 use Rattle.ice_types.proofs.Levels.{some_is}
 
@@ -160,36 +161,36 @@ reached_found bases count counted (suc levels) at other less (Onward _ next _ st
 -- ---- interfaces
 
 module _ (interfaces : List InterfaceDecl) (counts : List (Option ℕ)) (kept : CountsBases interfaces counts) where
-  counted : (at : ℕ) → count_in counts at ≡ sum_by (λ b. suc (count_in counts b)) (bases_in interfaces at)
-  counted at = (kept at).0
+  each_counted : (at : ℕ) → counted counts at ≡ sum_by (λ b. suc (counted counts b)) (bases_in interfaces at)
+  each_counted at = (kept at).0
 
-  enough : (at : ℕ) → count_in counts at < 1001
+  enough : (at : ℕ) → counted counts at < 1001
   enough at = omega (arith, (kept at).1)
 
   step_is : (at place : ℕ) → slice_get (bases_by_path interfaces at) place
-      ≡ option_and_then (λ p. slice_get (p.0 ∷ bases_by_path interfaces p.0) p.1) (located (count_in counts) (bases_in interfaces at) place)
-  step_is at place = ap (λ (l : List ℕ). slice_get l place) (bases_in_order (bases_in interfaces) (count_in counts) counted 1001 enough at)
-      ∙ located_at (bases_in interfaces) (count_in counts) counted 1001 enough (bases_in interfaces at) place
+      ≡ option_and_then (λ p. slice_get (p.0 ∷ bases_by_path interfaces p.0) p.1) (located (counted counts) (bases_in interfaces at) place)
+  step_is at place = ap (λ (l : List ℕ). slice_get l place) (bases_in_order (bases_in interfaces) (counted counts) each_counted 1001 enough at)
+      ∙ located_at (bases_in interfaces) (counted counts) each_counted 1001 enough (bases_in interfaces at) place
 
-  pub step_none : (at place : ℕ) → None ≡ located (count_in counts) (bases_in interfaces at) place → slice_get (bases_by_path interfaces at) place ≡ None
+  pub step_none : (at place : ℕ) → None ≡ located (counted counts) (bases_in interfaces at) place → slice_get (bases_by_path interfaces at) place ≡ None
   step_none at place e = step_is at place ∙ sym (ap (λ (o : Option (ℕ × ℕ)). option_and_then (λ p. slice_get (p.0 ∷ bases_by_path interfaces p.0) p.1) o) e)
 
-  pub step_some : (at place base within : ℕ) → Some (base, within) ≡ located (count_in counts) (bases_in interfaces at) place
+  pub step_some : (at place base within : ℕ) → Some (base, within) ≡ located (counted counts) (bases_in interfaces at) place
       → slice_get (bases_by_path interfaces at) place ≡ slice_get (base ∷ bases_by_path interfaces base) within
   step_some at place base within e = step_is at place ∙ sym (ap (λ (o : Option (ℕ × ℕ)). option_and_then (λ p. slice_get (p.0 ∷ bases_by_path interfaces p.0) p.1) o) e)
 
-  pub bases_counted : (at : ℕ) → length (bases_by_path interfaces at) ≡ count_in counts at
-  bases_counted at = length-all_bases (bases_in interfaces) (count_in counts) counted 1001 at (enough at)
+  pub bases_counted : (at : ℕ) → length (bases_by_path interfaces at) ≡ counted counts at
+  bases_counted at = length-all_bases (bases_in interfaces) (counted counts) each_counted 1001 at (enough at)
 
   pub has_base : (at place base : ℕ) → slice_get (bases_by_path interfaces at) place ≡ Some base → InterfaceIsA interfaces at base
   has_base at place base e = found_reached (bases_in interfaces) 1001 at base (contains_at (bases_by_path interfaces at) place base e)
 
-  pub lacks_base : (at base count : ℕ) → count ≡ count_in counts at → (base ≡ at → ⊥) → ((k : ℕ) → k < count → slice_get (bases_by_path interfaces at) k ≡ Some base → ⊥) → InterfaceIsA interfaces at base → ⊥
-  lacks_base at base count is other none reached = elim (reached_found (bases_in interfaces) (count_in counts) counted 1001 at base (enough at) reached) [
+  pub lacks_base : (at base count : ℕ) → count ≡ counted counts at → (base ≡ at → ⊥) → ((k : ℕ) → k < count → slice_get (bases_by_path interfaces at) k ≡ Some base → ⊥) → InterfaceIsA interfaces at base → ⊥
+  lacks_base at base count is other none reached = elim (reached_found (bases_in interfaces) (counted counts) each_counted 1001 at base (enough at) reached) [
     | inl same ↦ other same
     | inr found ↦
         let place = found_at (bases_by_path interfaces at) base found in
-        none place.0 (omega (arith, place.1, is, length-all_bases (bases_in interfaces) (count_in counts) counted 1001 at (enough at))) place.2
+        none place.0 (omega (arith, place.1, is, length-all_bases (bases_in interfaces) (counted counts) each_counted 1001 at (enough at))) place.2
   ]
 
 pub behind_first : (x : ℕ) (xs : List ℕ) (w : ℕ) → 0 < w → slice_get (x ∷ xs) w ≡ slice_get xs (w - 1)

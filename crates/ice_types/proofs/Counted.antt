@@ -12,7 +12,9 @@ use Rattle.ice_types.specs.Tables.{Tables}
 use Rattle.ice_types.specs.Measures.{bases_in, paths_in}
 use Rattle.ice_types.specs.Bases.{class_base, HasBases, Lone, Derived}
 use Rattle.ice_types.specs.Rules.{Beside, IsKept}
-use Rattle.ice_types.specs.Inherited.{base_in, count_in, CountsClassBases, CountsBases}
+use Rattle.ice_types.specs.Inherited.{base_in, CountsClassBases, CountsBases}
+use Rattle.ice_types.specs.Kept.{counted}
+use Rattle.ice_types.proofs.BasePaths.{enough_levels}
 use Rattle.ice_types.proofs.Items.{both_end}
 
 -- ---- classes
@@ -30,7 +32,7 @@ base_is None base e = absurd cc
 base_is (Some c) base e = ap Some e
 
 -- a row that is kept beside a class
-kept_beside : (t : Tables) (beside : Beside) → IsKept t beside → (at bases : ℕ) → HasBases (class_base t) at bases → count_in beside.classes at ≡ bases
+kept_beside : (t : Tables) (beside : Beside) → IsKept t beside → (at bases : ℕ) → HasBases (class_base t) at bases → counted beside.classes at ≡ bases
 kept_beside t beside kept at bases has = by_row (slice_get beside.classes at) refl
   where
     lengths : length beside.classes ≡ length t.classes
@@ -74,27 +76,19 @@ sum_same f g most (x ∷ xs) le same =
     let other = sum_by-cons (λ b. suc (g b)) x xs in
     omega (arith, total, other, same x (omega (arith, le, total)), sum_same f g most xs (omega (arith, le, total)) same)
 
--- fewer bases than levels are counted alike at more levels
-settled : (interfaces : List InterfaceDecl) (levels more at : ℕ) → levels ≤ more → paths_in interfaces more at < levels → paths_in interfaces levels at ≡ paths_in interfaces more at
-unfolding paths_in
-settled interfaces zero more at le less = absurd (omega (arith, less))
-settled interfaces (suc levels) zero at le less = absurd (omega (arith, le))
-settled interfaces (suc levels) (suc more) at le less =
-    sum_same (paths_in interfaces more) (paths_in interfaces levels) levels (bases_in interfaces at) (omega (arith, less)) (λ b within. settled interfaces levels more b (omega (arith, le)) (omega (arith, within)))
-
 -- a base with its own bases
 with_own : (interfaces : List InterfaceDecl) (levels at : ℕ) → sum_by (λ b. suc (paths_in interfaces (suc levels) b)) (bases_in interfaces at) ≤ levels
     → paths_in interfaces (suc levels) at ≡ sum_by (λ b. suc (paths_in interfaces (suc levels) b)) (bases_in interfaces at)
 unfolding paths_in
 with_own interfaces levels at le =
-    sum_same (λ b. paths_in interfaces (suc levels) b) (λ b. paths_in interfaces levels b) levels (bases_in interfaces at) le (λ b within. settled interfaces levels (suc levels) b (omega arith) (omega (arith, within)))
+    sum_same (λ b. paths_in interfaces (suc levels) b) (λ b. paths_in interfaces levels b) levels (bases_in interfaces at) le (λ b within. enough_levels interfaces levels b (omega (arith, within)))
 
 no_paths : (interfaces : List InterfaceDecl) (levels at : ℕ) → slice_get interfaces at ≡ None → paths_in interfaces (suc levels) at ≡ 0
 unfolding paths_in
 no_paths interfaces levels at e = ap (λ (row : Option InterfaceDecl). sum_by (λ b. suc (paths_in interfaces levels b)) (elim row [ None ↦ [] | Some i ↦ i.bases ])) e
 
 module _ (t : Tables) (beside : Beside) (kept : IsKept t beside) where
-  counted_paths : (at : ℕ) → count_in beside.interfaces at ≡ paths_in t.interfaces 1001 at
+  counted_paths : (at : ℕ) → counted beside.interfaces at ≡ paths_in t.interfaces 1001 at
   counted_paths at = by_row (slice_get beside.interfaces at) refl
     where
       lengths : length beside.interfaces ≡ length t.interfaces
@@ -114,6 +108,6 @@ module _ (t : Tables) (beside : Beside) (kept : IsKept t beside) where
   pub interface_counts : CountsBases t.interfaces beside.interfaces
   interface_counts at =
       let own = with_own t.interfaces 1000 at (few at) in
-      let counts : sum_by (λ b. suc (count_in beside.interfaces b)) (bases_in t.interfaces at) ≡ sum_by (λ b. suc (paths_in t.interfaces 1001 b)) (bases_in t.interfaces at)
-      = sum_same (paths_in t.interfaces 1001) (count_in beside.interfaces) 1000 (bases_in t.interfaces at) (few at) (λ b within. counted_paths b) in
+      let counts : sum_by (λ b. suc (counted beside.interfaces b)) (bases_in t.interfaces at) ≡ sum_by (λ b. suc (paths_in t.interfaces 1001 b)) (bases_in t.interfaces at)
+      = sum_same (paths_in t.interfaces 1001) (counted beside.interfaces) 1000 (bases_in t.interfaces at) (few at) (λ b within. counted_paths b) in
       (counted_paths at ∙ own ∙ sym counts, omega (arith, counted_paths at, own, few at))

@@ -1,11 +1,12 @@
 -- What classes and interfaces have of their bases. (Ice manual, "Class Inheritance" and "Interface Inheritance".)
-use Rattle.std.specs.Prelude.{ℕ, zero, suc, ◌≡◌, ◌≤◌, ◌<◌, ◌-◌, true, false, List, [], ◌∷◌, ◌++◌, Option, None, Some, slice_get, unwrap_or, option_and_then, sum_by, find, bytes_eq, nat_le, Contains}
+use Rattle.std.specs.Prelude.{ℕ, zero, suc, ◌≡◌, ◌≤◌, ◌<◌, ◌-◌, true, false, List, [], ◌∷◌, ◌++◌, Option, None, Some, slice_get, option_and_then, sum_by, find, bytes_eq, nat_le, Contains}
 use Rattle.std.specs.List.{flat_map}
 use Rattle.ice_types.specs.declared.declarations.ClassDecl.{ClassDecl}
 use Rattle.ice_types.specs.declared.declarations.InterfaceDecl.{InterfaceDecl}
 use Rattle.ice_types.specs.declared.declarations.OpDecl.{OpDecl}
 use Rattle.ice_types.specs.declared.schema.TheConstants.{MOST_BASES}
 use Rattle.ice_types.specs.Measures.{bases_in}
+use Rattle.ice_types.specs.Kept.{counted}
 
 -- a place itself, or one that is reached from it by steps
 pub data Reaches (Step : ℕ → ℕ → Type 0) : ℕ → ℕ → Type 0 where
@@ -47,17 +48,13 @@ first_named name ops = find (λ op. bytes_eq op.name name) ops
 
 -- ---- how bases are counted
 
--- what is counted at a place
-abbrev pub count_in : List (Option ℕ) → ℕ → ℕ
-count_in counts at = elim (slice_get counts at) [ None ↦ 0 | Some count ↦ unwrap_or count 0 ]
-
 -- a class has more bases than its base
 abbrev pub CountsClassBases : List ClassDecl → List (Option ℕ) → Type 0
-CountsClassBases classes counts = (at base : ℕ) → base_in classes at ≡ Some base → count_in counts base < count_in counts at
+CountsClassBases classes counts = (at base : ℕ) → base_in classes at ≡ Some base → counted counts base < counted counts at
 
 -- each interface's bases are counted, each with its own bases
 abbrev pub CountsBases : List InterfaceDecl → List (Option ℕ) → Type 0
-CountsBases interfaces counts = (at : ℕ) → (count_in counts at ≡ sum_by (λ b. suc (count_in counts b)) (bases_in interfaces at)) × (count_in counts at ≤ MOST_BASES)
+CountsBases interfaces counts = (at : ℕ) → (counted counts at ≡ sum_by (λ b. suc (counted counts b)) (bases_in interfaces at)) × (counted counts at ≤ MOST_BASES)
 
 -- Where a place falls among sections, one a base, each of one place more than is counted of it: whose section, and how far into it.
 abbrev pub located : (ℕ → ℕ) → List ℕ → ℕ → Option (ℕ × ℕ)

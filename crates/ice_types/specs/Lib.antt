@@ -6,6 +6,7 @@ pub mod Fits
 pub mod Bases
 pub mod Rules
 pub mod Kept
+pub mod Ids
 pub mod Parts
 pub mod Inherited
 pub mod Formats

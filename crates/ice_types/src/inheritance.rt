@@ -2,8 +2,9 @@
 
 ghost use Rattle.std.specs.Prelude.{◌≡◌, ◌≤◌, ◌↔◌, IfSome, IsTrue, slice_get};
 ghost use Rattle.std.specs.Option.{option_copied};
+ghost use Rattle.ice_types.specs.Kept.{counted};
 ghost use Rattle.ice_types.specs.Measures.{bases_in};
-ghost use Rattle.ice_types.specs.Inherited.{CountsBases, CountsClassBases, InterfaceIsA, IsA, base_in, bases_by_path, count_in, first_named, located, operations, ops_in};
+ghost use Rattle.ice_types.specs.Inherited.{CountsBases, CountsClassBases, InterfaceIsA, IsA, base_in, bases_by_path, first_named, located, operations, ops_in};
 
 use crate::declarations::{ClassDecl, InterfaceDecl, OpDecl};
 use crate::schema::Schema;
@@ -165,7 +166,7 @@ fn base_at(
 /// In whose section a place falls, and how far into it, where each base has a section of one place
 /// more than is counted of it. None behind the last section.
 fn section(bases: &[u32], counts: &[Option<u32>], place: u32) -> Option<(u32, u32)>
-    ensures found { result ≡ located (count_in counts.now) bases.now place }
+    ensures found { result ≡ located (counted counts.now) bases.now place }
     ensures within { IfSome result (λ found. found.1 ≤ place) }
 {
     let mut left = place;
@@ -181,7 +182,7 @@ fn section(bases: &[u32], counts: &[Option<u32>], place: u32) -> Option<(u32, u3
 
 /// What is counted at a place, 0 where nothing is.
 fn count_of(counts: &[Option<u32>], at: u32) -> u32
-    ensures { result ≡ count_in counts.now at }
+    ensures { result ≡ counted counts.now at }
 {
     match counts.get(at as usize) {
         Some(count) => count.unwrap_or(0),

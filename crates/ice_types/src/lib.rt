@@ -1,13 +1,19 @@
 //! Plain data of Slice: names, lists, types and the schema that tells which types there are.
 #![tactic(auto)]
 
+mod adding;
+mod bases;
 mod declarations;
+mod defining;
+mod ids;
 mod inheritance;
 mod kind;
 mod lacking;
 mod laws;
 mod list;
+mod look_ups;
 mod measure;
+mod measuring;
 mod name;
 mod optional_format;
 mod own_names;
