@@ -17,3 +17,8 @@ pub mod NoRows
 pub mod TypeIds
 pub mod Naming
 pub mod Leading
+pub mod ByPaths
+pub mod Searching
+pub mod Counted
+pub mod RowIdentity
+pub mod Alike

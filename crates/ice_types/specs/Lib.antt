@@ -8,3 +8,6 @@ pub mod Rules
 pub mod Kept
 pub mod Ids
 pub mod Parts
+pub mod Inherited
+pub mod Formats
+pub mod Lacking

@@ -6,13 +6,16 @@ mod bases;
 mod declarations;
 mod defining;
 mod ids;
+mod inheritance;
 mod kind;
+mod lacking;
 mod laws;
 mod list;
 mod look_ups;
 mod measure;
 mod measuring;
 mod name;
+mod optional_format;
 mod own_names;
 mod rows;
 mod schema;
@@ -26,6 +29,10 @@ pub use laws::no_type_in_itself;
 pub use list::{Bytes, List};
 pub use measure::Measure;
 pub use name::Name;
+pub use optional_format::{
+    FORMAT_CLASS, FORMAT_F1, FORMAT_F2, FORMAT_F4, FORMAT_F8, FORMAT_FSIZE, FORMAT_SIZE,
+    FORMAT_VSIZE,
+};
 pub use own_names::have_own_names;
 pub use rows::MOST_ROWS;
 pub use schema::{MOST_BASES, MOST_DEPTH, MOST_NUMBER, MOST_SMALLEST, Schema};
