@@ -12,3 +12,9 @@ mod Starts
 mod Exits
 mod Moves
 mod Guards
+mod Holding
+mod Giving
+mod Transfers
+pub mod Orders
+mod Tagless
+pub mod RegularItems
