@@ -1,5 +1,5 @@
 -- Maps by the ids of names.
-use Rattle.std.proofs.Common.{Ordering, Less, Equal, Greater, ◌≡◌, ℕ, zero, suc, ◌<◌, ◌≤◌, Bool, true, false, cond, List, Option, Some, None, refl, sym, ap, ◌∙◌, subst, inl, inr, arith, ◌∷◌, ◌++◌, [], ◌+◌, length}
+use Rattle.std.proofs.Common.{Ordering, Less, Equal, Greater, ◌≡◌, ℕ, suc, ◌<◌, ◌≤◌, Bool, true, false, cond, List, Option, Some, None, refl, sym, ap, ◌∙◌, subst, inl, inr, arith, ◌+◌, length}
 use Rattle.std.specs.Prelude.{option_and_then, ◌==◌, ◌&&◌, bytes_eq, OnOk, OnErr, IfOk, Result, Ok, Err, IsSome, if◌then◌else◌}
 use Rattle.std.specs.Option.{is_some}
 use Rattle.std.specs.Borrow.{Bor}
@@ -7,17 +7,20 @@ use Rattle.std.specs.Ordering.{is_eq, is_lt, is_gt, ordering_then, nat_cmp}
 use Rattle.std.specs.Cmp.{nat_cmp_is, tied_then}
 use Rattle.std.specs.Cmp.Lexicographic.{slice_cmp}
 use Rattle.std.specs.Map.{lookup}
-use Rattle.std.specs.BTreeMap.{BTreeMap, get, get_by, btree_map_len, UpdatesBy, is_at, IsUnchanged}
+use Rattle.std.specs.BTreeMap.{BTreeMap, get, btree_map_len, UpdatesBy, is_at, IsUnchanged}
 use Rattle.std.proofs.lemmas.Map.Text.{btree_map_updates_str}
 use Rattle.std.proofs.lemmas.Bool.{cases_order}
 use Rattle.std.proofs.lemmas.Bool.Decides.{Decides-eqb, nat_tests}
 use Rattle.std.proofs.lemmas.Slice.Eq.{bytes_eq-Decides}
-use Rattle.slice_names.specs.Held.{id_of, at_id, number_at, AreIds, IsNearest}
+use Rattle.slice_names.specs.Held.{id_of, at_id, at_name, AreIds}
 
 -- ---- tests
 
 pub test_true : (n m : ℕ) → n ≡ m → (n == m) ≡ true
 test_true n m h = grind (arith, nat_tests)
+
+pub test_below : (n m : ℕ) → n ≤ m → (n == suc m) ≡ false
+test_below n m h = grind (arith, nat_tests)
 
 pub test_apart : (n m : ℕ) → (n ≡ m → ⊥) → (n == m) ≡ false
 test_apart n m h = by_test (n == m) refl
@@ -89,7 +92,7 @@ and_turned false false = refl
 -- what is found once the number of a name in a scope is changed
 module _ (ids : BTreeMap (Bor (List ℕ)) ℕ) (old new : BTreeMap (ℕ × ℕ) ℕ) (name : List ℕ) (id scope : ℕ) (w : Option ℕ) (held : AreIds ids old) (here : id_of ids name ≡ Some id)
     (step : (b n : ℕ) → at_id new b n ≡ cond ((id == b) && (scope == n)) w (at_id old b n)) where
-  changed_at : (word : List ℕ) (n : ℕ) → number_at ids new word n ≡ cond (scope == n && bytes_eq name word) w (number_at ids old word n)
+  changed_at : (word : List ℕ) (n : ℕ) → at_name ids new word n ≡ cond (scope == n && bytes_eq name word) w (at_name ids old word n)
   changed_at word n = by_id (id_of ids word) refl
     where
       by_id : (o : Option ℕ) → id_of ids word ≡ o → option_and_then (λ i. at_id new i n) o ≡ cond (scope == n && bytes_eq name word) w (option_and_then (λ i. at_id old i n) o)
@@ -118,7 +121,7 @@ pub remove_ids : (ids : BTreeMap (Bor (List ℕ)) ℕ) (old new : BTreeMap (ℕ 
 remove_ids ids old new name id scope held here h = kept_ids ids old new name id scope None held here (numbers_after old new id scope None h)
 
 pub number_after : (ids : BTreeMap (Bor (List ℕ)) ℕ) (old new : BTreeMap (ℕ × ℕ) ℕ) (name : List ℕ) (id scope : ℕ) (w : Option ℕ) → AreIds ids old → id_of ids name ≡ Some id → UpdatesBy pair_cmp (pair_cmp (id, scope)) old new w
-    → (word : List ℕ) (n : ℕ) → number_at ids new word n ≡ cond (scope == n && bytes_eq name word) w (number_at ids old word n)
+    → (word : List ℕ) (n : ℕ) → at_name ids new word n ≡ cond (scope == n && bytes_eq name word) w (at_name ids old word n)
 number_after ids old new name id scope w held here h = changed_at ids old new name id scope w held here (numbers_after old new id scope w h)
 
 -- ---- a new id
@@ -146,10 +149,10 @@ module _ (old new : BTreeMap (Bor (List ℕ)) ℕ) (numbers : BTreeMap (ℕ × �
 
 module _ (old new : BTreeMap (Bor (List ℕ)) ℕ) (numbers : BTreeMap (ℕ × ℕ) ℕ) (name : List ℕ) (id : ℕ) (held : AreIds old numbers) (none : id_of old name ≡ None) (is_len : id ≡ btree_map_len old)
     (step : (word : List ℕ) → id_of new word ≡ cond (bytes_eq name word) (Some id) (id_of old word)) where
-  new_same : (word : List ℕ) (n : ℕ) → number_at new numbers word n ≡ number_at old numbers word n
+  new_same : (word : List ℕ) (n : ℕ) → at_name new numbers word n ≡ at_name old numbers word n
   new_same word n = by_test (bytes_eq name word) refl
     where
-      by_test : (b : Bool) → bytes_eq name word ≡ b → number_at new numbers word n ≡ number_at old numbers word n
+      by_test : (b : Bool) → bytes_eq name word ≡ b → at_name new numbers word n ≡ at_name old numbers word n
       by_test true is =
           ap (option_and_then (λ (i : ℕ). at_id numbers i n)) (step word ∙ ap (λ (b : Bool). cond b (Some id) (id_of old word)) is)
           ∙ (held.fresh id n (omega arith) ∙ sym (ap (option_and_then (λ (i : ℕ). at_id numbers i n)) (sym (ap (id_of old) ((bytes_eq-Decides name word).0 is)) ∙ none)))
@@ -177,7 +180,7 @@ new_id (Err e) old new numbers name id held none is_len was_old len updates err 
 
 -- no other name finds another number
 pub new_id_same : (old new : BTreeMap (Bor (List ℕ)) ℕ) (numbers : BTreeMap (ℕ × ℕ) ℕ) (name : List ℕ) (id : ℕ) → AreIds old numbers → id_of old name ≡ None → id ≡ btree_map_len old
-    → UpdatesBy str_cmp (λ k. slice_cmp nat_cmp name k.now) old new (Some id) → (word : List ℕ) (n : ℕ) → number_at new numbers word n ≡ number_at old numbers word n
+    → UpdatesBy str_cmp (λ k. slice_cmp nat_cmp name k.now) old new (Some id) → (word : List ℕ) (n : ℕ) → at_name new numbers word n ≡ at_name old numbers word n
 new_id_same old new numbers name id held none is_len updates = new_same old new numbers name id held none is_len (btree_map_updates_str name old new (Some id) updates)
 
 -- ---- the nearest scope
@@ -251,18 +254,18 @@ range_last numbers id scope lo hi key v e f there last =
       ap (λ (b : ℕ). at_id numbers b key.1) (sym same) ∙ there.1,
       λ n past h. none_or_some (at_id numbers id n) (λ some.
           let wrong : true ≡ false = sym (ap (λ (o : Ordering). is_lt (ordering_then o (nat_cmp key.1 n))) (equal key.0 id same) ∙ ap is_lt (less key.1 n past))
-              ∙ last (id, n) (at_ends lo hi (id, 0) (id, scope) (id, n) e f (is_between id scope n h)) some in cc),
+          ∙ last (id, n) (at_ends lo hi (id, 0) (id, scope) (id, n) e f (is_between id scope n h)) some in cc),
     )
 
 -- the same of a name with an id
-at_name : (ids : BTreeMap (Bor (List ℕ)) ℕ) (numbers : BTreeMap (ℕ × ℕ) ℕ) (name : List ℕ) (id : ℕ) → id_of ids name ≡ Some id → (n : ℕ) → number_at ids numbers name n ≡ at_id numbers id n
-at_name ids numbers name id here n = ap (option_and_then (λ (i : ℕ). at_id numbers i n)) here
+has_id : (ids : BTreeMap (Bor (List ℕ)) ℕ) (numbers : BTreeMap (ℕ × ℕ) ℕ) (name : List ℕ) (id : ℕ) → id_of ids name ≡ Some id → (n : ℕ) → at_name ids numbers name n ≡ at_id numbers id n
+has_id ids numbers name id here n = ap (option_and_then (λ (i : ℕ). at_id numbers i n)) here
 
 pub none_named : (ids : BTreeMap (Bor (List ℕ)) ℕ) (numbers : BTreeMap (ℕ × ℕ) ℕ) (name : List ℕ) (id scope : ℕ) → id_of ids name ≡ Some id → ((n : ℕ) → n ≤ scope → at_id numbers id n ≡ None)
-    → (n : ℕ) → n ≤ scope → number_at ids numbers name n ≡ None
-none_named ids numbers name id scope here none n h = at_name ids numbers name id here n ∙ none n h
+    → (n : ℕ) → n ≤ scope → at_name ids numbers name n ≡ None
+none_named ids numbers name id scope here none n h = has_id ids numbers name id here n ∙ none n h
 
 pub last_named : (ids : BTreeMap (Bor (List ℕ)) ℕ) (numbers : BTreeMap (ℕ × ℕ) ℕ) (name : List ℕ) (id scope near v : ℕ) → id_of ids name ≡ Some id
     → (near ≤ scope) × (at_id numbers id near ≡ Some v) × ((n : ℕ) → near < n → n ≤ scope → at_id numbers id n ≡ None)
-    → (near ≤ scope) × (number_at ids numbers name near ≡ Some v) × ((n : ℕ) → near < n → n ≤ scope → number_at ids numbers name n ≡ None)
-last_named ids numbers name id scope near v here found = (found.0, at_name ids numbers name id here near ∙ found.1, λ n past h. at_name ids numbers name id here n ∙ found.2 n past h)
+    → (near ≤ scope) × (at_name ids numbers name near ≡ Some v) × ((n : ℕ) → near < n → n ≤ scope → at_name ids numbers name n ≡ None)
+last_named ids numbers name id scope near v here found = (found.0, has_id ids numbers name id here near ∙ found.1, λ n past h. has_id ids numbers name id here n ∙ found.2 n past h)

@@ -1,5 +1,5 @@
 -- A name more in a set of names with scopes.
-use Rattle.std.proofs.Common.{◌≡◌, ℕ, Bool, true, false, cond, List, Ordering, String, string_bytes, string_cmp, refl, sym, ap, ◌∙◌, subst}
+use Rattle.std.proofs.Common.{◌≡◌, ℕ, Bool, true, false, cond, List, Ordering, String, string_bytes, string_cmp, refl, sym, ap, ◌∙◌}
 use Rattle.std.specs.Prelude.{◌==◌, ◌&&◌, bytes_eq}
 use Rattle.std.specs.Ordering.{is_eq, ordering_then, nat_cmp, eq_by_cmp}
 use Rattle.std.specs.Cmp.{tied_then, IsTotalOrder}
@@ -13,7 +13,7 @@ use Rattle.std.proofs.lemmas.Cmp.{then_total, on_total, nat_cmp_total, nat_list_
 use Rattle.std.proofs.lemmas.Map.Text.{is_eq-slice_cmp}
 use Rattle.std.proofs.lemmas.Bool.Decides.{Decides-eqb}
 use Rattle.std.proofs.lemmas.Slice.Eq.{bytes_eq-Decides}
-use Rattle.slice_names.specs.Held.{has_lowered}
+use Rattle.slice_names.specs.Held.{has_key}
 use Rattle.slice_names.proofs.Ids.{number_test, and_turned}
 
 abbrev pub word_cmp : List ℕ × ℕ → List ℕ × ℕ → Ordering
@@ -38,19 +38,19 @@ unfolding KeepsOthers
 other_keys eq test old new h = h
 
 module _ {Y : Type 0} (old new : BTreeSet (String Y × ℕ)) (key : String Y × ℕ) (h : UpdatesBy text_cmp (text_cmp key) old new true) where
-  same_word : (word : List ℕ) (n : ℕ) → (string_bytes key.0 ≡ word) → key.1 ≡ n → has_lowered new word n ≡ true
-  same_word word n e f = ap (λ (w : List ℕ). has_lowered new w n) (sym e) ∙ (ap (has_lowered new (string_bytes key.0)) (sym f) ∙ h.1)
+  same_word : (word : List ℕ) (n : ℕ) → (string_bytes key.0 ≡ word) → key.1 ≡ n → has_key new word n ≡ true
+  same_word word n e f = ap (λ (w : List ℕ). has_key new w n) (sym e) ∙ (ap (has_key new (string_bytes key.0)) (sym f) ∙ h.1)
 
-  other_word : (word : List ℕ) (n : ℕ) → (key.1 == n && bytes_eq (string_bytes key.0) word) ≡ false → has_lowered new word n ≡ has_lowered old word n
+  other_word : (word : List ℕ) (n : ℕ) → (key.1 == n && bytes_eq (string_bytes key.0) word) ≡ false → has_key new word n ≡ has_key old word n
   other_word word n apart =
       let laws = eq_by_cmp_equiv word_total in
       other_keys (eq_by_cmp text_cmp) (is_at (text_cmp key)) old.keys new.keys h.3 (λ x. eq_by_cmp word_cmp (word, n) (key_of x)) (λ x y is. laws.congr (word, n) (key_of x) (key_of y) is)
       (λ x is. laws.symm (word, n) (key_of x) ∙ (sym (laws.congr (key_of key) (key_of x) (word, n) is) ∙ (word_test (string_bytes key.0) word key.1 n ∙ apart)))
 
-  pub lowered_after : (word : List ℕ) (n : ℕ) → has_lowered new word n ≡ cond (key.1 == n && bytes_eq (string_bytes key.0) word) true (has_lowered old word n)
+  pub lowered_after : (word : List ℕ) (n : ℕ) → has_key new word n ≡ cond (key.1 == n && bytes_eq (string_bytes key.0) word) true (has_key old word n)
   lowered_after word n = by_test (key.1 == n) (bytes_eq (string_bytes key.0) word) refl refl
     where
-      by_test : (a b : Bool) → (key.1 == n) ≡ a → bytes_eq (string_bytes key.0) word ≡ b → has_lowered new word n ≡ cond (a && b) true (has_lowered old word n)
+      by_test : (a b : Bool) → (key.1 == n) ≡ a → bytes_eq (string_bytes key.0) word ≡ b → has_key new word n ≡ cond (a && b) true (has_key old word n)
       by_test true true x y = same_word word n ((bytes_eq-Decides (string_bytes key.0) word).0 y) ((Decides-eqb key.1 n).0 x)
       by_test true false x y = other_word word n (ap (λ (t : Bool). t && bytes_eq (string_bytes key.0) word) x ∙ y)
       by_test false b x y = other_word word n (ap (λ (t : Bool). t && bytes_eq (string_bytes key.0) word) x)

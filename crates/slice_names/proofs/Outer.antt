@@ -1,6 +1,6 @@
 -- The way outwards, in steps over several scopes at once.
-use Rattle.std.proofs.Common.{get_or, ◌≡◌, ℕ, zero, suc, ◌+◌, ◌-◌, ◌<◌, ◌≤◌, Bool, true, false, cond, List, [], ◌∷◌, ◌++◌, length, Option, Some, None, refl, sym, ap, ◌∙◌, subst, inl, inr, arith}
-use Rattle.std.specs.Prelude.{◌==◌, slice_get, reverse}
+use Rattle.std.proofs.Common.{get_or, ◌≡◌, ℕ, zero, suc, ◌-◌, ◌<◌, ◌≤◌, Bool, cond, List, [], ◌∷◌, length, Option, Some, None, refl, sym, ap, ◌∙◌, subst, inl, inr, arith}
+use Rattle.std.specs.Prelude.{slice_get, reverse}
 use Rattle.std.proofs.lemmas.Bool.{cases_lt}
 use Rattle.std.proofs.lemmas.List.{reverse-reverse, length-reverse}
 use Rattle.std.proofs.lemmas.Option.{slice_get_read, slice_get_within}
@@ -8,11 +8,11 @@ use Rattle.slice_meaning.specs.Names.{Name, Scope, Declared, declared_in, outwar
 use Rattle.slice_names.specs.declared.entry.Entry.{Entry}
 use Rattle.slice_names.specs.declared.by_name.ByName.{ByName}
 use Rattle.slice_names.specs.declared.lowered.Lowered.{Lowered}
-use Rattle.slice_names.specs.Held.{number_at, IsNearest}
+use Rattle.slice_names.specs.Finding.{number_at, IsNearest}
 use Rattle.slice_names.specs.Numbers.{scope_at, Lacks, IsLast}
 use Rattle.slice_names.specs.Scopes.{declarations, AreEntries, around_of, outer_by, IsOuter, AreSkips, AreFound}
-use Rattle.slice_names.proofs.Ids.{test_true}
-use Rattle.slice_names.proofs.Numbering.{declared_length, scope_new, scope_old, test_below, split}
+use Rattle.slice_names.proofs.Ids.{test_true, test_below}
+use Rattle.slice_names.proofs.Numbering.{declared_length, scope_new, scope_old, split}
 use Rattle.slice_names.proofs.Lookup.{reverse_cons, get_front, get_last, outwards_on, zero_scope, found_number}
 
 -- ---- the scope round one
@@ -149,14 +149,14 @@ none_outwards es numbers lowered ds w p held is h =
 
 -- the last scope with a name
 pub last_is : (es : List Entry) (numbers : ByName) (lowered : Lowered) (ds : List Declared) (scope : ℕ) (w : Name) (o : Option (ℕ × ℕ)) → AreFound es numbers lowered → declarations es ≡ ds → scope ≤ length ds
-    → IsNearest (number_at numbers.ids numbers.numbers w) scope o → IsLast ds w scope o
+    → IsNearest (number_at numbers w) scope o → IsLast ds w scope o
 last_is es numbers lowered ds scope w None held is h near =
     none_outwards es numbers lowered ds w scope held is h (λ n below. sym (found_number es numbers lowered ds n w None held is (omega arith) (sym (near n below))).0)
 last_is es numbers lowered ds scope w (Some found) held is h near = (
-    near.0,
-    found_number es numbers lowered ds found.0 w (Some found.1) held is (let l = near.0 in omega arith) (sym near.1),
-    λ n past below. sym (found_number es numbers lowered ds n w None held is (omega arith) (sym (near.2 n past below))).0,
-  )
+  near.0,
+  found_number es numbers lowered ds found.0 w (Some found.1) held is (let l = near.0 in omega arith) (sym near.1),
+  λ n past below. sym (found_number es numbers lowered ds n w None held is (omega arith) (sym (near.2 n past below))).0,
+)
 
 -- one step of either kind
 pub record Steps (ds : List Declared) (near scope to : ℕ) : Type 0 where

@@ -1,7 +1,6 @@
 //! Declarations by name and scope.
 
-ghost use Rattle.std.specs.Prelude.{◌≡◌, OnOk, OnErr, IfOk, None, Some, List, ℕ, Bool, true, false, cond, ◌&&◌, ◌==◌, bytes_eq};
-ghost use Rattle.slice_names.specs.Held.{id_of, number_at, IsNearest, AreIds};
+ghost use Rattle.slice_names.specs.Held.{AreIds};
 
 use std::alloc::{AllocError, Global};
 use std::collections::BTreeMap;
@@ -16,12 +15,13 @@ pub struct ByName<'a> {
 }
 
 impl<'a> ByName<'a> {
-    ghost use Rattle.std.specs.Prelude.{◌≡◌, OnOk, OnErr, IfOk, None, Some, List, ℕ, Bool, true, false, cond, ◌&&◌, ◌==◌, bytes_eq};
-    ghost use Rattle.slice_names.specs.Held.{id_of, number_at, IsNearest, AreIds};
+    ghost use Rattle.std.specs.Prelude.{◌≡◌, OnOk, OnErr, IfOk, List, ℕ, None, Some};
+    ghost use Rattle.slice_names.specs.Held.{id_of};
+    ghost use Rattle.slice_names.specs.Finding.{number_at, IsSame, IsChanged, IsNearest};
 
     /// No names.
     pub fn new(alloc: Global) -> ByName<'a>
-        ensures { (word : List ℕ) (scope : ℕ) → number_at result.ids result.numbers word scope ≡ None }
+        ensures { (word : List ℕ) (scope : ℕ) → number_at result word scope ≡ None }
     {
         ByName {
             ids: BTreeMap::new(alloc),
@@ -31,7 +31,7 @@ impl<'a> ByName<'a> {
 
     /// The declaration of this very name in this scope.
     pub fn get(&self, name: &str, scope: usize) -> Option<usize>
-        ensures { result ≡ number_at self.now.ids self.now.numbers name.now scope }
+        ensures { result ≡ number_at self.now name.now scope }
     {
         let id = *self.ids.get(name)?;
         self.numbers.get(&(id, scope)).copied()
@@ -39,7 +39,7 @@ impl<'a> ByName<'a> {
 
     /// The last scope, up to this one, with a declaration of this very name, and that declaration.
     pub fn nearest(&self, name: &str, scope: usize) -> Option<(usize, usize)>
-        ensures { IsNearest (number_at self.now.ids self.now.numbers name.now) scope result }
+        ensures { IsNearest (number_at self.now name.now) scope result }
     {
         let id = *self.ids.get(name)?;
         let ((_, near), number) = self.numbers.range((id, 0)..=(id, scope)).next_back()?;
@@ -49,7 +49,7 @@ impl<'a> ByName<'a> {
     /// The id of a name, which gets one where it has none. Want of memory leaves all as it was.
     fn id(&mut self, name: &'a str) -> Result<usize, AllocError>
         ensures id { IfOk result (λ id. id_of self.new.ids name.now ≡ Some id) }
-        ensures same { (word : List ℕ) (scope : ℕ) → number_at self.new.ids self.new.numbers word scope ≡ number_at self.old.ids self.old.numbers word scope }
+        ensures same { IsSame (number_at self.old) (number_at self.new) }
     {
         if let Some(id) = self.ids.get(name) {
             return Ok(*id);
@@ -61,8 +61,8 @@ impl<'a> ByName<'a> {
 
     /// Puts a name in, with the number of its declaration. Want of memory leaves what the others find.
     pub fn insert(&mut self, name: &'a str, scope: usize, number: usize) -> Result<(), AllocError>
-        ensures ok { OnOk result ((word : List ℕ) (n : ℕ) → number_at self.new.ids self.new.numbers word n ≡ cond (scope == n && bytes_eq name.now word) (Some number) (number_at self.old.ids self.old.numbers word n)) }
-        ensures err { OnErr result ((word : List ℕ) (n : ℕ) → number_at self.new.ids self.new.numbers word n ≡ number_at self.old.ids self.old.numbers word n) }
+        ensures ok { OnOk result (IsChanged name.now scope (Some number) (number_at self.old) (number_at self.new)) }
+        ensures err { OnErr result (IsSame (number_at self.old) (number_at self.new)) }
     {
         let id = self.id(name)?;
         self.numbers.insert((id, scope), number)?;
@@ -71,7 +71,7 @@ impl<'a> ByName<'a> {
 
     /// Takes a name out again.
     pub fn remove(&mut self, name: &str, scope: usize)
-        ensures { (word : List ℕ) (n : ℕ) → number_at self.new.ids self.new.numbers word n ≡ cond (scope == n && bytes_eq name.now word) None (number_at self.old.ids self.old.numbers word n) }
+        ensures { IsChanged name.now scope None (number_at self.old) (number_at self.new) }
     {
         if let Some(id) = self.ids.get(name) {
             let id = *id;

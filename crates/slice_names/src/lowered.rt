@@ -1,9 +1,5 @@
 //! Names without regard to case.
 
-ghost use Rattle.std.specs.Prelude.{◌≡◌, OnOk, OnErr, IfOk, List, ℕ, true, false, cond, ◌&&◌, ◌==◌, bytes_eq};
-ghost use Rattle.std.specs.Str.{str_to_ascii_lowercase};
-ghost use Rattle.slice_names.specs.Held.{has_lowered};
-
 use std::alloc::{AllocError, Global};
 use std::collections::BTreeSet;
 
@@ -14,13 +10,13 @@ pub struct Lowered {
 }
 
 impl Lowered {
-    ghost use Rattle.std.specs.Prelude.{◌≡◌, OnOk, OnErr, IfOk, List, ℕ, true, false, cond, ◌&&◌, ◌==◌, bytes_eq};
+    ghost use Rattle.std.specs.Prelude.{◌≡◌, OnOk, OnErr, IfOk, List, ℕ, true, false};
     ghost use Rattle.std.specs.Str.{str_to_ascii_lowercase};
-    ghost use Rattle.slice_names.specs.Held.{has_lowered};
+    ghost use Rattle.slice_names.specs.Finding.{has_lowered, IsSame, IsChanged};
 
     /// No names.
     pub fn new(alloc: Global) -> Lowered
-        ensures { (word : List ℕ) (scope : ℕ) → has_lowered result.names word scope ≡ false }
+        ensures { (word : List ℕ) (scope : ℕ) → has_lowered result word scope ≡ false }
     {
         Lowered {
             names: BTreeSet::new(alloc),
@@ -29,7 +25,7 @@ impl Lowered {
 
     /// Whether a name of this scope is equal to this one without regard to case.
     pub fn has(&self, alloc: Global, name: &str, scope: usize) -> Result<bool, AllocError>
-        ensures { IfOk result (λ has. has ≡ has_lowered self.now.names (str_to_ascii_lowercase name.now) scope) }
+        ensures { IfOk result (λ has. has ≡ has_lowered self.now (str_to_ascii_lowercase name.now) scope) }
     {
         let key = (name.to_ascii_lowercase(alloc)?, scope);
         Ok(self.names.contains(&key))
@@ -37,8 +33,8 @@ impl Lowered {
 
     /// Puts a name in. Want of memory leaves the names as they were.
     pub fn insert(&mut self, alloc: Global, name: &str, scope: usize) -> Result<(), AllocError>
-        ensures ok { OnOk result ((word : List ℕ) (n : ℕ) → has_lowered self.new.names word n ≡ cond (scope == n && bytes_eq (str_to_ascii_lowercase name.now) word) true (has_lowered self.old.names word n)) }
-        ensures err { OnErr result ((word : List ℕ) (n : ℕ) → has_lowered self.new.names word n ≡ has_lowered self.old.names word n) }
+        ensures ok { OnOk result (IsChanged (str_to_ascii_lowercase name.now) scope true (has_lowered self.old) (has_lowered self.new)) }
+        ensures err { OnErr result (IsSame (has_lowered self.old) (has_lowered self.new)) }
     {
         let key = (name.to_ascii_lowercase(alloc)?, scope);
         self.names.insert(key)?;

@@ -1,6 +1,5 @@
-use Rattle.std.proofs.Common.{◌≡◌, None, sym, ap, ◌∙◌}
+use Rattle.std.proofs.Common.{sym, ap, ◌∙◌}
 use Rattle.std.specs.Option.{option_copied}
-use Rattle.slice_names.specs.Held.{id_of}
 use Rattle.slice_names.proofs.Ids.{new_id, new_id_same}
 use Rattle.slice_names.proofs.by_name.ByName.id.Goals as goal
 

@@ -1,4 +1,4 @@
-use Rattle.std.proofs.Common.{Some, ap, ◌∙◌, ◌≡◌, Bool, ℕ}
+use Rattle.std.proofs.Common.{Some, ap, ◌∙◌}
 use Rattle.std.specs.Prelude.{cond, ◌&&◌, ◌==◌, bytes_eq}
 use Rattle.slice_names.proofs.Ids.{insert_ids, number_after}
 use Rattle.slice_names.proofs.by_name.ByName.insert.Goals as goal

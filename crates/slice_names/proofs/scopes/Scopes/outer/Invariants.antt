@@ -1,4 +1,4 @@
-use Rattle.std.proofs.Common.{◌≡◌, ◌≤◌, List, ℕ, length}
+use Rattle.std.proofs.Common.{◌≡◌, ◌≤◌, List, ℕ}
 use Rattle.slice_meaning.specs.Names.{outwards}
 use Rattle.slice_names.specs.Numbers.{scope_at, Lacks}
 use Rattle.slice_names.proofs.scopes.Scopes.outer.Given as goal

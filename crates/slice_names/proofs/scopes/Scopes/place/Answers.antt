@@ -1,7 +1,6 @@
 use Rattle.std.proofs.Common.{◌≡◌, ◌≤◌, ◌-◌, ℕ, suc, length, arith, ap, ◌∙◌}
 use Rattle.std.specs.Prelude.{option_map}
 use Rattle.std.proofs.lemmas.Grind.{common_steps}
-use Rattle.slice_meaning.specs.Names.{Declared}
 use Rattle.slice_names.specs.Numbers.{declared_at, stands_at}
 use Rattle.slice_names.proofs.Lookup.{IsEntry, entry_at, below_entries}
 use Rattle.slice_names.proofs.scopes.Scopes.place.Goals as goal
