@@ -8,7 +8,7 @@ use Rattle.slice_meaning.specs.declared.fault.CheckKind.{CheckKind}
 use Rattle.slice_meaning.specs.declared.fault.CheckKind.TheVariants as rows
 use Rattle.slice_meaning.specs.declared.fault.Fault.{Fault}
 use Rattle.slice_meaning.specs.Known.{Known}
-use Rattle.slice_meaning.specs.Members.{new_number, with_number, entry_number, entry_place, after_entry, entry_faults, entries_of}
+use Rattle.slice_meaning.specs.Members.{new_number, with_number, entry_number, entry_place, after_entry, entry_faults, with_entry, entries_of}
 use Rattle.slice_meaning.specs.Checking.{noted}
 use Rattle.slice_faults.specs.Held.{entry_rows}
 use Rattle.slice_faults.proofs.Noting.{noted_more}
@@ -31,7 +31,7 @@ entry_next k next before entries i e number found now all at is so step =
     ∙ (sym (ap (λ l. noted found (entry_faults k next before l)) at) ∙ so)))
 
 row_more : (k : Known) (next : ℕ) (word : Word) (es : List Tree) (r : Result ℕ CheckKind)
-    → elim r as (λ _. List Entry) [ Err row ↦ entries_of k next es | Ok n ↦ record { name = word.name; number = n } ∷ entries_of k (suc n) es ] ≡ entry_rows word r ++ entries_of k (after_entry next r) es
+    → with_entry word r (entries_of k (after_entry next r) es) ≡ entry_rows word r ++ entries_of k (after_entry next r) es
 row_more k next word es (Ok n) = refl
 row_more k next word es (Err row) = refl
 
