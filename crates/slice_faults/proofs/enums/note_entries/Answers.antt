@@ -21,7 +21,7 @@ loop-entry-preserved c =
       with_number number so.0,
       c.in_ok-take.ensures.held so.0 so.1,
       ap (λ n. noted c.take.new.found.first (entry_faults k n (with_number number so.0) rest)) c.after_entry-next.ensures
-      ∙ entry_next k c.loop-entry.next so.0 entries i e number c.loop-entry.found.first c.take.new.found.first _ at is so.2
+          ∙ entry_next k c.loop-entry.next so.0 entries i e number c.loop-entry.found.first c.take.new.found.first _ at is so.2
           (c.in_ok-take.ensures.found so.0 so.1 ∙ ap (λ p. noted c.loop-entry.found.first (new_number rows.BadValue p so.0 number)) c.entry_place.ensures),
       ap (λ n. c.add_entry.new.rows ++ entries_of k n rest) c.after_entry-next.ensures ∙ rows_next k c.loop-entry.next entries i e number c.loop-entry.rows c.add_entry.new.rows _ at is so.3 c.in_ok-add_entry.ensures,
       next_within c.loop-entry.next _ number so.4 c.entry_number-number.ensures.most c.after_entry-next.ensures,
