@@ -1,7 +1,15 @@
 pub mod NamesOf
 pub mod Lookups
+pub mod Items
 pub mod Levels
-pub mod Added
+pub mod Said
+pub mod StructSizes
+pub mod Staying
+pub mod Ids
+pub mod Grown
+pub mod Measured
+pub mod AddedTypes
+pub mod NoRows
+pub mod TypeIds
 pub mod Naming
 pub mod Leading
-pub mod NewIds

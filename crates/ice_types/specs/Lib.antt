@@ -2,5 +2,8 @@ pub mod formers
 pub mod Names
 pub mod Tables
 pub mod Measures
+pub mod Fits
+pub mod Bases
 pub mod Rules
+pub mod Kept
 pub mod Parts

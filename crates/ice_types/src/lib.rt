@@ -11,12 +11,15 @@ mod own_names;
 mod rows;
 mod schema;
 
-pub use declarations::{DictDecl, Member, SeqDecl, StructDecl};
-pub use kind::TypeRef;
+pub use declarations::{
+    ClassDecl, DictDecl, Entry, EnumDecl, ExceptionDecl, InterfaceDecl, Member, OpDecl, SeqDecl,
+    Shape, StructDecl,
+};
+pub use kind::{RowRef, TypeRef};
 pub use laws::no_type_in_itself;
 pub use list::{Bytes, List};
 pub use measure::Measure;
 pub use name::Name;
 pub use own_names::have_own_names;
 pub use rows::MOST_ROWS;
-pub use schema::{MOST_DEPTH, MOST_SMALLEST, Schema};
+pub use schema::{MOST_BASES, MOST_DEPTH, MOST_NUMBER, MOST_SMALLEST, Schema};

@@ -1,9 +1,13 @@
-//! The rows of a table by place, and what the schema says of each.
+//! The rows of the tables by place, and what the schema says of each.
 
 ghost use Rattle.std.specs.Prelude.{◌≡◌, ◌<◌, ◌++◌, [], ◌∷◌, List, ℕ, MatchOption, OnOk, OnErr, length, map};
-ghost use Rattle.ice_types.specs.Tables.{HasId, LacksId};
+ghost use Rattle.ice_types.specs.Tables.{HasId, LacksId, no_types};
+ghost use Rattle.ice_types.specs.Kept.{beside_of, tables_of};
+ghost use Rattle.ice_types.specs.Rules.{nothing};
 
-use crate::declarations::{DictDecl, SeqDecl, StructDecl};
+use crate::declarations::{
+    ClassDecl, DictDecl, EnumDecl, ExceptionDecl, InterfaceDecl, SeqDecl, StructDecl,
+};
 use crate::list::List;
 use crate::measure::Measure;
 use std::alloc::{AllocError, Global};
@@ -44,37 +48,69 @@ impl Row for StructDecl {
     }
 }
 
-/// The rows of a table. Beside each, at the same place, is what the schema says of its type.
-#[derive(Debug, Drop)]
-pub(crate) struct Rows<T> {
-    pub decls: List<T>,
-    pub measures: List<Measure>,
+impl Row for EnumDecl {
+    ghost id_of = { λ e. e.id };
+
+    fn id(&self) -> &str {
+        self.id.as_str()
+    }
 }
 
-impl<T> Rows<T> {
+impl Row for ClassDecl {
+    ghost id_of = { λ c. c.id };
+
+    fn id(&self) -> &str {
+        self.id.as_str()
+    }
+}
+
+impl Row for ExceptionDecl {
+    ghost id_of = { λ e. e.id };
+
+    fn id(&self) -> &str {
+        self.id.as_str()
+    }
+}
+
+impl Row for InterfaceDecl {
+    ghost id_of = { λ i. i.id };
+
+    fn id(&self) -> &str {
+        self.id.as_str()
+    }
+}
+
+/// The rows of a table. Beside each, at the same place, is what the schema says of it.
+#[derive(Debug, Drop)]
+pub(crate) struct Rows<T, S> {
+    pub decls: List<T>,
+    pub beside: List<S>,
+}
+
+impl<T, S> Rows<T, S> {
     /// No rows, which take no memory.
-    pub fn new(alloc: Global) -> Rows<T>
+    pub fn new(alloc: Global) -> Rows<T, S>
         ensures decls { result.decls ≡ [] }
-        ensures measures { result.measures ≡ [] }
+        ensures beside { result.beside ≡ [] }
     {
         Rows {
             decls: List::new(alloc),
-            measures: List::new(alloc),
+            beside: List::new(alloc),
         }
     }
 }
 
-impl<T: Drop> Rows<T> {
+impl<T: Drop, S: Drop> Rows<T, S> {
     /// Adds a row. Out of memory leaves the rows as they were.
-    pub fn add(&mut self, decl: T, measure: Measure) -> Result<(), AllocError>
+    pub fn add(&mut self, decl: T, beside: S) -> Result<(), AllocError>
         ensures decls { OnOk result (self.new.decls ≡ self.old.decls ++ decl ∷ []) }
-        ensures measures { OnOk result (self.new.measures ≡ self.old.measures ++ measure ∷ []) }
+        ensures beside { OnOk result (self.new.beside ≡ self.old.beside ++ beside ∷ []) }
         ensures err { OnErr result (self.new ≡ self.old) }
     {
-        self.measures.push(measure)?;
+        self.beside.push(beside)?;
         let pushed = self.decls.push(decl);
         if pushed.is_err() {
-            self.measures.pop();
+            self.beside.pop();
         }
         pushed
     }
@@ -91,4 +127,37 @@ pub(crate) fn place_of<T: Row>(rows: &[T], id: &str) -> Option<u32>
         }
     }
     None
+}
+
+/// The rows of all tables.
+#[derive(Debug, Drop)]
+pub(crate) struct TableRows {
+    pub seqs: Rows<SeqDecl, Measure>,
+    pub dicts: Rows<DictDecl, Measure>,
+    pub structs: Rows<StructDecl, Measure>,
+    pub enums: Rows<EnumDecl, Measure>,
+    /// Beside each class how many bases it has, None while it is only declared.
+    pub classes: Rows<ClassDecl, Option<u32>>,
+    /// Beside each exception how many bases it has.
+    pub exceptions: Rows<ExceptionDecl, u32>,
+    /// Beside each interface how many bases it has by paths, None while it is only declared.
+    pub interfaces: Rows<InterfaceDecl, Option<u32>>,
+}
+
+impl TableRows {
+    /// No rows, which take no memory.
+    pub fn new(alloc: Global) -> TableRows
+        ensures tables { tables_of result ≡ no_types }
+        ensures beside { beside_of result ≡ nothing }
+    {
+        TableRows {
+            seqs: Rows::new(alloc),
+            dicts: Rows::new(alloc),
+            structs: Rows::new(alloc),
+            enums: Rows::new(alloc),
+            classes: Rows::new(alloc),
+            exceptions: Rows::new(alloc),
+            interfaces: Rows::new(alloc),
+        }
+    }
 }

@@ -1,17 +1,20 @@
 //! The types of a Slice text by place, under the rules that every schema keeps.
 
 ghost use Rattle.std.specs.Prelude.{◌≡◌, ◌+◌, ◌-◌, ◌<◌, ◌≤◌, ◌↔◌, IfOk, IfSome, OnErr, length, IsTrue, Some, []};
-ghost use Rattle.ice_types.specs.Tables.{Tables, no_types, with_seq, with_dict, with_struct, IsTypeId, IsNewId, Names, HasTypeId, FindsKind};
-ghost use Rattle.ice_types.specs.Measures.{measure, sequence_of, dictionary_of, struct_of, small_members, names_of, fixed_size, SeqFits, DictFits, StructFits};
+ghost use Rattle.ice_types.specs.Tables.{Tables, no_types, with_seq, with_dict, with_struct, IsTypeId, IsNewId, Names, HasTypeId, HasRowId, Finds, FindsKind};
+ghost use Rattle.ice_types.specs.Measures.{measure, sequence_of, dictionary_of, struct_of, of_any, fixed_size};
+ghost use Rattle.ice_types.specs.Fits.{small_members, names_of, AreRequired, SeqFits, DictFits, StructFits};
 ghost use Rattle.ice_types.specs.Names.{AreNew};
 ghost use Rattle.ice_types.specs.Rules.{IsSchema};
 ghost use Rattle.ice_types.specs.declared.kind.TypeRef.{TypeRef};
 
-use crate::declarations::{DictDecl, Member, SeqDecl, StructDecl};
-use crate::kind::TypeRef;
+use crate::declarations::{
+    ClassDecl, DictDecl, EnumDecl, ExceptionDecl, InterfaceDecl, Member, SeqDecl, StructDecl,
+};
+use crate::kind::{RowRef, TypeRef};
 use crate::list::List;
 use crate::measure::Measure;
-use crate::rows::{MOST_ROWS, Rows, place_of};
+use crate::rows::{MOST_ROWS, TableRows, place_of};
 use std::alloc::{AllocError, Global};
 use std::marker::Model;
 
@@ -21,24 +24,28 @@ pub const MOST_DEPTH: u32 = 100;
 /// How many bytes the smallest spelling of a struct may have.
 pub const MOST_SMALLEST: u32 = 1_048_576;
 
-/// Which types a Slice text defines. Contracts see its tables.
+/// How many bases an interface may have, counted by the paths that lead to them.
+pub const MOST_BASES: u32 = 1_000;
+
+/// The largest tag, and the largest number of an enum.
+pub const MOST_NUMBER: u32 = 2_147_483_647;
+
+/// Which types, exceptions and interfaces a Slice text defines. Contracts see its tables.
 #[derive(Debug, Drop)]
 pub struct Schema {
-    seqs: Rows<SeqDecl>,
-    dicts: Rows<DictDecl>,
-    structs: Rows<StructDecl>,
+    rows: TableRows,
 }
 
 impl Model for Schema {
     ghost use Rattle.ice_types.specs.Tables.{Tables};
     ghost use Rattle.ice_types.specs.Rules.{IsKept};
+    ghost use Rattle.ice_types.specs.Kept.{beside_of, tables_of};
 
     ghost Value = { Tables };
 
-    ghost view = { λ s. record { seqs = s.seqs.decls; dicts = s.dicts.decls; structs = s.structs.decls } };
+    ghost view = { λ s. tables_of s.rows };
 
-    ghost invariant = { λ s. IsKept (record { seqs = s.seqs.decls; dicts = s.dicts.decls; structs = s.structs.decls })
-        s.seqs.measures s.dicts.measures s.structs.measures };
+    ghost invariant = { λ s. IsKept (tables_of s.rows) (beside_of s.rows) };
 }
 
 impl Schema {
@@ -47,9 +54,7 @@ impl Schema {
         ensures { result ≡ no_types }
     {
         Schema {
-            seqs: Rows::new(alloc),
-            dicts: Rows::new(alloc),
-            structs: Rows::new(alloc),
+            rows: TableRows::new(alloc),
         }
     }
 
@@ -57,28 +62,56 @@ impl Schema {
     pub fn seqs(&self) -> &List<SeqDecl>
         ensures { result.now ≡ self.now.seqs }
     {
-        &self.seqs.decls
+        &self.rows.seqs.decls
     }
 
     /// The dictionaries, in the order in which they were added.
     pub fn dicts(&self) -> &List<DictDecl>
         ensures { result.now ≡ self.now.dicts }
     {
-        &self.dicts.decls
+        &self.rows.dicts.decls
     }
 
     /// The structs, in the order in which they were added.
     pub fn structs(&self) -> &List<StructDecl>
         ensures { result.now ≡ self.now.structs }
     {
-        &self.structs.decls
+        &self.rows.structs.decls
+    }
+
+    /// The enums, in the order in which they were added.
+    pub fn enums(&self) -> &List<EnumDecl>
+        ensures { result.now ≡ self.now.enums }
+    {
+        &self.rows.enums.decls
+    }
+
+    /// The classes, in the order in which they were added.
+    pub fn classes(&self) -> &List<ClassDecl>
+        ensures { result.now ≡ self.now.classes }
+    {
+        &self.rows.classes.decls
+    }
+
+    /// The exceptions, in the order in which they were added.
+    pub fn exceptions(&self) -> &List<ExceptionDecl>
+        ensures { result.now ≡ self.now.exceptions }
+    {
+        &self.rows.exceptions.decls
+    }
+
+    /// The interfaces, in the order in which they were added.
+    pub fn interfaces(&self) -> &List<InterfaceDecl>
+        ensures { result.now ≡ self.now.interfaces }
+    {
+        &self.rows.interfaces.decls
     }
 
     /// What every schema keeps.
     fn rules(&self)
         ensures { IsSchema self.now }
     {
-        let _ = &self.seqs;
+        let _ = &self.rows;
     }
 
     /// What the schema says of the type, None where it is of another schema.
@@ -91,15 +124,17 @@ impl Schema {
             TypeRef::Int => Some(Measure::built_in(4, true)),
             TypeRef::Long => Some(Measure::built_in(8, true)),
             TypeRef::Text => Some(Measure::built_in(1, false)),
-            TypeRef::Seq(at) => self.seqs.measures.get(at as usize).copied(),
-            TypeRef::Dict(at) => self.dicts.measures.get(at as usize).copied(),
-            TypeRef::Struct(at) => self.structs.measures.get(at as usize).copied(),
-            TypeRef::Class(_) => Some(Measure::reference()),
+            TypeRef::Seq(at) => self.rows.seqs.beside.get(at as usize).copied(),
+            TypeRef::Dict(at) => self.rows.dicts.beside.get(at as usize).copied(),
+            TypeRef::Struct(at) => self.rows.structs.beside.get(at as usize).copied(),
+            TypeRef::Enum(at) => self.rows.enums.beside.get(at as usize).copied(),
+            TypeRef::Proxy(at) => of_any(&self.rows.interfaces.decls, at, Measure::proxy()),
+            TypeRef::Class(at) => of_any(&self.rows.classes.decls, at, Measure::reference()),
         }
     }
 
     /// The same, None also where the type nests deeper than so many levels.
-    fn measure_within(&self, levels: u32, kind: TypeRef) -> Option<Measure>
+    pub fn measure_within(&self, levels: u32, kind: TypeRef) -> Option<Measure>
         requires { levels ≤ MOST_DEPTH }
         ensures found { result ≡ measure self.now levels kind }
         ensures depth { IfSome result (λ m. m.depth ≤ levels) }
@@ -117,7 +152,7 @@ impl Schema {
         ensures { result ≡ sequence_of (measure self.now (MOST_DEPTH - 1) element) }
     {
         let element = self.measure_within(MOST_DEPTH - 1, element)?;
-        Some(Measure::container(element.depth + 1))
+        Some(Measure::container(element.depth + 1, element.is_built))
     }
 
     /// What the schema would say of a dictionary of these parts, None where it nests too deep.
@@ -127,7 +162,10 @@ impl Schema {
     {
         let key = self.measure_within(MOST_DEPTH - 2, key)?;
         let value = self.measure_within(MOST_DEPTH - 2, value)?;
-        Some(Measure::container(key.depth.max(value.depth) + 2))
+        Some(Measure::container(
+            key.depth.max(value.depth) + 2,
+            key.is_built && value.is_built,
+        ))
     }
 
     /// What the schema would say of a struct of these members, None where it does not fit.
@@ -189,16 +227,17 @@ impl Schema {
     /// 1,048,576 bytes. `have_own_names` tests the names.
     pub fn fits_struct(&self, members: &List<Member>) -> bool
         requires names { AreNew [] (names_of members.now) }
+        requires required { AreRequired members.now }
         ensures { IsTrue result ↔ StructFits self.now members.now }
     {
         !members.is_empty() && self.measure_struct(members.as_slice()).is_some()
     }
 
-    /// Whether a type of this id may be added: it is a type id, and no type of the schema has it.
+    /// Whether a row of this id may be added: it is a type id, and no row of the schema has it.
     pub fn is_new_id(&self, id: &str) -> bool
         ensures { IsTrue result ↔ (IsTypeId id.now × IsNewId self.now id.now) }
     {
-        is_type_id(id) && self.type_named(id).is_none()
+        is_type_id(id) && self.row_of_id(id).is_none()
     }
 
     /// Adds a sequence and answers its place. Out of memory leaves the schema as it was.
@@ -214,8 +253,8 @@ impl Schema {
         let Some(measure) = self.measure_seq(decl.element) else {
             unreachable!()
         };
-        let at = self.seqs.decls.len() as u32;
-        self.seqs.add(decl, measure)?;
+        let at = self.rows.seqs.decls.len() as u32;
+        self.rows.seqs.add(decl, measure)?;
         Ok(at)
     }
 
@@ -232,8 +271,8 @@ impl Schema {
         let Some(measure) = self.measure_dict(decl.key, decl.value) else {
             unreachable!()
         };
-        let at = self.dicts.decls.len() as u32;
-        self.dicts.add(decl, measure)?;
+        let at = self.rows.dicts.decls.len() as u32;
+        self.rows.dicts.add(decl, measure)?;
         Ok(at)
     }
 
@@ -250,8 +289,8 @@ impl Schema {
         let Some(measure) = self.measure_struct(decl.members.as_slice()) else {
             unreachable!()
         };
-        let at = self.structs.decls.len() as u32;
-        self.structs.add(decl, measure)?;
+        let at = self.rows.structs.decls.len() as u32;
+        self.rows.structs.add(decl, measure)?;
         Ok(at)
     }
 
@@ -277,14 +316,53 @@ impl Schema {
     fn type_of_id(&self, id: &str) -> Option<TypeRef>
         ensures { FindsKind (HasTypeId self.now id.now) result }
     {
-        if let Some(at) = place_of(self.seqs.decls.as_slice(), id) {
-            return Some(TypeRef::Seq(at));
+        self.rules();
+        match self.row_of_id(id)? {
+            RowRef::Seq(at) => Some(TypeRef::Seq(at)),
+            RowRef::Dict(at) => Some(TypeRef::Dict(at)),
+            RowRef::Struct(at) => Some(TypeRef::Struct(at)),
+            RowRef::Enum(at) => Some(TypeRef::Enum(at)),
+            RowRef::Class(at) => Some(TypeRef::Class(Some(at))),
+            RowRef::Exception(_) | RowRef::Interface(_) => None,
         }
-        if let Some(at) = place_of(self.dicts.decls.as_slice(), id) {
-            return Some(TypeRef::Dict(at));
-        }
-        place_of(self.structs.decls.as_slice(), id).map(TypeRef::Struct)
     }
+
+    /// The row of this id.
+    fn row_of_id(&self, id: &str) -> Option<RowRef>
+        ensures { Finds (HasRowId self.now id.now) result }
+    {
+        let rows = &self.rows;
+        if let Some(at) = place_of(rows.seqs.decls.as_slice(), id) {
+            return Some(RowRef::Seq(at));
+        }
+        if let Some(at) = place_of(rows.dicts.decls.as_slice(), id) {
+            return Some(RowRef::Dict(at));
+        }
+        if let Some(at) = place_of(rows.structs.decls.as_slice(), id) {
+            return Some(RowRef::Struct(at));
+        }
+        if let Some(at) = place_of(rows.enums.decls.as_slice(), id) {
+            return Some(RowRef::Enum(at));
+        }
+        if let Some(at) = place_of(rows.classes.decls.as_slice(), id) {
+            return Some(RowRef::Class(at));
+        }
+        if let Some(at) = place_of(rows.exceptions.decls.as_slice(), id) {
+            return Some(RowRef::Exception(at));
+        }
+        place_of(rows.interfaces.decls.as_slice(), id).map(RowRef::Interface)
+    }
+}
+
+/// What is said of a proxy or a reference, of any or of the row at a place.
+fn of_any<T>(rows: &List<T>, at: Option<u32>, measure: Measure) -> Option<Measure>
+    ensures { result ≡ of_any rows.now at measure }
+{
+    let Some(at) = at else {
+        return Some(measure);
+    };
+    rows.get(at as usize)?;
+    Some(measure)
 }
 
 fn is_type_id(id: &str) -> bool

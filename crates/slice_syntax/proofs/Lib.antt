@@ -12,3 +12,7 @@ mod Starts
 mod Exits
 mod Moves
 mod Guards
+mod Holding
+mod Transfers
+pub mod Orders
+pub mod PlainNames
