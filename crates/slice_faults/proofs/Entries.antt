@@ -3,7 +3,7 @@ use Rattle.std.proofs.Common.{◌≡◌, ℕ, suc, ◌+◌, ◌≤◌, List, [],
 use Rattle.std.specs.Prelude.{IfOk}
 use Rattle.slice_syntax.specs.declared.tree.Word.{Word}
 use Rattle.slice_syntax.specs.declared.tree.Constant.{Constant}
-use Rattle.schema_rows.specs.declared.declarations.Entry.{Entry}
+use Rattle.ice_types.specs.declared.declarations.Entry.{Entry}
 use Rattle.slice_meaning.specs.declared.fault.CheckKind.{CheckKind}
 use Rattle.slice_meaning.specs.declared.fault.CheckKind.TheVariants as rows
 use Rattle.slice_meaning.specs.declared.fault.Fault.{Fault}

@@ -7,7 +7,7 @@ ghost use Rattle.slice_meaning.specs.Faults.{faults};
 ghost use Rattle.slice_meaning.specs.After.{after, with_entries};
 ghost use Rattle.slice_meaning.specs.Checking.{noted};
 ghost use Rattle.slice_names.specs.Numbers.{scope_at};
-ghost use Rattle.slice_meaning.specs.declared.limits.TheConstants.{LARGEST_NUMBER};
+ghost use Rattle.ice_types.specs.declared.schema.TheConstants.{MOST_NUMBER};
 ghost use Rattle.slice_faults.specs.Held.{known_of, entry_rows, AreFree};
 
 use crate::known::Known;
@@ -16,9 +16,8 @@ use crate::names::note_new_name;
 use crate::note::note_none;
 use crate::number_set::NumberSet;
 use crate::values::number_of;
-use ice_types::{List, Name};
-use schema_rows::Entry;
-use slice_meaning::{CheckKind, Fault, Found, LARGEST_NUMBER, Standing, Value};
+use ice_types::{Entry, List, MOST_NUMBER, Name};
+use slice_meaning::{CheckKind, Fault, Found, Standing, Value};
 use slice_names::Scopes;
 use slice_syntax::{Constant, Word};
 use std::alloc::{AllocError, Global};
@@ -67,11 +66,11 @@ fn note_entries(
 /// The number of an entry, where the next one is known, or the row that applies.
 fn entry_number(known: &Known, next: u32, value: &Option<Constant>) -> Result<u32, CheckKind>
     ensures is { result ≡ entry_number (known_of known.now) next value.now }
-    ensures most { IfOk result (λ n. n ≤ LARGEST_NUMBER) }
+    ensures most { IfOk result (λ n. n ≤ MOST_NUMBER) }
 {
     match value {
         None => {
-            if next <= LARGEST_NUMBER {
+            if next <= MOST_NUMBER {
                 Ok(next)
             } else {
                 Err(CheckKind::BadValue)
@@ -93,7 +92,7 @@ fn entry_place(entry: &(Word, Option<Constant>)) -> u32
 
 /// The number of the next entry behind one.
 fn after_entry(next: u32, number: Result<u32, CheckKind>) -> u32
-    requires { IfOk number (λ n. n ≤ LARGEST_NUMBER) }
+    requires { IfOk number (λ n. n ≤ MOST_NUMBER) }
     ensures { result ≡ after_entry next number }
 {
     match number {
