@@ -13,6 +13,8 @@ mod Exits
 mod Moves
 mod Guards
 mod Holding
+mod Giving
 mod Transfers
 pub mod Orders
-pub mod PlainNames
+mod Tagless
+pub mod RegularItems

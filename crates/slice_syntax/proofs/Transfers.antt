@@ -18,7 +18,7 @@ use Rattle.slice_syntax.specs.Rules as rules
 use Rattle.slice_syntax.specs.Sorts.{colons}
 use Rattle.slice_syntax.specs.Files.{head}
 use Rattle.slice_syntax.specs.Places.{type_place, Each, Where, InField, InOp, InItem}
-use Rattle.slice_syntax.proofs.Holding.{front_of, back_of}
+use Rattle.slice_syntax.proofs.Giving.{Gives, by_token, by_nothing, by_made, by_both, by_or, by_series, by_any, by_first, by_second, by_optional, by_parted}
 
 -- Where T holds of a token, N holds of the name that it is, and P of its place.
 module _ (T : Lexeme → Type 0) (N : Word → Type 0) (P : ℕ → Type 0)
@@ -33,74 +33,16 @@ module _ (T : Lexeme → Type 0) (N : Word → Type 0) (P : ℕ → Type 0)
   abbrev Item_in : Item → Type 0
   Item_in = InItem N P
 
-  -- this holds of what the tokens spell, where T holds of them
-  record Gives {A : Type 0} (Holds : A → Type 0) (g : Grammar A) : Type 0 where
-    pub gives : (ls : Lexemes) (a : A) → Spells g ls a → Each T ls → Holds a
-
-  by_token : {A : Type 0} {Holds : A → Type 0} {found : List Sort} {view : Lexeme → A} → ((l : Lexeme) → IsTrue (has found (sort_of l)) → T l → Holds (view l))
-      → Gives Holds (token found view)
-  by_token {Holds = Holds} f = record { gives = λ ls a s h. let all : Each T (s.0 ∷ []) = subst (Each T) s.1 h in subst Holds (sym s.3) (f s.0 s.2 all.0) }
-
-  by_nothing : {A : Type 0} {Holds : A → Type 0} {x : A} → Holds x → Gives Holds (nothing x)
-  by_nothing {Holds = Holds} f = record { gives = λ ls a s h. subst Holds (sym s.1) f }
-
-  by_made : {X A : Type 0} {H : X → Type 0} {Holds : A → Type 0} {view : X → A} {g : Grammar X} → Gives H g → ((x : X) → H x → Holds (view x)) → Gives Holds (made view g)
-  by_made {Holds = Holds} inner f = record { gives = λ ls a s h. subst Holds (sym s.2) (f s.0 (inner.gives ls s.0 s.1 h)) }
-
-  by_both : {X Y A : Type 0} {H : X → Type 0} {K : Y → Type 0} {Holds : A → Type 0} {make : X → Y → A} {g : Grammar X} {k : Grammar Y} → Gives H g → Gives K k → ((x : X) (y : Y) → H x → K y → Holds (make x y))
-      → Gives Holds (both make g k)
-  by_both {Holds = Holds} first second f = record {
-    gives = λ ls a s h.
-        let all : Each T (s.2 ++ s.3) = subst (Each T) s.4 h in
-        subst Holds (sym s.7) (f s.0 s.1 (first.gives s.2 s.0 s.5 (front_of T s.2 s.3 all)) (second.gives s.3 s.1 s.6 (back_of T s.2 s.3 all)));
-  }
-
-  or_either : {A : Type 0} {Holds : A → Type 0} {g k : Grammar A} → Gives Holds g → Gives Holds k → (ls : Lexemes) (a : A) → (Spells g ls a ⊎ Spells k ls a) → Each T ls → Holds a
-  or_either first second ls a (inl s) h = first.gives ls a s h
-  or_either first second ls a (inr s) h = second.gives ls a s h
-
-  by_or : {A : Type 0} {Holds : A → Type 0} {g k : Grammar A} → Gives Holds g → Gives Holds k → Gives Holds (or g k)
-  by_or first second = record { gives = or_either first second }
-
-  where_true : {A : Type 0} {Holds : A → Type 0} {g : Grammar A} → Gives Holds g → (b : Bool) (ls : Lexemes) (x : A) → grammar.Where (Spells g) b ls x → Each T ls → Holds x
-  where_true inner true ls x s h = inner.gives ls x s h
-  where_true inner false ls x s h = absurd s
-
-  by_runs : {A : Type 0} {Holds : A → Type 0} {g : Grammar A} (more : A → Bool) → Gives Holds g → (state : Bool) (ls : Lexemes) (xs : List A) → Runs (grammar.Where (Spells g)) (λ s x. more x) (λ s. true) state ls xs → Each T ls → Each Holds xs
-  by_runs more inner state ls [] s h = tt
-  by_runs more inner state ls (x ∷ xs) s h =
-      let all : Each T (s.0 ++ s.1) = subst (Each T) s.2 h in
-      (where_true inner state s.0 x s.3 (front_of T s.0 s.1 all), by_runs more inner (more x) s.1 xs s.4 (back_of T s.0 s.1 all))
-
-  by_series : {A : Type 0} {Holds : A → Type 0} {more : A → Bool} {g : Grammar A} → Gives Holds g → Gives (Each Holds) (series more g)
-  by_series {more = more} inner = record { gives = by_runs more inner true }
-
-  by_any : {A : Type 0} {g : Grammar A} → Gives (λ (x : A). Unit {0}) g
-  by_any = record { gives = λ ls a s h. tt }
-
-  -- the one behind the other, for the value of the second or of the first
-  by_second : {X A : Type 0} {Holds : A → Type 0} {g : Grammar X} {k : Grammar A} → Gives Holds k → Gives Holds (both (λ x y. y) g k)
-  by_second second = by_both by_any second (λ x y a b. b)
-
-  by_first : {X A : Type 0} {Holds : A → Type 0} {g : Grammar A} {k : Grammar X} → Gives Holds g → Gives Holds (both (λ x y. x) g k)
-  by_first first = by_both first by_any (λ x y a b. a)
-
-  by_optional : {A : Type 0} {Holds : A → Type 0} {g : Grammar A} → Gives Holds g → Gives (Where Holds) (optional g)
-  by_optional inner = by_or (by_made inner (λ x i. i)) (by_nothing tt)
-
-  by_parted : {A : Type 0} {Holds : A → Type 0} {sort : Sort} {g : Grammar A} → Gives Holds g → Gives (Each Holds) (parted sort g)
-  by_parted inner = by_both inner (by_series (by_second inner)) (λ x xs a b. (a, b))
-
   -- ---- rules
-  word_in : Gives N rules.word
+  word_in : Gives T N rules.word
   unfolding rules.word
   word_in = by_token name
 
-  word_at : Gives (λ (w : Word). P w.place) rules.word
+  word_at : Gives T (λ (w : Word). P w.place) rules.word
   unfolding rules.word
   word_at = by_token (λ l s p. at l p)
 
-  names_in : Gives (λ (held : List (List ℕ) × ℕ). P held.1) rules.names
+  names_in : Gives T (λ (held : List (List ℕ) × ℕ). P held.1) rules.names
   unfolding rules.names
   names_in = by_both word_at by_any (λ w others a b. a)
 
@@ -108,42 +50,42 @@ module _ (T : Lexeme → Type 0) (N : Word → Type 0) (P : ℕ → Type 0)
   outer_or None place a b = b
   outer_or (Some x) place a b = a
 
-  one_in : (sort : Sort) → Gives P (one sort)
+  one_in : (sort : Sort) → Gives T P (one sort)
   one_in sort = by_token (λ l s p. at l p)
 
-  scoped_in : Gives (λ (p : Path). P p.place) rules.scoped
+  scoped_in : Gives T (λ (p : Path). P p.place) rules.scoped
   unfolding rules.scoped
   scoped_in = by_both {H = λ make. (held : List (List ℕ) × ℕ) → P held.1 → P (make held).place} (by_made (by_optional (one_in colons)) (λ outer a held b. outer_or outer held.1 a b)) names_in (λ make held a b. a held b)
 
-  type_in : Gives (λ (t : TypeWord). P (type_place t)) rules.type_word
+  type_in : Gives T (λ (t : TypeWord). P (type_place t)) rules.type_word
   unfolding rules.type_word rules.plain_type rules.object_type rules.named_type
   type_in = by_or (by_token (λ l s p. at l p)) (by_or
       (by_both {H = λ (make : Option ℕ → TypeWord). (x : Option ℕ) → P (type_place (make x))} (by_token (λ l s p x. at l p)) by_any (λ make x a b. a x))
       (by_both {H = λ (make : Option ℕ → TypeWord). (x : Option ℕ) → P (type_place (make x))} (by_made scoped_in (λ p a x. a)) by_any (λ make x a b. a x)))
 
-  value_in : Gives (λ (c : Constant). P c.place) rules.value
+  value_in : Gives T (λ (c : Constant). P c.place) rules.value
   unfolding rules.value rules.signed_number rules.number rules.text rules.truth rules.named
   value_in = by_or (by_both {H = λ (make : Lexeme → Constant). (x : Lexeme) → P (make x).place} (by_token (λ l s p x. at l p)) by_any (λ make x a b. a x))
       (by_or (by_token (λ l s p. at l p)) (by_or (by_token (λ l s p. at l p)) (by_or (by_token (λ l s p. at l p)) (by_made scoped_in (λ p a. a)))))
 
-  given_in : Gives (Where (λ (c : Constant). P c.place)) rules.given
+  given_in : Gives T (Where (λ (c : Constant). P c.place)) rules.given
   unfolding rules.given
   given_in = by_optional (by_second value_in)
 
-  tag_in : Gives (Where (λ (c : Constant). P c.place)) rules.tag
+  tag_in : Gives T (Where (λ (c : Constant). P c.place)) rules.tag
   unfolding rules.tag
   tag_in = by_optional (by_first (by_second (by_second value_in)))
 
   abbrev AtValue : Option Constant → Type 0
   AtValue v = Where (λ (c : Constant). P c.place) v
 
-  constant_in : Gives Item_in rules.constant_item
+  constant_in : Gives T Item_in rules.constant_item
   unfolding rules.constant_item
   constant_in = by_both {H = λ (make : Constant → Item). (v : Constant) → P v.place → Item_in (make v)}
       (by_both {H = λ (make : Word → Constant → Item). (w : Word) → N w → (v : Constant) → P v.place → Item_in (make w v)} (by_made (by_second (by_second type_in)) (λ kind a w b v d. (b, a, d))) word_in (λ make w a b. a w b))
       (by_first (by_second value_in)) (λ make v a b. a v b)
 
-  entry_in : Gives (λ (e : Word × Option Constant). N e.0 × AtValue e.1) rules.entry
+  entry_in : Gives T (λ (e : Word × Option Constant). N e.0 × AtValue e.1) rules.entry
   unfolding rules.entry
   entry_in = by_both word_in given_in (λ w v a b. (a, b))
 
@@ -151,63 +93,63 @@ module _ (T : Lexeme → Type 0) (N : Word → Type 0) (P : ℕ → Type 0)
   entries_map [] h = tt
   entries_map (e ∷ es) h = (h.0, entries_map es h.1)
 
-  entries_in : Gives (Each (λ (e : Word × Option Constant). N e.0 × AtValue e.1)) rules.entries
+  entries_in : Gives T (Each (λ (e : Word × Option Constant). N e.0 × AtValue e.1)) rules.entries
   unfolding rules.entries rules.entry_comma
   entries_in = by_made (by_series (by_both {Holds = λ (e : rules.Entry). N e.0.0 × AtValue e.0.1} entry_in by_any (λ e comma a b. a))) entries_map
 
-  enum_in : Gives Item_in rules.enum_item
+  enum_in : Gives T Item_in rules.enum_item
   unfolding rules.enum_item
   enum_in = by_both {H = λ (make : List (Word × Option Constant) → Item). (es : List (Word × Option Constant)) → Each (λ (e : Word × Option Constant). N e.0 × AtValue e.1) es → Item_in (make es)}
       (by_made (by_second word_in) (λ w a es b. (a, b))) (by_first (by_second entries_in)) (λ make es a b. a es b)
 
-  member_in : Gives Field_in rules.member
+  member_in : Gives T Field_in rules.member
   unfolding rules.member
   member_in = by_both {H = λ (make : Option Constant → Field). (v : Option Constant) → AtValue v → Field_in (make v)}
       (by_both {H = λ (make : Word → Option Constant → Field). (w : Word) → N w → (v : Option Constant) → AtValue v → Field_in (make w v)} (by_made (by_second type_in) (λ kind a w b v d. (b, a, tt, d))) word_in (λ make w a b. a w b))
       (by_first given_in) (λ make v a b. a v b)
 
-  struct_in : Gives Item_in rules.struct_item
+  struct_in : Gives T Item_in rules.struct_item
   unfolding rules.struct_item rules.members
   struct_in = by_both {H = λ (make : List Field → Item). (fs : List Field) → Each Field_in fs → Item_in (make fs)}
       (by_made (by_second word_in) (λ w a fs b. (a, b))) (by_first (by_second (by_series member_in))) (λ make fs a b. a fs b)
 
-  sequence_in : Gives Item_in rules.sequence_item
+  sequence_in : Gives T Item_in rules.sequence_item
   unfolding rules.sequence_item
   sequence_in = by_both {H = λ (make : Word → Item). (w : Word) → N w → Item_in (make w)}
       (by_made (by_second (by_second (by_second type_in))) (λ kind a w b. (b, a))) (by_first (by_second word_in)) (λ make w a b. a w b)
 
-  dictionary_in : Gives Item_in rules.dictionary_item
+  dictionary_in : Gives T Item_in rules.dictionary_item
   unfolding rules.dictionary_item
   dictionary_in = by_both {H = λ (make : Word → Item). (w : Word) → N w → Item_in (make w)}
       (by_both {H = λ (make : TypeWord → Word → Item). (t : TypeWord) → P (type_place t) → (w : Word) → N w → Item_in (make t w)}
       (by_made (by_second (by_second (by_second type_in))) (λ key a held b w d. (d, a, b))) (by_second (by_second type_in)) (λ make t a b. a t b)) (by_first (by_second word_in)) (λ make w a b. a w b)
 
-  tagged_in : Gives Field_in rules.tagged_member
+  tagged_in : Gives T Field_in rules.tagged_member
   unfolding rules.tagged_member
   tagged_in = by_both {H = λ (make : Option Constant → Field). (v : Option Constant) → AtValue v → Field_in (make v)}
       (by_both {H = λ (make : Word → Option Constant → Field). (w : Word) → N w → (v : Option Constant) → AtValue v → Field_in (make w v)}
       (by_both {H = λ (make : TypeWord → Word → Option Constant → Field). (t : TypeWord) → P (type_place t) → (w : Word) → N w → (v : Option Constant) → AtValue v → Field_in (make t w v)}
       (by_made (by_second tag_in) (λ tag a t b w d v e. (d, b, a, e))) type_in (λ make t a b. a t b)) word_in (λ make w a b. a w b)) (by_first given_in) (λ make v a b. a v b)
 
-  body_in : Gives (Each Field_in) rules.body
+  body_in : Gives T (Each Field_in) rules.body
   unfolding rules.body rules.tagged_members
   body_in = by_first (by_second (by_series tagged_in))
 
-  base_in : Gives (Where (λ (p : Path). P p.place)) rules.base
+  base_in : Gives T (Where (λ (p : Path). P p.place)) rules.base
   unfolding rules.base
   base_in = by_optional (by_second scoped_in)
 
   abbrev MakesItem : (Word → Item) → Type 0
   MakesItem make = (w : Word) → N w → Item_in (make w)
 
-  class_in : Gives Item_in rules.class_item
+  class_in : Gives T Item_in rules.class_item
   unfolding rules.class_item rules.class_body
   class_in = by_both {K = MakesItem} (by_second word_in)
       (by_or (by_made {H = λ x. Unit {0}} by_any (λ x a w b. (b, tt, tt)))
       (by_both {H = λ (make : List Field → Word → Item). (fs : List Field) → Each Field_in fs → MakesItem (make fs)} (by_made base_in (λ p a fs b w d. (d, a, b))) body_in (λ make fs a b. a fs b)))
       (λ w make a b. b w a)
 
-  exception_in : Gives Item_in rules.exception_item
+  exception_in : Gives T Item_in rules.exception_item
   unfolding rules.exception_item
   exception_in = by_both {H = λ (make : List Field → Item). (fs : List Field) → Each Field_in fs → Item_in (make fs)}
       (by_both {H = λ (make : Option Path → List Field → Item). (p : Option Path) → Where (λ (p : Path). P p.place) p → (fs : List Field) → Each Field_in fs → Item_in (make p fs)}
@@ -216,33 +158,33 @@ module _ (T : Lexeme → Type 0) (N : Word → Type 0) (P : ℕ → Type 0)
   abbrev AtPaths : List Path → Type 0
   AtPaths paths = Each (λ (p : Path). P p.place) paths
 
-  bases_in : Gives AtPaths rules.bases
+  bases_in : Gives T AtPaths rules.bases
   unfolding rules.bases rules.paths
   bases_in = by_or (by_second (by_parted scoped_in)) (by_nothing tt)
 
-  thrown_in : Gives AtPaths rules.thrown
+  thrown_in : Gives T AtPaths rules.thrown
   unfolding rules.thrown rules.paths
   thrown_in = by_or (by_second (by_parted scoped_in)) (by_nothing tt)
 
-  parameter_in : Gives (λ (p : Param). Field_in p.field) rules.parameter
+  parameter_in : Gives T (λ (p : Param). Field_in p.field) rules.parameter
   unfolding rules.parameter
   parameter_in = by_both {H = λ (make : Word → Param). (w : Word) → N w → Field_in (make w).field}
       (by_both {H = λ (make : TypeWord → Word → Param). (t : TypeWord) → P (type_place t) → (w : Word) → N w → Field_in (make t w).field}
       (by_both {H = λ (make : Option Constant → TypeWord → Word → Param). (v : Option Constant) → AtValue v → (t : TypeWord) → P (type_place t) → (w : Word) → N w → Field_in (make v t w).field}
       (by_made {H = λ x. Unit {0}} by_any (λ o z v a t b w d. (d, b, a, tt))) (by_second tag_in) (λ make v a b. a v b)) type_in (λ make t a b. a t b)) word_in (λ make w a b. a w b)
 
-  parameters_in : Gives (Each (λ (p : Param). Field_in p.field)) rules.parameters
+  parameters_in : Gives T (Each (λ (p : Param). Field_in p.field)) rules.parameters
   unfolding rules.parameters rules.parameter_list
   parameters_in = by_or (by_parted parameter_in) (by_nothing tt)
 
   abbrev AtResult : Option Constant × Option TypeWord → Type 0
   AtResult r = AtValue r.0 × Where (λ (t : TypeWord). P (type_place t)) r.1
 
-  answered_in : Gives AtResult rules.answered
+  answered_in : Gives T AtResult rules.answered
   unfolding rules.answered
   answered_in = by_or (by_made {H = λ x. Unit {0}} by_any (λ v a. (tt, tt))) (by_both tag_in type_in (λ t kind a b. (a, b)))
 
-  operation_in : Gives Op_in rules.operation
+  operation_in : Gives T Op_in rules.operation
   unfolding rules.operation
   operation_in = by_both {H = λ (make : List Path → OpTree). (ts : List Path) → AtPaths ts → Op_in (make ts)}
       (by_both {H = λ (make : List Param → List Path → OpTree). (ps : List Param) → Each (λ (p : Param). Field_in p.field) ps → (ts : List Path) → AtPaths ts → Op_in (make ps ts)}
@@ -250,14 +192,14 @@ module _ (T : Lexeme → Type 0) (N : Word → Type 0) (P : ℕ → Type 0)
       (by_both {H = λ (make : (Option Constant × Option TypeWord) → Word → List Param → List Path → OpTree). (r : Option Constant × Option TypeWord) → AtResult r → (w : Word) → N w → (ps : List Param) → Each (λ (p : Param). Field_in p.field) ps → (ts : List Path) → AtPaths ts → Op_in (make r w ps ts)}
       (by_made {H = λ x. Unit {0}} by_any (λ i z r a w b ps d ts e. (b, a.0, a.1, d, e))) answered_in (λ make r a b. a r b)) word_in (λ make w a b. a w b)) (by_first (by_second parameters_in)) (λ make ps a b. a ps b)) (by_first thrown_in) (λ make ts a b. a ts b)
 
-  interface_in : Gives Item_in rules.interface_item
+  interface_in : Gives T Item_in rules.interface_item
   unfolding rules.interface_item rules.interface_body rules.operations
   interface_in = by_both {K = MakesItem} (by_second word_in)
       (by_or (by_made {H = λ x. Unit {0}} by_any (λ x a w b. (b, tt, tt)))
       (by_both {H = λ (make : List OpTree → Word → Item). (ops : List OpTree) → Each Op_in ops → MakesItem (make ops)} (by_made bases_in (λ bs a ops b w d. (d, a, b))) (by_first (by_second (by_series operation_in))) (λ make ops a b. a ops b)))
       (λ w make a b. b w a)
 
-  definition_in : Gives Item_in rules.definition
+  definition_in : Gives T Item_in rules.definition
   unfolding rules.definition
   definition_in = by_or constant_in (by_or enum_in (by_or struct_in (by_or sequence_in (by_or dictionary_in (by_or class_in (by_or exception_in interface_in))))))
 
@@ -271,7 +213,7 @@ module _ (T : Lexeme → Type 0) (N : Word → Type 0) (P : ℕ → Type 0)
   pub in_next_word : (sort : Sort) (ls : Lexemes) (w : Word) → Spells (both (λ x y. y) (one sort) rules.word) ls w → Each T ls → N w
   in_next_word sort ls w s h = (by_second {g = one sort} word_in).gives ls w s h
 
-  head_in : Gives (Each N) head
+  head_in : Gives T (Each N) head
   unfolding head
   head_in = by_first (by_second (by_parted word_in))
 

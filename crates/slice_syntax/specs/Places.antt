@@ -1,5 +1,5 @@
 -- The places and the names in what a text declares.
-use Rattle.std.specs.Prelude.{ℕ, ◌<◌, ◌≤◌, List, [], ◌∷◌, Option, None, Some, IsTrue}
+use Rattle.std.specs.Prelude.{ℕ, ◌≡◌, ◌<◌, ◌≤◌, List, [], ◌∷◌, Option, None, Some, IsTrue}
 use Rattle.std.specs.List.{list_all}
 use Rattle.slice_lexer.specs.Bytes.{is_word_byte}
 use Rattle.slice_syntax.specs.declared.tree.Word.{Word}
@@ -70,6 +70,27 @@ AreInOrder from (item ∷ others) = (start to : ℕ) × (from ≤ start) × (sta
 abbrev pub IsPlain : List ℕ → Type 0
 IsPlain name = IsTrue (list_all is_word_byte name)
 
--- each declared name of a file is letters, digits and `_`
-abbrev pub AreNamesPlain : File → Type 0
-AreNamesPlain file = Each (InItem (λ word. IsPlain word.name) (λ place. Unit {0})) file.items
+-- each name that a declaration declares is plain: its own, and those of its members, enumerators, operations, parameters
+abbrev pub HasPlainNames : Item → Type 0
+HasPlainNames = InItem (λ word. IsPlain word.name) (λ place. Unit {0})
+
+-- no member of a struct is optional
+abbrev pub HasNoTags : Item → Type 0
+HasNoTags (items.Enter word) = Unit {0}
+HasNoTags items.Exit = Unit {0}
+HasNoTags (items.Const kind word value) = Unit {0}
+HasNoTags (items.Enum word entries) = Unit {0}
+HasNoTags (items.Struct word fields) = Each (λ f. f.tag ≡ None) fields
+HasNoTags (items.Seq word element) = Unit {0}
+HasNoTags (items.Dict word key value) = Unit {0}
+HasNoTags (items.Class word base fields) = Unit {0}
+HasNoTags (items.Exception word base fields) = Unit {0}
+HasNoTags (items.Interface word bases ops) = Unit {0}
+
+-- a declaration as the grammar has it
+abbrev pub IsRegular : Item → Type 0
+IsRegular item = HasPlainNames item × HasNoTags item
+
+-- so each declaration of a file
+abbrev pub AreRegular : File → Type 0
+AreRegular file = Each IsRegular file.items

@@ -30,5 +30,5 @@ mod words;
 
 pub use fault::SyntaxFault;
 pub use parser::{one_answer, parse, words_written};
-pub use text_laws::{in_order_of_text, names_plain};
+pub use text_laws::{in_order_of_text, regular};
 pub use tree::{Const, Constant, Field, File, Item, OpTree, Param, Path, TypeWord, Word};

@@ -6,7 +6,7 @@ ghost use Rattle.slice_lexer.specs.Lexing.{Lexes};
 ghost use Rattle.slice_syntax.specs.declared.tree.File.{File};
 ghost use Rattle.slice_syntax.specs.Lexemes.{lexemes};
 ghost use Rattle.slice_syntax.specs.Files.{Reads};
-ghost use Rattle.slice_syntax.specs.Places.{AreInOrder, AreNamesPlain};
+ghost use Rattle.slice_syntax.specs.Places.{AreInOrder, AreRegular};
 
 /// Declarations are told in the order of the text: each stands in a part of its own.
 pub fn in_order_of_text()
@@ -14,8 +14,9 @@ pub fn in_order_of_text()
         → Reads (lexemes text tokens) file → AreInOrder 0 file.items }
 {}
 
-/// Each declared name is letters, digits and `_`. A `\` before it is not part of it.
-pub fn names_plain()
+/// Each declared name is letters, digits and `_`, a `\` before it being no part of it, and no member of a struct is
+/// optional.
+pub fn regular()
     ensures { (text : List ℕ) (tokens : List Token) (file : File) → Lexes text tokens
-        → Reads (lexemes text tokens) file → AreNamesPlain file }
+        → Reads (lexemes text tokens) file → AreRegular file }
 {}

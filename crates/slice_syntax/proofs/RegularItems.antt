@@ -1,4 +1,4 @@
--- Each declared name of a text is letters, digits and `_`.
+-- Each declaration of a text is as the grammar has it: its names are letters, digits and `_`, and no member of a struct is optional.
 use Rattle.std.proofs.Common.{ℕ, zero, suc, ◌≡◌, ◌⊎◌, Bool, true, false, List, [], ◌∷◌, ◌++◌, length, sym, subst, inl, inr, refl, arith}
 use Rattle.std.specs.Prelude.{IsTrue, Contains, ◌&&◌, ◌==◌, if◌then◌else◌, drop}
 use Rattle.std.specs.List.{list_all}
@@ -21,8 +21,9 @@ use Rattle.slice_syntax.specs.Grammar as grammar
 use Rattle.slice_syntax.specs.Rules as rules
 use Rattle.slice_syntax.specs.Files.{Body, none, plain, nested, head, enters, exits, Reads}
 use Rattle.slice_syntax.specs.Sorts.{colons}
-use Rattle.slice_syntax.specs.Places.{Each, InItem, IsPlain, AreNamesPlain}
+use Rattle.slice_syntax.specs.Places.{Each, IsPlain, IsRegular, AreRegular}
 use Rattle.slice_syntax.proofs.Cursors.{never_word}
+use Rattle.slice_syntax.proofs.Tagless.{no_tags}
 use Rattle.slice_syntax.proofs.Transfers.{in_definition, in_head}
 use Rattle.slice_syntax.proofs.Holding.{front_of, back_of}
 
@@ -69,34 +70,31 @@ name_in l is alone = kind_plain l.kind l.bytes is alone
 
 -- ---- declarations
 
-abbrev Plain : Item → Type 0
-Plain = InItem IsName Anywhere
-
-each_joined : (xs ys : List Item) → Each Plain xs → Each Plain ys → Each Plain (xs ++ ys)
+each_joined : (xs ys : List Item) → Each IsRegular xs → Each IsRegular ys → Each IsRegular (xs ++ ys)
 each_joined [] ys a b = b
 each_joined (x ∷ xs) ys a b = (a.0, each_joined xs ys a.1 b)
 
-exits_plain : (n : ℕ) → Each Plain (exits n)
-exits_plain zero = tt
-exits_plain (suc n) = (tt, exits_plain n)
+exits_regular : (n : ℕ) → Each IsRegular (exits n)
+exits_regular zero = tt
+exits_regular (suc n) = ((tt, tt), exits_regular n)
 
-enters_plain : (ws : List Word) → Each IsName ws → Each Plain (enters ws)
-enters_plain [] h = tt
-enters_plain (w ∷ ws) h = (h.0, enters_plain ws h.1)
+enters_regular : (ws : List Word) → Each IsName ws → Each IsRegular (enters ws)
+enters_regular [] h = tt
+enters_regular (w ∷ ws) h = ((h.0, tt), enters_regular ws h.1)
 
-body_plain : (inner : Bool) (ls : Lexemes) (is : List Item) → Body inner ls is → Each IsAlone ls → Each Plain is
-body_plain inner [] [] (none _) h = tt
-body_plain inner ls is (plain before behind item others spelled rest) h = (
-  in_definition IsAlone IsName Anywhere name_in (λ l x. tt) before item spelled (front_of IsAlone before behind h),
-  body_plain true behind others rest (back_of IsAlone before behind h),
+body_regular : (inner : Bool) (ls : Lexemes) (is : List Item) → Body inner ls is → Each IsAlone ls → Each IsRegular is
+body_regular inner [] [] (none _) h = tt
+body_regular inner ls is (plain before behind item others spelled rest) h = (
+  (in_definition IsAlone IsName Anywhere name_in (λ l x. tt) before item spelled (front_of IsAlone before behind h), no_tags before item spelled),
+  body_regular true behind others rest (back_of IsAlone before behind h),
 )
-body_plain inner ls is (nested _ opening inside closing behind words held others opens holds closes rest) h =
+body_regular inner ls is (nested _ opening inside closing behind words held others opens holds closes rest) h =
     let a = back_of IsAlone opening (inside ++ (closing ++ behind)) h in
     let b = back_of IsAlone inside (closing ++ behind) a in
     each_joined (enters words) (held ++ (exits (length words) ++ others))
-    (enters_plain words (in_head IsAlone IsName Anywhere name_in (λ l x. tt) opening words opens (front_of IsAlone opening (inside ++ (closing ++ behind)) h)))
-    (each_joined held (exits (length words) ++ others) (body_plain true inside held holds (front_of IsAlone inside (closing ++ behind) a))
-    (each_joined (exits (length words)) others (exits_plain (length words)) (body_plain inner behind others rest (back_of IsAlone closing behind b))))
+    (enters_regular words (in_head IsAlone IsName Anywhere name_in (λ l x. tt) opening words opens (front_of IsAlone opening (inside ++ (closing ++ behind)) h)))
+    (each_joined held (exits (length words) ++ others) (body_regular true inside held holds (front_of IsAlone inside (closing ++ behind) a))
+    (each_joined (exits (length words)) others (exits_regular (length words)) (body_regular inner behind others rest (back_of IsAlone closing behind b))))
 
 -- ---- a text
 
@@ -107,8 +105,8 @@ all_alone text (token ∷ tokens) stand = (
   all_alone text tokens (λ other c. stand other (suc c.0, (let a = c.1 in omega arith), c.2)),
 )
 
--- each declared name of a text is letters, digits and `_`
-pub names_plain : (text : List ℕ) (tokens : List Token) (file : File) → Lexes text tokens → Reads (lexemes text tokens) file → AreNamesPlain file
-names_plain text tokens file lexes reads =
+-- each declaration of a text is regular
+pub regular : (text : List ℕ) (tokens : List Token) (file : File) → Lexes text tokens → Reads (lexemes text tokens) file → AreRegular file
+regular text tokens file lexes reads =
     let all : Each IsAlone (reads.front ++ (reads.inner ++ reads.last)) = subst (λ (l : Lexemes). Each IsAlone l) reads.parts (all_alone text tokens (lexes_stand text tokens lexes)) in
-    body_plain false reads.inner file.items reads.modules (front_of IsAlone reads.inner reads.last (back_of IsAlone reads.front (reads.inner ++ reads.last) all))
+    body_regular false reads.inner file.items reads.modules (front_of IsAlone reads.inner reads.last (back_of IsAlone reads.front (reads.inner ++ reads.last) all))
