@@ -1,6 +1,6 @@
 -- Declarations, one after the other.
-use Rattle.std.proofs.Common.{◌≡◌, ℕ, ◌+◌, ◌<◌, ◌≤◌, List, [], ◌∷◌, length, drop, Option, Some, None, refl, sym, ap, ◌∙◌, subst}
-use Rattle.std.specs.Option.{option_or}
+use Rattle.std.proofs.Common.{◌≡◌, ℕ, ◌+◌, ◌<◌, ◌≤◌, false, List, [], ◌∷◌, length, drop, Option, Some, None, refl, sym, ap, ◌∙◌, subst}
+use Rattle.std.specs.Option.{option_or, is_some}
 use Rattle.slice_syntax.specs.declared.tree.Item.{Item}
 use Rattle.slice_syntax.specs.Places.{Each, IsRegular}
 use Rattle.slice_meaning.specs.declared.fault.Fault.{Fault}
@@ -36,3 +36,7 @@ broken_end k items i all h so = sym (ap (broken k) (drop_end items i h)) ∙ so
 
 pub after_end : (k : Known) (items : List Item) (i : ℕ) (all : Known) → length items ≤ i → after_all k (drop i items) ≡ all → k ≡ all
 after_end k items i all h so = sym (ap (after_all k) (drop_end items i h)) ∙ so
+
+pub none_of : (o : Option Fault) → is_some o ≡ false → o ≡ None
+none_of None h = refl
+none_of (Some f) h = absurd cc
