@@ -12,3 +12,6 @@ mod walk;
 
 pub use fault::LoadFault;
 pub use loading::load;
+
+#[cfg(test)]
+mod tests;
