@@ -1,7 +1,6 @@
 -- How far a walk has come.
-use Rattle.std.specs.Prelude.{ℕ, ◌≡◌, ◌≤◌, ◌+◌, ◌-◌, ◌*◌, List, [], ◌∷◌, map, reverse, drop, length, All, String, Option, Result, Ok, Err}
+use Rattle.std.specs.Prelude.{ℕ, ◌≡◌, ◌≤◌, ◌+◌, ◌-◌, ◌*◌, List, [], map, reverse, drop, length, All, String, Option, Result, Ok, Err}
 use Rattle.std.specs.BTreeSet.{BTreeSet, btree_set_len}
-use Rattle.slice_syntax.specs.declared.tree.File.{File}
 use Rattle.slice_syntax.specs.Places.{AreRegular}
 use Rattle.slice_meaning.specs.declared.limits.TheConstants.{MOST_FILES}
 use Rattle.slice_meaning.specs.Names.{Name}

@@ -1,5 +1,5 @@
 -- How a walk over includes goes on from the files that it is inside of, the innermost first.
-use Rattle.std.specs.Prelude.{ℕ, ◌≡◌, ◌⊎◌, List, [], ◌∷◌, ◌++◌}
+use Rattle.std.specs.Prelude.{◌≡◌, ◌⊎◌, List, [], ◌∷◌, ◌++◌}
 use Rattle.slice_syntax.specs.declared.tree.File.{File}
 use Rattle.slice_meaning.specs.Names.{Name}
 use Rattle.slice_meaning.specs.Printed.{LoadBreak}
