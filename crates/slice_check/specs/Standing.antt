@@ -34,7 +34,8 @@ pub record AreFiles (f : Files) (trees : List Loaded) : Type 0 where
   pub regular : All AreRegular f.trees
 
 -- the walk from FILE has come so far, with these names loaded and these files complete, and is inside of these
-pub record HasCome {Y : Type 0} (files : Option Shelf) (file : Name) (names : BTreeSet (String Y)) (f : Files) (around : List Open) : Type 0 where
+pub record HasCome {Y : Type 0} (files : Option Shelf) (file : Name) (names : BTreeSet (String Y)) (f : Files)
+    (around : List Open) : Type 0 where
   pub loaded : List Name
   pub complete : List Loaded
   pub held : Holds names loaded
