@@ -1,12 +1,13 @@
 """Makes Slice texts and inputs from a seed: good ones, ones in another order, and broken ones.
 
 A lot is what is made of one schema: a list of `Trial`. Equal seeds give equal lots. Nothing here says what is good or broken:
-`relay.answer` does, but of an input made of a value its canonical bytes are known here, and stand in the trial.
+`relay.relay` does, but of an input made of a value its canonical bytes are known here, and stand in the trial.
 """
 import random
 from dataclasses import dataclass
 
-import slice_text
+import kinds
+import lexer
 import values
 
 
@@ -78,7 +79,7 @@ class SchemaMaker:
             named = [it for it in named if it[1].may_be_key]
         if named and self.chance.random() < 0.6:
             return self.chance.choice(named[-3:] if self.chance.random() < 0.6 else named)
-        return self.chance.choice(list(slice_text.BUILT_IN.items()))
+        return self.chance.choice(list(kinds.BUILT_IN.items()))
 
     def add(self):
         sort = self.chance.choice(["struct", "struct", "sequence", "dictionary", "dictionary"])
@@ -96,17 +97,17 @@ class SchemaMaker:
             members.append(self.name(members))
             tokens += [word, members[-1], ";"]
         name = self.name(self.kinds)
-        self.kinds[name] = slice_text.struct([kind for _, kind in types])
+        self.kinds[name] = kinds.struct([kind for _, kind in types])
         self.definitions.append(["struct", name, "{", *tokens, "}", ";"])
 
     def add_sequence(self, element):
         name = self.name(self.kinds)
-        self.kinds[name] = slice_text.sequence(element[1])
+        self.kinds[name] = kinds.sequence(element[1])
         self.definitions.append(["sequence", "<", element[0], ">", name, ";"])
 
     def add_dictionary(self, key, value):
         name = self.name(self.kinds)
-        self.kinds[name] = slice_text.dictionary(key[1], value[1])
+        self.kinds[name] = kinds.dictionary(key[1], value[1])
         self.definitions.append(["dictionary", "<", key[0], ",", value[0], ">", name, ";"])
 
     def last(self):
@@ -130,7 +131,7 @@ class SchemaMaker:
 
 def broken_tokens(tokens, names, chance):
     """Yields tokens in which, at each place in turn, one is dropped, doubled or replaced."""
-    others = ["{", "}", "<", ">", ",", ";", *sorted(slice_text.KEYWORDS), *names, *(swapped(it) for it in names), *STRANGE]
+    others = ["{", "}", "<", ">", ",", ";", *sorted(lexer.KEYWORDS), *names, *(swapped(it) for it in names), *STRANGE]
     for at, token in enumerate(tokens):
         yield "a token dropped", tokens[:at] + tokens[at + 1 :]
         yield "a token doubled", tokens[: at + 1] + tokens[at:]
@@ -152,16 +153,16 @@ def is_name(tokens, at):
 
 def other_words(tokens, names, chance):
     """Yields tokens in which each type is another one, later ones and the module among them, and each name one that may stand already."""
-    words = sorted({it for it in tokens if is_word(it)} - slice_text.KEYWORDS)
+    words = sorted({it for it in tokens if is_word(it)} - lexer.KEYWORDS)
     for at, token in enumerate(tokens):
         if is_type(tokens, at):
-            types = [*names, swapped(token), chance.choice(words), chance.choice(sorted(slice_text.KEYWORDS))]
+            types = [*names, swapped(token), chance.choice(words), chance.choice(sorted(lexer.KEYWORDS))]
             for it in types if len(types) <= 8 else chance.sample(types, 8):
                 yield "another type", tokens[:at] + [it] + tokens[at + 1 :]
         if is_name(tokens, at):
             yield "another name", tokens[:at] + [chance.choice(words)] + tokens[at + 1 :]
             yield "another name", tokens[:at] + [swapped(chance.choice(words))] + tokens[at + 1 :]
-            yield "a keyword as a name", tokens[:at] + [chance.choice(sorted(slice_text.KEYWORDS))] + tokens[at + 1 :]
+            yield "a keyword as a name", tokens[:at] + [chance.choice(sorted(lexer.KEYWORDS))] + tokens[at + 1 :]
 
 
 def other_definitions(module, definitions):
@@ -346,9 +347,10 @@ def wrong_words(module, names, chance):
 def trials_of(maker, chance, rooms, broken):
     """Yields good and broken inputs of each type of a schema, and of one built-in type; `broken` is the number of broken ones."""
     text = text_of(maker.tokens(), chance)
-    schema = slice_text.read(text)
-    for word in [*(f"::{maker.module}::{name}" for name in maker.kinds), chance.choice(list(slice_text.BUILT_IN))]:
-        kind, inputs = schema.kind(word), []
+    types = {f"::{maker.module}::{name}": kind for name, kind in maker.kinds.items()}
+    word = chance.choice(list(kinds.BUILT_IN))
+    for word, kind in [*types.items(), (word, kinds.BUILT_IN[word])]:
+        inputs = []
         for room in rooms:
             for what, data, canonical in good_inputs(kind, chance, room):
                 inputs.append(data)
@@ -387,8 +389,8 @@ def usual_lot(chance):
 def keyed_lot(chance):
     """Structs as keys: of built-in types, of one of these structs, and a dictionary of each."""
     maker = SchemaMaker(chance)
-    types = list(slice_text.BUILT_IN.items())
-    texts = [("string", slice_text.BUILT_IN["string"])] * 2
+    types = list(kinds.BUILT_IN.items())
+    texts = [("string", kinds.BUILT_IN["string"])] * 2
     maker.add_struct(texts if chance.random() < 0.3 else [chance.choice(types) for _ in range(chance.choice([1, 2, 3]))])
     key = maker.last()
     maker.add_dictionary(key, maker.type())
@@ -405,7 +407,7 @@ def deep_lot(chance, wanted):
         maker.deepen()
     name, kind = maker.last()
     text, word = text_of(maker.tokens(), chance), f"::{maker.module}::{name}"
-    if kind.depth > slice_text.MOST_DEPTH:
+    if kind.depth > kinds.MOST_DEPTH:
         yield Trial("too deep", text, word, values.encode(ValueMaker(chance, 200).value(kind), kind))
         return
     for what, data, canonical in good_inputs(kind, chance, 200):
@@ -416,13 +418,13 @@ def big_lot(chance, leaf, more):
     """A struct whose smallest spelling is that many bytes more than the most."""
     maker = SchemaMaker(chance)
     base = chance.choice([2, 3, 7, 16, 100])
-    parts = [(leaf, slice_text.BUILT_IN[leaf])]
-    while parts[-1][1].smallest * base <= slice_text.MOST_SMALLEST:
+    parts = [(leaf, kinds.BUILT_IN[leaf])]
+    while parts[-1][1].smallest * base <= kinds.MOST_SMALLEST:
         maker.add_struct([parts[-1]] * base)
         parts.append(maker.last())
-    left = slice_text.MOST_SMALLEST + more
+    left = kinds.MOST_SMALLEST + more
     members = []
-    for part in [*reversed(parts), ("bool", slice_text.BUILT_IN["bool"])]:
+    for part in [*reversed(parts), ("bool", kinds.BUILT_IN["bool"])]:
         members += [part] * (left // part[1].smallest)
         left %= part[1].smallest
     chance.shuffle(members)
@@ -439,5 +441,5 @@ def lot(seed, number):
     for wanted in (99, 100, 100, 101):
         trials += deep_lot(chance, wanted)
     for more in (-1, 0, 0, 1, 1, chance.choice([2, 8, 1_000_000])):
-        trials += big_lot(chance, chance.choice(list(slice_text.BUILT_IN)), more)
+        trials += big_lot(chance, chance.choice(list(kinds.BUILT_IN)), more)
     return trials

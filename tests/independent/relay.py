@@ -1,17 +1,45 @@
-"""The answer that `ice relay FILE TYPE` has to give: status, standard output, and the line on standard error."""
-import slice_text
+"""The answers that `ice check FILE` and `ice relay FILE TYPE` have to give: status, standard output, and the line on standard error."""
+import kinds
+import loading
+import names
 import values
 
 
-def answer(text, word, data):
-    """Returns the answer for the text of FILE, for TYPE and for the input, and where one is refused, why."""
+def refused_slice(why):
+    return 3, b"", f"ice: {why.file}:{why.place}: {why.kind}\n".encode()
+
+
+def check(shelf, file):
+    """Returns the answer for the shelf, which has the bytes of files by their names, and where FILE is refused, why."""
     try:
-        schema = slice_text.read(text)
-    except slice_text.Refused as why:
-        return (3, b"", b"ice: slice refused\n"), str(why)
-    kind = schema.kind(word)
+        counts = loading.load(shelf, file).counts()
+    except loading.Refused as why:
+        return refused_slice(why), str(why)
+    told = ", ".join(f"{count} {sort}" for sort, count in counts.items())
+    return (0, f"ok: {told}\n".encode(), b""), ""
+
+
+def kind_of(schema, word):
+    """Returns the type that a word of the command line names, or None."""
+    built_in = {**kinds.BUILT_IN, "Object": kinds.ANY_CLASS, "Object*": kinds.ANY_PROXY}
+    if word in built_in:
+        return built_in[word]
+    found = schema.named(word.removesuffix("*"))
+    sorts = names.Interface if word.endswith("*") else (names.Type, names.Enum, names.Class)
+    return found.kind if isinstance(found, sorts) else None
+
+
+def relay(shelf, file, word, data):
+    """Returns the answer for the shelf, for FILE, for TYPE and for the input, and where one is refused, why."""
+    try:
+        schema = loading.load(shelf, file)
+    except loading.Refused as why:
+        return refused_slice(why), str(why)
+    kind = kind_of(schema, word)
     if kind is None:
         return (2, b"", b"ice: no such name " + word.encode() + b"\n"), "no such name"
+    if not kind.is_built:
+        return (2, b"", b"ice: not built " + word.encode() + b"\n"), "not built"
     try:
         value = values.decode(data, kind)
     except values.Fault as why:
