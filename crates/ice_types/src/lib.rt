@@ -2,6 +2,7 @@
 #![tactic(auto)]
 
 mod declarations;
+mod identity;
 mod kind;
 mod laws;
 mod list;
@@ -12,6 +13,7 @@ mod rows;
 mod schema;
 
 pub use declarations::{DictDecl, Member, SeqDecl, StructDecl};
+pub use identity::Identity;
 pub use kind::TypeRef;
 pub use laws::no_type_in_itself;
 pub use list::{Bytes, List};

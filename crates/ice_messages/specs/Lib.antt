@@ -1,0 +1,4 @@
+pub mod Parts
+pub mod Context
+pub mod Calls
+pub mod Messages
