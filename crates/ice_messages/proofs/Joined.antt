@@ -11,11 +11,11 @@ use Rattle.ice_prims.proofs.Parts.{chosen as choice, then_ok, ok_is, Took-none, 
 use Rattle.ice_prims.proofs.Spelled.{byte_exact, int_exact, size_exact, text_exact}
 use Rattle.ice_messages.specs.Parts.{Part, IsLawful, byte, int, size, text, exactly, nothing, both, made, tested, chosen, times, read_times, SpellsTimes}
 
-abbrev answer : {A : Type 0} → A → Result A Fault
+abbrev pub answer : {A : Type 0} → A → Result A Fault
 answer x = Ok x
 
 -- from what was found at some bytes, and what the last step answers
-lands : {A : Type 0} (Spells : List ℕ → A → Type 0) (r : Rest) (x y : A × Rest) (bytes : List ℕ) → Took r bytes x.1 → Spells bytes x.0 → answer x ≡ answer y → (bytes : List ℕ) × Took r bytes y.1 × Spells bytes y.0
+pub lands : {A : Type 0} (Spells : List ℕ → A → Type 0) (r : Rest) (x y : A × Rest) (bytes : List ℕ) → Took r bytes x.1 → Spells bytes x.0 → answer x ≡ answer y → (bytes : List ℕ) × Took r bytes y.1 × Spells bytes y.0
 lands {A} Spells r x y bytes took h e = subst (λ (z : A × Rest). (bytes : List ℕ) × Took r bytes z.1 × Spells bytes z.0) (ok_is x y e) (bytes, took, h)
 
 -- ---- parts of the encoding
@@ -58,16 +58,20 @@ both_lawful first second one two = record {
   put = λ x is. (first.put x.0, second.put x.1, refl, one.put x.0 is.0, two.put x.1 is.1);
 }
 
-pub made_lawful : {A B : Type 0} (make : A → B) (of : B → A) (one : Part A) → ((x : A) → of (make x) ≡ x) → IsLawful one → IsLawful (made make of one)
-made_lawful make of one undo law = record {
+-- what is made of a part, where what it is made of can be told again
+pub made_sorted : {A B : Type 0} (make : A → B) (of : B → A) (one : Part A) → ((x : A) → one.Is x → one.Is (of (make x)) × (make x ≡ make (of (make x)))) → IsLawful one → IsLawful (made make of one)
+made_sorted make of one again law = record {
   found = λ r y fits e.
       then_ok (one.read r) (λ x. Ok (make x.0, x.1)) y e λ x x_is last.
       let f = law.found r x fits x_is in
       lands (made make of one).Spells r (make x.0, x.1) y f.0 f.1 (x.0, refl, f.2) last;
   only = λ r s bytes v k h. rw (law.only r s bytes h.0 k h.2, h.1) refl;
-  sort = λ bytes y fits h. rw (h.1, undo h.0) (law.sort bytes h.0 fits h.2, refl);
+  sort = λ bytes y fits h. rw h.1 (again h.0 (law.sort bytes h.0 fits h.2));
   put = λ y is. (of y, is.1, law.put (of y) is.0);
 }
+
+pub made_lawful : {A B : Type 0} (make : A → B) (of : B → A) (one : Part A) → ((x : A) → of (make x) ≡ x) → IsLawful one → IsLawful (made make of one)
+made_lawful make of one undo law = made_sorted make of one (λ x is. rw (undo x) (is, refl)) law
 
 -- a test that was passed
 passed : {A : Type 0} {C : Type 0} (b : Bool) (d : Fault) (x y : A) → (if b then Ok x else Err d) ≡ Ok y → (IsTrue b → x ≡ y → C) → C
@@ -87,7 +91,7 @@ tested_lawful {A} test kind one law = record {
 }
 
 pub chosen_lawful : {A B : Type 0} (first : Part A) (second : A → Part B) (which : B → A) → IsLawful first → ((x : A) → IsLawful (second x))
-    → ((x : A) (bytes : List ℕ) (y : B) → (second x).Spells bytes y → which y ≡ x) → IsLawful (chosen first second which)
+    → ((x : A) (a b : List ℕ) (y : B) → first.Spells a x → (second x).Spells b y → which y ≡ x) → IsLawful (chosen first second which)
 chosen_lawful {A} {B} first second which one two tells = record {
   found = λ r y fits e.
       then_ok (first.read r) (λ a. (second a.0).read a.1) y e λ a a_is last.
@@ -98,7 +102,7 @@ chosen_lawful {A} {B} first second which one two tells = record {
       let m = between r s h.1 h.2 (rw (← h.3) k) in
       rw (one.only r m.0 h.1 h.0 m.1 h.4) ((two h.0).only m.0 s h.2 v m.2 h.5);
   sort = λ bytes y fits h. let parts : IsBytes (h.1 ++ h.2) = rw (← h.3) fits in
-      rw (tells h.0 h.2 y h.5) (one.sort h.1 h.0 (IsBytes-front h.1 h.2 parts) h.4, (two h.0).sort h.2 y (IsBytes-rest h.1 h.2 parts) h.5);
+      rw (tells h.0 h.1 h.2 y h.4 h.5) (one.sort h.1 h.0 (IsBytes-front h.1 h.2 parts) h.4, (two h.0).sort h.2 y (IsBytes-rest h.1 h.2 parts) h.5);
   put = λ y is. (which y, first.put (which y), (second (which y)).put y, refl, one.put (which y) is.0, (two (which y)).put y is.1);
 }
 

@@ -1,1 +1,3 @@
 mod Joined
+mod Contexts
+mod Called

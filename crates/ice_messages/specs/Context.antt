@@ -6,7 +6,7 @@ use Rattle.std.specs.Ordering.{nat_cmp, is_eq}
 use Rattle.std.specs.Cmp.Lexicographic.{slice_cmp}
 use Rattle.std.specs.declared.cmp.Ordering.{Ordering}
 use Rattle.std.specs.BTreeMap.{insert_entry}
-use Rattle.std.specs.Map.{lookup}
+use Rattle.std.specs.Map.{lookup, keys_of}
 use Rattle.ice_prims.specs.declared.fault.Fault.{Fault}
 use Rattle.ice_prims.specs.declared.fault.Kind.TheVariants.{EqualKey}
 use Rattle.ice_prims.specs.Rest.{Rest, fault, ◌>>=◌}
@@ -46,9 +46,9 @@ SpellsEntries zero before bytes entries = (bytes ≡ []) × (entries ≡ before)
 SpellsEntries (suc n) before bytes entries = (name value : List ℕ) × (a b c : List ℕ) × (bytes ≡ a ++ (b ++ c)) × SpellsText a name × (value_of before name ≡ None)
     × SpellsText b value × SpellsEntries n (with_entry before (name, value)) c entries
 
-abbrev pub names_of : List Entry → List (List ℕ)
-names_of [] = []
-names_of (e ∷ es) = e.0 ∷ names_of es
+-- each name is below those after it
+abbrev pub AreRising : List Entry → Type 0
+AreRising es = IsStrictlySortedBy name_cmp (keys_of es)
 
 -- written in rising order of the names
 abbrev pub entries : ℕ → Part (List Entry)
@@ -56,7 +56,7 @@ entries n = record {
   read = entries_at n [];
   Spells = SpellsEntries n [];
   put = flat_map (both text text).put;
-  Is = λ es. (length es ≡ n) × IsStrictlySortedBy name_cmp (names_of es) × Each (both text text).Is es;
+  Is = λ es. (length es ≡ n) × AreRising es × Each (both text text).Is es;
 }
 
 abbrev pub context : Part (List Entry)
