@@ -1,9 +1,17 @@
 -- What a call and an answer are made of is read as it is spelled, and what is put spells it.
-use Rattle.std.proofs.Common.{◌≡◌, ℕ, ℤ, pos, negsuc, zero, suc, ◌+◌, ◌≤◌, Bool, true, false, IsTrue, List, [], ◌∷◌, ◌++◌, length, Result, Ok, Err, refl, sym, ap, subst, ◌∙◌, inl, inr, arith}
-use Rattle.std.proofs.lemmas.Bool.{leb-true}
+use Rattle.std.proofs.Common.{◌≡◌, ℕ, ℤ, pos, negsuc, zero, suc, ◌+◌, ◌≤◌, Bool, true, false, IsTrue, List, [], ◌∷◌, ◌++◌, length, Result, Ok, Err, refl, sym, ap, subst, ◌∙◌, inl, inr, arith, ltb, take, drop}
+use Rattle.std.proofs.lemmas.Bool.{leb-true, ltb-false, le-ltb}
 use Rattle.ice_messages.specs.Parts.{Part, IsLawful, byte, int, size, text, both, made, tested, chosen, times, SpellsTimes}
-use Rattle.ice_messages.specs.Calls.{identity, facet_of, facet_texts, texts, facet, mode}
-use Rattle.ice_messages.proofs.Joined.{byte_lawful, size_lawful, text_lawful, both_lawful, made_sorted, made_lawful, tested_lawful, chosen_lawful, times_lawful}
+use Rattle.std.specs.Int.{w32}
+use Rattle.std.proofs.lemmas.List.{length-append, take-append-le, take_at, take-append-drop}
+use Rattle.ice_prims.specs.Rest.{Rest, ◌>>=◌, Took, bytes_at}
+use Rattle.ice_prims.specs.Number.{signed_at, SpellsSigned}
+use Rattle.ice_prims.proofs.Parts.{chosen as choice, then_ok, between, bytes_found, bytes_only}
+use Rattle.ice_messages.specs.declared.message.TheConstants.{LARGEST}
+use Rattle.ice_messages.specs.Context.{Entry, context, entries}
+use Rattle.ice_messages.specs.Calls.{identity, facet_of, facet_texts, texts, facet, mode, claimed, IsEncapsulation, encapsulation}
+use Rattle.ice_messages.proofs.Contexts.{entries_lawful, entries_length}
+use Rattle.ice_messages.proofs.Joined.{answer, byte_lawful, int_lawful, size_lawful, text_lawful, both_lawful, made_sorted, made_lawful, tested_lawful, chosen_lawful, times_lawful}
 
 -- so many are so many
 pub times_length : {A : Type 0} (Spells : List ℕ → A → Type 0) (n : ℕ) (bytes : List ℕ) (items : List A) → SpellsTimes Spells n bytes items → length items ≡ n
@@ -27,3 +35,66 @@ facet_lawful = made_sorted _ _ _ facet_again texts_lawful
 
 pub mode_lawful : IsLawful mode
 mode_lawful = tested_lawful _ _ _ byte_lawful
+
+pub context_lawful : IsLawful context
+context_lawful = chosen_lawful _ _ _ size_lawful entries_lawful (λ n a b es first second. omega (arith, entries_length n [] b es second))
+
+-- ---- an encapsulation
+
+nat_ok : (m n : ℕ) → answer m ≡ answer n → m ≡ n
+nat_ok m n e = cc
+
+-- a size that was taken is the one that was claimed, and within its bound
+pub claimed_ok : {C : Type 0} (place left smallest : ℕ) (z : ℤ) (n : ℕ) → claimed place left smallest z ≡ Ok n → (z ≡ pos n → n ≤ LARGEST → n ≤ left → smallest ≤ n → C) → C
+claimed_ok place left smallest (negsuc m) n e go = absurd cc
+claimed_ok place left smallest (pos m) n e go = elim (choice (ltb LARGEST m) _ _ (Ok n) e) [
+  | inl c ↦ absurd cc
+  | inr c ↦ elim (choice (ltb left m) _ _ (Ok n) c.1) [
+    | inl d ↦ absurd cc
+    | inr d ↦ elim (choice (ltb m smallest) _ _ (Ok n) d.1) [
+      | inl f ↦ absurd cc
+      | inr f ↦ let same : m ≡ n = nat_ok m n f.1 in go (ap pos same) (omega (arith, same, ltb-false _ _ c.0)) (omega (arith, same, ltb-false _ _ d.0)) (omega (arith, same, ltb-false _ _ f.0))
+    ]
+  ]
+]
+
+pub claimed_is : (place left smallest n : ℕ) → n ≤ LARGEST → n ≤ left → smallest ≤ n → claimed place left smallest (pos n) ≡ Ok n
+claimed_is place left smallest n large there small =
+    let within : ltb LARGEST n ≡ false = le-ltb _ _ large in
+    let inside : ltb left n ≡ false = le-ltb _ _ there in
+    let enough : ltb n smallest ≡ false = le-ltb _ _ small in
+    rw (within, inside, enough) refl
+
+begins : (a x b y : List ℕ) → a ++ x ≡ b ++ y → length a ≤ length b → (c : List ℕ) × (b ≡ a ++ c)
+begins a x b y e le =
+    let front : take (length a) b ≡ a = sym (take-append-le (length a) b y le) ∙ ap (take (length a)) (sym e) ∙ take_at a x (length a) refl in
+    (drop (length a) b, sym (take-append-drop (length a) b) ∙ ap (λ (c : List ℕ). c ++ drop (length a) b) front)
+
+-- the bytes that were taken begin with the size that was read of them
+encapsulates : (r : Rest) (claim : ℤ × Rest) (n : ℕ) (y : List ℕ × Rest) → ((bytes : List ℕ) × Took r bytes claim.1 × int.Spells bytes claim.0) → Took r y.0 y.1 × (length y.0 ≡ n)
+    → claim.0 ≡ pos n → n ≤ LARGEST → 6 ≤ n → IsEncapsulation y.0
+encapsulates r claim n y f g same large small =
+    let four : length f.0 ≡ 4 = f.2.0 in
+    let both_are : f.0 ++ claim.1.bytes ≡ y.0 ++ y.1.bytes = sym f.1.parts ∙ g.0.parts in
+    let split = begins f.0 claim.1.bytes y.0 y.1.bytes both_are (omega (arith, four, g.1, small)) in
+    (f.0, split.0, split.1, subst (λ (z : ℤ). SpellsSigned w32 f.0 z) (same ∙ ap pos (sym g.1)) f.2, omega (arith, g.1, small), omega (arith, g.1, large))
+
+encapsulation_only : (r s : Rest) (v : List ℕ) → Took r v s → IsEncapsulation v → encapsulation.read r ≡ Ok (v, s)
+encapsulation_only r s v k is =
+    let m = between r s is.0 is.1 (rw (← is.2) k) in
+    let there : length v ≤ length r.bytes = omega (arith, ap length k.parts, length-append v s.bytes) in
+    rw (int_lawful.only r m.0 is.0 (pos (length v)) m.1 is.3, claimed_is r.place (length r.bytes) 6 (length v) is.5 there is.4) (bytes_only (length v) r s v refl k)
+
+pub encapsulation_lawful : IsLawful encapsulation
+encapsulation_lawful = record {
+  found = λ r y fits e.
+      then_ok (signed_at w32 r) (λ claim. claimed r.place (length r.bytes) 6 claim.0 >>= λ n. bytes_at n r) y e λ claim claim_is later.
+      then_ok (claimed r.place (length r.bytes) 6 claim.0) (λ n. bytes_at n r) y later λ n n_is last.
+      claimed_ok r.place (length r.bytes) 6 claim.0 n n_is λ same large there small.
+      let f = int_lawful.found r claim fits claim_is in
+      let g = bytes_found n r y last in
+      (y.0, g.0, (refl, encapsulates r claim n y f g same large small));
+  only = λ r s bytes v k h. encapsulation_only r s v (rw (← h.0) k) h.1;
+  sort = λ bytes x fits h. h.1;
+  put = λ x is. (refl, is);
+}
