@@ -8,10 +8,11 @@ use Rattle.ice_prims.specs.Rest.{Rest, ◌>>=◌, Took, bytes_at}
 use Rattle.ice_prims.specs.Number.{signed_at, SpellsSigned}
 use Rattle.ice_prims.proofs.Parts.{chosen as choice, then_ok, between, bytes_found, bytes_only}
 use Rattle.ice_messages.specs.declared.message.TheConstants.{LARGEST}
+use Rattle.ice_messages.specs.declared.message.Answer.{Answer}
 use Rattle.ice_messages.specs.Context.{Entry, context, entries}
-use Rattle.ice_messages.specs.Calls.{identity, facet_of, facet_texts, texts, facet, mode, claimed, IsEncapsulation, encapsulation}
+use Rattle.ice_messages.specs.Calls.{identity, facet_of, facet_texts, texts, facet, mode, claimed, IsEncapsulation, encapsulation, call, missing, answer_by, answer, status_of}
 use Rattle.ice_messages.proofs.Contexts.{entries_lawful, entries_length}
-use Rattle.ice_messages.proofs.Joined.{answer, byte_lawful, int_lawful, size_lawful, text_lawful, both_lawful, made_sorted, made_lawful, tested_lawful, chosen_lawful, times_lawful}
+use Rattle.ice_messages.proofs.Joined.{answer as done, byte_lawful, int_lawful, size_lawful, text_lawful, both_lawful, made_sorted, made_lawful, tested_lawful, chosen_lawful, times_lawful}
 
 -- so many are so many
 pub times_length : {A : Type 0} (Spells : List ℕ → A → Type 0) (n : ℕ) (bytes : List ℕ) (items : List A) → SpellsTimes Spells n bytes items → length items ≡ n
@@ -41,7 +42,7 @@ context_lawful = chosen_lawful _ _ _ size_lawful entries_lawful (λ n a b es fir
 
 -- ---- an encapsulation
 
-nat_ok : (m n : ℕ) → answer m ≡ answer n → m ≡ n
+nat_ok : (m n : ℕ) → done m ≡ done n → m ≡ n
 nat_ok m n e = cc
 
 -- a size that was taken is the one that was claimed, and within its bound
@@ -98,3 +99,31 @@ encapsulation_lawful = record {
   sort = λ bytes x fits h. h.1;
   put = λ x is. (refl, is);
 }
+
+-- ---- a call, an answer
+
+pub call_lawful : IsLawful call
+call_lawful = made_lawful _ _ _ (λ x. refl) (both_lawful _ _ identity_lawful (both_lawful _ _ facet_lawful (both_lawful _ _ text_lawful
+    (both_lawful _ _ mode_lawful (both_lawful _ _ context_lawful encapsulation_lawful)))))
+
+missing_lawful : (status : ℕ) → IsLawful (missing status)
+missing_lawful status = made_lawful _ _ _ (λ x. refl) (both_lawful _ _ identity_lawful (both_lawful _ _ facet_lawful text_lawful))
+
+answer_by_lawful : (status : ℕ) → IsLawful (answer_by status)
+answer_by_lawful zero = made_lawful _ _ _ (λ x. refl) encapsulation_lawful
+answer_by_lawful (suc zero) = made_lawful _ _ _ (λ x. refl) encapsulation_lawful
+answer_by_lawful (suc (suc zero)) = missing_lawful 2
+answer_by_lawful (suc (suc (suc zero))) = missing_lawful 3
+answer_by_lawful (suc (suc (suc (suc zero)))) = missing_lawful 4
+answer_by_lawful (suc (suc (suc (suc (suc n))))) = made_lawful _ _ _ (λ x. refl) text_lawful
+
+answer_tells : (status : ℕ) (b : List ℕ) (y : Answer) → (answer_by status).Spells b y → status_of y ≡ status
+answer_tells zero b y h = rw h.1 refl
+answer_tells (suc zero) b y h = rw h.1 refl
+answer_tells (suc (suc zero)) b y h = rw h.1 refl
+answer_tells (suc (suc (suc zero))) b y h = rw h.1 refl
+answer_tells (suc (suc (suc (suc zero)))) b y h = rw h.1 refl
+answer_tells (suc (suc (suc (suc (suc n))))) b y h = rw h.1 refl
+
+pub answer_lawful : IsLawful answer
+answer_lawful = chosen_lawful _ _ _ (tested_lawful _ _ _ byte_lawful) answer_by_lawful (λ status a b y first second. answer_tells status b y second)

@@ -1,3 +1,4 @@
 mod Joined
 mod Contexts
 mod Called
+mod Whole
