@@ -2,3 +2,4 @@ mod Joined
 mod Contexts
 mod Called
 mod Whole
+mod Streams

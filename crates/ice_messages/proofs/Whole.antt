@@ -1,15 +1,18 @@
 -- Whole messages are read as they are spelled, and what is put spells them.
 use Rattle.std.proofs.Common.{◌≡◌, ℕ, ℤ, pos, negsuc, zero, suc, ◌+◌, ◌-◌, ◌≤◌, ◌<◌, Bool, true, false, IsTrue, List, [], ◌∷◌, ◌++◌, length, take, drop, Result, Ok, Err, refl, sym, ap, subst, ◌∙◌, inl, inr, arith, append-nil}
-use Rattle.std.proofs.lemmas.Bool.{leb-true}
+use Rattle.std.specs.Prelude.{FitsSigned}
+use Rattle.std.specs.Int.{w32}
+use Rattle.std.proofs.lemmas.Bool.{leb-true, le-leb}
 use Rattle.std.proofs.lemmas.List.{length-append}
 use Rattle.ice_prims.specs.Rest.{Rest, ◌>>=◌, Took, IsBytes, bound_at, bytes_at}
-use Rattle.ice_prims.proofs.Parts.{then_ok, ok_is, between, Took-then, Took-fits, bytes_found, bytes_only}
+use Rattle.ice_prims.proofs.Parts.{then_ok, ok_is, between, Took-then, Took-fits, IsBytes-rest, bytes_found, bytes_only}
 use Rattle.ice_messages.specs.declared.message.Call.{Call}
 use Rattle.ice_messages.specs.declared.message.Message.{Message}
+use Rattle.ice_messages.specs.declared.message.Message.TheVariants.{Request, Batch, Reply, Validate, Close}
 use Rattle.ice_messages.specs.declared.message.TheConstants.{LARGEST, HEADER_BYTES}
 use Rattle.ice_messages.specs.Parts.{Part, IsLawful, byte, int, exactly, nothing, both, made, tested, chosen, times}
 use Rattle.ice_messages.specs.Calls.{call, claimed}
-use Rattle.ice_messages.specs.Messages.{calls, is_count, count_of, body_by, type_of, magic, versions, message_type, compression, header, ended, filled, message_at, SpellsMessage}
+use Rattle.ice_messages.specs.Messages.{calls, is_count, count_of, body_by, type_of, magic, versions, message_type, compression, header, ended, filled, message_at, SpellsMessage, message_bytes, IsMessage}
 use Rattle.ice_messages.proofs.Joined.{answer as done, byte_lawful, int_lawful, exactly_lawful, nothing_lawful, both_lawful, made_lawful, made_sorted, tested_lawful, chosen_lawful, times_lawful}
 use Rattle.ice_messages.proofs.Called.{call_lawful, answer_lawful, times_length, claimed_ok, claimed_is}
 
@@ -118,3 +121,47 @@ message_only r s bytes m k h =
     let cut : length body ≡ length bytes - HEADER_BYTES = omega (arith, total) in
     rw (header_lawful.only r mid.0 head (type, pos (length bytes)) mid.1 h.4, claimed_is (r.place + 10) (length r.bytes) HEADER_BYTES (length bytes) h.5 there (omega (arith, total)),
         bytes_only (length bytes - HEADER_BYTES) mid.0 s body cut mid.2, filled_only (body_by type) (body_by_lawful type) (record { place = mid.0.place; bytes = body }) m h.6) refl
+
+-- ---- which messages there are
+
+header_type : (bytes : List ℕ) (x : ℕ × ℤ) → header.Spells bytes x → x.0 ≤ 4
+header_type bytes x h = rw h.1 (leb-true _ _ h.2.4.4.3.1)
+
+type_tells : (type : ℕ) (body : List ℕ) (m : Message) → type ≤ 4 → (body_by type).Spells body m → type_of m ≡ type
+type_tells zero body m le h = rw h.1 refl
+type_tells (suc zero) body m le h = rw h.1 refl
+type_tells (suc (suc zero)) body m le h = rw h.1 refl
+type_tells (suc (suc (suc zero))) body m le h = rw h.1 refl
+type_tells (suc (suc (suc (suc zero)))) body m le h = rw h.1 refl
+type_tells (suc (suc (suc (suc (suc n))))) body m le h = absurd (omega (arith, le))
+
+pub message_sort : (bytes : List ℕ) (m : Message) → IsBytes bytes → SpellsMessage bytes m → IsMessage m
+message_sort bytes m fits h =
+    let same = type_tells h.0 h.2 m (header_type h.1 _ h.4) h.6 in
+    subst (λ (type : ℕ). (body_by type).Is m) (sym same) ((body_by_lawful h.0).sort h.2 m (IsBytes-rest h.1 h.2 (rw (← h.3) fits)) h.6)
+
+types : (m : Message) → type_of m ≤ 4
+types (Request id c) = omega arith
+types (Batch items) = omega arith
+types (Reply id a) = omega arith
+types Validate = omega arith
+types Close = omega arith
+
+header_is : (type n : ℕ) → type ≤ 4 → n ≤ LARGEST → header.Is (type, pos n)
+header_is type n small large = ((((tt, (tt, (tt, tt))), refl), (((tt, tt), refl), ((omega (arith, small), le-leb type 4 small), ((((omega arith, refl), refl), refl), fits)))), refl)
+  where fits : FitsSigned w32 (pos n)
+        fits = omega (arith, large)
+
+pub header_put_long : (type : ℕ) (z : ℤ) → length (header.put (type, z)) ≡ HEADER_BYTES
+header_put_long type z = refl
+
+pub message_put : (m : Message) → IsMessage m → length (message_bytes m) ≤ LARGEST → SpellsMessage (message_bytes m) m
+message_put m is large =
+    let body = (body_by (type_of m)).put m in
+    let n = HEADER_BYTES + length body in
+    let head = header.put (type_of m, pos n) in
+    let long = header_put_long (type_of m) (pos n) in
+    let within : n ≤ LARGEST = omega (arith, large, length-append head body, long) in
+    let spelled = header_lawful.put (type_of m, pos n) (header_is (type_of m) n (types m) within) in
+    let total : length (head ++ body) ≡ n = omega (arith, length-append head body, header_long head _ spelled) in
+    (type_of m, head, body, refl, subst (λ (k : ℕ). header.Spells head (type_of m, pos k)) (sym total) spelled, large, (body_by_lawful (type_of m)).put m is)

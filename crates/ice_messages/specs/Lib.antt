@@ -2,3 +2,4 @@ pub mod Parts
 pub mod Context
 pub mod Calls
 pub mod Messages
+pub mod Streams
