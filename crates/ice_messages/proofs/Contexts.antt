@@ -137,11 +137,19 @@ entries_put before (e ∷ es) rising are =
     let below = under before e es rising in
     let grown : with_entry before (e.0, e.1) ≡ before ++ e ∷ [] = last_put e.0 e.1 before below in
     let regroup : (before ++ e ∷ []) ++ es ≡ before ++ e ∷ es = append_assoc before (e ∷ []) es in
-    let later = entries_put (before ++ e ∷ []) es (subst AreRising (sym regroup) rising) are.1 in
-    (e.0, e.1, text.put e.0, text.put e.1, flat_map (both text text).put es, append_assoc (text.put e.0) (text.put e.1) (flat_map (both text text).put es),
-        text_lawful.put e.0 are.0.0, last_free e.0 before below, text_lawful.put e.1 are.0.1,
-        subst (λ (held : List Entry). SpellsEntries (length es) held (flat_map (both text text).put es) (before ++ e ∷ es)) (sym grown)
-        (subst (λ (all : List Entry). SpellsEntries (length es) (before ++ e ∷ []) (flat_map (both text text).put es) all) regroup later))
+    let later = entries_put (before ++ e ∷ []) es (subst AreRising (sym regroup) rising) are.1 in (
+      e.0,
+      e.1,
+      text.put e.0,
+      text.put e.1,
+      flat_map (both text text).put es,
+      append_assoc (text.put e.0) (text.put e.1) (flat_map (both text text).put es),
+      text_lawful.put e.0 are.0.0,
+      last_free e.0 before below,
+      text_lawful.put e.1 are.0.1,
+      subst (λ (held : List Entry). SpellsEntries (length es) held (flat_map (both text text).put es) (before ++ e ∷ es)) (sym grown)
+          (subst (λ (all : List Entry). SpellsEntries (length es) (before ++ e ∷ []) (flat_map (both text text).put es) all) regroup later),
+    )
 
 pub entries_lawful : (n : ℕ) → IsLawful (entries n)
 entries_lawful n = record {

@@ -3,3 +3,4 @@ mod Contexts
 mod Called
 mod Whole
 mod Streams
+mod Runs

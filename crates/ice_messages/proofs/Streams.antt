@@ -83,12 +83,32 @@ header_passes bytes x h =
     (refl, (refl, (refl, (refl, (refl, (refl, (refl, (refl, (leb-true _ _ t.3.1, (leb-true _ _ s.3.2.1, four_pass s.1 s.4.0))))))))))
 
 built : (t s : ℕ) (four : List ℕ) → t ≤ 4 → s ≤ 1 → length four ≡ 4 → (x : ℕ × ℤ) × header.Spells (73 ∷ 99 ∷ 101 ∷ 80 ∷ 1 ∷ 0 ∷ 1 ∷ 0 ∷ t ∷ s ∷ four) x
-built t s four type_is status_is long =
-    ((t, cast_signed w32 (from_le_bytes w32 four)), ((tt, (tt, (t, (tt, cast_signed w32 (from_le_bytes w32 four))))), refl,
-    (73 ∷ 99 ∷ 101 ∷ 80 ∷ [], 1 ∷ 0 ∷ 1 ∷ 0 ∷ t ∷ s ∷ four, refl, ((tt, (tt, (tt, tt))), refl, (73 ∷ [], 99 ∷ 101 ∷ 80 ∷ [], refl, refl, (99 ∷ [], 101 ∷ 80 ∷ [], refl, refl, (101 ∷ [], 80 ∷ [], refl, refl, refl)))),
-    (1 ∷ 0 ∷ 1 ∷ 0 ∷ [], t ∷ s ∷ four, refl, ((tt, tt), refl, (1 ∷ 0 ∷ [], 1 ∷ 0 ∷ [], refl, refl, refl)),
-    (t ∷ [], s ∷ four, refl, ((omega (arith, type_is), refl), le-leb t 4 type_is),
-    (s ∷ [], four, refl, (s, refl, (((omega (arith, status_is), refl), le-leb s 2 (omega (arith, status_is))), le-leb s 1 status_is)), (long, refl)))))))
+built t s four type_is status_is long = (
+  (t, cast_signed w32 (from_le_bytes w32 four)),
+  (
+    (tt, (tt, (t, (tt, cast_signed w32 (from_le_bytes w32 four))))),
+    refl,
+    (
+      73 ∷ 99 ∷ 101 ∷ 80 ∷ [],
+      1 ∷ 0 ∷ 1 ∷ 0 ∷ t ∷ s ∷ four,
+      refl,
+      ((tt, (tt, (tt, tt))), refl, (73 ∷ [], 99 ∷ 101 ∷ 80 ∷ [], refl, refl, (99 ∷ [], 101 ∷ 80 ∷ [], refl, refl, (101 ∷ [], 80 ∷ [], refl, refl, refl)))),
+      (
+        1 ∷ 0 ∷ 1 ∷ 0 ∷ [],
+        t ∷ s ∷ four,
+        refl,
+        ((tt, tt), refl, (1 ∷ 0 ∷ [], 1 ∷ 0 ∷ [], refl, refl, refl)),
+        (
+          t ∷ [],
+          s ∷ four,
+          refl,
+          ((omega (arith, type_is), refl), le-leb t 4 type_is),
+          (s ∷ [], four, refl, (s, refl, (((omega (arith, status_is), refl), le-leb s 2 (omega (arith, status_is))), le-leb s 1 status_is)), (long, refl)),
+        ),
+      ),
+    ),
+  ),
+)
 
 first_pass : {C : Type 0} (Test : ℕ → Type 0) (tests : List (ℕ → Type 0)) (bytes : List ℕ) → Pass (Test ∷ tests) bytes → ((b : ℕ) (bs : List ℕ) → bytes ≡ b ∷ bs → Test b → Pass tests bs → C) → C
 first_pass Test tests [] h go = absurd h
@@ -124,7 +144,7 @@ passes_header bytes h =
     let e1_eq : e1 ≡ 0 = e1_is in
     let none : r13 ≡ [] = no_pass r13 h13 in
     let all : bytes ≡ 73 ∷ 99 ∷ 101 ∷ 80 ∷ 1 ∷ 0 ∷ 1 ∷ 0 ∷ t ∷ s ∷ a ∷ b ∷ c ∷ d ∷ [] =
-        rw (is0, is1, is2, is3, is4, is5, is6, is7, is8, is9, is10, is11, is12, is13, none, m0_eq, m1_eq, m2_eq, m3_eq, p0_eq, p1_eq, e0_eq, e1_eq) refl in
+    rw (is0, is1, is2, is3, is4, is5, is6, is7, is8, is9, is10, is11, is12, is13, none, m0_eq, m1_eq, m2_eq, m3_eq, p0_eq, p1_eq, e0_eq, e1_eq) refl in
     rw all (built t s (a ∷ b ∷ c ∷ d ∷ []) t_is s_is refl)
 
 -- ---- what stands next
@@ -144,8 +164,14 @@ next_message a b m h =
     let read = header_lawful.only (whole (a ++ b)) (record { place = length head; bytes = h.2 ++ b }) head (h.0, pos (length a)) took h.4 in
     let enough : ltb (length (a ++ b)) HEADER_BYTES ≡ false = le-ltb _ _ (omega (arith, there, long)) in
     let all : ltb (length (a ++ b)) (length a) ≡ false = le-ltb _ _ (omega (arith, there)) in
-    rw (whole_header (a ++ b) (omega (arith, there, long)), read, enough, claimed_is 10 LARGEST HEADER_BYTES (length a) h.5 h.5 long, all,
-        message_only (whole (a ++ b)) (record { place = length a; bytes = b }) a m (front_took a b) h) refl
+    rw (
+      whole_header (a ++ b) (omega (arith, there, long)),
+      read,
+      enough,
+      claimed_is 10 LARGEST HEADER_BYTES (length a) h.5 h.5 long,
+      all,
+      message_only (whole (a ++ b)) (record { place = length a; bytes = b }) a m (front_took a b) h,
+    ) refl
 
 -- ---- fronts
 

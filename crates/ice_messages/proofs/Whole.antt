@@ -65,8 +65,22 @@ header_long bytes x h =
     let one : length type_is.0 ≡ 1 = ap length type_is.3.0.1 in
     let status_is = type_is.4 in
     let two : length status_is.0 ≡ 1 = ap length status_is.3.2.0.0.1 in
-    omega (arith, four, more, one, two, status_is.4.0, ap length parts.2, ap length versions_are.2, ap length type_is.2, ap length status_is.2,
-        length-append parts.0 parts.1, length-append versions_are.0 versions_are.1, length-append type_is.0 type_is.1, length-append status_is.0 status_is.1)
+    omega (
+      arith,
+      four,
+      more,
+      one,
+      two,
+      status_is.4.0,
+      ap length parts.2,
+      ap length versions_are.2,
+      ap length type_is.2,
+      ap length status_is.2,
+      length-append parts.0 parts.1,
+      length-append versions_are.0 versions_are.1,
+      length-append type_is.0 type_is.1,
+      length-append status_is.0 status_is.1,
+    )
 
 -- ---- what fills its bound
 
@@ -107,9 +121,11 @@ message_found r y fits e =
     let filled_is : filled (body_by head.0.0).read (record { place = head.1.place; bytes = body.0 }) ≡ Ok m = subst (λ (z : Rest × Rest). filled (body_by head.0.0).read z.0 ≡ Ok m) at_bound m_is in
     let spelled = filled_found (body_by head.0.0) (body_by_lawful head.0.0) _ m ((Took-fits head.1 body.1 body.0 behind g.0).0) filled_is in
     let result : (m, body.1) ≡ y = ok_is _ _ (subst (λ (z : Rest × Rest). done (m, z.1) ≡ done y) at_bound last) in
-    subst (λ (z : Message × Rest). (bytes : List ℕ) × Took r bytes z.1 × SpellsMessage bytes z.0) result
-        (f.0 ++ body.0, Took-then r head.1 body.1 f.0 body.0 f.1 g.0,
-        (head.0.0, f.0, body.0, refl, subst (λ (z : ℤ). header.Spells f.0 (head.0.0, z)) (same ∙ ap pos (sym count)) f.2, omega (arith, count, large), spelled))
+    subst (λ (z : Message × Rest). (bytes : List ℕ) × Took r bytes z.1 × SpellsMessage bytes z.0) result (
+      f.0 ++ body.0,
+      Took-then r head.1 body.1 f.0 body.0 f.1 g.0,
+      (head.0.0, f.0, body.0, refl, subst (λ (z : ℤ). header.Spells f.0 (head.0.0, z)) (same ∙ ap pos (sym count)) f.2, omega (arith, count, large), spelled),
+    )
 
 pub message_only : (r s : Rest) (bytes : List ℕ) (m : Message) → Took r bytes s → SpellsMessage bytes m → message_at r ≡ Ok (m, s)
 message_only r s bytes m k h =
@@ -119,8 +135,12 @@ message_only r s bytes m k h =
     let total : length bytes ≡ HEADER_BYTES + length body = omega (arith, ap length h.3, length-append head body, long) in
     let there : length bytes ≤ length r.bytes = omega (arith, ap length k.parts, length-append bytes s.bytes) in
     let cut : length body ≡ length bytes - HEADER_BYTES = omega (arith, total) in
-    rw (header_lawful.only r mid.0 head (type, pos (length bytes)) mid.1 h.4, claimed_is (r.place + 10) (length r.bytes) HEADER_BYTES (length bytes) h.5 there (omega (arith, total)),
-        bytes_only (length bytes - HEADER_BYTES) mid.0 s body cut mid.2, filled_only (body_by type) (body_by_lawful type) (record { place = mid.0.place; bytes = body }) m h.6) refl
+    rw (
+      header_lawful.only r mid.0 head (type, pos (length bytes)) mid.1 h.4,
+      claimed_is (r.place + 10) (length r.bytes) HEADER_BYTES (length bytes) h.5 there (omega (arith, total)),
+      bytes_only (length bytes - HEADER_BYTES) mid.0 s body cut mid.2,
+      filled_only (body_by type) (body_by_lawful type) (record { place = mid.0.place; bytes = body }) m h.6,
+    ) refl
 
 -- ---- which messages there are
 
@@ -149,8 +169,9 @@ types Close = omega arith
 
 header_is : (type n : ℕ) → type ≤ 4 → n ≤ LARGEST → header.Is (type, pos n)
 header_is type n small large = ((((tt, (tt, (tt, tt))), refl), (((tt, tt), refl), ((omega (arith, small), le-leb type 4 small), ((((omega arith, refl), refl), refl), fits)))), refl)
-  where fits : FitsSigned w32 (pos n)
-        fits = omega (arith, large)
+  where
+    fits : FitsSigned w32 (pos n)
+    fits = omega (arith, large)
 
 pub header_put_long : (type : ℕ) (z : ℤ) → length (header.put (type, z)) ≡ HEADER_BYTES
 header_put_long type z = refl

@@ -45,6 +45,11 @@ next_at bytes = do
   head ← started bytes
   if nat_lt (length bytes) HEADER_BYTES then Ok None else claimed 10 LARGEST HEADER_BYTES head.0.1 >>= counted bytes
 
--- The bytes spell these messages, and what follows has this fault.
-abbrev pub StreamBreaks : List ℕ → List Message → Fault → Type 0
-StreamBreaks bytes ms fault = (rest : List ℕ) × Stream bytes ms rest × (next_at rest ≡ Err fault)
+-- What follows the messages of a stream: a front, or the first fault of the next message.
+abbrev pub StreamEnds : List ℕ → Option Fault → Type 0
+StreamEnds rest None = IsFront rest
+StreamEnds rest (Some fault) = next_at rest ≡ Err fault
+
+-- The bytes are these messages, and what follows them ends so.
+abbrev pub IsStream : List ℕ → List Message → List ℕ → Option Fault → Type 0
+IsStream bytes ms rest end = Stream bytes ms rest × StreamEnds rest end

@@ -1,6 +1,10 @@
 //! Messages of protocol 1.0 as bytes, both ways and in any pieces.
 #![tactic(auto)]
 
+mod laws;
 mod message;
 
+pub use laws::{
+    first_messages, fronts_wait, messages_apart, messages_exact, messages_written, one_stream,
+};
 pub use message::{Answer, Call, Message};
