@@ -1,5 +1,6 @@
 mod Joined
 mod Contexts
+mod Entries
 mod Called
 mod Whole
 mod Streams

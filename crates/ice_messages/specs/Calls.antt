@@ -10,7 +10,7 @@ use Rattle.ice_prims.specs.Number.{signed_at, SpellsSigned}
 use Rattle.ice_messages.specs.declared.message.Call.{Call}
 use Rattle.ice_messages.specs.declared.message.Answer.{Answer}
 use Rattle.ice_messages.specs.declared.message.Answer.TheVariants.{Done, Raised, Missing, Unknown}
-use Rattle.ice_messages.specs.declared.message.TheConstants.{LARGEST}
+use Rattle.ice_messages.specs.declared.message.TheConstants.{LARGEST, SMALLEST_ENCAPSULATION}
 use Rattle.ice_messages.specs.Parts.{Part, byte, int, size, text, both, made, tested, chosen, times}
 use Rattle.ice_messages.specs.Context.{Entry, context}
 
@@ -50,12 +50,12 @@ claimed place left smallest (negsuc n) = fault place BadSize
 abbrev pub encapsulation_at : Rest → Result (List ℕ × Rest) Fault
 encapsulation_at r = do
   claim ← signed_at w32 r
-  n ← claimed r.place (length r.bytes) 6 claim.0
+  n ← claimed r.place (length r.bytes) SMALLEST_ENCAPSULATION claim.0
   bytes_at n r
 
 -- its size counts all of it
 abbrev pub IsEncapsulation : List ℕ → Type 0
-IsEncapsulation bytes = (claim content : List ℕ) × (bytes ≡ claim ++ content) × SpellsSigned w32 claim (pos (length bytes)) × (6 ≤ length bytes) × (length bytes ≤ LARGEST)
+IsEncapsulation bytes = (claim content : List ℕ) × (bytes ≡ claim ++ content) × SpellsSigned w32 claim (pos (length bytes)) × (SMALLEST_ENCAPSULATION ≤ length bytes) × (length bytes ≤ LARGEST)
 
 abbrev pub encapsulation : Part (List ℕ)
 encapsulation = record { read = encapsulation_at; Spells = λ bytes x. (bytes ≡ x) × IsEncapsulation x; put = λ x. x; Is = IsEncapsulation }

@@ -3,3 +3,5 @@ pub mod Context
 pub mod Calls
 pub mod Messages
 pub mod Streams
+pub mod Answers
+pub mod Seen

@@ -3,6 +3,9 @@
 
 mod laws;
 mod message;
+mod read_call;
+mod read_context;
+mod size;
 
 pub use laws::{
     first_messages, fronts_wait, messages_apart, messages_exact, messages_written, one_stream,

@@ -3,6 +3,9 @@
 /// The most bytes of a message, and of an encapsulation.
 pub const LARGEST: u32 = 1_048_576;
 
+/// The least bytes of an encapsulation: its size and its version.
+pub const SMALLEST_ENCAPSULATION: u32 = 6;
+
 /// How many bytes a message has at least: those of its header.
 pub const HEADER_BYTES: u32 = 14;
 
