@@ -1,6 +1,7 @@
 mod Joined
 mod Contexts
 mod Entries
+mod Times
 mod Called
 mod Whole
 mod Streams

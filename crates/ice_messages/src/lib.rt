@@ -5,9 +5,11 @@ mod laws;
 mod message;
 mod read_call;
 mod read_context;
+mod reading;
 mod size;
 
 pub use laws::{
     first_messages, fronts_wait, messages_apart, messages_exact, messages_written, one_stream,
 };
 pub use message::{Answer, Call, Message};
+pub use reading::read_message;

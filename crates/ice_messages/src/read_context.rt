@@ -41,7 +41,10 @@ fn take_entries<'a>(
 }
 
 /// The entries as texts of their own.
-fn copied(alloc: Global, mut entries: BTreeMap<&str, &str>) -> Result<List<(Name, Name)>, AllocError>
+fn copied(
+    alloc: Global,
+    mut entries: BTreeMap<&str, &str>,
+) -> Result<List<(Name, Name)>, AllocError>
     ensures { IfOk result (λ copies. copies ≡ seen entries.entry) }
 {
     let mut copies = List::new(alloc);
