@@ -2,6 +2,7 @@ mod Joined
 mod Contexts
 mod Entries
 mod Times
+mod Sums
 mod Called
 mod Whole
 mod Streams

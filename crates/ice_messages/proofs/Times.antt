@@ -26,7 +26,7 @@ module _ {A : Type 0} (one : Rest → Result (A × Rest) Fault) (front : List A)
   goes_on lt x after h =
       let n : count - i ≡ suc (count - (i + 1)) = omega arith in
       let first : with_front front (read_times one (count - i) r) ≡ with_front (front ++ x ∷ []) (read_times one (count - (i + 1)) after) =
-          rw (n, h) (regroup front x (read_times one (count - (i + 1)) after)) in
+      rw (n, h) (regroup front x (read_times one (count - (i + 1)) after)) in
       sym first ∙ so_far
 
   pub ends : i < count → (e : ReadFault) → Fails e (one r) → Fails e total

@@ -5,3 +5,4 @@ pub mod Messages
 pub mod Streams
 pub mod Answers
 pub mod Seen
+pub mod Written

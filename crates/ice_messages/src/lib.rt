@@ -1,13 +1,16 @@
 //! Messages of protocol 1.0 as bytes, both ways and in any pieces.
 #![tactic(auto)]
 
+mod fault;
 mod laws;
+mod lengths;
 mod message;
 mod read_call;
 mod read_context;
 mod reading;
 mod size;
 
+pub use fault::{FeedFault, WriteFault};
 pub use laws::{
     first_messages, fronts_wait, messages_apart, messages_exact, messages_written, one_stream,
 };
