@@ -3,6 +3,7 @@ mod Contexts
 mod Entries
 mod Times
 mod Sums
+mod Putting
 mod Called
 mod Whole
 mod Streams

@@ -9,6 +9,7 @@ mod read_call;
 mod read_context;
 mod reading;
 mod size;
+mod writing;
 
 pub use fault::{FeedFault, WriteFault};
 pub use laws::{
@@ -16,3 +17,4 @@ pub use laws::{
 };
 pub use message::{Answer, Call, Message};
 pub use reading::read_message;
+pub use writing::write_message;
