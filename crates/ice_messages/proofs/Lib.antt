@@ -8,3 +8,4 @@ mod Called
 mod Whole
 mod Streams
 mod Runs
+mod Nexts

@@ -149,7 +149,7 @@ passes_header bytes h =
 
 -- ---- what stands next
 
-whole_header : (bytes : List ℕ) → HEADER_BYTES ≤ length bytes → started bytes ≡ header.read (whole bytes)
+pub whole_header : (bytes : List ℕ) → HEADER_BYTES ≤ length bytes → started bytes ≡ header.read (whole bytes)
 whole_header bytes long = let past : drop (length bytes) good_header ≡ [] = drop_of_length-le good_header long in
     ap (λ (more : List ℕ). header.read (whole (bytes ++ more))) past ∙ ap (λ (all : List ℕ). header.read (whole all)) (append-nil bytes)
 

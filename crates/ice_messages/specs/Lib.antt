@@ -6,3 +6,5 @@ pub mod Streams
 pub mod Answers
 pub mod Seen
 pub mod Written
+pub mod Framing
+pub mod Next

@@ -2,9 +2,11 @@
 #![tactic(auto)]
 
 mod fault;
+mod frames;
 mod laws;
 mod lengths;
 mod message;
+mod next;
 mod read_call;
 mod read_context;
 mod reading;
@@ -12,6 +14,7 @@ mod size;
 mod writing;
 
 pub use fault::{FeedFault, WriteFault};
+pub use frames::Frames;
 pub use laws::{
     first_messages, fronts_wait, messages_apart, messages_exact, messages_written, one_stream,
 };

@@ -99,7 +99,7 @@ fn take_each(alloc: Global, count: u32, cursor: &mut Cursor<'_>) -> Result<List<
 }
 
 /// The type of a message, and the size that its header claims.
-fn take_header(cursor: &mut Cursor<'_>) -> Result<(u8, i32), Fault>
+pub fn take_header(cursor: &mut Cursor<'_>) -> Result<(u8, i32), Fault>
     ensures { Sees result cursor.new (header.read cursor.old) }
 {
     take_magic(cursor)?;
