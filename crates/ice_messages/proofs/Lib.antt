@@ -9,3 +9,4 @@ mod Whole
 mod Streams
 mod Runs
 mod Nexts
+mod Running

@@ -7,6 +7,7 @@ ghost use Rattle.ice_prims.specs.Laws.{FoundPart, OnlyPart};
 ghost use Rattle.ice_messages.specs.declared.message.Message.{Message};
 ghost use Rattle.ice_messages.specs.Messages.{message_at, message_bytes, SpellsMessage, IsMessage};
 ghost use Rattle.ice_messages.specs.Streams.{Stream, IsStream, IsFront, next_at};
+ghost use Rattle.ice_messages.specs.Framing.{Held, Ran};
 
 /// What is read is spelled by the bytes that were taken, and what is spelled is read, whatever follows it.
 pub fn messages_exact()
@@ -44,4 +45,11 @@ pub fn fronts_wait()
 pub fn first_messages()
     ensures { (bytes more left rest : List ℕ) (ns ms : List Message) (end : Option Fault)
         → Stream bytes ns left → IsStream (bytes ++ more) ms rest end → (others : List Message) × (ms ≡ ns ++ others) }
+{}
+
+/// Whatever the pieces: the bytes that were fed to a reader are the messages that it handed out, one after the other, and
+/// the bytes that it holds.
+pub fn pieces_read()
+    ensures { (bytes : List ℕ) (ms : List Message) (held : Held) → Ran bytes ms held → IsBytes bytes
+        → Stream bytes ms held.bytes }
 {}

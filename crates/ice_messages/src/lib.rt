@@ -17,6 +17,7 @@ pub use fault::{FeedFault, WriteFault};
 pub use frames::Frames;
 pub use laws::{
     first_messages, fronts_wait, messages_apart, messages_exact, messages_written, one_stream,
+    pieces_read,
 };
 pub use message::{Answer, Call, Message};
 pub use reading::read_message;
