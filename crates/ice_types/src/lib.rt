@@ -5,6 +5,7 @@ mod adding;
 mod bases;
 mod declarations;
 mod defining;
+mod identity;
 mod ids;
 mod inheritance;
 mod kind;
@@ -24,6 +25,7 @@ pub use declarations::{
     ClassDecl, DictDecl, Entry, EnumDecl, ExceptionDecl, InterfaceDecl, Member, OpDecl, SeqDecl,
     Shape, StructDecl,
 };
+pub use identity::Identity;
 pub use kind::{RowRef, TypeRef};
 pub use laws::no_type_in_itself;
 pub use list::{Bytes, List};

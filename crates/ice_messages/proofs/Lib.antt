@@ -1,0 +1,12 @@
+mod Joined
+mod Contexts
+mod Entries
+mod Times
+mod Sums
+mod Putting
+mod Called
+mod Whole
+mod Streams
+mod Runs
+mod Nexts
+mod Running
