@@ -1,7 +1,9 @@
 -- A fault of the checker is that of a name on the shelf.
-use Rattle.std.proofs.Common.{◌≡◌, ℕ, ◌<◌, false, List, length, Option, Some, None, Err, slice_get, get_or, option_map, ◌≤◌, ◌⊎◌, refl, sym, ap, ◌∙◌, subst, inl, inr, arith}
+use Rattle.std.proofs.Common.{◌≡◌, ℕ, ◌<◌, false, List, [], ◌∷◌, All, length, Option, Some, None, Err, slice_get, get_or, option_map, ◌≤◌, ◌⊎◌, refl, sym, ap, ◌∙◌, subst, inl, inr, arith}
 use Rattle.std.specs.Option.{IfSome}
 use Rattle.std.proofs.lemmas.List.{length-map}
+use Rattle.std.proofs.lemmas.List.Elements.{All-head, All-tail}
+use Rattle.slice_syntax.specs.Places.{Each}
 use Rattle.std.proofs.lemmas.Option.{slice_get-map, slice_get_cases}
 use Rattle.slice_syntax.specs.declared.tree.File.{File}
 use Rattle.slice_meaning.specs.declared.fault.Fault.{Fault}
@@ -9,9 +11,9 @@ use Rattle.slice_meaning.specs.Names.{Name}
 use Rattle.slice_meaning.specs.Meaning.{CheckBreaks}
 use Rattle.slice_meaning.specs.Printed.{broken_at, row_name}
 use Rattle.slice_meaning.specs.Loading.{Shelf, Loaded}
-use Rattle.check_scaffold.specs.Held.{Checks}
-use Rattle.check_scaffold.specs.declared.CheckFault.{CheckFault}
-use Rattle.check_scaffold.specs.declared.CheckFault.TheVariants as checking
+use Rattle.slice_faults.specs.Answer.{IsAnswer}
+use Rattle.slice_faults.specs.declared.fault.CheckFault.{CheckFault}
+use Rattle.slice_faults.specs.declared.fault.CheckFault.TheVariants as checking
 use Rattle.slice_check.specs.declared.fault.LoadFault.{LoadFault}
 use Rattle.slice_check.specs.declared.fault.LoadFault.TheVariants as faults
 use Rattle.slice_check.specs.declared.files.Files.{Files}
@@ -20,8 +22,8 @@ use Rattle.slice_check.specs.Standing.{AreFiles, AreWalked}
 use Rattle.slice_check.proofs.Ranges.{breaks_within}
 
 -- the fault that is answered
-pub breaks_at : (trees seen : List File) (answer : CheckFault) (at : ℕ) (fault : Fault) → seen ≡ trees → answer ≡ checking.At at fault.place fault.kind → Checks seen (Err answer) → CheckBreaks trees at fault
-breaks_at trees seen answer at fault same is h = subst (λ (t : List File). CheckBreaks t at fault) same (subst (λ (a : CheckFault). Checks seen (Err a)) is h)
+pub breaks_at : (trees seen : List File) (answer : CheckFault) (at : ℕ) (fault : Fault) → seen ≡ trees → answer ≡ checking.At at fault.place fault.kind → IsAnswer seen (Err answer) → CheckBreaks trees at fault
+breaks_at trees seen answer at fault same is h = subst (λ (t : List File). CheckBreaks t at fault) same (subst (λ (a : CheckFault). IsAnswer seen (Err a)) is h)
 
 -- the file that it is in
 pub fault_file : (f : Files) (complete : List Loaded) (at : ℕ) (fault : Fault) → AreFiles f complete → CheckBreaks f.trees at fault → (l : Loaded) × (slice_get complete at ≡ Some l)
@@ -71,3 +73,8 @@ is_break (Some known) name f at fault answer w b told = let l = fault_file f w.c
     })
     by faults.Shelf h = tt
     by faults.Memory h = tt
+
+-- what holds of all holds of each
+pub each_of : {A : Type 0} (Holds : A → Type 0) (xs : List A) → All Holds xs → Each Holds xs
+each_of Holds [] h = tt
+each_of Holds (x ∷ xs) h = (All-head Holds x xs h, each_of Holds xs (All-tail Holds x xs h))

@@ -6,7 +6,7 @@ ghost use Rattle.slice_check.specs.Answers.{Answers, is_failed};
 
 use crate::fault::LoadFault;
 use crate::walk::walk_from;
-use check_scaffold::{CheckFault, check};
+use slice_faults::{CheckFault, check};
 use ice_ports::Shelf;
 use ice_types::Schema;
 use std::alloc::Global;
