@@ -14,7 +14,8 @@ use Rattle.ice_types.specs.Bases.{class_base, HasBases, Lone, Derived}
 use Rattle.ice_types.specs.Rules.{Beside, IsKept}
 use Rattle.ice_types.specs.Inherited.{base_in, CountsClassBases, CountsBases}
 use Rattle.ice_types.specs.Kept.{counted}
-use Rattle.ice_types.proofs.BasePaths.{enough_levels}
+use Rattle.ice_types.proofs.BaseChains.{counted_by}
+use Rattle.ice_types.proofs.BasePaths.{enough_levels, no_paths, none_in}
 use Rattle.ice_types.proofs.Items.{both_end}
 
 -- ---- classes
@@ -33,7 +34,8 @@ base_is (Some c) base e = ap Some e
 
 -- a row that is kept beside a class
 kept_beside : (t : Tables) (beside : Beside) → IsKept t beside → (at bases : ℕ) → HasBases (class_base t) at bases → counted beside.classes at ≡ bases
-kept_beside t beside kept at bases has = by_row (slice_get beside.classes at) refl
+kept_beside t beside kept at bases has = counted_by beside.classes at (λ n. n ≡ bases)
+    (λ e. absurd (no_class bases (both_end beside.classes t.classes lengths at e) has)) (λ count e. one_count (class_base t) at (unwrap_or count 0) bases (kept.classes at count e).0 has)
   where
     lengths : length beside.classes ≡ length t.classes
     lengths = sym (length-map beside.classes (λ b. is_some b)) ∙ ap length (sym kept.class_flags) ∙ kept.rules.class_flags
@@ -41,10 +43,6 @@ kept_beside t beside kept at bases has = by_row (slice_get beside.classes at) re
     no_class : (n : ℕ) → slice_get t.classes at ≡ None → HasBases (class_base t) at n → ⊥
     no_class n e (Lone _ f) = let both : None ≡ Some None = sym (ap (option_map (λ c. c.base)) e) ∙ f in cc
     no_class n e (Derived _ base others f h) = let both : None ≡ Some (Some base) = sym (ap (option_map (λ c. c.base)) e) ∙ f in cc
-
-    by_row : (row : Option (Option ℕ)) → slice_get beside.classes at ≡ row → elim row [ None ↦ 0 | Some count ↦ unwrap_or count 0 ] ≡ bases
-    by_row None e = absurd (no_class bases (both_end beside.classes t.classes lengths at e) has)
-    by_row (Some count) e = one_count (class_base t) at (unwrap_or count 0) bases (kept.classes at count e).0 has
 
 -- the bases of a class, as its row is kept
 class_has : (t : Tables) (beside : Beside) → IsKept t beside → (at base : ℕ) → base_in t.classes at ≡ Some base → (bases : ℕ) × HasBases (class_base t) at (suc bases) × HasBases (class_base t) base bases
@@ -83,20 +81,13 @@ unfolding paths_in
 with_own interfaces levels at le =
     sum_same (λ b. paths_in interfaces (suc levels) b) (λ b. paths_in interfaces levels b) levels (bases_in interfaces at) le (λ b within. enough_levels interfaces levels b (omega (arith, within)))
 
-no_paths : (interfaces : List InterfaceDecl) (levels at : ℕ) → slice_get interfaces at ≡ None → paths_in interfaces (suc levels) at ≡ 0
-unfolding paths_in
-no_paths interfaces levels at e = ap (λ (row : Option InterfaceDecl). sum_by (λ b. suc (paths_in interfaces levels b)) (elim row [ None ↦ [] | Some i ↦ i.bases ])) e
-
 module _ (t : Tables) (beside : Beside) (kept : IsKept t beside) where
   counted_paths : (at : ℕ) → counted beside.interfaces at ≡ paths_in t.interfaces 1001 at
-  counted_paths at = by_row (slice_get beside.interfaces at) refl
+  counted_paths at = counted_by beside.interfaces at (λ n. n ≡ paths_in t.interfaces 1001 at)
+      (λ e. no_paths t.interfaces 1001 at (none_in t.interfaces at (both_end beside.interfaces t.interfaces lengths at e))) (kept.interfaces at)
     where
       lengths : length beside.interfaces ≡ length t.interfaces
       lengths = sym (length-map beside.interfaces (λ b. is_some b)) ∙ ap length (sym kept.interface_flags) ∙ kept.rules.interface_flags
-
-      by_row : (row : Option (Option ℕ)) → slice_get beside.interfaces at ≡ row → elim row [ None ↦ 0 | Some count ↦ unwrap_or count 0 ] ≡ paths_in t.interfaces 1001 at
-      by_row None e = sym (no_paths t.interfaces 1000 at (both_end beside.interfaces t.interfaces lengths at e))
-      by_row (Some count) e = kept.interfaces at count e
 
   few : (at : ℕ) → sum_by (λ b. suc (paths_in t.interfaces 1001 b)) (bases_in t.interfaces at) ≤ 1000
   few at = by_row (slice_get t.interfaces at) refl

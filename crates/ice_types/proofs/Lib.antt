@@ -22,3 +22,5 @@ pub mod Searching
 pub mod Counted
 pub mod RowIdentity
 pub mod Alike
+pub mod Lacked
+pub mod ObjectFits

@@ -15,7 +15,7 @@ use Rattle.ice_types.specs.declared.declarations.InterfaceDecl.{InterfaceDecl}
 use Rattle.ice_types.specs.declared.declarations.Member.{Member}
 use Rattle.ice_types.specs.declared.declarations.Shape.{Shape}
 use Rattle.ice_types.specs.declared.declarations.OpDecl.{OpDecl}
-use Rattle.ice_types.specs.Tables.{Tables, HasRowId}
+use Rattle.ice_types.specs.Tables.{Tables, HasId, HasRowId, seq_ids, dict_ids, struct_ids, enum_ids, class_ids, exception_ids, interface_ids}
 
 -- as many of the one as of the other, and each so with the one at its place
 abbrev pub AreSame : {A : Type 0} → (A → A → Type 0) → List A → List A → Type 0
@@ -122,3 +122,25 @@ pub record Lacks (t s : Tables) : Type 0 where
   pub kept : (id : List ℕ) (row : RowRef) → HasRowId s id row → HasRow t s id row
   -- and a row of t that is none of s is a class
   pub lost : (id : List ℕ) (row : RowRef) → HasRowId t id row → IsClass row ⊎ IsTaken s id
+
+-- ---- the same, table by table
+
+-- what stands in s at each place of a table with these ids
+unfoldable pub HasRows : Tables → Tables → List (List ℕ) → (ℕ → RowRef) → Type 0
+HasRows t s ids row = (at : ℕ) (id : List ℕ) → HasId ids id at → HasRow t s id (row at)
+
+abbrev pub KeepsTypes : Tables → Tables → Type 0
+KeepsTypes t s = HasRows t s (seq_ids s) rows.Seq × HasRows t s (dict_ids s) rows.Dict × HasRows t s (struct_ids s) rows.Struct × HasRows t s (enum_ids s) rows.Enum
+
+abbrev pub KeepsRows : Tables → Tables → Type 0
+KeepsRows t s = KeepsTypes t s × HasRows t s (class_ids s) rows.Class × HasRows t s (exception_ids s) rows.Exception × HasRows t s (interface_ids s) rows.Interface
+
+-- each of the ids is in s
+unfoldable pub AreTaken : Tables → List (List ℕ) → Type 0
+AreTaken s ids = (at : ℕ) (id : List ℕ) → HasId ids id at → IsTaken s id
+
+abbrev pub KeepsTypeIds : Tables → Tables → Type 0
+KeepsTypeIds t s = AreTaken s (seq_ids t) × AreTaken s (dict_ids t) × AreTaken s (struct_ids t) × AreTaken s (enum_ids t)
+
+abbrev pub KeepsIds : Tables → Tables → Type 0
+KeepsIds t s = KeepsTypeIds t s × AreTaken s (exception_ids t) × AreTaken s (interface_ids t)

@@ -11,3 +11,4 @@ pub mod Parts
 pub mod Inherited
 pub mod Formats
 pub mod Lacking
+pub mod Object

@@ -16,9 +16,11 @@ mod look_ups;
 mod measure;
 mod measuring;
 mod name;
+mod object;
 mod optional_format;
 mod own_names;
 mod rows;
+mod same_rows;
 mod schema;
 
 pub use declarations::{
@@ -31,6 +33,7 @@ pub use laws::no_type_in_itself;
 pub use list::{Bytes, List};
 pub use measure::Measure;
 pub use name::Name;
+pub use object::object_schema;
 pub use optional_format::{
     FORMAT_CLASS, FORMAT_F1, FORMAT_F2, FORMAT_F4, FORMAT_F8, FORMAT_FSIZE, FORMAT_SIZE,
     FORMAT_VSIZE,

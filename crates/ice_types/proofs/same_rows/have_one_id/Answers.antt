@@ -1,7 +1,7 @@
 use Rattle.std.proofs.Common.{sym, ◌∙◌, subst, List, ℕ}
 use Rattle.ice_types.specs.Tables.{HasRowId}
 use Rattle.ice_types.proofs.RowIdentity.{one_id}
-use Rattle.ice_types.proofs.lacking.have_one_id.Goals as goal
+use Rattle.ice_types.proofs.same_rows.have_one_id.Goals as goal
 
 pub returns-in-Some : goal.returns-in-Some
 returns-in-Some c = (

@@ -2,7 +2,7 @@ use Rattle.std.proofs.lemmas.Bool.{eqb-true, eq-eqb}
 use Rattle.std.proofs.Common.{length}
 use Rattle.ice_types.specs.Lacking.{SameEntry}
 use Rattle.ice_types.proofs.Alike.{same_length, both_done}
-use Rattle.ice_types.proofs.lacking.are_same_entries.Goals as goal
+use Rattle.ice_types.proofs.same_rows.are_same_entries.Goals as goal
 
 pub returns : goal.returns
 returns c =

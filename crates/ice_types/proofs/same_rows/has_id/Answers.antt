@@ -2,7 +2,7 @@ use Rattle.std.proofs.Common.{sym, ◌∙◌, subst, ap, List, ℕ}
 use Rattle.std.proofs.lemmas.Slice.Eq.{bytes_eq-Decides}
 use Rattle.ice_types.specs.Tables.{HasRowId}
 use Rattle.ice_types.proofs.RowIdentity.{one_id}
-use Rattle.ice_types.proofs.lacking.has_id.Goals as goal
+use Rattle.ice_types.proofs.same_rows.has_id.Goals as goal
 
 pub returns-in-Some : goal.returns-in-Some
 returns-in-Some c =
