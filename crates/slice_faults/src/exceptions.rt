@@ -1,0 +1,55 @@
+//! Exceptions are declared.
+
+ghost use Rattle.std.specs.Prelude.{◌≡◌, None, IfOk};
+ghost use Rattle.slice_syntax.specs.declared.tree.Item.TheVariants as items;
+ghost use Rattle.slice_meaning.specs.Uses.{exception_of};
+ghost use Rattle.slice_meaning.specs.Faults.{faults, exception_base_faults};
+ghost use Rattle.slice_meaning.specs.After.{base_at};
+ghost use Rattle.slice_meaning.specs.Checking.{noted};
+ghost use Rattle.slice_faults.specs.Held.{known_of};
+
+use crate::fields::note_fields;
+use crate::known::Known;
+use crate::names::note_new_name;
+use crate::note::note_row;
+use crate::uses::exception_of;
+use slice_meaning::{Fault, Found};
+use slice_syntax::{Field, Path, Word};
+use std::alloc::{AllocError, Global};
+
+/// The fault of an exception.
+#[tactic(auto, using(crate::proofs::Noting::joined))]
+fn exception_fault(
+    alloc: Global,
+    known: &Known,
+    word: &Word,
+    base: &Option<Path>,
+    fields: &[Field],
+) -> Result<Option<Fault>, AllocError>
+    ensures { IfOk result (λ fault. fault ≡ noted None (faults (known_of known.now) (items.Exception word.now base.now fields.now))) }
+{
+    let mut found = Found::new();
+    note_new_name(alloc, known, word, &mut found)?;
+    note_base(known, base, &mut found);
+    note_fields(alloc, known, fields, &mut found)?;
+    Ok(found.first)
+}
+
+/// Notes what is wrong with the base of an exception.
+fn note_base(known: &Known, base: &Option<Path>, found: &mut Found)
+    ensures { found.new.first ≡ noted found.old.first (exception_base_faults (known_of known.now) base.now) }
+{
+    if let Some(path) = base {
+        note_row(exception_of(known, path).err(), path.place, found);
+    }
+}
+
+/// The exception that the base means, where one is named and means one.
+fn base_at(known: &Known, base: &Option<Path>) -> Option<u32>
+    ensures { result ≡ base_at (exception_of (known_of known.now)) base.now }
+{
+    match base {
+        Some(path) => exception_of(known, path).ok(),
+        None => None,
+    }
+}
