@@ -2,21 +2,49 @@
 
 ghost use Rattle.std.specs.Prelude.{◌≡◌, ◌≤◌, None, IfOk};
 ghost use Rattle.slice_syntax.specs.declared.tree.Item.TheVariants as items;
-ghost use Rattle.slice_syntax.specs.Places.{type_place};
+ghost use Rattle.slice_syntax.specs.Places.{type_place, IsPlain};
 ghost use Rattle.ice_types.specs.declared.schema.TheConstants.{MOST_DEPTH};
 ghost use Rattle.slice_meaning.specs.Uses.{type_of};
 ghost use Rattle.slice_meaning.specs.Faults.{faults, is_deep, key_faults};
+ghost use Rattle.slice_meaning.specs.After.{after};
 ghost use Rattle.slice_meaning.specs.Checking.{noted};
 ghost use Rattle.slice_faults.specs.Held.{known_of};
+ghost use Rattle.slice_faults.specs.Kept.{IsKept};
 
 use crate::fields::note_type;
+use crate::ids::new_id;
 use crate::known::Known;
-use crate::names::note_new_name;
-use crate::uses::{type_of, type_place};
-use ice_types::MOST_DEPTH;
-use slice_meaning::{CheckKind, Fault, Found};
+use crate::names::{declare, note_new_name};
+use crate::room::has_room;
+use crate::uses::{kind_of, type_of, type_place};
+use ice_types::{MOST_DEPTH, SeqDecl, TypeRef};
+use slice_meaning::{CheckKind, Fault, Found, Standing, sound_fits};
 use slice_syntax::{TypeWord, Word};
 use std::alloc::{AllocError, Global};
+
+/// Declares a sequence, or answers its fault.
+pub fn sequence<'a>(
+    alloc: Global,
+    known: &mut Known<'a>,
+    word: &'a Word,
+    element: &TypeWord,
+) -> Result<Option<Fault>, AllocError>
+    requires plain { IsPlain word.now.name }
+    requires kept { IsKept (known_of known.old) }
+    ensures fault { IfOk result (λ fault. fault ≡ noted None (faults (known_of known.old) (items.Seq word.now element.now))) }
+    ensures after { IfOk result (λ fault. fault ≡ None → known_of known.new ≡ after (known_of known.old) (items.Seq word.now element.now)) }
+{
+    let fault = sequence_fault(alloc, known, word, element)?;
+    if fault.is_none() {
+        sound_fits();
+        has_room(known.schema.seqs().len())?;
+        let id = new_id(alloc, known, word)?;
+        let element = kind_of(known, element);
+        let at = known.schema.add_seq(SeqDecl { id, element })?;
+        declare(alloc, known, word, Standing::Type(TypeRef::Seq(at)))?;
+    }
+    Ok(fault)
+}
 
 /// The fault of a sequence.
 #[tactic(auto, using(crate::proofs::Noting::joined))]
@@ -37,6 +65,26 @@ fn sequence_fault(
         CheckKind::TooDeep,
     );
     Ok(found.first)
+}
+
+/// Declares a dictionary, or answers its fault.
+pub fn dictionary<'a>(
+    alloc: Global,
+    known: &mut Known<'a>,
+    word: &'a Word,
+    key: &TypeWord,
+    value: &TypeWord,
+) -> Result<Option<Fault>, AllocError>
+    requires plain { IsPlain word.now.name }
+    requires kept { IsKept (known_of known.old) }
+    ensures fault { IfOk result (λ fault. fault ≡ noted None (faults (known_of known.old) (items.Dict word.now key.now value.now))) }
+    ensures after { IfOk result (λ fault. fault ≡ None → known_of known.new ≡ after (known_of known.old) (items.Dict word.now key.now value.now)) }
+{
+    let fault = dictionary_fault(alloc, known, word, key, value)?;
+    if fault.is_none() {
+        return Err(AllocError);
+    }
+    Ok(fault)
 }
 
 /// The fault of a dictionary.

@@ -2,6 +2,7 @@
 
 ghost use Rattle.std.specs.Prelude.{◌≡◌, ◌≤◌, ◌++◌, length, [], None, IfOk, OnOk};
 ghost use Rattle.slice_syntax.specs.declared.tree.Item.TheVariants as items;
+ghost use Rattle.slice_syntax.specs.Places.{IsPlain};
 ghost use Rattle.slice_meaning.specs.Members.{entry_number, entry_place, after_entry, entry_faults, entries_of};
 ghost use Rattle.slice_meaning.specs.Faults.{faults};
 ghost use Rattle.slice_meaning.specs.After.{after, with_entries};
@@ -9,6 +10,7 @@ ghost use Rattle.slice_meaning.specs.Checking.{noted};
 ghost use Rattle.slice_names.specs.Numbers.{scope_at};
 ghost use Rattle.ice_types.specs.declared.schema.TheConstants.{MOST_NUMBER};
 ghost use Rattle.slice_faults.specs.Held.{known_of, entry_rows, AreFree};
+ghost use Rattle.slice_faults.specs.Kept.{IsKept};
 
 use crate::known::Known;
 use crate::named::note_names;
@@ -21,6 +23,26 @@ use slice_meaning::{CheckKind, Fault, Found, Standing, Value};
 use slice_names::Scopes;
 use slice_syntax::{Constant, Word};
 use std::alloc::{AllocError, Global};
+
+/// Declares an enum with its enumerators, or answers its fault.
+pub fn enumeration<'a>(
+    alloc: Global,
+    known: &mut Known<'a>,
+    word: &'a Word,
+    entries: &'a List<(Word, Option<Constant>)>,
+) -> Result<Option<Fault>, AllocError>
+    requires plain { IsPlain word.now.name }
+    requires kept { IsKept (known_of known.old) }
+    ensures fault { IfOk result (λ fault. fault ≡ noted None (faults (known_of known.old) (items.Enum word.now entries.now))) }
+    ensures after { IfOk result (λ fault. fault ≡ None → known_of known.new ≡ after (known_of known.old) (items.Enum word.now entries.now)) }
+{
+    let mut found = Found::new();
+    let rows = note_enum(alloc, known, word, entries, &mut found)?;
+    if found.first.is_none() {
+        return Err(AllocError);
+    }
+    Ok(found.first)
+}
 
 /// Notes what is wrong with an enum, and answers the entries of its row.
 #[tactic(auto, using(crate::proofs::Noting::joined))]

@@ -2,20 +2,43 @@
 
 ghost use Rattle.std.specs.Prelude.{◌≡◌, None, IfOk};
 ghost use Rattle.slice_syntax.specs.declared.tree.Item.TheVariants as items;
+ghost use Rattle.slice_syntax.specs.Places.{IsPlain};
 ghost use Rattle.slice_meaning.specs.Uses.{exception_of};
 ghost use Rattle.slice_meaning.specs.Faults.{faults, exception_base_faults};
-ghost use Rattle.slice_meaning.specs.After.{base_at};
+ghost use Rattle.slice_meaning.specs.After.{after, base_at};
 ghost use Rattle.slice_meaning.specs.Checking.{noted};
 ghost use Rattle.slice_faults.specs.Held.{known_of};
+ghost use Rattle.slice_faults.specs.Kept.{IsKept};
 
 use crate::fields::note_fields;
 use crate::known::Known;
 use crate::names::note_new_name;
 use crate::note::note_row;
 use crate::uses::exception_of;
+use ice_types::List;
 use slice_meaning::{Fault, Found};
 use slice_syntax::{Field, Path, Word};
 use std::alloc::{AllocError, Global};
+
+/// Declares an exception, or answers its fault.
+pub fn exception<'a>(
+    alloc: Global,
+    known: &mut Known<'a>,
+    word: &'a Word,
+    base: &Option<Path>,
+    fields: &List<Field>,
+) -> Result<Option<Fault>, AllocError>
+    requires plain { IsPlain word.now.name }
+    requires kept { IsKept (known_of known.old) }
+    ensures fault { IfOk result (λ fault. fault ≡ noted None (faults (known_of known.old) (items.Exception word.now base.now fields.now))) }
+    ensures after { IfOk result (λ fault. fault ≡ None → known_of known.new ≡ after (known_of known.old) (items.Exception word.now base.now fields.now)) }
+{
+    let fault = exception_fault(alloc, known, word, base, fields.as_slice())?;
+    if fault.is_none() {
+        return Err(AllocError);
+    }
+    Ok(fault)
+}
 
 /// The fault of an exception.
 #[tactic(auto, using(crate::proofs::Noting::joined))]

@@ -2,21 +2,46 @@
 
 ghost use Rattle.std.specs.Prelude.{ℕ, ◌≡◌, ◌-◌, None, IfOk};
 ghost use Rattle.slice_syntax.specs.declared.tree.Item.TheVariants as items;
+ghost use Rattle.slice_syntax.specs.Places.{Each, IsPlain};
 ghost use Rattle.ice_types.specs.declared.schema.TheConstants.{MOST_DEPTH};
 ghost use Rattle.ice_types.specs.Measures.{measure, measure_members};
 ghost use Rattle.slice_meaning.specs.Members.{members_of};
 ghost use Rattle.slice_meaning.specs.Faults.{faults, struct_limits};
+ghost use Rattle.slice_meaning.specs.After.{after};
 ghost use Rattle.slice_meaning.specs.Checking.{noted};
 ghost use Rattle.slice_faults.specs.Held.{known_of, where_row};
+ghost use Rattle.slice_faults.specs.Kept.{IsKept};
 
 use crate::fields::note_fields;
 use crate::known::Known;
+use crate::members::members_of;
 use crate::names::note_new_name;
 use crate::note::{note_none, note_row};
 use ice_types::{List, MOST_DEPTH, MOST_SMALLEST, Member};
 use slice_meaning::{CheckKind, Fault, Found};
 use slice_syntax::{Field, Word};
 use std::alloc::{AllocError, Global};
+
+/// Declares a struct, or answers its fault.
+pub fn structure<'a>(
+    alloc: Global,
+    known: &mut Known<'a>,
+    word: &'a Word,
+    fields: &List<Field>,
+) -> Result<Option<Fault>, AllocError>
+    requires plain { IsPlain word.now.name }
+    requires no_tags { Each (λ f. f.tag ≡ None) fields.now }
+    requires kept { IsKept (known_of known.old) }
+    ensures fault { IfOk result (λ fault. fault ≡ noted None (faults (known_of known.old) (items.Struct word.now fields.now))) }
+    ensures after { IfOk result (λ fault. fault ≡ None → known_of known.new ≡ after (known_of known.old) (items.Struct word.now fields.now)) }
+{
+    let members = members_of(alloc, known, fields.as_slice())?;
+    let fault = struct_fault(alloc, known, word, fields, members.as_slice())?;
+    if fault.is_none() {
+        return Err(AllocError);
+    }
+    Ok(fault)
+}
 
 /// The fault of a struct of these members.
 #[tactic(auto, using(crate::proofs::Noting::joined))]
