@@ -22,10 +22,10 @@ use Rattle.slice_faults.proofs.Free.{unfaulted, both_none}
 use Rattle.slice_faults.proofs.Reopened.{IsOpen, class_open}
 
 -- the name, then the base and the members, once the class has its name
-pub class_noted : (k m : Known) (word : Word) (base : Option Path) (fields slice : List Field) (none name bases all : Option Fault) → none ≡ None → slice ≡ fields → m ≡ with_class_name k word
-    → name ≡ noted none (reopened_name k (is_class k true) word) → bases ≡ noted name (class_base_faults m base) → all ≡ noted bases (fields_faults m slice)
+pub class_noted : (k m : Known) (word : Word) (base : Option Path) (fields slice : List Field) (before name bases all : Option Fault) → before ≡ None → slice ≡ fields → m ≡ with_class_name k word
+    → name ≡ noted before (reopened_name k (is_class k true) word) → bases ≡ noted name (class_base_faults m base) → all ≡ noted bases (fields_faults m slice)
     → all ≡ noted None (faults k (items.Class word base (Some fields)))
-class_noted k m word base fields slice none name bases all start whole same a b c =
+class_noted k m word base fields slice before name bases all start whole same a b c =
     joined None name all (reopened_name k (is_class k true) word) (class_base_faults (with_class_name k word) base ++ fields_faults (with_class_name k word) fields)
     (a ∙ ap (λ o. noted o (reopened_name k (is_class k true) word)) start)
     (subst (λ (m : Known). all ≡ noted name (class_base_faults m base ++ fields_faults m fields)) same
