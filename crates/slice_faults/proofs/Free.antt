@@ -36,11 +36,11 @@ test_off false place row h = refl
 
 -- ---- names
 
-parts_off : (a b : Bool) → a || b ≡ false → (a ≡ false) × (b ≡ false)
+pub parts_off : (a b : Bool) → a || b ≡ false → (a ≡ false) × (b ≡ false)
 parts_off true b h = absurd cc
 parts_off false b h = (refl, h)
 
-not_called : (d : Declared) (w : Name) (p : Scope) → same_scope d.scope p && str_eq_ignore_ascii_case d.name w ≡ false → is_called p w d ≡ false
+pub not_called : (d : Declared) (w : Name) (p : Scope) → same_scope d.scope p && str_eq_ignore_ascii_case d.name w ≡ false → is_called p w d ≡ false
 not_called d w p h = by_scope (same_scope d.scope p) h
   where
     by_name : (b : Bool) → bytes_eq d.name w ≡ b → str_eq_ignore_ascii_case d.name w ≡ false → b ≡ false

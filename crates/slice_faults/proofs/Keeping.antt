@@ -11,7 +11,7 @@ use Rattle.slice_syntax.specs.declared.tree.Field.{Field}
 use Rattle.slice_syntax.specs.declared.tree.OpTree.{OpTree}
 use Rattle.slice_syntax.specs.declared.tree.Item.{Item}
 use Rattle.slice_syntax.specs.declared.tree.Item.TheVariants as items
-use Rattle.slice_syntax.specs.Places.{Each, Where, IsPlain, HasPlainNames}
+use Rattle.slice_syntax.specs.Places.{Each, Where, IsPlain, HasPlainNames, IsRegular}
 use Rattle.ice_types.specs.declared.kind.RowRef.{RowRef}
 use Rattle.ice_types.specs.declared.kind.RowRef.TheVariants as rows
 use Rattle.ice_types.specs.declared.kind.TypeRef.TheVariants as kinds
@@ -28,8 +28,11 @@ use Rattle.slice_meaning.specs.Names.{Name, Scope, Declared, same_scope, is_call
 use Rattle.slice_meaning.specs.Known.{Known, nothing_known, standing_here, new_declared, with_name, id_here, with_new_class, with_class_name, with_new_interface, with_interface_name}
 use Rattle.slice_meaning.specs.Values.{typed}
 use Rattle.slice_meaning.specs.After.{after, with_tables, entered, kind_of, with_constant, enumerator, with_entries, enum_decl, struct_decl, seq_decl, dict_decl, exception_decl, with_enum_name, with_class_body, with_interface_body}
+use Rattle.slice_meaning.specs.Faults.{faults}
 use Rattle.slice_meaning.specs.Meaning.{next_file}
-use Rattle.slice_faults.specs.Kept.{IsDeclared, IsInside, HasPlainName, IsKept}
+use Rattle.slice_meaning.proofs.TypeIds.{ids_apart}
+use Rattle.slice_meaning.proofs.KnownRows.{rows_at_start, rows_next_file, rows_after}
+use Rattle.slice_faults.specs.Kept.{IsDeclared, IsInside, HasPlainName, HasNames, IsKept}
 
 -- ---- names
 
@@ -166,7 +169,7 @@ interface_ids t place bases ops id (rows.Interface at) h =
 -- ---- one declaration more
 
 -- a name alone
-named : (k : Known) (word : Word) (s : Standing) → IsPlain word.name → IsKept k → IsKept (with_name k word s)
+named : (k : Known) (word : Word) (s : Standing) → IsPlain word.name → HasNames k → HasNames (with_name k word s)
 named k word s plain kept =
     let d = new_declared k word s in record {
       ids = λ id row h. inr (kept.ids id row h);
@@ -177,7 +180,7 @@ named k word s plain kept =
     }
 
 -- a name and its row
-with_row : (k : Known) (word : Word) (s : Standing) (t : Tables) → HasMore k.tables t (id_here k word) → IsPlain word.name → IsKept k → IsKept (with_tables (with_name k word s) t)
+with_row : (k : Known) (word : Word) (s : Standing) (t : Tables) → HasMore k.tables t (id_here k word) → IsPlain word.name → HasNames k → HasNames (with_tables (with_name k word s) t)
 with_row k word s t wider plain kept =
     let name = named k word s plain kept in record {
       ids = λ id row h. by_row id row (wider id row h) (kept.ids id row);
@@ -193,7 +196,7 @@ with_row k word s t wider plain kept =
     by_row id row (inr new) held = inl new
 
 -- rows that are changed, with their ids
-same_ids : (k : Known) (t : Tables) → ((id : List ℕ) (row : RowRef) → HasRowId t id row → HasRowId k.tables id row) → IsKept k → IsKept (with_tables k t)
+same_ids : (k : Known) (t : Tables) → ((id : List ℕ) (row : RowRef) → HasRowId t id row → HasRowId k.tables id row) → HasNames k → HasNames (with_tables k t)
 same_ids k t same kept = record {
   ids = λ id row h. kept.ids id row (same id row h);
   names = kept.names;
@@ -203,7 +206,7 @@ same_ids k t same kept = record {
 }
 
 -- an inner scope
-opened : (k : Known) (word : Word) → IsPlain word.name → is_some (declared_in k.declared word.name k.scope) ≡ true → IsKept k → IsKept (record k { scope = word.name ∷ k.scope })
+opened : (k : Known) (word : Word) → IsPlain word.name → is_some (declared_in k.declared word.name k.scope) ≡ true → HasNames k → HasNames (record k { scope = word.name ∷ k.scope })
 opened k word plain found kept = record {
   ids = kept.ids;
   names = kept.names;
@@ -212,15 +215,15 @@ opened k word plain found kept = record {
   innermost = (found, kept.innermost);
 }
 
-after_enter : (k : Known) (word : Word) → IsPlain word.name → IsKept k → IsKept (after k (items.Enter word))
+after_enter : (k : Known) (word : Word) → IsPlain word.name → HasNames k → HasNames (after k (items.Enter word))
 after_enter k word plain kept = by_name (declared_in k.declared word.name k.scope) refl
   where
     by_name : (o : Option Declared) → declared_in k.declared word.name k.scope ≡ o
-        → IsKept (record (elim (option_map (λ d. d.standing) o) as (λ _. Known) [ None ↦ with_name k word standings.Module | Some s ↦ k ]) { scope = word.name ∷ k.scope })
+        → HasNames (record (elim (option_map (λ d. d.standing) o) as (λ _. Known) [ None ↦ with_name k word standings.Module | Some s ↦ k ]) { scope = word.name ∷ k.scope })
     by_name None is = opened (with_name k word standings.Module) word plain (there (new_declared k word standings.Module) k.declared) (named k word standings.Module plain kept)
     by_name (Some d) is = opened k word plain (ap is_some is) kept
 
-after_exit : (k : Known) → IsKept k → IsKept (after k items.Exit)
+after_exit : (k : Known) → HasNames k → HasNames (after k items.Exit)
 after_exit k kept = record { ids = kept.ids; names = kept.names; scope = outer k.scope kept.scope; inside = kept.inside; innermost = around k.scope kept.innermost }
   where
     outer : (s : Scope) → Each IsPlain s → Each IsPlain (drop 1 s)
@@ -231,7 +234,7 @@ after_exit k kept = record { ids = kept.ids; names = kept.names; scope = outer k
     around [] h = tt
     around (name ∷ s) h = h.1
 
-after_constant : (k : Known) (word : Word) (r : Result Value CheckKind) → IsPlain word.name → IsKept k → IsKept (elim r as (λ _. Known) [ Err row ↦ k | Ok v ↦ with_name k word (standings.Value v) ])
+after_constant : (k : Known) (word : Word) (r : Result Value CheckKind) → IsPlain word.name → HasNames k → HasNames (elim r as (λ _. Known) [ Err row ↦ k | Ok v ↦ with_name k word (standings.Value v) ])
 after_constant k word (Err row) plain kept = kept
 after_constant k word (Ok v) plain kept = named k word (standings.Value v) plain kept
 
@@ -239,8 +242,8 @@ after_constant k word (Ok v) plain kept = named k word (standings.Value v) plain
 abbrev Tree : Type 0
 Tree = Word × Option Constant
 
-after_entries : (k : Known) (at : ℕ) (inner : Scope) (es : List Tree) → Each (λ e. IsPlain e.0.name × Where (λ c. Unit {0}) e.1) es → Each IsPlain inner → IsInside k.declared inner → IsKept k
-    → IsKept (record k { declared = with_entries k.file at inner es k.declared })
+after_entries : (k : Known) (at : ℕ) (inner : Scope) (es : List Tree) → Each (λ e. IsPlain e.0.name × Where (λ c. Unit {0}) e.1) es → Each IsPlain inner → IsInside k.declared inner → HasNames k
+    → HasNames (record k { declared = with_entries k.file at inner es k.declared })
 after_entries k at inner [] plain scope around kept = kept
 after_entries k at inner (e ∷ es) plain scope around kept =
     let d = enumerator k.file at inner e.0 in
@@ -252,53 +255,53 @@ after_entries k at inner (e ∷ es) plain scope around kept =
       innermost = inside_more d k.declared k.scope kept.innermost;
     }
 
-pub class_named : (k : Known) (word : Word) → IsPlain word.name → IsKept k → IsKept (with_class_name k word)
+pub class_named : (k : Known) (word : Word) → IsPlain word.name → HasNames k → HasNames (with_class_name k word)
 class_named k word plain kept = by_name (standing_here k word)
   where
-    by_name : (o : Option Standing) → IsKept (elim o as (λ _. Known) [ None ↦ with_new_class k word | Some s ↦ k ])
+    by_name : (o : Option Standing) → HasNames (elim o as (λ _. Known) [ None ↦ with_new_class k word | Some s ↦ k ])
     by_name None = with_row k word (standings.Type (kinds.Class (Some (length k.tables.classes)))) (with_class k.tables (id_here k word)) (more_classes k.tables (id_here k word)) plain kept
     by_name (Some s) = kept
 
-pub interface_named : (k : Known) (word : Word) → IsPlain word.name → IsKept k → IsKept (with_interface_name k word)
+pub interface_named : (k : Known) (word : Word) → IsPlain word.name → HasNames k → HasNames (with_interface_name k word)
 interface_named k word plain kept = by_name (standing_here k word)
   where
-    by_name : (o : Option Standing) → IsKept (elim o as (λ _. Known) [ None ↦ with_new_interface k word | Some s ↦ k ])
+    by_name : (o : Option Standing) → HasNames (elim o as (λ _. Known) [ None ↦ with_new_interface k word | Some s ↦ k ])
     by_name None = with_row k word (standings.Interface (length k.tables.interfaces)) (with_interface k.tables (id_here k word)) (more_interfaces k.tables (id_here k word)) plain kept
     by_name (Some s) = kept
 
-class_body : (k : Known) (word : Word) (base : Option Path) (fields : Option (List Field)) → IsKept k → IsKept (with_class_body k word base fields)
+class_body : (k : Known) (word : Word) (base : Option Path) (fields : Option (List Field)) → HasNames k → HasNames (with_class_body k word base fields)
 class_body k word base None kept = kept
 class_body k word base (Some fields) kept = same_ids k (define_class k.tables _ _ _) (class_ids k.tables _ _ _) kept
 
-interface_body : (k : Known) (word : Word) (bases : List Path) (ops : Option (List OpTree)) → IsKept k → IsKept (with_interface_body k word bases ops)
+interface_body : (k : Known) (word : Word) (bases : List Path) (ops : Option (List OpTree)) → HasNames k → HasNames (with_interface_body k word bases ops)
 interface_body k word bases None kept = kept
 interface_body k word bases (Some ops) kept = same_ids k (define_interface k.tables _ _ _) (interface_ids k.tables _ _ _) kept
 
 -- a declaration more
-pub kept_after : (k : Known) (item : Item) → HasPlainNames item → IsKept k → IsKept (after k item)
-kept_after k (items.Enter word) plain kept = after_enter k word plain kept
-kept_after k items.Exit plain kept = after_exit k kept
-kept_after k (items.Const kind word value) plain kept = after_constant k word (typed k (kind_of k kind) value.value) plain.0 kept
-kept_after k (items.Enum word entries) plain kept =
+names_after : (k : Known) (item : Item) → HasPlainNames item → HasNames k → HasNames (after k item)
+names_after k (items.Enter word) plain kept = after_enter k word plain kept
+names_after k items.Exit plain kept = after_exit k kept
+names_after k (items.Const kind word value) plain kept = after_constant k word (typed k (kind_of k kind) value.value) plain.0 kept
+names_after k (items.Enum word entries) plain kept =
     let s = standings.Type (kinds.Enum (length k.tables.enums)) in
     let d = new_declared k word s in
     after_entries (with_enum_name k word entries) (length k.tables.enums) (word.name ∷ k.scope) entries plain.1 (plain.0, kept.scope)
     (there d k.declared, inside_more d k.declared k.scope kept.innermost)
     (with_row k word s (with_enum k.tables (enum_decl k word entries)) (more_enums k.tables (enum_decl k word entries)) plain.0 kept)
-kept_after k (items.Struct word fields) plain kept =
+names_after k (items.Struct word fields) plain kept =
     with_row k word (standings.Type (kinds.Struct (length k.tables.structs))) (with_struct k.tables (struct_decl k word fields)) (more_structs k.tables (struct_decl k word fields)) plain.0 kept
-kept_after k (items.Seq word element) plain kept =
+names_after k (items.Seq word element) plain kept =
     with_row k word (standings.Type (kinds.Seq (length k.tables.seqs))) (with_seq k.tables (seq_decl k word element)) (more_seqs k.tables (seq_decl k word element)) plain.0 kept
-kept_after k (items.Dict word key value) plain kept =
+names_after k (items.Dict word key value) plain kept =
     with_row k word (standings.Type (kinds.Dict (length k.tables.dicts))) (with_dict k.tables (dict_decl k word key value)) (more_dicts k.tables (dict_decl k word key value)) plain.0 kept
-kept_after k (items.Class word base fields) plain kept = class_body (with_class_name k word) word base fields (class_named k word plain.0 kept)
-kept_after k (items.Exception word base fields) plain kept =
+names_after k (items.Class word base fields) plain kept = class_body (with_class_name k word) word base fields (class_named k word plain.0 kept)
+names_after k (items.Exception word base fields) plain kept =
     with_row k word (standings.Exception (length k.tables.exceptions)) (with_exception k.tables (exception_decl k word base fields)) (more_exceptions k.tables (exception_decl k word base fields)) plain.0 kept
-kept_after k (items.Interface word bases ops) plain kept = interface_body (with_interface_name k word) word bases ops (interface_named k word plain.0 kept)
+names_after k (items.Interface word bases ops) plain kept = interface_body (with_interface_name k word) word bases ops (interface_named k word plain.0 kept)
 
 -- before the first file, and before the next one
-pub nothing_kept : IsKept nothing_known
-nothing_kept = record { ids = none; names = tt; scope = tt; inside = tt; innermost = tt }
+no_names : HasNames nothing_known
+no_names = record { ids = none; names = tt; scope = tt; inside = tt; innermost = tt }
   where
     none : (id : List ℕ) (row : RowRef) → HasRowId no_types id row → ⊥
     none id (rows.Seq at) h = cc
@@ -309,30 +312,36 @@ nothing_kept = record { ids = none; names = tt; scope = tt; inside = tt; innermo
     none id (rows.Exception at) h = cc
     none id (rows.Interface at) h = cc
 
+names_next : (k : Known) → HasNames k → HasNames (next_file k)
+names_next k kept = record { ids = kept.ids; names = kept.names; scope = tt; inside = kept.inside; innermost = tt }
+
+pub nothing_kept : IsKept nothing_known
+nothing_kept = record { names = no_names; rows = rows_at_start }
+
 pub kept_next : (k : Known) → IsKept k → IsKept (next_file k)
-kept_next k kept = record { ids = kept.ids; names = kept.names; scope = tt; inside = kept.inside; innermost = tt }
+kept_next k kept = record { names = names_next k kept.names; rows = rows_next_file k kept.rows }
+
+pub kept_after : (k : Known) (item : Item) → IsRegular item → IsKept k → faults k item ≡ [] → IsKept (after k item)
+kept_after k item regular kept none = record { names = names_after k item regular.0 kept.names; rows = rows_after k item kept.rows regular.1 none }
 
 -- ---- what it gives
 
 -- the id of a new name is none of those that are declared
-abbrev AreApart : Type 0
-AreApart = (s t : Scope) (n m : Name) → Each IsPlain (n ∷ s) → Each IsPlain (m ∷ t) → type_id s n ≡ type_id t m → (s ≡ t) × (n ≡ m)
-
-not_declared : AreApart → (ds : List Declared) (scope : Scope) (name : Name) → Each HasPlainName ds → Each IsPlain (name ∷ scope) → declared_in ds name scope ≡ None → IsDeclared ds (type_id scope name) → ⊥
-not_declared apart [] scope name plain own new h = h
-not_declared apart (d ∷ ds) scope name plain own new h = by_test (is_called scope name d) refl new h (not_declared apart ds scope name plain.1 own)
+not_declared : (ds : List Declared) (scope : Scope) (name : Name) → Each HasPlainName ds → Each IsPlain (name ∷ scope) → declared_in ds name scope ≡ None → IsDeclared ds (type_id scope name) → ⊥
+not_declared [] scope name plain own new h = h
+not_declared (d ∷ ds) scope name plain own new h = by_test (is_called scope name d) refl new h (not_declared ds scope name plain.1 own)
   where
     by_test : (b : Bool) → is_called scope name d ≡ b → cond b (Some d) (declared_in ds name scope) ≡ None → (type_id scope name ≡ type_id d.scope d.name) ⊎ IsDeclared ds (type_id scope name)
         → (declared_in ds name scope ≡ None → IsDeclared ds (type_id scope name) → ⊥) → ⊥
     by_test true is new h later = cc
     by_test false is new (inl e) later =
-        let same = apart scope d.scope name d.name own plain.0 e in
+        let same = ids_apart scope d.scope name d.name own plain.0 e in
         let called : is_called scope name d ≡ true = ap (λ (s : Scope). is_called s name d) same.0 ∙ (ap (λ (n : Name). is_called d.scope n d) same.1 ∙ itself d) in
         let both : true ≡ false = sym called ∙ is in cc
     by_test false is new (inr old) later = later new old
 
-pub is_new_id : AreApart → (k : Known) (word : Word) → IsPlain word.name → IsKept k → declared_in k.declared word.name k.scope ≡ None → (row : RowRef) → HasRowId k.tables (id_here k word) row → ⊥
-is_new_id apart k word plain kept new row h = not_declared apart k.declared k.scope word.name kept.names (plain, kept.scope) new (kept.ids (id_here k word) row h)
+pub is_new_id : (k : Known) (word : Word) → IsPlain word.name → HasNames k → declared_in k.declared word.name k.scope ≡ None → (row : RowRef) → HasRowId k.tables (id_here k word) row → ⊥
+is_new_id k word plain kept new row h = not_declared k.declared k.scope word.name kept.names (plain, kept.scope) new (kept.ids (id_here k word) row h)
 
 -- nothing stands inside what is not declared
 pub none_inside : (ds es : List Declared) (name inner : Name) (scope : Scope) → Each (λ e. IsInside ds e.scope) es → declared_in ds inner scope ≡ None → declared_in es name (inner ∷ scope) ≡ None

@@ -1,13 +1,16 @@
 -- Declarations, one after the other.
-use Rattle.std.proofs.Common.{◌≡◌, ℕ, ◌+◌, ◌<◌, ◌≤◌, false, List, [], ◌∷◌, length, drop, Option, Some, None, refl, sym, ap, ◌∙◌, subst}
+use Rattle.std.proofs.Common.{◌≡◌, ℕ, ◌+◌, ◌<◌, ◌≤◌, false, List, [], ◌∷◌, length, drop, Option, Some, None, Result, refl, sym, ap, ◌∙◌, subst}
 use Rattle.std.specs.Option.{option_or, is_some}
 use Rattle.slice_syntax.specs.declared.tree.Item.{Item}
+use Rattle.slice_syntax.specs.declared.tree.File.{File}
+use Rattle.ice_types.specs.Tables.{Tables}
 use Rattle.slice_syntax.specs.Places.{Each, IsRegular}
 use Rattle.slice_meaning.specs.declared.fault.Fault.{Fault}
 use Rattle.slice_meaning.specs.Known.{Known}
 use Rattle.slice_meaning.specs.Faults.{faults}
 use Rattle.slice_meaning.specs.After.{after, after_all}
-use Rattle.slice_meaning.specs.Checking.{noted, broken}
+use Rattle.slice_meaning.specs.Meaning.{next_file}
+use Rattle.slice_meaning.specs.Checking.{noted, broken, or_later, checked_from}
 use Rattle.slice_faults.proofs.Noting.{drop_end}
 
 -- what holds of each holds of those behind some, and of the first of them
@@ -36,6 +39,14 @@ broken_end k items i all h so = sym (ap (broken k) (drop_end items i h)) ∙ so
 
 pub after_end : (k : Known) (items : List Item) (i : ℕ) (all : Known) → length items ≤ i → after_all k (drop i items) ≡ all → k ≡ all
 after_end k items i all h so = sym (ap (after_all k) (drop_end items i h)) ∙ so
+
+-- a file without a fault
+pub checked_next : (k now : Known) (files : List File) (i : ℕ) (file : File) (all : Result Tables (ℕ × Fault)) → drop i files ≡ file ∷ drop (i + 1) files
+    → broken k file.items ≡ None → now ≡ next_file (after_all k file.items) → checked_from k (drop i files) ≡ all → checked_from now (drop (i + 1) files) ≡ all
+checked_next k now files i file all at none is so =
+    let rest = drop (i + 1) files in
+    ap (λ (x : Known). checked_from x rest) is
+    ∙ (sym (ap (λ (o : Option Fault). or_later k.file o (checked_from (next_file (after_all k file.items)) rest)) none) ∙ (sym (ap (checked_from k) at) ∙ so))
 
 pub none_of : (o : Option Fault) → is_some o ≡ false → o ≡ None
 none_of None h = refl

@@ -11,7 +11,6 @@ ghost use Rattle.slice_meaning.specs.Clashes.{reopened_name, is_class};
 ghost use Rattle.slice_meaning.specs.Members.{members_of};
 ghost use Rattle.slice_meaning.specs.Faults.{faults, as_class_base, class_base_faults};
 ghost use Rattle.slice_meaning.specs.After.{after, base_at, class_at, with_class_body};
-ghost use Rattle.slice_meaning.specs.Rows.{KnowsRows};
 ghost use Rattle.slice_meaning.specs.Checking.{noted};
 ghost use Rattle.slice_faults.specs.Held.{known_of, where_row};
 ghost use Rattle.slice_faults.specs.Kept.{IsKept};
@@ -39,7 +38,6 @@ pub fn class<'a>(
 ) -> Result<Option<Fault>, AllocError>
     requires plain { IsPlain word.now.name }
     requires kept { IsKept (known_of known.old) }
-    requires rows { KnowsRows (known_of known.old) }
     ensures fault { IfOk result (λ fault. fault ≡ noted None (faults (known_of known.old) (items.Class word.now base.now fields.now))) }
     ensures after { IfOk result (λ fault. fault ≡ None → known_of known.new ≡ after (known_of known.old) (items.Class word.now base.now fields.now)) }
 {
@@ -77,7 +75,6 @@ fn defined<'a>(
 ) -> Result<Option<Fault>, AllocError>
     requires plain { IsPlain word.now.name }
     requires kept { IsKept (known_of known.old) }
-    requires rows { KnowsRows (known_of known.old) }
     ensures fault { IfOk result (λ fault. fault ≡ noted None (faults (known_of known.old) (items.Class word.now base.now (Some fields.now)))) }
     ensures after { IfOk result (λ fault. fault ≡ None → known_of known.new ≡ after (known_of known.old) (items.Class word.now base.now (Some fields.now))) }
 {

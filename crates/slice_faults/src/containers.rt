@@ -17,8 +17,8 @@ use crate::known::Known;
 use crate::names::{declare, note_new_name};
 use crate::room::has_room;
 use crate::uses::{kind_of, type_of, type_place};
-use ice_types::{MOST_DEPTH, SeqDecl, TypeRef};
-use slice_meaning::{CheckKind, Fault, Found, Standing, sound_fits};
+use ice_types::{DictDecl, MOST_DEPTH, SeqDecl, TypeRef};
+use slice_meaning::{CheckKind, Fault, Found, Standing};
 use slice_syntax::{TypeWord, Word};
 use std::alloc::{AllocError, Global};
 
@@ -36,7 +36,6 @@ pub fn sequence<'a>(
 {
     let fault = sequence_fault(alloc, known, word, element)?;
     if fault.is_none() {
-        sound_fits();
         has_room(known.schema.seqs().len())?;
         let id = new_id(alloc, known, word)?;
         let element = kind_of(known, element);
@@ -82,7 +81,12 @@ pub fn dictionary<'a>(
 {
     let fault = dictionary_fault(alloc, known, word, key, value)?;
     if fault.is_none() {
-        return Err(AllocError);
+        has_room(known.schema.dicts().len())?;
+        let id = new_id(alloc, known, word)?;
+        let key = kind_of(known, key);
+        let value = kind_of(known, value);
+        let at = known.schema.add_dict(DictDecl { id, key, value })?;
+        declare(alloc, known, word, Standing::Type(TypeRef::Dict(at)))?;
     }
     Ok(fault)
 }

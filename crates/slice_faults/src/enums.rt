@@ -12,13 +12,15 @@ ghost use Rattle.ice_types.specs.declared.schema.TheConstants.{MOST_NUMBER};
 ghost use Rattle.slice_faults.specs.Held.{known_of, entry_rows, AreFree};
 ghost use Rattle.slice_faults.specs.Kept.{IsKept};
 
+use crate::ids::new_id;
 use crate::known::Known;
 use crate::named::note_names;
-use crate::names::note_new_name;
+use crate::names::{declare, note_new_name};
 use crate::note::note_none;
 use crate::number_set::NumberSet;
+use crate::room::has_room;
 use crate::values::number_of;
-use ice_types::{Entry, List, MOST_NUMBER, Name};
+use ice_types::{Entry, EnumDecl, List, MOST_NUMBER, Name, TypeRef};
 use slice_meaning::{CheckKind, Fault, Found, Standing, Value};
 use slice_names::Scopes;
 use slice_syntax::{Constant, Word};
@@ -38,10 +40,15 @@ pub fn enumeration<'a>(
 {
     let mut found = Found::new();
     let rows = note_enum(alloc, known, word, entries, &mut found)?;
-    if found.first.is_none() {
-        return Err(AllocError);
+    let fault = found.first;
+    if fault.is_none() {
+        has_room(known.schema.enums().len())?;
+        let id = new_id(alloc, known, word)?;
+        let at = known.schema.add_enum(EnumDecl { id, entries: rows })?;
+        declare(alloc, known, word, Standing::Type(TypeRef::Enum(at)))?;
+        declare_inside(alloc, known, at, entries.as_slice())?;
     }
-    Ok(found.first)
+    Ok(fault)
 }
 
 /// Notes what is wrong with an enum, and answers the entries of its row.
@@ -137,6 +144,21 @@ fn add_entry(
         rows.push(Entry { name, number })?;
     }
     Ok(())
+}
+
+/// Declares the enumerators of the enum at a place inside the newest declaration, which is that of the enum.
+fn declare_inside<'a>(
+    alloc: Global,
+    known: &mut Known<'a>,
+    at: u32,
+    entries: &'a [(Word, Option<Constant>)],
+) -> Result<(), AllocError>
+    requires { AreFree known.old.file at (scope_at known.old.names (length known.old.names)) entries.now known.old.names }
+    ensures { OnOk result (known_of known.new ≡ record (known_of known.old) { declared = with_entries known.old.file at (scope_at known.old.names (length known.old.names)) entries.now known.old.names }) }
+{
+    let inside = known.names.len();
+    let file = known.file;
+    declare_entries(alloc, &mut known.names, inside, file, at, entries)
 }
 
 /// Declares the enumerators of the enum at a place, in the scope inside it, which is free of their names.

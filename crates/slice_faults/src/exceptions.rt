@@ -11,12 +11,15 @@ ghost use Rattle.slice_faults.specs.Held.{known_of};
 ghost use Rattle.slice_faults.specs.Kept.{IsKept};
 
 use crate::fields::note_fields;
+use crate::ids::new_id;
 use crate::known::Known;
-use crate::names::note_new_name;
+use crate::members::members_of;
+use crate::names::{declare, note_new_name};
 use crate::note::note_row;
+use crate::room::has_room;
 use crate::uses::exception_of;
-use ice_types::List;
-use slice_meaning::{Fault, Found};
+use ice_types::{ExceptionDecl, List};
+use slice_meaning::{Fault, Found, Standing};
 use slice_syntax::{Field, Path, Word};
 use std::alloc::{AllocError, Global};
 
@@ -33,9 +36,16 @@ pub fn exception<'a>(
     ensures fault { IfOk result (λ fault. fault ≡ noted None (faults (known_of known.old) (items.Exception word.now base.now fields.now))) }
     ensures after { IfOk result (λ fault. fault ≡ None → known_of known.new ≡ after (known_of known.old) (items.Exception word.now base.now fields.now)) }
 {
-    let fault = exception_fault(alloc, known, word, base, fields.as_slice())?;
+    let fault = exception_fault(alloc, known, word, base, fields)?;
     if fault.is_none() {
-        return Err(AllocError);
+        has_room(known.schema.exceptions().len())?;
+        let id = new_id(alloc, known, word)?;
+        let base = base_at(known, base);
+        let members = members_of(alloc, known, fields.as_slice())?;
+        let at = known
+            .schema
+            .add_exception(ExceptionDecl { id, base, members })?;
+        declare(alloc, known, word, Standing::Exception(at))?;
     }
     Ok(fault)
 }
@@ -47,14 +57,14 @@ fn exception_fault(
     known: &Known,
     word: &Word,
     base: &Option<Path>,
-    fields: &[Field],
+    fields: &List<Field>,
 ) -> Result<Option<Fault>, AllocError>
     ensures { IfOk result (λ fault. fault ≡ noted None (faults (known_of known.now) (items.Exception word.now base.now fields.now))) }
 {
     let mut found = Found::new();
     note_new_name(alloc, known, word, &mut found)?;
     note_base(known, base, &mut found);
-    note_fields(alloc, known, fields, &mut found)?;
+    note_fields(alloc, known, fields.as_slice(), &mut found)?;
     Ok(found.first)
 }
 

@@ -11,7 +11,6 @@ ghost use Rattle.slice_faults.specs.Kept.{IsKept};
 
 use crate::known::Known;
 use ice_types::Name;
-use slice_meaning::ids_apart;
 use slice_syntax::Word;
 use std::alloc::{AllocError, Global};
 
@@ -24,7 +23,6 @@ pub(crate) fn new_id(alloc: Global, known: &Known, word: &Word) -> Result<Name, 
     ensures type_id { IfOk result (λ id. IsTypeId id) }
     ensures new_id { IfOk result (λ id. IsNewId known.now.schema id) }
 {
-    ids_apart();
     let mut names = scope_names(alloc, known)?;
     let mut id = String::new(alloc);
     while let Some(name) = names.pop() {

@@ -13,12 +13,14 @@ ghost use Rattle.slice_faults.specs.Held.{known_of, where_row};
 ghost use Rattle.slice_faults.specs.Kept.{IsKept};
 
 use crate::fields::note_fields;
+use crate::ids::new_id;
 use crate::known::Known;
 use crate::members::members_of;
-use crate::names::note_new_name;
+use crate::names::{declare, note_new_name};
 use crate::note::{note_none, note_row};
-use ice_types::{List, MOST_DEPTH, MOST_SMALLEST, Member};
-use slice_meaning::{CheckKind, Fault, Found};
+use crate::room::has_room;
+use ice_types::{List, MOST_DEPTH, MOST_SMALLEST, Member, StructDecl, TypeRef};
+use slice_meaning::{CheckKind, Fault, Found, Standing};
 use slice_syntax::{Field, Word};
 use std::alloc::{AllocError, Global};
 
@@ -38,7 +40,10 @@ pub fn structure<'a>(
     let members = members_of(alloc, known, fields.as_slice())?;
     let fault = struct_fault(alloc, known, word, fields, members.as_slice())?;
     if fault.is_none() {
-        return Err(AllocError);
+        has_room(known.schema.structs().len())?;
+        let id = new_id(alloc, known, word)?;
+        let at = known.schema.add_struct(StructDecl { id, members })?;
+        declare(alloc, known, word, Standing::Type(TypeRef::Struct(at)))?;
     }
     Ok(fault)
 }

@@ -26,4 +26,4 @@ returns-clause-type_id c = let k = known_of c.args.known.now in begins c.in_ok-i
 pub returns-clause-new_id : goal.returns-clause-new_id
 returns-clause-new_id c =
     let k = known_of c.args.known.now in
-    λ row h. is_new_id c.ids_apart.ensures k c.args.word.now c.requires.plain c.requires.kept c.requires.new row (subst (λ (id : List ℕ). HasRowId k.tables id row) (returns-clause-is c) h)
+    λ row h. is_new_id k c.args.word.now c.requires.plain c.requires.kept.names c.requires.new row (subst (λ (id : List ℕ). HasRowId k.tables id row) (returns-clause-is c) h)
