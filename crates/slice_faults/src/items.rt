@@ -13,6 +13,7 @@ use crate::constants::constant;
 use crate::containers::{dictionary, sequence};
 use crate::enums::enumeration;
 use crate::exceptions::exception;
+use crate::interfaces::interface;
 use crate::known::Known;
 use crate::modules::{enter, leave};
 use crate::structs::structure;
@@ -65,6 +66,6 @@ fn declare_item<'a>(
         Item::Dict { word, key, value } => dictionary(alloc, known, word, key, value),
         Item::Class { word, base, fields } => class(alloc, known, word, base, fields),
         Item::Exception { word, base, fields } => exception(alloc, known, word, base, fields),
-        Item::Interface { .. } => Err(AllocError),
+        Item::Interface { word, bases, ops } => interface(alloc, known, word, bases, ops),
     }
 }
