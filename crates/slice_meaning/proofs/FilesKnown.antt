@@ -1,6 +1,6 @@
 -- Each declaration stands in one of the files.
-use Rattle.std.proofs.Common.{◌≡◌, ℕ, zero, suc, ◌<◌, ◌≤◌, ◌+◌, ◌⊎◌, Bool, true, false, List, [], ◌∷◌, ◌++◌, length, Option, Some, None, Result, Ok, Err, refl, sym, ap, subst, inl, inr, arith, length-append}
-use Rattle.std.specs.Prelude.{Contains, cond, filter, slice_index_or}
+use Rattle.std.proofs.Common.{◌≡◌, ℕ, zero, suc, ◌<◌, ◌≤◌, ◌+◌, Bool, true, false, List, [], ◌∷◌, length, Option, Some, None, Result, Ok, Err, ap, subst, inl, inr, arith, length-append}
+use Rattle.std.specs.Prelude.{cond, filter, slice_index_or}
 use Rattle.slice_syntax.specs.declared.tree.Word.{Word}
 use Rattle.slice_syntax.specs.declared.tree.Path.{Path}
 use Rattle.slice_syntax.specs.declared.tree.Constant.{Constant}
@@ -20,7 +20,7 @@ use Rattle.slice_meaning.specs.Known.{Known, nothing_known, with_name, with_new_
 use Rattle.slice_meaning.specs.Values.{typed}
 use Rattle.slice_meaning.specs.After.{after, after_all, kind_of, with_entries, with_enum_name, with_class_body, with_interface_body, enumerator}
 use Rattle.slice_meaning.specs.Meaning.{CheckBreaks, is_undefined, after_files, next_file}
-use Rattle.slice_meaning.proofs.Files.{file_after, file_after_all, file_class, file_interface}
+use Rattle.slice_meaning.proofs.Files.{file_after, file_after_all}
 
 -- each declaration stands in a file before this one
 abbrev Before : ℕ → List Declared → Type 0

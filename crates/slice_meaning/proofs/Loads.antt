@@ -1,14 +1,13 @@
 -- A file of a shelf has one meaning with all that it includes, or one first fault, and never both.
-use Rattle.std.proofs.Common.{◌≡◌, ℕ, ◌<◌, ◌⊎◌, List, [], ◌∷◌, length, Option, Some, None, refl, sym, ap, ◌∙◌, subst, inl, inr, arith}
-use Rattle.std.specs.Prelude.{slice_get, map}
+use Rattle.std.proofs.Common.{◌≡◌, ℕ, ◌<◌, ◌⊎◌, List, [], length, Some, refl, sym, ap, ◌∙◌, subst, inl, inr}
+use Rattle.std.specs.Prelude.{slice_get}
 use Rattle.std.proofs.lemmas.List.{length-map}
-use Rattle.slice_syntax.specs.declared.tree.File.{File}
 use Rattle.ice_types.specs.Tables.{Tables}
 use Rattle.slice_meaning.specs.declared.fault.Fault.{Fault}
 use Rattle.slice_meaning.specs.Names.{Name}
 use Rattle.slice_meaning.specs.Meaning.{Means, CheckBreaks}
 use Rattle.slice_meaning.specs.Printed.{LoadBreak, broken_at, row_name}
-use Rattle.slice_meaning.specs.Loading.{Shelf, Loaded, trees_of, Walk, WalkBreaks, whole, Loads, MeansNothing, LoadBreaks}
+use Rattle.slice_meaning.specs.Loading.{Shelf, Loaded, trees_of, Walk, whole, Loads, MeansNothing, LoadBreaks}
 use Rattle.slice_meaning.proofs.Files.{meaning_or_break, one_meaning as one_of_files, one_break as one_of_faults, never_both as never_both_of_files}
 use Rattle.slice_meaning.proofs.FilesKnown.{break_within}
 use Rattle.slice_meaning.proofs.KnownNames.{got_there}

@@ -7,13 +7,13 @@ use Rattle.slice_lexer.specs.declared.token.Token.{Token}
 use Rattle.slice_lexer.specs.declared.token.TokenKind.{TokenKind}
 use Rattle.slice_lexer.specs.declared.fault.LexFault.{LexFault}
 use Rattle.slice_lexer.specs.declared.fault.LexFault.TheVariants as lexing
-use Rattle.slice_lexer.specs.Lexing.{Lexes, LexBreaks}
+use Rattle.slice_lexer.specs.Lexing.{Lexes}
 use Rattle.slice_lexer.proofs.Standing.{one_lexing, one_break as one_defect, lexes_whole}
 use Rattle.slice_lexer.proofs.Total.{answered}
 use Rattle.slice_syntax.specs.declared.tree.File.{File}
 use Rattle.slice_syntax.specs.declared.fault.SyntaxFault.{SyntaxFault}
 use Rattle.slice_syntax.specs.declared.fault.SyntaxFault.TheVariants as syntax
-use Rattle.slice_syntax.specs.Lexemes.{Lexeme, Lexemes, lexemes}
+use Rattle.slice_syntax.specs.Lexemes.{Lexemes, lexemes}
 use Rattle.slice_syntax.specs.Files.{Reads}
 use Rattle.slice_syntax.specs.Syntax.{SyntaxBreaks, FaultOf, fault_at}
 use Rattle.slice_syntax.proofs.Breaking.{file_or_break, one_file, one_break as one_refusal, never_both as never_both_trees}

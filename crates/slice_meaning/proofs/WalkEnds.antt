@@ -1,5 +1,5 @@
 -- The walk over includes ends: with trees, or with a fault.
-use Rattle.std.proofs.Common.{◌≡◌, ℕ, zero, suc, ◌<◌, ◌≤◌, ◌+◌, ◌⊎◌, Bool, true, false, List, [], ◌∷◌, ◌++◌, length, Option, Some, None, refl, sym, inl, inr, arith}
+use Rattle.std.proofs.Common.{◌≡◌, ℕ, zero, suc, ◌≤◌, ◌+◌, ◌⊎◌, Bool, true, false, List, [], ◌∷◌, ◌++◌, length, Option, Some, None, refl, inl, inr, arith}
 use Rattle.std.specs.Prelude.{Contains, codes, nat_lt}
 use Rattle.std.proofs.lemmas.Bool.Decides.{nat_tests}
 use Rattle.ice_ports.specs.Files.{file_named}
@@ -7,7 +7,7 @@ use Rattle.slice_syntax.specs.declared.tree.File.{File}
 use Rattle.slice_meaning.specs.declared.limits.TheConstants.{MOST_FILES}
 use Rattle.slice_meaning.specs.Names.{Name}
 use Rattle.slice_meaning.specs.Printed.{LoadBreak, broken_at}
-use Rattle.slice_meaning.specs.Loading.{Shelf, Includes, Loaded, IsTree, TextBreaks, IsNext, Walk, done, old, new, WalkBreaks, no_file, too_many, in_text, inside, after_old, after_new}
+use Rattle.slice_meaning.specs.Loading.{Shelf, Includes, Loaded, IsTree, IsNext, Walk, done, old, new, WalkBreaks, no_file, too_many, in_text, inside, after_old, after_new}
 use Rattle.slice_meaning.proofs.TextFaults.{tree_or_break}
 use Rattle.slice_meaning.proofs.Walks.{is_loaded}
 

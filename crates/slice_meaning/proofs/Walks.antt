@@ -1,15 +1,13 @@
 -- The walk over includes ends in one way: with trees, or with a fault.
-use Rattle.std.proofs.Common.{◌≡◌, ◌≢◌, ℕ, zero, suc, ◌<◌, ◌≤◌, ◌+◌, ◌⊎◌, Bool, true, false, List, [], ◌∷◌, ◌++◌, length, Option, Some, None, refl, sym, ap, ◌∙◌, subst, inl, inr, arith}
-use Rattle.std.specs.Prelude.{Contains, codes, nat_lt, bytes_eq, slice_index_or}
-use Rattle.std.proofs.lemmas.Bool.Decides.{nat_tests}
+use Rattle.std.proofs.Common.{◌≡◌, ℕ, zero, suc, ◌<◌, ◌⊎◌, Bool, true, false, List, [], ◌∷◌, ◌++◌, length, Some, None, refl, sym, ap, ◌∙◌, subst, inl, inr, arith}
+use Rattle.std.specs.Prelude.{Contains, bytes_eq, slice_index_or}
 use Rattle.std.proofs.lemmas.Slice.Eq.{bytes_eq-Decides}
 use Rattle.ice_ports.specs.Files.{file_named}
 use Rattle.slice_syntax.specs.declared.tree.File.{File}
-use Rattle.slice_meaning.specs.declared.limits.TheConstants.{MOST_FILES}
 use Rattle.slice_meaning.specs.Names.{Name}
-use Rattle.slice_meaning.specs.Printed.{LoadBreak, broken_at}
+use Rattle.slice_meaning.specs.Printed.{LoadBreak}
 use Rattle.slice_meaning.specs.Loading.{Shelf, Includes, Loaded, IsTree, TextBreaks, IsNext, Walk, done, old, new, WalkBreaks, no_file, too_many, in_text, inside, after_old, after_new}
-use Rattle.slice_meaning.proofs.TextFaults.{tree_or_break, one_tree, one_text_break, tree_no_break}
+use Rattle.slice_meaning.proofs.TextFaults.{one_tree, one_text_break, tree_no_break}
 
 -- ---- names that are loaded
 
