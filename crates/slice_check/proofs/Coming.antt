@@ -1,8 +1,8 @@
 -- A walk comes further.
-use Rattle.std.proofs.Common.{◌≡◌, ℕ, zero, suc, ◌+◌, ◌-◌, ◌*◌, ◌<◌, ◌≤◌, Bool, true, false, IsTrue, List, [], ◌∷◌, ◌++◌, map, reverse, length, take, drop, slice_get, get_or, All, Contains, Option, Some, None, Result, Ok, Err, String, Global, refl, sym, ap, ◌∙◌, subst, arith}
+use Rattle.std.proofs.Common.{◌≡◌, ℕ, zero, suc, ◌+◌, ◌-◌, ◌*◌, ◌<◌, ◌≤◌, Bool, true, false, IsTrue, List, [], ◌∷◌, ◌++◌, map, reverse, length, take, drop, slice_get, get_or, Contains, Option, Some, None, Result, Ok, Err, String, Global, refl, sym, ap, ◌∙◌, subst, arith}
 use Rattle.std.specs.List.{AllByRecursion}
 use Rattle.std.specs.Result.{IsErrAnd}
-use Rattle.std.specs.BTreeSet.{BTreeSet, btree_set_len, contains_text}
+use Rattle.std.specs.BTreeSet.{BTreeSet, contains_text}
 use Rattle.std.proofs.lemmas.Bool.{false≢true}
 use Rattle.std.proofs.lemmas.Option.{get_or_from_slice_get, slice_get_within, slice_get_read, slice_get_past}
 use Rattle.std.proofs.lemmas.List.{append-nil, reverse-append, map-append, drop_more, length-append}
@@ -12,7 +12,7 @@ use Rattle.slice_syntax.specs.Places.{AreRegular}
 use Rattle.slice_meaning.specs.declared.limits.TheConstants.{MOST_FILES}
 use Rattle.slice_meaning.specs.Names.{Name}
 use Rattle.slice_meaning.specs.Printed.{broken_at}
-use Rattle.slice_meaning.specs.Loading.{Shelf, Includes, Loaded, trees_of, whole, WalkBreaks}
+use Rattle.slice_meaning.specs.Loading.{Shelf, Includes, Loaded, WalkBreaks}
 use Rattle.slice_check.specs.declared.fault.LoadFault.{LoadFault}
 use Rattle.slice_check.specs.declared.fault.LoadFault.TheVariants as faults
 use Rattle.slice_check.specs.declared.open.Open.{Open}
@@ -20,9 +20,9 @@ use Rattle.slice_check.specs.declared.files.Files.{Files}
 use Rattle.slice_check.specs.declared.walk.Walk.{Walk}
 use Rattle.slice_check.specs.Answers.{IfText}
 use Rattle.slice_check.specs.Held.{Holds, unloaded}
-use Rattle.slice_check.specs.Opening.{Told, HasTree, IsNew, BreaksThere}
+use Rattle.slice_check.specs.Opening.{Told, IsNew, BreaksThere}
 use Rattle.slice_check.specs.Walking.{Inside, GoesOn}
-use Rattle.slice_check.specs.Standing.{inside, names_of, AreFiles, HasCome, IsFirst, Steps, AreWalked, Walks}
+use Rattle.slice_check.specs.Standing.{inside, HasCome, IsFirst, Steps, AreWalked, Walks}
 use Rattle.slice_check.proofs.Steps.{starts, completes, passes, enters, ended, fails}
 
 -- ---- the next include

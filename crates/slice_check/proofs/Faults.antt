@@ -1,5 +1,5 @@
 -- A fault of the checker is that of a name on the shelf.
-use Rattle.std.proofs.Common.{◌≡◌, ℕ, ◌<◌, Bool, false, List, length, map, Option, Some, None, Err, slice_get, get_or, option_map, ◌≤◌, ◌⊎◌, refl, sym, ap, ◌∙◌, subst, inl, inr, arith}
+use Rattle.std.proofs.Common.{◌≡◌, ℕ, ◌<◌, false, List, length, Option, Some, None, Err, slice_get, get_or, option_map, ◌≤◌, ◌⊎◌, refl, sym, ap, ◌∙◌, subst, inl, inr, arith}
 use Rattle.std.specs.Option.{IfSome}
 use Rattle.std.proofs.lemmas.List.{length-map}
 use Rattle.std.proofs.lemmas.Option.{slice_get-map, slice_get_cases}
@@ -8,14 +8,14 @@ use Rattle.slice_meaning.specs.declared.fault.Fault.{Fault}
 use Rattle.slice_meaning.specs.Names.{Name}
 use Rattle.slice_meaning.specs.Meaning.{CheckBreaks}
 use Rattle.slice_meaning.specs.Printed.{broken_at, row_name}
-use Rattle.slice_meaning.specs.Loading.{Shelf, Loaded, LoadBreaks}
+use Rattle.slice_meaning.specs.Loading.{Shelf, Loaded}
 use Rattle.check_scaffold.specs.Held.{Checks}
 use Rattle.check_scaffold.specs.declared.CheckFault.{CheckFault}
 use Rattle.check_scaffold.specs.declared.CheckFault.TheVariants as checking
 use Rattle.slice_check.specs.declared.fault.LoadFault.{LoadFault}
 use Rattle.slice_check.specs.declared.fault.LoadFault.TheVariants as faults
 use Rattle.slice_check.specs.declared.files.Files.{Files}
-use Rattle.slice_check.specs.Answers.{Answers, IfText, IsFault, is_failed}
+use Rattle.slice_check.specs.Answers.{Answers, IsFault, is_failed}
 use Rattle.slice_check.specs.Standing.{AreFiles, AreWalked}
 use Rattle.slice_check.proofs.Ranges.{breaks_within}
 

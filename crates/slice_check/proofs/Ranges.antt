@@ -1,5 +1,5 @@
 -- A fault of the checker is in one of the files.
-use Rattle.std.proofs.Common.{◌≡◌, ℕ, suc, ◌+◌, ◌<◌, ◌≤◌, List, [], ◌∷◌, ◌++◌, length, map, Contains, All, Option, None, Some, Result, Ok, Err, Bool, filter, slice_get, get_or, refl, sym, ap, ◌∙◌, subst, inl, inr, arith}
+use Rattle.std.proofs.Common.{◌≡◌, ℕ, suc, ◌+◌, ◌<◌, ◌≤◌, List, [], ◌∷◌, length, Option, None, Some, Result, Ok, Err, refl, ap, subst, inl, inr, arith}
 use Rattle.std.specs.List.{AllByRecursion}
 use Rattle.std.proofs.lemmas.List.{length-append}
 use Rattle.std.proofs.lemmas.List.Elements.{All-from_recursion, All-filter, All-contains}
@@ -19,7 +19,7 @@ use Rattle.slice_meaning.specs.declared.fault.Fault.{Fault}
 use Rattle.slice_meaning.specs.Names.{Scope, Declared}
 use Rattle.slice_meaning.specs.Known.{Known, nothing_known, standing_here, with_name, with_new_class, with_new_interface, with_class_name, with_interface_name}
 use Rattle.slice_meaning.specs.Values.{typed}
-use Rattle.slice_meaning.specs.After.{after, after_all, entered, with_constant, kind_of, with_entries, with_class_body, with_interface_body}
+use Rattle.slice_meaning.specs.After.{after, after_all, kind_of, with_entries, with_class_body, with_interface_body}
 use Rattle.slice_meaning.specs.Meaning.{CheckBreaks, next_file, after_files, undefined, is_undefined}
 
 -- what is declared is of the files up to this one, which is read

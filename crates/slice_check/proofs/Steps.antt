@@ -7,7 +7,7 @@ use Rattle.slice_syntax.specs.declared.tree.File.{File}
 use Rattle.slice_meaning.specs.Names.{Name}
 use Rattle.slice_meaning.specs.Printed.{LoadBreak}
 use Rattle.slice_meaning.specs.Loading.{Shelf, Includes, Loaded, IsTree, IsNext, Walk, WalkBreaks, whole, done, old, new, inside, after_old, after_new}
-use Rattle.slice_check.specs.Walking.{Inside, Ends, Breaks, GoesOn}
+use Rattle.slice_check.specs.Walking.{Inside, Breaks, GoesOn}
 
 -- the same walk under equal names and trees
 walk_as : (shelf : Shelf) (loaded after other : List Name) (includes : Includes) (trees others : List Loaded) → after ≡ other → trees ≡ others → Walk shelf loaded includes after trees

@@ -22,7 +22,8 @@ abbrev pub HasTree : Name → File → Shelf → Type 0
 HasTree name tree shelf = (text : List ℕ) × (file_named shelf name ≡ Some text) × IsTree text tree
 
 -- the file of this name, none of whose includes was gone through, is one more
-pub record IsNew {Y : Type 0} (files : Option Shelf) (loaded : List Name) (name : Name) (names : BTreeSet (String Y)) (o : Open) : Type 0 where
+pub record IsNew {Y : Type 0} (files : Option Shelf) (loaded : List Name) (name : Name)
+    (names : BTreeSet (String Y)) (o : Open) : Type 0 where
   pub named : o.name ≡ name
   pub next : o.next ≡ 0
   pub few : length loaded < MOST_FILES

@@ -1,7 +1,6 @@
 -- How far a walk has come.
-use Rattle.std.specs.Prelude.{ℕ, ◌≡◌, ◌≤◌, ◌+◌, ◌-◌, ◌*◌, List, [], ◌∷◌, map, reverse, drop, length, All, String, Option, Result, Ok, Err}
+use Rattle.std.specs.Prelude.{ℕ, ◌≡◌, ◌≤◌, ◌+◌, ◌-◌, ◌*◌, List, [], map, reverse, drop, length, All, String, Option, Result, Ok, Err}
 use Rattle.std.specs.BTreeSet.{BTreeSet, btree_set_len}
-use Rattle.slice_syntax.specs.declared.tree.File.{File}
 use Rattle.slice_syntax.specs.Places.{AreRegular}
 use Rattle.slice_meaning.specs.declared.limits.TheConstants.{MOST_FILES}
 use Rattle.slice_meaning.specs.Names.{Name}
@@ -35,7 +34,8 @@ pub record AreFiles (f : Files) (trees : List Loaded) : Type 0 where
   pub regular : All AreRegular f.trees
 
 -- the walk from FILE has come so far, with these names loaded and these files complete, and is inside of these
-pub record HasCome {Y : Type 0} (files : Option Shelf) (file : Name) (names : BTreeSet (String Y)) (f : Files) (around : List Open) : Type 0 where
+pub record HasCome {Y : Type 0} (files : Option Shelf) (file : Name) (names : BTreeSet (String Y)) (f : Files)
+    (around : List Open) : Type 0 where
   pub loaded : List Name
   pub complete : List Loaded
   pub held : Holds names loaded

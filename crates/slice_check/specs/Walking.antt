@@ -1,5 +1,5 @@
 -- How a walk over includes goes on from the files that it is inside of, the innermost first.
-use Rattle.std.specs.Prelude.{ℕ, ◌≡◌, ◌⊎◌, List, [], ◌∷◌, ◌++◌}
+use Rattle.std.specs.Prelude.{◌≡◌, ◌⊎◌, List, [], ◌∷◌, ◌++◌}
 use Rattle.slice_syntax.specs.declared.tree.File.{File}
 use Rattle.slice_meaning.specs.Names.{Name}
 use Rattle.slice_meaning.specs.Printed.{LoadBreak}
@@ -27,7 +27,8 @@ Breaks shelf loaded (file ∷ around) broken = WalkBreaks shelf loaded file.name
 
 -- With these names loaded, these trees complete and these files open, the walk from FILE goes on: as its rest ends, so
 -- does the whole.
-pub record GoesOn (shelf : Shelf) (file : Name) (loaded : List Name) (complete : List Loaded) (around : List Inside) : Type 0 where
+pub record GoesOn (shelf : Shelf) (file : Name) (loaded : List Name) (complete : List Loaded)
+    (around : List Inside) : Type 0 where
   pub ends : (after : List Name) (trees : List Loaded) → Ends shelf loaded around after trees
       → Walk shelf [] (whole file) after (complete ++ trees)
   pub breaks : (broken : LoadBreak) → Breaks shelf loaded around broken

@@ -42,7 +42,8 @@ impl Files {
     /// A fault in the file at a place among them.
     pub(crate) fn fault(&self, alloc: Global, at: u32, place: u32, kind: CheckKind) -> LoadFault
         requires { at < length self.now.names }
-        ensures { (name : Name) → slice_get self.now.names at ≡ Some name → IsFault (broken_at name place (row_name kind)) result }
+        ensures { (name : Name) → slice_get self.now.names at ≡ Some name
+            → IsFault (broken_at name place (row_name kind)) result }
     {
         let name = &self.names.as_slice()[at as usize];
         text_fault(alloc, name.as_str(), place, kind.name())

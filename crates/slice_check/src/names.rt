@@ -40,7 +40,8 @@ impl Names {
 
     /// Puts in a name that is not there.
     pub(crate) fn insert(&mut self, alloc: Global, name: &str) -> Result<(), AllocError>
-        ensures { (names : List Name) → Holds self.old.held names → (Contains names name.now → ⊥) → OnOk result (Holds self.new.held (name.now ∷ names)) }
+        ensures { (names : List Name) → Holds self.old.held names → (Contains names name.now → ⊥)
+            → OnOk result (Holds self.new.held (name.now ∷ names)) }
     {
         self.held.insert(String::from_str(alloc, name)?)?;
         Ok(())

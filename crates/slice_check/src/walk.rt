@@ -33,8 +33,10 @@ impl Walk {
 
     /// Goes on in the innermost file, which was taken off: to the next file that it brings, or out of it.
     fn step<H: Shelf>(&mut self, alloc: Global, shelf: &mut H, user: Open) -> Result<(), LoadFault>
-        ensures answer { (file : Name) → Stands (H.files shelf.old) file self.old (user ∷ stack self.old) → Steps (H.files shelf.old) file self.new result }
-        ensures falls { (file : Name) → Stands (H.files shelf.old) file self.old (user ∷ stack self.old) → OnOk result (work self.new < work self.old + 1) }
+        ensures answer { (file : Name) → Stands (H.files shelf.old) file self.old (user ∷ stack self.old)
+            → Steps (H.files shelf.old) file self.new result }
+        ensures falls { (file : Name) → Stands (H.files shelf.old) file self.old (user ∷ stack self.old)
+            → OnOk result (work self.new < work self.old + 1) }
         ensures kept { H.files shelf.new ≡ H.files shelf.old }
         ensures count { H.failures shelf.new ≡ count_after (H.failures shelf.old) (is_failed result) }
     {

@@ -1,4 +1,4 @@
-use Rattle.std.proofs.Common.{length, ◌-◌, ◌≡◌, ◌≤◌, drop}
+use Rattle.std.proofs.Common.{length, ◌-◌, ◌≡◌, drop}
 use Rattle.std.specs.BTreeSet.{contains_text}
 use Rattle.slice_check.specs.Held.{unloaded}
 use Rattle.slice_check.proofs.including.next_new.Given as goal

@@ -1,4 +1,4 @@
-use Rattle.std.proofs.Common.{Bool, sym, ap, ◌∙◌}
+use Rattle.std.proofs.Common.{sym, ap, ◌∙◌}
 use Rattle.ice_ports.specs.Failures.{count_after}
 use Rattle.slice_meaning.specs.declared.fault.Fault.{Fault}
 use Rattle.slice_check.proofs.Faults.{breaks_at, fault_within, not_failed, is_break}

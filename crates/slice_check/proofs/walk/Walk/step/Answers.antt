@@ -1,6 +1,5 @@
-use Rattle.std.proofs.Common.{List, Contains, ap, arith, length, subst, sym}
+use Rattle.std.proofs.Common.{Contains, subst, sym}
 use Rattle.slice_meaning.specs.Names.{Name}
-use Rattle.slice_check.specs.declared.open.Open.{Open}
 use Rattle.slice_check.specs.Answers.{IfText}
 use Rattle.slice_check.specs.Opening.{IsNew, BreaksThere}
 use Rattle.slice_check.specs.Standing.{HasCome}
