@@ -108,6 +108,12 @@ const CALLS: &[Call] = &[
         "ice: no such name ::M::N*\n",
     ),
     (
+        &["relay", "w.ice", "Value"],
+        2,
+        "",
+        "ice: no such name Value\n",
+    ),
+    (
         &["relay", "w.ice", "::M::N"],
         2,
         "",
