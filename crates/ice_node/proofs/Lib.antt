@@ -1,4 +1,5 @@
 pub mod Keeping
+pub mod Naming
 pub mod CommandForms
 pub mod Relaying
 pub mod Answering

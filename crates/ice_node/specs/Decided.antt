@@ -6,7 +6,7 @@ use Rattle.std.specs.Fmt.{decimal}
 use Rattle.ice_types.specs.declared.kind.TypeRef.{TypeRef}
 use Rattle.ice_types.specs.declared.measure.Measure.{Measure}
 use Rattle.ice_types.specs.declared.schema.TheConstants.{MOST_DEPTH}
-use Rattle.ice_types.specs.Tables.{Tables, Names}
+use Rattle.ice_types.specs.Tables.{Tables}
 use Rattle.ice_types.specs.Measures.{measure}
 use Rattle.ice_encoding.specs.Tree.{Tree}
 use Rattle.ice_encoding.specs.Encapsulation.{SpellsEncapsulation, encapsulation_bytes}
@@ -14,6 +14,7 @@ use Rattle.slice_meaning.specs.Printed.{LoadBreak}
 use Rattle.slice_meaning.specs.Loading.{Loads, LoadBreaks}
 use Rattle.ice_node.specs.declared.help.TheConstants.{HELP, VERSION}
 use Rattle.ice_node.specs.Words.{Word, Command, relay, check, help, version, Asks}
+use Rattle.ice_node.specs.TypeWords.{IsTypeWord}
 use Rattle.ice_node.specs.Outside.{Files}
 use Rattle.ice_node.specs.Answers.{Answer, done, usage, no_such_name, not_built, slice_refused, input_refused}
 
@@ -35,12 +36,13 @@ WithSchema files file answer Next =
 
 -- the word names this type, and no other
 abbrev pub IsNamed : Tables → Word → TypeRef → Type 0
-IsNamed t word kind = Names t word kind × ((other : TypeRef) → Names t word other → other ≡ kind)
+IsNamed t word kind = IsTypeWord t word kind
+    × ((other : TypeRef) → IsTypeWord t word other → other ≡ kind)
 
 -- the word names no type, or one, from which it goes on
 abbrev pub WithType : Tables → Word → Answer → (TypeRef → Type 0) → Type 0
 WithType t word answer Next =
-    (((kind : TypeRef) → Names t word kind → ⊥) × (answer ≡ no_such_name word))
+    (((kind : TypeRef) → IsTypeWord t word kind → ⊥) × (answer ≡ no_such_name word))
     ⊎ ((kind : TypeRef) × IsNamed t word kind × Next kind)
 
 -- Values of the type are carried: it reaches no enum, class or proxy through elements, keys and members.

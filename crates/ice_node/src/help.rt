@@ -15,7 +15,8 @@ FILE is the path of a Slice file. Included files are paths too, from the folder 
 TYPE is bool, byte, short, int, long, string, Object, Object*, a type id of FILE, as ::M::Q, or an
 interface's type id followed by *. Values of enums, classes and proxies are not built yet.
 
-A command ends with the first of these that applies, and writes its line to standard error:
+A command ends with one of these, and writes its line to standard error. The earlier step decides:
+the words, FILE and what it includes, TYPE, the input, the output.
 
   2  ice: usage                  the words are none of these commands
   3  ice: FILE:PLACE: KIND       a Slice file is refused: its name, the fault's first byte, counted
@@ -28,7 +29,7 @@ A command ends with the first of these that applies, and writes its line to stan
   9  ice: no memory
   0                              done
 
-After 1 to 5 nothing was written to standard output. KIND is one of these:
+After 2 to 5 nothing was written to standard output. KIND is one of these:
 
   NoFile        no file has the included name, or that of FILE
   TooManyFiles  an included file is one more than 100

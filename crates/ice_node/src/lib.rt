@@ -8,6 +8,7 @@ mod outcome;
 mod output;
 mod relay;
 mod top_call;
+mod type_words;
 mod words;
 
 pub use help::{HELP, VERSION};

@@ -8,6 +8,7 @@ ghost use Rattle.ice_node.specs.Outcomes.{FindsType, FindsBytes, TakesFound, byt
 
 use crate::loading::load_schema;
 use crate::outcome::Outcome;
+use crate::type_words::type_of_word;
 use ice_ports::{Shelf, Source};
 use ice_relay::{canonical_of, read_input};
 use ice_types::{MOST_DEPTH, Schema, TypeRef};
@@ -38,7 +39,7 @@ pub fn relay<'a, H: Shelf, S: Source>(
 fn built_type<'a>(schema: &Schema, word: &'a str) -> Result<TypeRef, Outcome<'a>>
     ensures { FindsType schema.now word.now result }
 {
-    let Some(kind) = schema.type_named(word) else {
+    let Some(kind) = type_of_word(schema, word) else {
         return Err(Outcome::NoSuchName(word));
     };
     if !is_built(schema, kind) {

@@ -16,15 +16,21 @@ const FILES: &[(&str, &str)] = &[
     ("t.ice", "module T { sequence<byte> Small; };"),
     (
         "w.ice",
-        "module M { dictionary<string, int> D; sequence<byte> Q; class N { int v; N next; }; class P { int p; }; class O { optional(1) int a; }; class B { int b; }; class F extends B { string d; B other; }; };",
+        "module M { dictionary<string, int> D; sequence<byte> Q; class N { int v; N next; }; \
+        class P { int p; }; class O { optional(1) int a; }; class B { int b; }; \
+        class F extends B { string d; B other; }; };",
     ),
     (
         "forest.ice",
-        "module Points { struct Point { int x; int y; }; sequence<Point> Points; }; module Trees { class Tree { int value; Tree left; Tree right; }; }; module Forests { interface Named { string name(); }; interface Forest extends Named { void put(Trees::Tree t); idempotent Trees::Tree get(); }; };",
+        "module Points { struct Point { int x; int y; }; sequence<Point> List; }; \
+        module Trees { class Tree { int value; Tree left; Tree right; }; }; \
+        module Forests { interface Named { string name(); }; interface Forest extends Named { \
+        void put(Trees::Tree t); idempotent Trees::Tree get(); }; };",
     ),
     (
         "i.ice",
-        "module M { interface I; enum E { a, b }; struct S { int n; I* i; }; sequence<S> Q; dictionary<E, Q> D; dictionary<E, int> K; exception X { S s; }; };",
+        "module M { interface I; enum E { a, b }; struct S { int n; I* i; }; sequence<S> Q; \
+        dictionary<E, Q> D; dictionary<E, int> K; exception X { S s; }; };",
     ),
     ("m.ice", "module M { struct S { float x; }; };"),
     ("a.ice", "#include \"b.ice\""),
@@ -106,6 +112,12 @@ const CALLS: &[Call] = &[
         2,
         "",
         "ice: no such name ::M::N*\n",
+    ),
+    (
+        &["relay", "w.ice", "Value"],
+        2,
+        "",
+        "ice: no such name Value\n",
     ),
     (
         &["relay", "w.ice", "::M::N"],
