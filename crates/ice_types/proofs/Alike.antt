@@ -1,5 +1,5 @@
 -- Lists whose items are the same, one after the other.
-use Rattle.std.proofs.Common.{ℕ, zero, suc, ◌≤◌, ◌≡◌, List, [], ◌∷◌, drop, length, refl, sym, ap, subst, arith, ◌<◌, length-drop}
+use Rattle.std.proofs.Common.{ℕ, zero, suc, ◌≤◌, ◌≡◌, List, [], ◌∷◌, drop, length, refl, ap, arith, ◌<◌, length-drop}
 use Rattle.ice_types.specs.Lacking.{AreSame}
 
 nothing_left : {A : Type 0} (xs : List A) (at : ℕ) → length xs ≤ at → drop at xs ≡ []

@@ -1,5 +1,5 @@
 -- The rows of the object's schema may be added.
-use Rattle.std.proofs.Common.{ℕ, zero, suc, ◌≡◌, ◌≢◌, ◌<◌, true, false, List, [], ◌∷◌, map, All, Option, Some, None, codes, refl, arith}
+use Rattle.std.proofs.Common.{ℕ, zero, suc, ◌≡◌, ◌≢◌, ◌<◌, true, false, List, [], ◌∷◌, map, All, None, codes, refl, arith}
 use Rattle.std.specs.Prelude.{IsTrue}
 use Rattle.std.specs.Str.{bytes_eq, str_to_ascii_lowercase}
 use Rattle.std.proofs.lemmas.Slice.Eq.{bytes_eq-Decides}
@@ -7,12 +7,10 @@ use Rattle.std.proofs.lemmas.List.Elements.{All-nil, All-cons}
 use Rattle.ice_types.specs.declared.kind.TypeRef.{TypeRef}
 use Rattle.ice_types.specs.declared.kind.TypeRef.TheVariants as kinds
 use Rattle.ice_types.specs.declared.kind.RowRef.TheVariants as rows
-use Rattle.ice_types.specs.declared.declarations.Member.{Member}
-use Rattle.ice_types.specs.declared.declarations.OpDecl.{OpDecl}
 use Rattle.ice_types.specs.Names.{IsFree, AreNew}
-use Rattle.ice_types.specs.Tables.{Tables, IsNewId, is_defined, no_types}
+use Rattle.ice_types.specs.Tables.{IsNewId, is_defined, no_types}
 use Rattle.ice_types.specs.Measures.{measure, built_in, container}
-use Rattle.ice_types.specs.Fits.{SeqFits, IsOf, AreOf, AreRequired, ShapeFits, OpFits, BasesFit, InterfaceFits}
+use Rattle.ice_types.specs.Fits.{SeqFits, IsOf, AreOf, AreRequired, ShapeFits, OpFits, InterfaceFits}
 use Rattle.ice_types.specs.Object.{required, idempotent, ping, is_a, its_id, its_ids, object_operations, strings_declared, object_declared}
 
 pub strings_new : IsNewId no_types (codes "::Ice::StringSeq")

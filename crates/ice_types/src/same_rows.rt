@@ -1,8 +1,8 @@
 //! Whether rows of two schemas are the same.
 
-ghost use Rattle.std.specs.Prelude.{◌≡◌, ◌<◌, ◌↔◌, IsTrue, MatchOption, List, ℕ, Some, length, slice_get};
+ghost use Rattle.std.specs.Prelude.{◌↔◌, IsTrue, MatchOption, List, ℕ, slice_get};
 ghost use Rattle.ice_types.specs.Tables.{HasRowId};
-ghost use Rattle.ice_types.specs.Lacking.{AreSame, BothAre, HasRow, IsTaken, Lacks, SameBase, SameClass, SameDict, SameEntry, SameEnum, SameException, SameId, SameInterface, SameInterfaceBase, SameKind, SameMember, SameOp, SameRow, SameSeq, SameShape, SameStruct, SameThrow};
+ghost use Rattle.ice_types.specs.Lacking.{AreSame, BothAre, SameBase, SameClass, SameDict, SameEntry, SameEnum, SameException, SameId, SameInterface, SameInterfaceBase, SameKind, SameMember, SameOp, SameRow, SameSeq, SameShape, SameStruct, SameThrow};
 ghost use Rattle.ice_types.specs.declared.kind.RowRef.TheVariants as rows;
 
 use crate::declarations::{Entry, Member, OpDecl, Shape};
@@ -11,7 +11,8 @@ use crate::schema::Schema;
 
 /// The id of a row, None where no such row is.
 fn id_of(schema: &Schema, row: RowRef) -> Option<&str>
-    ensures { MatchOption result ((id : List ℕ) → HasRowId schema.now id row → ⊥) (λ id. HasRowId schema.now id.now row) }
+    ensures { MatchOption result
+        ((id : List ℕ) → HasRowId schema.now id row → ⊥) (λ id. HasRowId schema.now id.now row) }
 {
     Some(match row {
         RowRef::Seq(at) => schema.seqs().get(at as usize)?.id.as_str(),
@@ -69,7 +70,8 @@ fn is_same_kind(one: &Schema, other: &Schema, own: TypeRef, kind: TypeRef) -> bo
         }
         TypeRef::Proxy(None) => matches!(kind, TypeRef::Proxy(None)),
         TypeRef::Proxy(Some(a)) => {
-            matches!(kind, TypeRef::Proxy(Some(b)) if have_one_id(one, other, RowRef::Interface(a), RowRef::Interface(b)))
+            matches!(kind, TypeRef::Proxy(Some(b))
+                if have_one_id(one, other, RowRef::Interface(a), RowRef::Interface(b)))
         }
         TypeRef::Class(None) => matches!(kind, TypeRef::Class(None)),
         TypeRef::Class(Some(a)) => {
@@ -233,7 +235,8 @@ fn is_same_exception_base(one: &Schema, other: &Schema, own: Option<u32>, base: 
 
 /// Whether sequences stand at both places, and are the same.
 fn are_same_seqs(one: &Schema, other: &Schema, own: u32, place: u32) -> bool
-    ensures { IsTrue result ↔ BothAre (SameSeq one.now other.now) (slice_get one.now.seqs own) (slice_get other.now.seqs place) }
+    ensures { IsTrue result ↔
+        BothAre (SameSeq one.now other.now) (slice_get one.now.seqs own) (slice_get other.now.seqs place) }
 {
     let Some(own) = one.seqs().get(own as usize) else {
         return false;
@@ -246,7 +249,8 @@ fn are_same_seqs(one: &Schema, other: &Schema, own: u32, place: u32) -> bool
 
 /// Whether dictionaries stand at both places, and are the same.
 fn are_same_dicts(one: &Schema, other: &Schema, own: u32, place: u32) -> bool
-    ensures { IsTrue result ↔ BothAre (SameDict one.now other.now) (slice_get one.now.dicts own) (slice_get other.now.dicts place) }
+    ensures { IsTrue result ↔
+        BothAre (SameDict one.now other.now) (slice_get one.now.dicts own) (slice_get other.now.dicts place) }
 {
     let Some(own) = one.dicts().get(own as usize) else {
         return false;
@@ -259,7 +263,8 @@ fn are_same_dicts(one: &Schema, other: &Schema, own: u32, place: u32) -> bool
 
 /// Whether structs stand at both places, and are the same.
 fn are_same_structs(one: &Schema, other: &Schema, own: u32, place: u32) -> bool
-    ensures { IsTrue result ↔ BothAre (SameStruct one.now other.now) (slice_get one.now.structs own) (slice_get other.now.structs place) }
+    ensures { IsTrue result ↔
+        BothAre (SameStruct one.now other.now) (slice_get one.now.structs own) (slice_get other.now.structs place) }
 {
     let Some(own) = one.structs().get(own as usize) else {
         return false;
@@ -272,7 +277,8 @@ fn are_same_structs(one: &Schema, other: &Schema, own: u32, place: u32) -> bool
 
 /// Whether enums stand at both places, and are the same.
 fn are_same_enums(one: &Schema, other: &Schema, own: u32, place: u32) -> bool
-    ensures { IsTrue result ↔ BothAre (SameEnum one.now other.now) (slice_get one.now.enums own) (slice_get other.now.enums place) }
+    ensures { IsTrue result ↔
+        BothAre (SameEnum one.now other.now) (slice_get one.now.enums own) (slice_get other.now.enums place) }
 {
     let Some(own) = one.enums().get(own as usize) else {
         return false;
@@ -285,7 +291,8 @@ fn are_same_enums(one: &Schema, other: &Schema, own: u32, place: u32) -> bool
 
 /// Whether classes stand at both places, and are the same.
 fn are_same_classes(one: &Schema, other: &Schema, own: u32, place: u32) -> bool
-    ensures { IsTrue result ↔ BothAre (SameClass one.now other.now) (slice_get one.now.classes own) (slice_get other.now.classes place) }
+    ensures { IsTrue result ↔
+        BothAre (SameClass one.now other.now) (slice_get one.now.classes own) (slice_get other.now.classes place) }
 {
     let Some(own) = one.classes().get(own as usize) else {
         return false;
@@ -299,7 +306,9 @@ fn are_same_classes(one: &Schema, other: &Schema, own: u32, place: u32) -> bool
 
 /// Whether exceptions stand at both places, and are the same.
 fn are_same_exceptions(one: &Schema, other: &Schema, own: u32, place: u32) -> bool
-    ensures { IsTrue result ↔ BothAre (SameException one.now other.now) (slice_get one.now.exceptions own) (slice_get other.now.exceptions place) }
+    ensures { IsTrue result ↔
+        BothAre (SameException one.now other.now)
+        (slice_get one.now.exceptions own) (slice_get other.now.exceptions place) }
 {
     let Some(own) = one.exceptions().get(own as usize) else {
         return false;
@@ -313,7 +322,9 @@ fn are_same_exceptions(one: &Schema, other: &Schema, own: u32, place: u32) -> bo
 
 /// Whether interfaces stand at both places, and are the same.
 fn are_same_interfaces(one: &Schema, other: &Schema, own: u32, place: u32) -> bool
-    ensures { IsTrue result ↔ BothAre (SameInterface one.now other.now) (slice_get one.now.interfaces own) (slice_get other.now.interfaces place) }
+    ensures { IsTrue result ↔
+        BothAre (SameInterface one.now other.now)
+        (slice_get one.now.interfaces own) (slice_get other.now.interfaces place) }
 {
     let Some(own) = one.interfaces().get(own as usize) else {
         return false;

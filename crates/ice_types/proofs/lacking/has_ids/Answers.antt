@@ -1,4 +1,4 @@
-use Rattle.std.proofs.Common.{ℕ, List, map, length, ◌<◌, refl, sym, subst, arith}
+use Rattle.std.proofs.Common.{ℕ, List, map, refl, sym, subst, arith}
 use Rattle.ice_types.specs.Tables.{HasRowId}
 use Rattle.ice_types.specs.Lacking.{IsTaken, AreTaken}
 use Rattle.ice_types.proofs.RowIdentity.{id_at, one_more, within_rows}

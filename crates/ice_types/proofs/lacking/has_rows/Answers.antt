@@ -1,4 +1,4 @@
-use Rattle.std.proofs.Common.{ℕ, ◌≡◌, false, true, List, map, length, ◌<◌, refl, sym, ap, subst, ◌∙◌, arith}
+use Rattle.std.proofs.Common.{ℕ, List, map, refl, sym, subst, ◌∙◌, arith}
 use Rattle.ice_types.specs.Lacking.{HasRow, HasRows}
 use Rattle.ice_types.specs.declared.kind.RowRef.{RowRef}
 use Rattle.ice_types.proofs.RowIdentity.{id_at, one_more, within_rows}

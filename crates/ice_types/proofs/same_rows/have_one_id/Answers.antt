@@ -1,4 +1,4 @@
-use Rattle.std.proofs.Common.{sym, ◌∙◌, subst, List, ℕ}
+use Rattle.std.proofs.Common.{subst, List, ℕ}
 use Rattle.ice_types.specs.Tables.{HasRowId}
 use Rattle.ice_types.proofs.RowIdentity.{one_id}
 use Rattle.ice_types.proofs.same_rows.have_one_id.Goals as goal
