@@ -1,30 +1,48 @@
--- What a schema keeps when a sequence, a dictionary or a struct is added.
-use Rattle.std.proofs.Common.{◌≡◌, ℕ, suc, ◌+◌, ◌<◌, ◌≤◌, List, [], ◌∷◌, ◌++◌, length, Some, refl, sym, ap, subst, ◌∙◌, arith}
+-- What a schema keeps when a sequence, a dictionary, a struct or an enum is added.
+use Rattle.std.proofs.Common.{◌≡◌, ℕ, suc, ◌+◌, ◌<◌, ◌≤◌, cond, List, [], ◌∷◌, ◌++◌, length, Option, Some, None, refl, sym, ap, subst, ◌∙◌, arith, inl, inr, ◌⊎◌, bytes_eq}
 use Rattle.std.specs.Prelude.{slice_get}
-use Rattle.std.proofs.lemmas.List.{length-append}
+use Rattle.std.proofs.lemmas.List.{length-append, length-map}
 use Rattle.ice_types.specs.declared.declarations.SeqDecl.{SeqDecl}
 use Rattle.ice_types.specs.declared.declarations.DictDecl.{DictDecl}
 use Rattle.ice_types.specs.declared.declarations.StructDecl.{StructDecl}
+use Rattle.ice_types.specs.declared.declarations.EnumDecl.{EnumDecl}
+use Rattle.ice_types.specs.declared.kind.RowRef.{RowRef}
 use Rattle.ice_types.specs.declared.kind.RowRef.TheVariants as rows
 use Rattle.ice_types.specs.declared.kind.TypeRef.TheVariants as kinds
 use Rattle.ice_types.specs.declared.measure.Measure.{Measure}
 use Rattle.ice_types.specs.declared.rows.Rows.{Rows}
 use Rattle.ice_types.specs.declared.rows.TableRows.{TableRows}
-use Rattle.ice_types.specs.Tables.{Tables, with_seq, with_dict, with_struct, IsTypeId, IsNewId}
-use Rattle.ice_types.specs.Measures.{measure, measure_members, sequence_of, dictionary_of, struct_of}
+use Rattle.ice_types.specs.Tables.{Tables, with_seq, with_dict, with_struct, with_enum, IsTypeId, IsNewId, row_ids, row_at, seq_ids, dict_ids, struct_ids, enum_ids}
+use Rattle.ice_types.specs.Measures.{measure, measure_members, sequence_of, dictionary_of, struct_of, enumeration}
 use Rattle.ice_types.specs.Fits.{SeqFits, DictFits, StructFits, EnumFits, ClassFits, ExceptionFits, InterfaceFits, small_members}
 use Rattle.ice_types.specs.Rules.{Beside, IsSchema, IsKept}
 use Rattle.ice_types.specs.Kept.{tables_of, beside_of}
+use Rattle.ice_types.specs.Ids.{IsHeld}
 use Rattle.ice_types.proofs.Items.{slice_get-front, slice_get-last}
 use Rattle.ice_types.proofs.Levels.{Keeps, measure_kept, members_kept}
-use Rattle.ice_types.proofs.Said.{seq_says, dict_says, struct_says, no_seq, no_dict, no_struct, of_seqs_says, of_dicts_says, of_structs_says, are_pushed}
+use Rattle.ice_types.proofs.Said.{seq_says, dict_says, struct_says, enum_says, no_seq, no_dict, no_struct, no_enum, of_seqs_says, of_dicts_says, of_structs_says, of_enums_says, are_pushed}
 use Rattle.ice_types.proofs.Staying.{Grows}
-use Rattle.ice_types.proofs.Ids.{ids_more, seq_split, dict_split, struct_split}
+use Rattle.ice_types.proofs.RowIds.{IsLast, ids_of, ids_more, id_last, found_more}
 use Rattle.ice_types.proofs.Grown.{all_old, one_new, IsSchema-grown}
 use Rattle.ice_types.proofs.StructSizes.{small_fits}
 use Rattle.ice_types.proofs.Measured.{AreMeasured, measured_kept}
 
 -- ---- a sequence
+
+last_seq : (t : Tables) (new : SeqDecl) → IsLast t (with_seq t new) new.id (rows.Seq (length t.seqs))
+last_seq t new = record { ids = more; at = sym (length-map t.seqs (λ x. x.id)); others = others }
+  where
+    more : seq_ids (with_seq t new) ≡ seq_ids t ++ new.id ∷ []
+    more = id_last (λ x. x.id) t.seqs new
+
+    others : (row : RowRef) → (row_ids (with_seq t new) row ≡ row_ids t row) ⊎ ((row_ids (with_seq t new) row ≡ row_ids t row ++ new.id ∷ []) × (row_at row ≡ length (row_ids t row) → row ≡ rows.Seq (length t.seqs)))
+    others (rows.Seq at) = inr (more, λ end. ap rows.Seq (end ∙ length-map t.seqs (λ x. x.id)))
+    others (rows.Dict at) = inl refl
+    others (rows.Struct at) = inl refl
+    others (rows.Enum at) = inl refl
+    others (rows.Class at) = inl refl
+    others (rows.Exception at) = inl refl
+    others (rows.Interface at) = inl refl
 
 types_seq : (t : Tables) (new : SeqDecl) → Keeps t (with_seq t new)
 types_seq t new = record {
@@ -32,8 +50,8 @@ types_seq t new = record {
   dicts = λ at x e. e;
   structs = λ at x e. e;
   enums = λ at x e. e;
-  classes = λ at c e. (c, e);
-  interfaces = λ at i e. (i, e);
+  classes = λ at x e. (x, e);
+  interfaces = λ at x e. (x, e);
 }
 
 grows_seq : (t : Tables) (new : SeqDecl) → Grows t (with_seq t new)
@@ -45,7 +63,7 @@ schema_seq t new kept room type_id lacks fits = IsSchema-grown t (with_seq t new
   room = record { seqs = omega (arith, length-append t.seqs (new ∷ [])); dicts = kept.room.dicts; structs = kept.room.structs; enums = kept.room.enums; classes = kept.room.classes; exceptions = kept.room.exceptions; interfaces = kept.room.interfaces };
   class_flags = kept.class_flags;
   interface_flags = kept.interface_flags;
-  ids = ids_more t (with_seq t new) kept new.id (rows.Seq (length t.seqs)) (seq_split t new) type_id lacks;
+  ids = ids_more t (with_seq t new) new.id (rows.Seq (length t.seqs)) (last_seq t new) (ids_of t kept) type_id lacks;
   seqs = one_new t.seqs (λ q. SeqFits t q.element) new fits;
   dicts = all_old t.dicts (λ d. DictFits t d.key d.value);
   structs = all_old t.structs (λ d. StructFits t d.members);
@@ -80,14 +98,34 @@ kept_seq t beside kept new m room type_id lacks fits is =
     }
 
 -- the same of a schema's fields, where contracts see them as these tables
-pub added_seq : (old : TableRows) (after : Rows SeqDecl Measure) (t : Tables) (new : SeqDecl) (m : Measure) → IsKept (tables_of old) (beside_of old) → tables_of old ≡ t → after.decls ≡ old.seqs.decls ++ new ∷ [] → after.beside ≡ old.seqs.beside ++ m ∷ []
-    → length t.seqs + 1 < 100000000 → IsTypeId new.id → IsNewId t new.id → SeqFits t new.element → Some m ≡ sequence_of (measure t 99 new.element) → IsKept (tables_of (record old { seqs = after })) (beside_of (record old { seqs = after }))
-added_seq old after t new m kept view_is row beside room type_id lacks fits is =
+pub added_seq : (old : TableRows) (after : Rows SeqDecl Measure) (t : Tables) (row_of now : List ℕ → Option RowRef) → IsHeld (tables_of old) (beside_of old) row_of → tables_of old ≡ t → (new : SeqDecl) (m : Measure)
+    → after.decls ≡ old.seqs.decls ++ new ∷ [] → after.beside ≡ old.seqs.beside ++ m ∷ [] → (at : ℕ) → at ≡ length old.seqs.decls → ((id : List ℕ) → now id ≡ cond (bytes_eq new.id id) (Some (rows.Seq at)) (row_of id))
+    → length t.seqs + 1 < 100000000 → IsTypeId new.id → IsNewId t new.id → SeqFits t new.element → Some m ≡ sequence_of (measure t 99 new.element) → IsHeld (tables_of (record old { seqs = after })) (beside_of (record old { seqs = after })) now
+added_seq old after t row_of now held view_is new m row beside at end put room type_id lacks fits is =
     let pushed : with_seq t new ≡ tables_of (record old { seqs = after }) = rw (row, ← view_is) refl in
-    rw beside (subst (λ (u : Tables). IsKept u (record (beside_of old) { seqs = old.seqs.beside ++ m ∷ [] })) pushed
-    (kept_seq t (beside_of old) (subst (λ (u : Tables). IsKept u (beside_of old)) view_is kept) new m room type_id lacks fits is))
+    let was : IsHeld t (beside_of old) row_of = subst (λ (t : Tables). IsHeld t (beside_of old) row_of) view_is held in
+    rw beside (subst (λ (u : Tables). IsHeld u (record (beside_of old) { seqs = old.seqs.beside ++ m ∷ [] }) now) pushed (record {
+      kept = kept_seq t (beside_of old) was.kept new m room type_id lacks fits is;
+      found = found_more t (with_seq t new) new.id (rows.Seq (length t.seqs)) (last_seq t new) row_of now was.found
+          (subst (λ (at : ℕ). (id : List ℕ) → now id ≡ cond (bytes_eq new.id id) (Some (rows.Seq at)) (row_of id)) (end ∙ ap (λ (t : Tables). length t.seqs) view_is) put);
+    }))
 
 -- ---- a dictionary
+
+last_dict : (t : Tables) (new : DictDecl) → IsLast t (with_dict t new) new.id (rows.Dict (length t.dicts))
+last_dict t new = record { ids = more; at = sym (length-map t.dicts (λ x. x.id)); others = others }
+  where
+    more : dict_ids (with_dict t new) ≡ dict_ids t ++ new.id ∷ []
+    more = id_last (λ x. x.id) t.dicts new
+
+    others : (row : RowRef) → (row_ids (with_dict t new) row ≡ row_ids t row) ⊎ ((row_ids (with_dict t new) row ≡ row_ids t row ++ new.id ∷ []) × (row_at row ≡ length (row_ids t row) → row ≡ rows.Dict (length t.dicts)))
+    others (rows.Seq at) = inl refl
+    others (rows.Dict at) = inr (more, λ end. ap rows.Dict (end ∙ length-map t.dicts (λ x. x.id)))
+    others (rows.Struct at) = inl refl
+    others (rows.Enum at) = inl refl
+    others (rows.Class at) = inl refl
+    others (rows.Exception at) = inl refl
+    others (rows.Interface at) = inl refl
 
 types_dict : (t : Tables) (new : DictDecl) → Keeps t (with_dict t new)
 types_dict t new = record {
@@ -95,8 +133,8 @@ types_dict t new = record {
   dicts = λ at x. slice_get-front t.dicts (new ∷ []) at x;
   structs = λ at x e. e;
   enums = λ at x e. e;
-  classes = λ at c e. (c, e);
-  interfaces = λ at i e. (i, e);
+  classes = λ at x e. (x, e);
+  interfaces = λ at x e. (x, e);
 }
 
 grows_dict : (t : Tables) (new : DictDecl) → Grows t (with_dict t new)
@@ -108,7 +146,7 @@ schema_dict t new kept room type_id lacks fits = IsSchema-grown t (with_dict t n
   room = record { seqs = kept.room.seqs; dicts = omega (arith, length-append t.dicts (new ∷ [])); structs = kept.room.structs; enums = kept.room.enums; classes = kept.room.classes; exceptions = kept.room.exceptions; interfaces = kept.room.interfaces };
   class_flags = kept.class_flags;
   interface_flags = kept.interface_flags;
-  ids = ids_more t (with_dict t new) kept new.id (rows.Dict (length t.dicts)) (dict_split t new) type_id lacks;
+  ids = ids_more t (with_dict t new) new.id (rows.Dict (length t.dicts)) (last_dict t new) (ids_of t kept) type_id lacks;
   seqs = all_old t.seqs (λ q. SeqFits t q.element);
   dicts = one_new t.dicts (λ d. DictFits t d.key d.value) new fits;
   structs = all_old t.structs (λ d. StructFits t d.members);
@@ -144,14 +182,34 @@ kept_dict t beside kept new m room type_id lacks fits is =
     }
 
 -- the same of a schema's fields, where contracts see them as these tables
-pub added_dict : (old : TableRows) (after : Rows DictDecl Measure) (t : Tables) (new : DictDecl) (m : Measure) → IsKept (tables_of old) (beside_of old) → tables_of old ≡ t → after.decls ≡ old.dicts.decls ++ new ∷ [] → after.beside ≡ old.dicts.beside ++ m ∷ []
-    → length t.dicts + 1 < 100000000 → IsTypeId new.id → IsNewId t new.id → DictFits t new.key new.value → Some m ≡ dictionary_of (measure t 98 new.key) (measure t 98 new.value) → IsKept (tables_of (record old { dicts = after })) (beside_of (record old { dicts = after }))
-added_dict old after t new m kept view_is row beside room type_id lacks fits is =
+pub added_dict : (old : TableRows) (after : Rows DictDecl Measure) (t : Tables) (row_of now : List ℕ → Option RowRef) → IsHeld (tables_of old) (beside_of old) row_of → tables_of old ≡ t → (new : DictDecl) (m : Measure)
+    → after.decls ≡ old.dicts.decls ++ new ∷ [] → after.beside ≡ old.dicts.beside ++ m ∷ [] → (at : ℕ) → at ≡ length old.dicts.decls → ((id : List ℕ) → now id ≡ cond (bytes_eq new.id id) (Some (rows.Dict at)) (row_of id))
+    → length t.dicts + 1 < 100000000 → IsTypeId new.id → IsNewId t new.id → DictFits t new.key new.value → Some m ≡ dictionary_of (measure t 98 new.key) (measure t 98 new.value) → IsHeld (tables_of (record old { dicts = after })) (beside_of (record old { dicts = after })) now
+added_dict old after t row_of now held view_is new m row beside at end put room type_id lacks fits is =
     let pushed : with_dict t new ≡ tables_of (record old { dicts = after }) = rw (row, ← view_is) refl in
-    rw beside (subst (λ (u : Tables). IsKept u (record (beside_of old) { dicts = old.dicts.beside ++ m ∷ [] })) pushed
-    (kept_dict t (beside_of old) (subst (λ (u : Tables). IsKept u (beside_of old)) view_is kept) new m room type_id lacks fits is))
+    let was : IsHeld t (beside_of old) row_of = subst (λ (t : Tables). IsHeld t (beside_of old) row_of) view_is held in
+    rw beside (subst (λ (u : Tables). IsHeld u (record (beside_of old) { dicts = old.dicts.beside ++ m ∷ [] }) now) pushed (record {
+      kept = kept_dict t (beside_of old) was.kept new m room type_id lacks fits is;
+      found = found_more t (with_dict t new) new.id (rows.Dict (length t.dicts)) (last_dict t new) row_of now was.found
+          (subst (λ (at : ℕ). (id : List ℕ) → now id ≡ cond (bytes_eq new.id id) (Some (rows.Dict at)) (row_of id)) (end ∙ ap (λ (t : Tables). length t.dicts) view_is) put);
+    }))
 
 -- ---- a struct
+
+last_struct : (t : Tables) (new : StructDecl) → IsLast t (with_struct t new) new.id (rows.Struct (length t.structs))
+last_struct t new = record { ids = more; at = sym (length-map t.structs (λ x. x.id)); others = others }
+  where
+    more : struct_ids (with_struct t new) ≡ struct_ids t ++ new.id ∷ []
+    more = id_last (λ x. x.id) t.structs new
+
+    others : (row : RowRef) → (row_ids (with_struct t new) row ≡ row_ids t row) ⊎ ((row_ids (with_struct t new) row ≡ row_ids t row ++ new.id ∷ []) × (row_at row ≡ length (row_ids t row) → row ≡ rows.Struct (length t.structs)))
+    others (rows.Seq at) = inl refl
+    others (rows.Dict at) = inl refl
+    others (rows.Struct at) = inr (more, λ end. ap rows.Struct (end ∙ length-map t.structs (λ x. x.id)))
+    others (rows.Enum at) = inl refl
+    others (rows.Class at) = inl refl
+    others (rows.Exception at) = inl refl
+    others (rows.Interface at) = inl refl
 
 types_struct : (t : Tables) (new : StructDecl) → Keeps t (with_struct t new)
 types_struct t new = record {
@@ -159,8 +217,8 @@ types_struct t new = record {
   dicts = λ at x e. e;
   structs = λ at x. slice_get-front t.structs (new ∷ []) at x;
   enums = λ at x e. e;
-  classes = λ at c e. (c, e);
-  interfaces = λ at i e. (i, e);
+  classes = λ at x e. (x, e);
+  interfaces = λ at x e. (x, e);
 }
 
 grows_struct : (t : Tables) (new : StructDecl) → Grows t (with_struct t new)
@@ -172,7 +230,7 @@ schema_struct t new kept room type_id lacks fits = IsSchema-grown t (with_struct
   room = record { seqs = kept.room.seqs; dicts = kept.room.dicts; structs = omega (arith, length-append t.structs (new ∷ [])); enums = kept.room.enums; classes = kept.room.classes; exceptions = kept.room.exceptions; interfaces = kept.room.interfaces };
   class_flags = kept.class_flags;
   interface_flags = kept.interface_flags;
-  ids = ids_more t (with_struct t new) kept new.id (rows.Struct (length t.structs)) (struct_split t new) type_id lacks;
+  ids = ids_more t (with_struct t new) new.id (rows.Struct (length t.structs)) (last_struct t new) (ids_of t kept) type_id lacks;
   seqs = all_old t.seqs (λ q. SeqFits t q.element);
   dicts = all_old t.dicts (λ d. DictFits t d.key d.value);
   structs = one_new t.structs (λ d. StructFits t d.members) new fits;
@@ -207,9 +265,95 @@ kept_struct t beside kept new m room type_id lacks fits is =
     }
 
 -- the same of a schema's fields, where contracts see them as these tables
-pub added_struct : (old : TableRows) (after : Rows StructDecl Measure) (t : Tables) (new : StructDecl) (m : Measure) → IsKept (tables_of old) (beside_of old) → tables_of old ≡ t → after.decls ≡ old.structs.decls ++ new ∷ [] → after.beside ≡ old.structs.beside ++ m ∷ []
-    → length t.structs + 1 < 100000000 → IsTypeId new.id → IsNewId t new.id → StructFits t new.members → Some m ≡ struct_of (small_members t new.members) → IsKept (tables_of (record old { structs = after })) (beside_of (record old { structs = after }))
-added_struct old after t new m kept view_is row beside room type_id lacks fits is =
+pub added_struct : (old : TableRows) (after : Rows StructDecl Measure) (t : Tables) (row_of now : List ℕ → Option RowRef) → IsHeld (tables_of old) (beside_of old) row_of → tables_of old ≡ t → (new : StructDecl) (m : Measure)
+    → after.decls ≡ old.structs.decls ++ new ∷ [] → after.beside ≡ old.structs.beside ++ m ∷ [] → (at : ℕ) → at ≡ length old.structs.decls → ((id : List ℕ) → now id ≡ cond (bytes_eq new.id id) (Some (rows.Struct at)) (row_of id))
+    → length t.structs + 1 < 100000000 → IsTypeId new.id → IsNewId t new.id → StructFits t new.members → Some m ≡ struct_of (small_members t new.members) → IsHeld (tables_of (record old { structs = after })) (beside_of (record old { structs = after })) now
+added_struct old after t row_of now held view_is new m row beside at end put room type_id lacks fits is =
     let pushed : with_struct t new ≡ tables_of (record old { structs = after }) = rw (row, ← view_is) refl in
-    rw beside (subst (λ (u : Tables). IsKept u (record (beside_of old) { structs = old.structs.beside ++ m ∷ [] })) pushed
-    (kept_struct t (beside_of old) (subst (λ (u : Tables). IsKept u (beside_of old)) view_is kept) new m room type_id lacks fits is))
+    let was : IsHeld t (beside_of old) row_of = subst (λ (t : Tables). IsHeld t (beside_of old) row_of) view_is held in
+    rw beside (subst (λ (u : Tables). IsHeld u (record (beside_of old) { structs = old.structs.beside ++ m ∷ [] }) now) pushed (record {
+      kept = kept_struct t (beside_of old) was.kept new m room type_id lacks fits is;
+      found = found_more t (with_struct t new) new.id (rows.Struct (length t.structs)) (last_struct t new) row_of now was.found
+          (subst (λ (at : ℕ). (id : List ℕ) → now id ≡ cond (bytes_eq new.id id) (Some (rows.Struct at)) (row_of id)) (end ∙ ap (λ (t : Tables). length t.structs) view_is) put);
+    }))
+
+-- ---- an enum
+
+last_enum : (t : Tables) (new : EnumDecl) → IsLast t (with_enum t new) new.id (rows.Enum (length t.enums))
+last_enum t new = record { ids = more; at = sym (length-map t.enums (λ x. x.id)); others = others }
+  where
+    more : enum_ids (with_enum t new) ≡ enum_ids t ++ new.id ∷ []
+    more = id_last (λ x. x.id) t.enums new
+
+    others : (row : RowRef) → (row_ids (with_enum t new) row ≡ row_ids t row) ⊎ ((row_ids (with_enum t new) row ≡ row_ids t row ++ new.id ∷ []) × (row_at row ≡ length (row_ids t row) → row ≡ rows.Enum (length t.enums)))
+    others (rows.Seq at) = inl refl
+    others (rows.Dict at) = inl refl
+    others (rows.Struct at) = inl refl
+    others (rows.Enum at) = inr (more, λ end. ap rows.Enum (end ∙ length-map t.enums (λ x. x.id)))
+    others (rows.Class at) = inl refl
+    others (rows.Exception at) = inl refl
+    others (rows.Interface at) = inl refl
+
+types_enum : (t : Tables) (new : EnumDecl) → Keeps t (with_enum t new)
+types_enum t new = record {
+  seqs = λ at x e. e;
+  dicts = λ at x e. e;
+  structs = λ at x e. e;
+  enums = λ at x. slice_get-front t.enums (new ∷ []) at x;
+  classes = λ at x e. (x, e);
+  interfaces = λ at x e. (x, e);
+}
+
+grows_enum : (t : Tables) (new : EnumDecl) → Grows t (with_enum t new)
+grows_enum t new = record { types = types_enum t new; classes = λ at h. h; interfaces = λ at h. h; exceptions = omega arith; paths = λ at h. refl }
+
+schema_enum : (t : Tables) (new : EnumDecl) → IsSchema t → length t.enums + 1 < 100000000 → IsTypeId new.id → IsNewId t new.id → EnumFits new.entries → IsSchema (with_enum t new)
+schema_enum t new kept room type_id lacks fits = IsSchema-grown t (with_enum t new) kept record {
+  grows = grows_enum t new;
+  room = record { seqs = kept.room.seqs; dicts = kept.room.dicts; structs = kept.room.structs; enums = omega (arith, length-append t.enums (new ∷ [])); classes = kept.room.classes; exceptions = kept.room.exceptions; interfaces = kept.room.interfaces };
+  class_flags = kept.class_flags;
+  interface_flags = kept.interface_flags;
+  ids = ids_more t (with_enum t new) new.id (rows.Enum (length t.enums)) (last_enum t new) (ids_of t kept) type_id lacks;
+  seqs = all_old t.seqs (λ q. SeqFits t q.element);
+  dicts = all_old t.dicts (λ d. DictFits t d.key d.value);
+  structs = all_old t.structs (λ d. StructFits t d.members);
+  enums = one_new t.enums (λ e. EnumFits e.entries) new fits;
+  classes = all_old t.classes (λ c. ClassFits t c.base c.members);
+  exceptions = all_old t.exceptions (λ e. ExceptionFits t e.base e.members);
+  interfaces = all_old t.interfaces (λ i. InterfaceFits t i.bases i.ops);
+  class_bases = kept.class_bases;
+  exception_bases = kept.exception_bases;
+}
+
+kept_enum : (t : Tables) (beside : Beside) → IsKept t beside → (new : EnumDecl) (m : Measure) → length t.enums + 1 < 100000000 → IsTypeId new.id → IsNewId t new.id → EnumFits new.entries
+    → m ≡ enumeration → IsKept (with_enum t new) (record beside { enums = beside.enums ++ m ∷ [] })
+kept_enum t beside kept new m room type_id lacks fits is =
+    let u = with_enum t new in
+    let types = types_enum t new in
+    let same = measured_kept t u types beside kept in record {
+      rules = schema_enum t new kept.rules room type_id lacks fits;
+      seqs = same.seqs refl;
+      dicts = same.dicts refl;
+      structs = same.structs refl;
+      enums = are_pushed t.enums beside.enums (λ at. measure t 100 (kinds.Enum at)) (λ at. measure u 100 (kinds.Enum at)) (of_enums_says t) kept.enums
+          (λ at. measure_kept t u types 100 (kinds.Enum at)) new m (enum_says u 99 (length t.enums) new (slice_get-last t.enums new) ∙ ap Some (sym is)) (no_enum u 100);
+      class_flags = kept.class_flags;
+      interface_flags = kept.interface_flags;
+      exceptions_beside = kept.exceptions_beside;
+      classes = kept.classes;
+      exceptions = kept.exceptions;
+      interfaces = kept.interfaces;
+    }
+
+-- the same of a schema's fields, where contracts see them as these tables
+pub added_enum : (old : TableRows) (after : Rows EnumDecl Measure) (t : Tables) (row_of now : List ℕ → Option RowRef) → IsHeld (tables_of old) (beside_of old) row_of → tables_of old ≡ t → (new : EnumDecl) (m : Measure)
+    → after.decls ≡ old.enums.decls ++ new ∷ [] → after.beside ≡ old.enums.beside ++ m ∷ [] → (at : ℕ) → at ≡ length old.enums.decls → ((id : List ℕ) → now id ≡ cond (bytes_eq new.id id) (Some (rows.Enum at)) (row_of id))
+    → length t.enums + 1 < 100000000 → IsTypeId new.id → IsNewId t new.id → EnumFits new.entries → m ≡ enumeration → IsHeld (tables_of (record old { enums = after })) (beside_of (record old { enums = after })) now
+added_enum old after t row_of now held view_is new m row beside at end put room type_id lacks fits is =
+    let pushed : with_enum t new ≡ tables_of (record old { enums = after }) = rw (row, ← view_is) refl in
+    let was : IsHeld t (beside_of old) row_of = subst (λ (t : Tables). IsHeld t (beside_of old) row_of) view_is held in
+    rw beside (subst (λ (u : Tables). IsHeld u (record (beside_of old) { enums = old.enums.beside ++ m ∷ [] }) now) pushed (record {
+      kept = kept_enum t (beside_of old) was.kept new m room type_id lacks fits is;
+      found = found_more t (with_enum t new) new.id (rows.Enum (length t.enums)) (last_enum t new) row_of now was.found
+          (subst (λ (at : ℕ). (id : List ℕ) → now id ≡ cond (bytes_eq new.id id) (Some (rows.Enum at)) (row_of id)) (end ∙ ap (λ (t : Tables). length t.enums) view_is) put);
+    }))

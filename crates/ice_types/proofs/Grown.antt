@@ -1,12 +1,12 @@
 -- Tables that have grown keep the rules.
-use Rattle.std.proofs.Common.{◌≡◌, ℕ, List, [], ◌∷◌, ◌++◌, length, Option, Some, refl, subst, ◌⊎◌, inl, inr, ◌<◌}
+use Rattle.std.proofs.Common.{◌≡◌, ℕ, List, [], ◌∷◌, ◌++◌, length, Some, subst, ◌⊎◌, inl, inr, ◌<◌}
 use Rattle.std.specs.Prelude.{slice_get}
 use Rattle.ice_types.specs.Tables.{Tables}
 use Rattle.ice_types.specs.Fits.{SeqFits, DictFits, StructFits, EnumFits, ClassFits, ExceptionFits, InterfaceFits}
 use Rattle.ice_types.specs.Bases.{class_base, exception_base, HasBases}
 use Rattle.ice_types.specs.Rules.{HasRoom, EachRow, IsSchema}
 use Rattle.ice_types.proofs.Items.{slice_get-push}
-use Rattle.ice_types.proofs.Ids.{AreIds}
+use Rattle.ice_types.proofs.RowIds.{AreIds}
 use Rattle.ice_types.proofs.Staying.{Grows, seq_stays, dict_stays, struct_stays, class_stays, exception_stays, interface_stays}
 
 -- each row is an old one at its place, or is so

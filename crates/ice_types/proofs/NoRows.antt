@@ -1,8 +1,10 @@
 -- A schema without rows.
-use Rattle.std.proofs.Common.{◌≡◌, ℕ, List, refl, sym, arith}
+use Rattle.std.proofs.Common.{◌≡◌, ℕ, List, refl, sym, subst, arith}
 use Rattle.ice_types.specs.declared.kind.RowRef.{RowRef}
 use Rattle.ice_types.specs.declared.kind.RowRef.TheVariants as rows
-use Rattle.ice_types.specs.Tables.{no_types, IsNewId}
+use Rattle.std.specs.Prelude.{Option, None}
+use Rattle.ice_types.specs.Tables.{no_types, IsNewId, HasRowId, Finds}
+use Rattle.ice_types.specs.Ids.{IsHeld}
 use Rattle.ice_types.specs.Rules.{nothing, IsKept}
 use Rattle.ice_types.proofs.Said.{no_seq, no_dict, no_struct, no_enum}
 
@@ -44,3 +46,6 @@ kept_nothing = record {
   exceptions = λ at n e. absurd cc;
   interfaces = λ at n e. absurd cc;
 }
+
+pub held_nothing : (row_of : List ℕ → Option RowRef) → ((id : List ℕ) → row_of id ≡ None) → IsHeld no_types nothing row_of
+held_nothing row_of none = record { kept = kept_nothing; found = λ id. subst (Finds (HasRowId no_types id)) (sym (none id)) (λ row h. no_id id row h) }

@@ -1,5 +1,5 @@
 -- What is said of each row, and kept beside it.
-use Rattle.std.proofs.Common.{◌≡◌, ℕ, zero, suc, max, true, List, [], ◌∷◌, ◌++◌, length, Option, Some, None, refl, sym, ap, ◌∙◌, arith, inl, inr}
+use Rattle.std.proofs.Common.{◌≡◌, ℕ, zero, suc, max, List, [], ◌∷◌, ◌++◌, length, Option, Some, None, refl, sym, ap, ◌∙◌, arith, inl, inr}
 use Rattle.std.specs.Prelude.{slice_get, ◌&&◌}
 use Rattle.std.proofs.lemmas.List.{length-append}
 use Rattle.ice_types.specs.declared.declarations.SeqDecl.{SeqDecl}

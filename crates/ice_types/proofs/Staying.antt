@@ -1,6 +1,6 @@
 -- What fits a schema's tables fits them when they have grown.
-use Rattle.std.proofs.Common.{◌≡◌, ℕ, suc, ◌≤◌, ◌<◌, ◌+◌, true, List, [], ◌∷◌, length, Option, Some, None, refl, sym, ap, subst, ◌∙◌, arith}
-use Rattle.std.specs.Prelude.{slice_get, IsTrue, All, sum_by, slice_index_or}
+use Rattle.std.proofs.Common.{◌≡◌, ℕ, suc, ◌≤◌, ◌+◌, List, [], ◌∷◌, length, Option, Some, None, refl, sym, ap, subst, ◌∙◌, arith}
+use Rattle.std.specs.Prelude.{IsTrue, All, sum_by, slice_index_or}
 use Rattle.std.proofs.lemmas.List.Sums.{sum_by-cons}
 use Rattle.std.proofs.lemmas.List.Elements.{All-head, All-tail}
 use Rattle.ice_types.specs.declared.declarations.Member.{Member}
@@ -8,9 +8,10 @@ use Rattle.ice_types.specs.declared.declarations.Shape.{Shape}
 use Rattle.ice_types.specs.declared.declarations.OpDecl.{OpDecl}
 use Rattle.ice_types.specs.declared.kind.TypeRef.{TypeRef}
 use Rattle.ice_types.specs.Tables.{Tables, is_defined}
-use Rattle.ice_types.specs.Measures.{measure, paths_of}
-use Rattle.ice_types.specs.Fits.{SeqFits, DictFits, StructFits, IsOf, AreOf, MembersFit, ClassBaseFits, ClassFits, ExceptionBaseFits, ExceptionFits, ShapeFits, OpFits, BasesFit, InterfaceFits, paths_over}
-use Rattle.ice_types.proofs.Levels.{Keeps, keeps_all, measure_kept, members_kept}
+use Rattle.ice_types.specs.Measures.{paths_of}
+use Rattle.ice_types.specs.Fits.{SeqFits, DictFits, StructFits, AreOf, MembersFit, ClassFits, ExceptionFits, ShapeFits, OpFits, InterfaceFits, paths_over}
+use Rattle.ice_types.proofs.Sums.{same_sums}
+use Rattle.ice_types.proofs.Levels.{Keeps, measure_kept, members_kept}
 
 -- the tables keep each type, each definition, each exception, and the bases of what is defined
 pub record Grows (t u : Tables) : Type 0 where
@@ -19,12 +20,6 @@ pub record Grows (t u : Tables) : Type 0 where
   pub interfaces : (at : ℕ) → IsTrue (is_defined t.defined_interfaces at) → IsTrue (is_defined u.defined_interfaces at)
   pub exceptions : length t.exceptions ≤ length u.exceptions
   pub paths : (at : ℕ) → IsTrue (is_defined t.defined_interfaces at) → paths_of t 1001 at ≡ paths_of u 1001 at
-
--- a number that is the same for each item has the same sum
-pub same_sums : {A : Type 0} (f g : A → ℕ) (xs : List A) → All (λ x. f x ≡ g x) xs → sum_by f xs ≡ sum_by g xs
-same_sums f g [] same = refl
-same_sums f g (x ∷ xs) same = sum_by-cons f x xs
-    ∙ (ap (λ (n : ℕ). n + sum_by f xs) (All-head (λ y. f y ≡ g y) x xs same) ∙ (ap (λ (n : ℕ). g x + n) (same_sums f g xs (All-tail (λ y. f y ≡ g y) x xs same)) ∙ sym (sum_by-cons g x xs)))
 
 module _ (t u : Tables) (grows : Grows t u) where
   pub seq_stays : (element : TypeRef) → SeqFits t element → SeqFits u element

@@ -1,11 +1,10 @@
 -- The type of a row, where it is one.
 use Rattle.std.proofs.Common.{◌≡◌, ℕ, List, Option, Some, None, refl, sym, ap, ◌∙◌}
-use Rattle.std.specs.Prelude.{MatchOption}
 use Rattle.ice_types.specs.declared.kind.TypeRef.{TypeRef}
 use Rattle.ice_types.specs.declared.kind.TypeRef.TheVariants as kinds
 use Rattle.ice_types.specs.declared.kind.RowRef.{RowRef}
 use Rattle.ice_types.specs.declared.kind.RowRef.TheVariants as rows
-use Rattle.ice_types.specs.Tables.{Tables, HasTypeId, HasRowId, IsTypeId, Finds, FindsKind}
+use Rattle.ice_types.specs.Tables.{Tables, HasTypeId, HasRowId, IsTypeId}
 use Rattle.ice_types.specs.Rules.{IsSchema}
 
 -- exceptions and interfaces are no types

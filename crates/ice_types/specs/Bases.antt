@@ -14,3 +14,8 @@ exception_base t at = option_map (λ e. e.base) (slice_get t.exceptions at)
 pub data HasBases (base_of : ℕ → Option (Option ℕ)) : ℕ → ℕ → Type 0 where
   Lone : (at : ℕ) → base_of at ≡ Some None → HasBases base_of at 0
   Derived : (at base bases : ℕ) → base_of at ≡ Some (Some base) → HasBases base_of base bases → HasBases base_of at (suc bases)
+
+-- so many has one that has this base next, or none
+abbrev pub HasBasesFrom : (ℕ → Option (Option ℕ)) → Option ℕ → ℕ → Type 0
+HasBasesFrom base_of None bases = bases ≡ 0
+HasBasesFrom base_of (Some base) bases = (others : ℕ) × (bases ≡ suc others) × HasBases base_of base others

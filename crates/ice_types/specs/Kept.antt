@@ -1,5 +1,5 @@
 -- The tables as a schema keeps them.
-use Rattle.std.specs.Prelude.{map}
+use Rattle.std.specs.Prelude.{ℕ, List, Option, None, map, slice_get, unwrap_or}
 use Rattle.std.specs.Option.{is_some}
 use Rattle.ice_types.specs.declared.rows.TableRows.{TableRows}
 use Rattle.ice_types.specs.Tables.{Tables}
@@ -30,3 +30,7 @@ beside_of r = record {
   exceptions = r.exceptions.beside;
   interfaces = r.interfaces.beside;
 }
+
+-- the number beside the row at this place; 0 where the row is only declared
+abbrev pub counted : List (Option ℕ) → ℕ → ℕ
+counted beside at = unwrap_or (unwrap_or (slice_get beside at) None) 0

@@ -6,4 +6,5 @@ pub mod Fits
 pub mod Bases
 pub mod Rules
 pub mod Kept
+pub mod Ids
 pub mod Parts

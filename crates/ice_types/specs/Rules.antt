@@ -1,5 +1,5 @@
 -- What every schema keeps.
-use Rattle.std.specs.Prelude.{ℕ, suc, ◌≡◌, ◌≤◌, ◌<◌, Bool, true, List, [], ◌∷◌, length, map, Option, Some, slice_get, unwrap_or, if◌then◌else◌}
+use Rattle.std.specs.Prelude.{ℕ, suc, ◌≡◌, ◌≤◌, ◌<◌, Bool, true, false, List, [], ◌∷◌, length, map, Option, Some, slice_get, unwrap_or}
 use Rattle.std.specs.Option.{is_some}
 use Rattle.ice_types.specs.declared.kind.TypeRef.{TypeRef}
 use Rattle.ice_types.specs.declared.kind.TypeRef.TheVariants as kinds
@@ -66,9 +66,10 @@ abbrev pub AreMeasures : Tables → (ℕ → TypeRef) → List Measure → Type 
 AreMeasures t kind found = (at : ℕ) → slice_get found at ≡ measure t MOST_DEPTH (kind at)
 
 -- how many rows are defined
-abbrev pub defined : List (Option ℕ) → ℕ
+abbrev pub defined : List Bool → ℕ
 defined [] = 0
-defined (row ∷ rows) = if is_some row then suc (defined rows) else defined rows
+defined (true ∷ flags) = suc (defined flags)
+defined (false ∷ flags) = defined flags
 
 pub record IsKept (t : Tables) (beside : Beside) : Type 0 where
   pub rules : IsSchema t
@@ -80,6 +81,6 @@ pub record IsKept (t : Tables) (beside : Beside) : Type 0 where
   pub interface_flags : t.defined_interfaces ≡ map is_some beside.interfaces
   pub exceptions_beside : length beside.exceptions ≡ length t.exceptions
   -- no class has more bases than there are defined classes, and no exception as many as stand before it
-  pub classes : (at : ℕ) (bases : Option ℕ) → slice_get beside.classes at ≡ Some bases → HasBases (class_base t) at (unwrap_or bases 0) × (unwrap_or bases 0 ≤ defined beside.classes)
+  pub classes : (at : ℕ) (bases : Option ℕ) → slice_get beside.classes at ≡ Some bases → HasBases (class_base t) at (unwrap_or bases 0) × (unwrap_or bases 0 ≤ defined t.defined_classes)
   pub exceptions : (at bases : ℕ) → slice_get beside.exceptions at ≡ Some bases → HasBases (exception_base t) at bases × (bases ≤ at)
   pub interfaces : (at : ℕ) (paths : Option ℕ) → slice_get beside.interfaces at ≡ Some paths → unwrap_or paths 0 ≡ paths_of t (suc MOST_BASES) at

@@ -115,15 +115,28 @@ HasId ids id at = slice_get ids at ≡ Some id
 abbrev pub LacksId : List (List ℕ) → List ℕ → Type 0
 LacksId ids id = (at : ℕ) → slice_get ids at ≢ Some id
 
--- the row of this id
+-- the ids of the table that a row is of, and its place there
+abbrev pub row_ids : Tables → RowRef → List (List ℕ)
+row_ids t (rows.Seq at) = seq_ids t
+row_ids t (rows.Dict at) = dict_ids t
+row_ids t (rows.Struct at) = struct_ids t
+row_ids t (rows.Enum at) = enum_ids t
+row_ids t (rows.Class at) = class_ids t
+row_ids t (rows.Exception at) = exception_ids t
+row_ids t (rows.Interface at) = interface_ids t
+
+abbrev pub row_at : RowRef → ℕ
+row_at (rows.Seq at) = at
+row_at (rows.Dict at) = at
+row_at (rows.Struct at) = at
+row_at (rows.Enum at) = at
+row_at (rows.Class at) = at
+row_at (rows.Exception at) = at
+row_at (rows.Interface at) = at
+
+-- the row has this id
 abbrev pub HasRowId : Tables → List ℕ → RowRef → Type 0
-HasRowId t id (rows.Seq at) = HasId (seq_ids t) id at
-HasRowId t id (rows.Dict at) = HasId (dict_ids t) id at
-HasRowId t id (rows.Struct at) = HasId (struct_ids t) id at
-HasRowId t id (rows.Enum at) = HasId (enum_ids t) id at
-HasRowId t id (rows.Class at) = HasId (class_ids t) id at
-HasRowId t id (rows.Exception at) = HasId (exception_ids t) id at
-HasRowId t id (rows.Interface at) = HasId (interface_ids t) id at
+HasRowId t id row = HasId (row_ids t row) id (row_at row)
 
 -- no row of any table has the id
 abbrev pub IsNewId : Tables → List ℕ → Type 0

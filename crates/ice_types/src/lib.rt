@@ -1,11 +1,17 @@
 //! Plain data of Slice: names, lists, types and the schema that tells which types there are.
 #![tactic(auto)]
 
+mod adding;
+mod bases;
 mod declarations;
+mod defining;
+mod ids;
 mod kind;
 mod laws;
 mod list;
+mod look_ups;
 mod measure;
+mod measuring;
 mod name;
 mod own_names;
 mod rows;

@@ -1,13 +1,17 @@
 //! The rows of the tables by place, and what the schema says of each.
 
-ghost use Rattle.std.specs.Prelude.{◌≡◌, ◌<◌, ◌++◌, [], ◌∷◌, List, ℕ, MatchOption, OnOk, OnErr, length, map};
-ghost use Rattle.ice_types.specs.Tables.{HasId, LacksId, no_types};
+ghost use Rattle.std.specs.Prelude.{◌≡◌, ◌<◌, ◌++◌, [], ◌∷◌, List, ℕ, MatchOption, OnOk, OnErr, Some, None, cond, bytes_eq, length, map};
+ghost use Rattle.ice_types.specs.Ids.{row_in};
+ghost use Rattle.ice_types.specs.Tables.{changed, no_types};
 ghost use Rattle.ice_types.specs.Kept.{beside_of, tables_of};
 ghost use Rattle.ice_types.specs.Rules.{nothing};
 
 use crate::declarations::{
-    ClassDecl, DictDecl, EnumDecl, ExceptionDecl, InterfaceDecl, SeqDecl, StructDecl,
+    ClassDecl, DictDecl, EnumDecl, ExceptionDecl, InterfaceDecl, Member, OpDecl, SeqDecl,
+    StructDecl,
 };
+use crate::ids::Ids;
+use crate::kind::RowRef;
 use crate::list::List;
 use crate::measure::Measure;
 use std::alloc::{AllocError, Global};
@@ -102,7 +106,7 @@ impl<T, S> Rows<T, S> {
 
 impl<T: Drop, S: Drop> Rows<T, S> {
     /// Adds a row. Out of memory leaves the rows as they were.
-    pub fn add(&mut self, decl: T, beside: S) -> Result<(), AllocError>
+    fn add(&mut self, decl: T, beside: S) -> Result<(), AllocError>
         ensures decls { OnOk result (self.new.decls ≡ self.old.decls ++ decl ∷ []) }
         ensures beside { OnOk result (self.new.beside ≡ self.old.beside ++ beside ∷ []) }
         ensures err { OnErr result (self.new ≡ self.old) }
@@ -116,17 +120,58 @@ impl<T: Drop, S: Drop> Rows<T, S> {
     }
 }
 
-/// The place of the row with this type id.
-pub(crate) fn place_of<T: Row>(rows: &[T], id: &str) -> Option<u32>
-    requires { length rows.now < MOST_ROWS }
-    ensures { MatchOption result (LacksId (map T.id_of rows.now) id.now) (HasId (map T.id_of rows.now) id.now) }
+/// Adds a row with what stands beside it, and its id. Out of memory leaves all as it was.
+pub(crate) fn add_row<T: Row + Drop, S: Drop>(
+    rows: &mut Rows<T, S>,
+    ids: &mut Ids,
+    decl: T,
+    beside: S,
+    row: RowRef,
+) -> Result<(), AllocError>
+    ensures decls { OnOk result (rows.new.decls ≡ rows.old.decls ++ decl ∷ []) }
+    ensures beside { OnOk result (rows.new.beside ≡ rows.old.beside ++ beside ∷ []) }
+    ensures ids { OnOk result ((id : List ℕ) → row_in ids.new id ≡ cond (bytes_eq (T.id_of decl) id) (Some row) (row_in ids.old id)) }
+    ensures err_rows { OnErr result (rows.new ≡ rows.old) }
+    ensures err_ids { OnErr result ((id : List ℕ) → row_in ids.new id ≡ row_in ids.old id) }
 {
-    for (at, row) in rows.iter().enumerate() {
-        if row.id() == id {
-            return Some(at as u32);
-        }
+    let id = ids.copied(decl.id())?;
+    rows.add(decl, beside)?;
+    let added = ids.insert(id, row);
+    if added.is_err() {
+        rows.decls.pop();
+        rows.beside.pop();
     }
-    None
+    added
+}
+
+/// Puts a base and members into the class at this place.
+pub(crate) fn fill_class(
+    classes: &mut List<ClassDecl>,
+    at: u32,
+    base: Option<u32>,
+    members: List<Member>,
+)
+    requires { at < length classes.old }
+    ensures { classes.new ≡ changed (λ c. record { id = c.id; base = base; members = members }) classes.old at }
+{
+    let class = &mut classes.items[at as usize];
+    class.base = base;
+    class.members = members;
+}
+
+/// Puts bases and operations into the interface at this place.
+pub(crate) fn fill_interface(
+    interfaces: &mut List<InterfaceDecl>,
+    at: u32,
+    bases: List<u32>,
+    ops: List<OpDecl>,
+)
+    requires { at < length interfaces.old }
+    ensures { interfaces.new ≡ changed (λ i. record { id = i.id; bases = bases; ops = ops }) interfaces.old at }
+{
+    let interface = &mut interfaces.items[at as usize];
+    interface.bases = bases;
+    interface.ops = ops;
 }
 
 /// The rows of all tables.

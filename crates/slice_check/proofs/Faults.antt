@@ -9,9 +9,9 @@ use Rattle.slice_meaning.specs.Names.{Name}
 use Rattle.slice_meaning.specs.Meaning.{CheckBreaks}
 use Rattle.slice_meaning.specs.Printed.{broken_at, row_name}
 use Rattle.slice_meaning.specs.Loading.{Shelf, Loaded}
-use Rattle.check_scaffold.specs.Held.{Checks}
-use Rattle.check_scaffold.specs.declared.CheckFault.{CheckFault}
-use Rattle.check_scaffold.specs.declared.CheckFault.TheVariants as checking
+use Rattle.slice_faults.specs.Answer.{IsAnswer}
+use Rattle.slice_faults.specs.declared.fault.CheckFault.{CheckFault}
+use Rattle.slice_faults.specs.declared.fault.CheckFault.TheVariants as checking
 use Rattle.slice_check.specs.declared.fault.LoadFault.{LoadFault}
 use Rattle.slice_check.specs.declared.fault.LoadFault.TheVariants as faults
 use Rattle.slice_check.specs.declared.files.Files.{Files}
@@ -20,8 +20,8 @@ use Rattle.slice_check.specs.Standing.{AreFiles, AreWalked}
 use Rattle.slice_check.proofs.Ranges.{breaks_within}
 
 -- the fault that is answered
-pub breaks_at : (trees seen : List File) (answer : CheckFault) (at : ℕ) (fault : Fault) → seen ≡ trees → answer ≡ checking.At at fault.place fault.kind → Checks seen (Err answer) → CheckBreaks trees at fault
-breaks_at trees seen answer at fault same is h = subst (λ (t : List File). CheckBreaks t at fault) same (subst (λ (a : CheckFault). Checks seen (Err a)) is h)
+pub breaks_at : (trees seen : List File) (answer : CheckFault) (at : ℕ) (fault : Fault) → seen ≡ trees → answer ≡ checking.At at fault.place fault.kind → IsAnswer seen (Err answer) → CheckBreaks trees at fault
+breaks_at trees seen answer at fault same is h = subst (λ (t : List File). CheckBreaks t at fault) same (subst (λ (a : CheckFault). IsAnswer seen (Err a)) is h)
 
 -- the file that it is in
 pub fault_file : (f : Files) (complete : List Loaded) (at : ℕ) (fault : Fault) → AreFiles f complete → CheckBreaks f.trees at fault → (l : Loaded) × (slice_get complete at ≡ Some l)
