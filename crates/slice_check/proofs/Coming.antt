@@ -8,7 +8,7 @@ use Rattle.std.proofs.lemmas.Option.{get_or_from_slice_get, slice_get_within, sl
 use Rattle.std.proofs.lemmas.List.{append-nil, reverse-append, map-append, drop_more, length-append}
 use Rattle.std.proofs.lemmas.List.Elements.{All-nil, All-push, All-cons, All-head, All-tail, All-same}
 use Rattle.slice_syntax.specs.declared.tree.File.{File}
-use Rattle.slice_syntax.specs.Places.{AreRegular}
+use Rattle.slice_syntax.specs.Places.{AreRegular, Each}
 use Rattle.slice_meaning.specs.declared.limits.TheConstants.{MOST_FILES}
 use Rattle.slice_meaning.specs.Names.{Name}
 use Rattle.slice_meaning.specs.Printed.{broken_at}
@@ -76,6 +76,10 @@ passing files file names f user around next e s shelf is =
     (subst (λ (l : Includes). GoesOn shelf file s.loaded s.complete (record { name = user.name; tree = user.tree; left = l } ∷ map inside around))
     (parts.2 ∙ ap (λ (l : Includes). parts.0 ++ l) (sym e)) (s.goes_on shelf is))
 
+each_pushed : {A : Type 0} (P : A → Type 0) (xs : List A) (x : A) → Each P xs → P x → Each P (xs ++ x ∷ [])
+each_pushed P [] x h is = (is, tt)
+each_pushed P (y ∷ ys) x h is = (h.0, each_pushed P ys x h.1 is)
+
 -- the walk comes out of a file
 pub comes_out : (files : Option Shelf) (file : Name) (names : BTreeSet (String Global)) (f g : Files) (user : Open) (around : List Open) (next : ℕ)
     → drop next user.tree.included ≡ unloaded (contains_text names) (drop user.next user.tree.included) → slice_get user.tree.included next ≡ None → g.names ≡ f.names ++ user.name ∷ [] → g.trees ≡ f.trees ++ user.tree ∷ []
@@ -88,7 +92,7 @@ comes_out files file names f g user around next e none named read s = record {
   those = record {
     named = named ∙ (ap (λ (n : List Name). n ++ user.name ∷ []) s.those.named ∙ sym (map-append (λ (l : Loaded). l.0) s.complete ((user.name, user.tree) ∷ [])));
     read = read ∙ (ap (λ (t : List File). t ++ user.tree ∷ []) s.those.read ∙ sym (map-append (λ (l : Loaded). l.1) s.complete ((user.name, user.tree) ∷ [])));
-    regular = All-same AreRegular g.trees (f.trees ++ user.tree ∷ []) read (All-push AreRegular f.trees user.tree s.those.regular (All-head (λ (o : Open). AreRegular o.tree) user around s.regular));
+    regular = subst (Each AreRegular) (sym read) (each_pushed AreRegular f.trees user.tree s.those.regular (All-head (λ (o : Open). AreRegular o.tree) user around s.regular));
   };
   regular = All-tail (λ (o : Open). AreRegular o.tree) user around s.regular;
   goes_on = λ shelf is. completes shelf file s.loaded s.complete (record { name = user.name; tree = user.tree; left = drop next user.tree.included }) (map inside around) (none_left user.tree.included next none)
@@ -179,7 +183,7 @@ begins files file names f o named read is = record {
   complete = [];
   held = is.held;
   few = omega arith;
-  those = record { named = named; read = read; regular = All-same AreRegular f.trees [] read (All-nil AreRegular) };
+  those = record { named = named; read = read; regular = subst (Each AreRegular) (sym read) tt };
   regular = All-cons (λ (o : Open). AreRegular o.tree) o [] is.regular (All-nil (λ (o : Open). AreRegular o.tree));
   goes_on = λ shelf told. let found = is.found shelf told in
       subst (λ (i : Inside). GoesOn shelf file (file ∷ []) [] (i ∷ [])) (sym (just_opened file o is.named is.next)) (starts shelf file found.0 o.tree found.1 found.2);

@@ -1,9 +1,7 @@
 -- A fault of the checker is that of a name on the shelf.
-use Rattle.std.proofs.Common.{◌≡◌, ℕ, ◌<◌, false, List, [], ◌∷◌, All, length, Option, Some, None, Err, slice_get, get_or, option_map, ◌≤◌, ◌⊎◌, refl, sym, ap, ◌∙◌, subst, inl, inr, arith}
+use Rattle.std.proofs.Common.{◌≡◌, ℕ, ◌<◌, false, List, length, Option, Some, None, Err, slice_get, get_or, option_map, ◌≤◌, ◌⊎◌, refl, sym, ap, ◌∙◌, subst, inl, inr, arith}
 use Rattle.std.specs.Option.{IfSome}
 use Rattle.std.proofs.lemmas.List.{length-map}
-use Rattle.std.proofs.lemmas.List.Elements.{All-head, All-tail}
-use Rattle.slice_syntax.specs.Places.{Each}
 use Rattle.std.proofs.lemmas.Option.{slice_get-map, slice_get_cases}
 use Rattle.slice_syntax.specs.declared.tree.File.{File}
 use Rattle.slice_meaning.specs.declared.fault.Fault.{Fault}
@@ -73,8 +71,3 @@ is_break (Some known) name f at fault answer w b told = let l = fault_file f w.c
     })
     by faults.Shelf h = tt
     by faults.Memory h = tt
-
--- what holds of all holds of each
-pub each_of : {A : Type 0} (Holds : A → Type 0) (xs : List A) → All Holds xs → Each Holds xs
-each_of Holds [] h = tt
-each_of Holds (x ∷ xs) h = (All-head Holds x xs h, each_of Holds xs (All-tail Holds x xs h))

@@ -1,7 +1,7 @@
 -- How far a walk has come.
 use Rattle.std.specs.Prelude.{ℕ, ◌≡◌, ◌≤◌, ◌+◌, ◌-◌, ◌*◌, List, [], map, reverse, drop, length, All, String, Option, Result, Ok, Err}
 use Rattle.std.specs.BTreeSet.{BTreeSet, btree_set_len}
-use Rattle.slice_syntax.specs.Places.{AreRegular}
+use Rattle.slice_syntax.specs.Places.{AreRegular, Each}
 use Rattle.slice_meaning.specs.declared.limits.TheConstants.{MOST_FILES}
 use Rattle.slice_meaning.specs.Names.{Name}
 use Rattle.slice_meaning.specs.Loading.{Shelf, Loaded, trees_of, whole}
@@ -31,7 +31,7 @@ names_of trees = map (λ l. l.0) trees
 pub record AreFiles (f : Files) (trees : List Loaded) : Type 0 where
   pub named : f.names ≡ names_of trees
   pub read : f.trees ≡ trees_of trees
-  pub regular : All AreRegular f.trees
+  pub regular : Each AreRegular f.trees
 
 -- the walk from FILE has come so far, with these names loaded and these files complete, and is inside of these
 pub record HasCome {Y : Type 0} (files : Option Shelf) (file : Name) (names : BTreeSet (String Y)) (f : Files)

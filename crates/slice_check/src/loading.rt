@@ -6,9 +6,9 @@ ghost use Rattle.slice_check.specs.Answers.{Answers, is_failed};
 
 use crate::fault::LoadFault;
 use crate::walk::walk_from;
-use slice_faults::{CheckFault, check};
 use ice_ports::Shelf;
 use ice_types::Schema;
+use slice_faults::{CheckFault, check};
 use std::alloc::Global;
 
 /// The schema that the file of this name means with all that it includes.

@@ -171,6 +171,52 @@ fn a_hundred_files_are_loaded_and_no_more(rt: HostRuntime) -> Result<(), Fail> {
     Ok(())
 }
 
+/// Texts of `a` and `b`, and the fault of the checker, where there is one.
+const CHECKS: &[(&str, &str, Option<(&str, u32, &str)>)] = &[
+    (
+        "#include \"b\"\nmodule A { sequence<B::E> Q; };",
+        "module B { enum E { a }; };",
+        None,
+    ),
+    // what is included is not there for the file that is included
+    (
+        "#include \"b\"\nmodule A { enum C { c }; };",
+        "#include \"a\"\nmodule B { sequence<A::C> Q; };",
+        Some(("b", 33, "Unknown")),
+    ),
+    (
+        "#include \"b\"\nmodule A { sequence<B::F> Q; };",
+        "module B { enum E { a, A }; };",
+        Some(("b", 23, "Clash")),
+    ),
+    (
+        "#include \"b\"\nmodule A { sequence<B::F> Q; };",
+        "module B { enum E { a }; };",
+        Some(("a", 33, "Unknown")),
+    ),
+];
+
+#[test]
+fn the_checker_sees_each_file_after_those_that_it_includes(rt: HostRuntime) -> Result<(), Fail> {
+    let alloc = rt.alloc();
+    for (a, b, comes) in CHECKS {
+        let mut files = List::new(alloc);
+        files.push(file(alloc, "a", a)?)?;
+        files.push(file(alloc, "b", b)?)?;
+        match (
+            load(alloc, &mut MemShelf::new(files, List::new(alloc)), "a"),
+            comes,
+        ) {
+            (Ok(_), None) => (),
+            (Err(fault), Some((file, place, kind))) => {
+                assert!(rt; is_fault(&fault, file, *place, kind));
+            }
+            _ => assert!(rt; false),
+        }
+    }
+    Ok(())
+}
+
 #[test]
 fn a_shelf_that_fails_is_no_fault_of_a_text(rt: HostRuntime) -> Result<(), Fail> {
     let alloc = rt.alloc();

@@ -1,12 +1,8 @@
-use Rattle.std.proofs.Common.{sym, subst, ap, ◌∙◌}
+use Rattle.std.proofs.Common.{sym, ap, ◌∙◌}
 use Rattle.ice_ports.specs.Failures.{count_after}
-use Rattle.slice_syntax.specs.Places.{AreRegular, Each}
 use Rattle.slice_meaning.specs.declared.fault.Fault.{Fault}
-use Rattle.slice_check.proofs.Faults.{breaks_at, each_of, fault_within, not_failed, is_break}
+use Rattle.slice_check.proofs.Faults.{breaks_at, fault_within, not_failed, is_break}
 use Rattle.slice_check.proofs.loading.load.Goals as goal
-
-pub check-requires : goal.check-requires
-check-requires g c = subst (Each AreRegular) (sym c.as_slice.ensures) (each_of AreRegular c.in_ok-files.files.trees c.in_ok-files.ensures.answer.those.regular)
 
 pub fault-requires : goal.fault-requires
 fault-requires g c =
