@@ -8,10 +8,12 @@ ghost use Rattle.slice_meaning.specs.Checking.{noted, broken};
 ghost use Rattle.slice_faults.specs.Held.{known_of};
 ghost use Rattle.slice_faults.specs.Kept.{IsKept};
 
+use crate::classes::class;
 use crate::constants::constant;
 use crate::containers::{dictionary, sequence};
 use crate::enums::enumeration;
 use crate::exceptions::exception;
+use crate::interfaces::interface;
 use crate::known::Known;
 use crate::modules::{enter, leave};
 use crate::structs::structure;
@@ -63,8 +65,8 @@ fn declare_item<'a>(
         Item::Struct { word, fields } => structure(alloc, known, word, fields),
         Item::Seq { word, element } => sequence(alloc, known, word, element),
         Item::Dict { word, key, value } => dictionary(alloc, known, word, key, value),
-        Item::Class { .. } => Err(AllocError),
+        Item::Class { word, base, fields } => class(alloc, known, word, base, fields),
         Item::Exception { word, base, fields } => exception(alloc, known, word, base, fields),
-        Item::Interface { .. } => Err(AllocError),
+        Item::Interface { word, bases, ops } => interface(alloc, known, word, bases, ops),
     }
 }

@@ -1,9 +1,11 @@
 //! Names of the innermost open scope.
 
-ghost use Rattle.std.specs.Prelude.{◌≡◌, None, OnOk};
+ghost use Rattle.std.specs.Prelude.{◌≡◌, ◌&&◌, not, None, OnOk};
 ghost use Rattle.slice_meaning.specs.Names.{declared_in};
-ghost use Rattle.slice_meaning.specs.Known.{with_name};
-ghost use Rattle.slice_meaning.specs.Clashes.{new_name};
+ghost use Rattle.slice_meaning.specs.Known.{standing_here, with_name};
+ghost use Rattle.slice_meaning.specs.Uses.{where_true};
+ghost use Rattle.slice_meaning.specs.Clashes.{new_name, is_taken};
+ghost use Rattle.slice_meaning.specs.declared.fault.CheckKind.TheVariants as rows;
 ghost use Rattle.slice_meaning.specs.Checking.{noted};
 ghost use Rattle.slice_names.specs.Numbers.{scope_at};
 ghost use Rattle.slice_faults.specs.Held.{known_of};
@@ -26,6 +28,33 @@ pub(crate) fn note_new_name(
         .names
         .is_taken(alloc, known.scope, word.name.as_str())?;
     found.note_where(taken, word.place, CheckKind::Clash);
+    Ok(())
+}
+
+/// What this very name of the innermost open scope stands for.
+pub(crate) fn standing_here(known: &Known, word: &Word) -> Option<Standing>
+    ensures { result ≡ standing_here (known_of known.now) word.now }
+{
+    match known.names.in_scope(known.scope, word.name.as_str()) {
+        Some(number) => Some(known.names.standing(number)),
+        None => None,
+    }
+}
+
+/// Notes the name of a declaration where it is taken, unless it may stand there again.
+pub(crate) fn note_reopened(
+    alloc: Global,
+    known: &Known,
+    word: &Word,
+    again: bool,
+    found: &mut Found,
+) -> Result<(), AllocError>
+    ensures { OnOk result (found.new.first ≡ noted found.old.first (where_true (is_taken (known_of known.now) word.now && not again) word.now.place rows.Clash)) }
+{
+    let taken = known
+        .names
+        .is_taken(alloc, known.scope, word.name.as_str())?;
+    found.note_where(taken && !again, word.place, CheckKind::Clash);
     Ok(())
 }
 

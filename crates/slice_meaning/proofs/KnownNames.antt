@@ -104,7 +104,7 @@ type_says t (standings.Interface at) kind h e = absurd cc
 type_says t (standings.Exception at) kind h e = absurd cc
 type_says t (standings.Value v) kind h e = absurd cc
 
-interface_says : (t : Tables) (s : Standing) (at : ℕ) → HasRow t s → as_interface s ≡ Some at → at < length t.interfaces
+pub interface_says : (t : Tables) (s : Standing) (at : ℕ) → HasRow t s → as_interface s ≡ Some at → at < length t.interfaces
 interface_says t standings.Module at h e = absurd cc
 interface_says t (standings.Type found) at h e = absurd cc
 interface_says t (standings.Interface place) at h e = let same : place ≡ at = cc in subst (λ (n : ℕ). n < length t.interfaces) same h
@@ -137,7 +137,7 @@ class_says t (kinds.Enum place) at h e = absurd cc
 class_says t (kinds.Proxy place) at h e = absurd cc
 class_says t (kinds.Class place) at h e = class_there t at (subst (λ (o : Option ℕ). IsOf t (kinds.Class o)) e h)
 
-as_class_says : (t : Tables) (s : Standing) (at : ℕ) → HasRow t s → as_class s ≡ Some at → at < length t.classes
+pub as_class_says : (t : Tables) (s : Standing) (at : ℕ) → HasRow t s → as_class s ≡ Some at → at < length t.classes
 as_class_says t standings.Module at h e = absurd cc
 as_class_says t (standings.Type kind) at h e = class_says t kind at h e
 as_class_says t (standings.Interface place) at h e = absurd cc

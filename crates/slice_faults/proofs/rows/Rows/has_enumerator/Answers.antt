@@ -11,7 +11,7 @@ returns-in-Some c =
     let rows = c.self.inside in
     let sets = c.deref.result.now in
     let got = ap (λ l. slice_get l c.args.at) (sym c.deref.ensures.value)
-        ∙ slice_get_read sets (length sets) c.args.at c.in-Some.names.now refl c.in-Some.ensures.lookup.3.0 c.in-Some.ensures.lookup.1 in
+    ∙ slice_get_read sets (length sets) c.args.at c.in-Some.names.now refl c.in-Some.ensures.lookup.3.0 c.in-Some.ensures.lookup.1 in
     c.contains.ensures ∙ (found_at rows.enumerators.items rows.schema.enums c.args.at c.in-Some.names.now c.args.name.now c.self.invariant got
     ∙ ap (λ (t : Tables). has_enumerator t c.args.at c.args.name.now) c.self.view_is)
 
