@@ -134,7 +134,7 @@ fn put_name<'a>(alloc: Global, known: &mut Known<'a>, word: &'a Word) -> Result<
     requires plain { IsPlain word.now.name }
     requires kept { IsKept (known_of known.old) }
     ensures named { OnOk result (known_of known.new ≡ with_class_name (known_of known.old) word.now) }
-    ensures undefined { OnOk result (standing_here (known_of known.old) word.now ≡ None → is_defined known.new.schema.defined_classes (class_at (known_of known.new) word.now) ≡ false) }
+    ensures undefined { OnOk result (standing_here (known_of known.old) word.now ≡ None → is_defined known.new.rows.defined_classes (class_at (known_of known.new) word.now) ≡ false) }
 {
     if standing_here(known, word).is_none() {
         has_room(known.rows.schema().classes().len())?;
@@ -183,9 +183,9 @@ fn fill(
     base: &Option<Path>,
     fields: &[Field],
 ) -> Result<(), AllocError>
-    requires there { class_at (known_of known.old) word.now < length known.old.schema.classes }
-    requires undefined { is_defined known.old.schema.defined_classes (class_at (known_of known.old) word.now) ≡ false }
-    requires fits { ClassFits known.old.schema (base_at (class_named (known_of known.old)) base.now) (members_of (known_of known.old) fields.now) }
+    requires there { class_at (known_of known.old) word.now < length known.old.rows.classes }
+    requires undefined { is_defined known.old.rows.defined_classes (class_at (known_of known.old) word.now) ≡ false }
+    requires fits { ClassFits known.old.rows (base_at (class_named (known_of known.old)) base.now) (members_of (known_of known.old) fields.now) }
     ensures { OnOk result (known_of known.new ≡ with_class_body (known_of known.old) word.now base.now (Some fields.now)) }
 {
     let members = members_of(alloc, known, fields)?;

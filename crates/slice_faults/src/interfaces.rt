@@ -134,7 +134,7 @@ fn put_name<'a>(alloc: Global, known: &mut Known<'a>, word: &'a Word) -> Result<
     requires plain { IsPlain word.now.name }
     requires kept { IsKept (known_of known.old) }
     ensures named { OnOk result (known_of known.new ≡ with_interface_name (known_of known.old) word.now) }
-    ensures undefined { OnOk result (standing_here (known_of known.old) word.now ≡ None → is_defined known.new.schema.defined_interfaces (interface_at (known_of known.new) word.now) ≡ false) }
+    ensures undefined { OnOk result (standing_here (known_of known.old) word.now ≡ None → is_defined known.new.rows.defined_interfaces (interface_at (known_of known.new) word.now) ≡ false) }
 {
     if standing_here(known, word).is_none() {
         has_room(known.rows.schema().interfaces().len())?;
@@ -153,9 +153,9 @@ fn fill(
     bases: &[Path],
     ops: &[OpTree],
 ) -> Result<(), AllocError>
-    requires there { interface_at (known_of known.old) word.now < length known.old.schema.interfaces }
-    requires undefined { is_defined known.old.schema.defined_interfaces (interface_at (known_of known.old) word.now) ≡ false }
-    requires fits { InterfaceFits known.old.schema (named (interface_named (known_of known.old)) bases.now) (map (op_of (known_of known.old)) ops.now) }
+    requires there { interface_at (known_of known.old) word.now < length known.old.rows.interfaces }
+    requires undefined { is_defined known.old.rows.defined_interfaces (interface_at (known_of known.old) word.now) ≡ false }
+    requires fits { InterfaceFits known.old.rows (named (interface_named (known_of known.old)) bases.now) (map (op_of (known_of known.old)) ops.now) }
     ensures { OnOk result (known_of known.new ≡ with_interface_body (known_of known.old) word.now bases.now (Some ops.now)) }
 {
     let bases = bases_of(alloc, known, bases)?;
