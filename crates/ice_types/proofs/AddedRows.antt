@@ -1,6 +1,6 @@
 -- What a schema keeps when an exception is added, or a class or an interface is declared.
 use Rattle.std.proofs.Common.{◌≡◌, ℕ, zero, suc, ◌+◌, ◌<◌, ◌≤◌, Bool, true, false, cond, List, [], ◌∷◌, ◌++◌, length, map, Option, Some, None, refl, sym, ap, subst, ◌∙◌, arith, inl, inr, ◌⊎◌, bytes_eq}
-use Rattle.std.specs.Prelude.{slice_get, is_some, All, IsTrue, unwrap_or}
+use Rattle.std.specs.Prelude.{slice_get, is_some, IsTrue, unwrap_or}
 use Rattle.std.specs.Option.{option_map}
 use Rattle.std.proofs.lemmas.List.{length-append, length-map, map-append}
 use Rattle.std.proofs.lemmas.List.Elements.{All-nil}
@@ -25,7 +25,7 @@ use Rattle.ice_types.proofs.BaseChains.{mapped_front, bases_grow, based_on, all_
 use Rattle.ice_types.proofs.BasePaths.{bases_front, no_paths, no_bases, same_paths}
 use Rattle.ice_types.proofs.RowIds.{IsLast, ids_of, ids_more, id_last, found_more}
 use Rattle.ice_types.proofs.Grown.{all_old, one_new, IsSchema-grown}
-use Rattle.ice_types.proofs.Measured.{AreMeasured, measured_kept}
+use Rattle.ice_types.proofs.Measured.{measured_kept}
 
 -- ---- an exception
 

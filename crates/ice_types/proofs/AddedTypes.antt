@@ -1,6 +1,5 @@
 -- What a schema keeps when a sequence, a dictionary, a struct or an enum is added.
-use Rattle.std.proofs.Common.{◌≡◌, ℕ, suc, ◌+◌, ◌<◌, ◌≤◌, cond, List, [], ◌∷◌, ◌++◌, length, Option, Some, None, refl, sym, ap, subst, ◌∙◌, arith, inl, inr, ◌⊎◌, bytes_eq}
-use Rattle.std.specs.Prelude.{slice_get}
+use Rattle.std.proofs.Common.{◌≡◌, ℕ, ◌+◌, ◌<◌, cond, List, [], ◌∷◌, ◌++◌, length, Option, Some, refl, sym, ap, subst, ◌∙◌, arith, inl, inr, ◌⊎◌, bytes_eq}
 use Rattle.std.proofs.lemmas.List.{length-append, length-map}
 use Rattle.ice_types.specs.declared.declarations.SeqDecl.{SeqDecl}
 use Rattle.ice_types.specs.declared.declarations.DictDecl.{DictDecl}
@@ -25,7 +24,7 @@ use Rattle.ice_types.proofs.Staying.{Grows}
 use Rattle.ice_types.proofs.RowIds.{IsLast, ids_of, ids_more, id_last, found_more}
 use Rattle.ice_types.proofs.Grown.{all_old, one_new, IsSchema-grown}
 use Rattle.ice_types.proofs.StructSizes.{small_fits}
-use Rattle.ice_types.proofs.Measured.{AreMeasured, measured_kept}
+use Rattle.ice_types.proofs.Measured.{measured_kept}
 
 -- ---- a sequence
 

@@ -1,5 +1,5 @@
 -- What a schema keeps when a class or an interface is defined.
-use Rattle.std.proofs.Common.{◌≡◌, ◌≢◌, ℕ, zero, suc, ◌+◌, ◌<◌, ◌≤◌, Bool, true, false, List, [], ◌∷◌, length, map, Option, Some, None, refl, sym, ap, subst, ◌∙◌, arith, inl, inr, ◌⊎◌}
+use Rattle.std.proofs.Common.{◌≡◌, ◌≢◌, ℕ, zero, suc, ◌<◌, ◌≤◌, Bool, true, false, List, [], ◌∷◌, length, map, Option, Some, None, refl, sym, ap, subst, ◌∙◌, arith, inl, inr}
 use Rattle.std.specs.Prelude.{slice_get, slice_set, slice_index_or, is_some, All, IsTrue, unwrap_or}
 use Rattle.std.specs.Option.{option_map}
 use Rattle.std.proofs.lemmas.List.{length-map}
@@ -9,23 +9,22 @@ use Rattle.ice_types.specs.declared.declarations.Member.{Member}
 use Rattle.ice_types.specs.declared.declarations.OpDecl.{OpDecl}
 use Rattle.ice_types.specs.declared.kind.RowRef.{RowRef}
 use Rattle.ice_types.specs.declared.kind.RowRef.TheVariants as rows
-use Rattle.ice_types.specs.declared.rows.Rows.{Rows}
 use Rattle.ice_types.specs.declared.rows.TableRows.{TableRows}
 use Rattle.ice_types.specs.Tables.{Tables, changed, define_class, define_interface, is_defined, row_ids}
-use Rattle.ice_types.specs.Measures.{bases_in, paths_in, paths_of}
+use Rattle.ice_types.specs.Measures.{bases_in, paths_of}
 use Rattle.ice_types.specs.Fits.{SeqFits, DictFits, StructFits, EnumFits, ClassBaseFits, ClassFits, ExceptionFits, InterfaceFits, paths_over}
 use Rattle.ice_types.specs.Bases.{HasBases, HasBasesFrom, class_base}
 use Rattle.ice_types.specs.Rules.{Beside, IsSchema, IsKept, defined}
 use Rattle.ice_types.specs.Kept.{tables_of, beside_of}
 use Rattle.ice_types.specs.Ids.{IsHeld}
-use Rattle.ice_types.proofs.Items.{set_to, length-changed, map-changed, map-kept, get_other, get_changed, where_from, Changed, still_there}
+use Rattle.ice_types.proofs.Items.{set_to, length-changed, map-changed, map-kept, get_other, get_changed, where_from, still_there}
 use Rattle.ice_types.proofs.Levels.{Keeps}
 use Rattle.ice_types.proofs.Staying.{Grows}
 use Rattle.ice_types.proofs.BaseChains.{based_on, row_of_base, bases_stay, all_counted}
 use Rattle.ice_types.proofs.BasePaths.{bases_other, bases_changed, all_bases, other_paths, paths_now}
 use Rattle.ice_types.proofs.RowIds.{ids_of, same_ids, same_found}
 use Rattle.ice_types.proofs.Grown.{all_old, IsSchema-grown}
-use Rattle.ice_types.proofs.Measured.{AreMeasured, measured_kept}
+use Rattle.ice_types.proofs.Measured.{measured_kept}
 
 -- ---- flags
 

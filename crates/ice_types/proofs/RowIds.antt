@@ -1,7 +1,6 @@
 -- The ids of a schema with one row more.
 use Rattle.std.proofs.Common.{◌≡◌, ℕ, Bool, true, false, cond, List, [], ◌∷◌, ◌++◌, length, map, Option, Some, None, refl, sym, ap, subst, ◌∙◌, inl, inr, ◌⊎◌, bytes_eq}
-use Rattle.std.specs.Prelude.{slice_get, MatchOption}
-use Rattle.std.proofs.lemmas.List.{length-map, map-append}
+use Rattle.std.proofs.lemmas.List.{map-append}
 use Rattle.std.proofs.lemmas.Slice.Eq.{bytes_eq-Decides}
 use Rattle.ice_types.specs.declared.kind.RowRef.{RowRef}
 use Rattle.ice_types.specs.Tables.{Tables, IsTypeId, IsNewId, HasId, HasRowId, row_ids, row_at, Finds}

@@ -1,8 +1,6 @@
 -- What fits a schema's tables fits them when they have grown.
-use Rattle.std.proofs.Common.{◌≡◌, ℕ, suc, ◌≤◌, ◌+◌, List, [], ◌∷◌, length, Option, Some, None, refl, sym, ap, subst, ◌∙◌, arith}
-use Rattle.std.specs.Prelude.{IsTrue, All, sum_by, slice_index_or}
-use Rattle.std.proofs.lemmas.List.Sums.{sum_by-cons}
-use Rattle.std.proofs.lemmas.List.Elements.{All-head, All-tail}
+use Rattle.std.proofs.Common.{◌≡◌, ℕ, suc, ◌≤◌, List, length, Option, Some, None, ap, subst, arith}
+use Rattle.std.specs.Prelude.{IsTrue, All, slice_index_or}
 use Rattle.ice_types.specs.declared.declarations.Member.{Member}
 use Rattle.ice_types.specs.declared.declarations.Shape.{Shape}
 use Rattle.ice_types.specs.declared.declarations.OpDecl.{OpDecl}

@@ -1,5 +1,5 @@
 -- How deep a type nests, how long its spellings are at least, and how many bases an interface has.
-use Rattle.std.specs.Prelude.{ℕ, zero, suc, ◌+◌, max, Bool, true, false, ◌&&◌, List, [], ◌∷◌, Option, None, Some, slice_get, sum_by, if◌then◌else◌}
+use Rattle.std.specs.Prelude.{◌≡◌, ℕ, zero, suc, ◌+◌, max, Bool, true, false, ◌&&◌, List, [], ◌∷◌, Option, None, Some, slice_get, sum_by, if◌then◌else◌}
 use Rattle.ice_types.specs.declared.kind.TypeRef.{TypeRef}
 use Rattle.ice_types.specs.declared.kind.TypeRef.TheVariants as kinds
 use Rattle.ice_types.specs.declared.declarations.Member.{Member}
@@ -87,6 +87,10 @@ measure t (suc levels) (kinds.Class at) = of_any t.classes at reference
 -- the length of each spelling, where they are of one length
 abbrev pub fixed_size : Tables → TypeRef → Option ℕ
 fixed_size t kind = measured (measure t MOST_DEPTH kind) (λ m. if m.is_fixed then Some m.smallest else None)
+
+-- a type that is made of types whose values the node carries
+abbrev pub IsBuilt : Tables → TypeRef → Type 0
+IsBuilt t kind = (m : Measure) × (measure t MOST_DEPTH kind ≡ Some m) × (m.is_built ≡ true)
 
 -- ---- bases of interfaces
 

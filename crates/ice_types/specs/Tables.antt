@@ -1,5 +1,5 @@
 -- What a schema tells: which types, exceptions and interfaces there are, by place, and what they are called.
-use Rattle.std.specs.Prelude.{ℕ, zero, suc, ◌≡◌, ◌≢◌, Bool, true, false, List, [], ◌∷◌, ◌++◌, map, None, Some, take, slice_get, codes, Option, MatchOption, unwrap_or}
+use Rattle.std.specs.Prelude.{ℕ, zero, suc, ◌≡◌, Bool, true, false, List, [], ◌∷◌, ◌++◌, map, None, Some, take, slice_get, codes, Option, MatchOption, unwrap_or, ◌⊎◌}
 use Rattle.ice_types.specs.declared.kind.TypeRef.{TypeRef}
 use Rattle.ice_types.specs.declared.kind.TypeRef.TheVariants as kinds
 use Rattle.ice_types.specs.declared.kind.RowRef.{RowRef}
@@ -108,12 +108,9 @@ exception_ids t = map (λ e. e.id) t.exceptions
 abbrev pub interface_ids : Tables → List (List ℕ)
 interface_ids t = map (λ i. i.id) t.interfaces
 
--- the id stands at this place, or nowhere
+-- the id stands at this place
 abbrev pub HasId : List (List ℕ) → List ℕ → ℕ → Type 0
 HasId ids id at = slice_get ids at ≡ Some id
-
-abbrev pub LacksId : List (List ℕ) → List ℕ → Type 0
-LacksId ids id = (at : ℕ) → slice_get ids at ≢ Some id
 
 -- the ids of the table that a row is of, and its place there
 abbrev pub row_ids : Tables → RowRef → List (List ℕ)
@@ -158,7 +155,7 @@ HasTypeId t id kinds.Int = ⊥
 HasTypeId t id kinds.Long = ⊥
 HasTypeId t id kinds.Text = ⊥
 
--- The type that a text names: a built-in type's word, or a type id.
+-- The type that a text names: a built-in type as Slice writes it, or a type id.
 abbrev pub Names : Tables → List ℕ → TypeRef → Type 0
 Names t text kinds.Bool = text ≡ codes "bool"
 Names t text kinds.Byte = text ≡ codes "byte"
@@ -171,8 +168,9 @@ Names t text (kinds.Dict at) = HasId (dict_ids t) text at
 Names t text (kinds.Struct at) = HasId (struct_ids t) text at
 Names t text (kinds.Enum at) = HasId (enum_ids t) text at
 Names t text (kinds.Class (Some at)) = HasId (class_ids t) text at
-Names t text (kinds.Class None) = ⊥
-Names t text (kinds.Proxy at) = ⊥
+Names t text (kinds.Class None) = (text ≡ codes "Object") ⊎ (text ≡ codes "Value")
+Names t text (kinds.Proxy None) = text ≡ codes "Object*"
+Names t text (kinds.Proxy (Some at)) = ⊥
 
 -- what is so, or None where nothing is
 abbrev pub Finds : {A : Type 0} → (A → Type 0) → Option A → Type 0
@@ -180,4 +178,4 @@ Finds {A} Is result = MatchOption result ((x : A) → Is x → ⊥) Is
 
 -- the type that is so, or none where no type is
 abbrev pub FindsKind : (TypeRef → Type 0) → Option TypeRef → Type 0
-FindsKind Is result = MatchOption result ((kind : TypeRef) → Is kind → ⊥) Is
+FindsKind Is result = Finds Is result

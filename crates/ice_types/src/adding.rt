@@ -112,7 +112,8 @@ impl Schema {
         requires type_id { IsTypeId decl.id }
         requires new_id { IsNewId self.old decl.id }
         requires fits { ExceptionFits self.old decl.base decl.members }
-        ensures ok { IfOk result (λ at. (at ≡ length self.old.exceptions) × (self.new ≡ with_exception self.old decl)) }
+        ensures ok { IfOk result (λ at.
+            (at ≡ length self.old.exceptions) × (self.new ≡ with_exception self.old decl)) }
         ensures err { OnErr result (self.new ≡ self.old) }
         ensures rules { IsSchema self.new }
     {

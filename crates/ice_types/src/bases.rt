@@ -33,7 +33,7 @@ impl Schema {
     }
 
     /// How many bases the class at this place has, one above the other; 0 of one that is only declared.
-    pub fn class_bases(&self, at: u32) -> u32
+    pub(crate) fn class_bases(&self, at: u32) -> u32
         requires { at < length self.now.classes }
         ensures bases { HasBases (class_base self.now) at result }
         ensures most { result ≤ defined self.now.defined_classes }
@@ -43,7 +43,7 @@ impl Schema {
     }
 
     /// How many bases the exception at this place has, one above the other.
-    pub fn exception_bases(&self, at: u32) -> u32
+    pub(crate) fn exception_bases(&self, at: u32) -> u32
         requires { at < length self.now.exceptions }
         ensures bases { HasBases (exception_base self.now) at result }
         ensures most { result ≤ at }

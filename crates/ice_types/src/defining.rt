@@ -57,7 +57,8 @@ impl Schema {
         requires room { length self.old.interfaces + 1 < MOST_ROWS }
         requires type_id { IsTypeId id }
         requires new_id { IsNewId self.old id }
-        ensures ok { IfOk result (λ at. (at ≡ length self.old.interfaces) × (self.new ≡ with_interface self.old id)) }
+        ensures ok { IfOk result (λ at.
+            (at ≡ length self.old.interfaces) × (self.new ≡ with_interface self.old id)) }
         ensures err { OnErr result (self.new ≡ self.old) }
         ensures rules { IsSchema self.new }
     {

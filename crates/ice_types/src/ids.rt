@@ -46,7 +46,8 @@ impl Ids {
 
     /// Puts an id in, with its row. Out of memory leaves the ids as they were.
     pub fn insert(&mut self, id: String, row: RowRef) -> Result<(), AllocError>
-        ensures ok { OnOk result ((other : List ℕ) → row_in self.new other ≡ cond (bytes_eq (string_bytes id) other) (Some row) (row_in self.old other)) }
+        ensures ok { OnOk result ((other : List ℕ) →
+            row_in self.new other ≡ cond (bytes_eq (string_bytes id) other) (Some row) (row_in self.old other)) }
         ensures err { OnErr result ((other : List ℕ) → row_in self.new other ≡ row_in self.old other) }
     {
         self.rows.insert(id, row)?;

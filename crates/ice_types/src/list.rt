@@ -72,7 +72,7 @@ impl<T> List<T> {
     }
 
     /// Puts another item at a place counted from 0.
-    pub fn put(&mut self, at: usize, item: T)
+    pub(crate) fn put(&mut self, at: usize, item: T)
     where
         T: Drop,
         requires { at < length self.old }

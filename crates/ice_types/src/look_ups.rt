@@ -1,7 +1,7 @@
 //! What a schema finds by name and by place.
 
 ghost use Rattle.std.specs.Prelude.{◌≡◌, ◌↔◌, IfSome, IsTrue};
-ghost use Rattle.ice_types.specs.Tables.{IsTypeId, IsNewId, Names, HasTypeId, HasRowId, Finds, FindsKind, HasId, LacksId, class_ids, exception_ids, interface_ids, is_defined};
+ghost use Rattle.ice_types.specs.Tables.{IsTypeId, IsNewId, Names, HasTypeId, HasRowId, Finds, FindsKind, HasId, class_ids, exception_ids, interface_ids, is_defined};
 ghost use Rattle.ice_types.specs.declared.kind.TypeRef.{TypeRef};
 
 use crate::kind::{RowRef, TypeRef};
@@ -15,7 +15,8 @@ impl Schema {
         is_type_id(id) && self.row_of_id(id).is_none()
     }
 
-    /// The type that the text names: a built-in type by its word, every other one by its type id.
+    /// The type that the text names: a built-in type as Slice writes it (`Object` and `Value` are the
+    /// class of all instances, `Object*` is a proxy of any interface), every other one by its type id.
     /// None where there is no such type. It takes no memory.
     pub fn type_named(&self, text: &str) -> Option<TypeRef>
         ensures named { FindsKind (Names self.now text.now) result }
@@ -29,6 +30,9 @@ impl Schema {
             "int" => Some(TypeRef::Int),
             "long" => Some(TypeRef::Long),
             "string" => Some(TypeRef::Text),
+            "Object" => Some(TypeRef::Class(None)),
+            "Value" => Some(TypeRef::Class(None)),
+            "Object*" => Some(TypeRef::Proxy(None)),
             _ => self.type_of_id(text),
         }
     }

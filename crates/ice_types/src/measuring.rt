@@ -1,7 +1,7 @@
 //! What a schema says of types.
 
 ghost use Rattle.std.specs.Prelude.{◌≡◌, ◌-◌, ◌<◌, ◌≤◌, ◌↔◌, IfSome, IsTrue, []};
-ghost use Rattle.ice_types.specs.Measures.{measure, sequence_of, dictionary_of, struct_of, of_any, fixed_size};
+ghost use Rattle.ice_types.specs.Measures.{measure, sequence_of, dictionary_of, struct_of, of_any, fixed_size, IsBuilt};
 ghost use Rattle.ice_types.specs.Fits.{small_members, names_of, AreRequired, SeqFits, DictFits, StructFits};
 ghost use Rattle.ice_types.specs.Names.{AreNew};
 
@@ -99,6 +99,16 @@ impl Schema {
             Some(found.smallest)
         } else {
             None
+        }
+    }
+
+    /// Whether the type is made of types whose values the node carries: no enum, proxy or class is in it.
+    pub fn is_built(&self, kind: TypeRef) -> bool
+        ensures { IsTrue result ↔ IsBuilt self.now kind }
+    {
+        match self.measure(kind) {
+            Some(found) => found.is_built,
+            None => false,
         }
     }
 

@@ -130,7 +130,8 @@ pub(crate) fn add_row<T: Row + Drop, S: Drop>(
 ) -> Result<(), AllocError>
     ensures decls { OnOk result (rows.new.decls ≡ rows.old.decls ++ decl ∷ []) }
     ensures beside { OnOk result (rows.new.beside ≡ rows.old.beside ++ beside ∷ []) }
-    ensures ids { OnOk result ((id : List ℕ) → row_in ids.new id ≡ cond (bytes_eq (T.id_of decl) id) (Some row) (row_in ids.old id)) }
+    ensures ids { OnOk result ((id : List ℕ) →
+        row_in ids.new id ≡ cond (bytes_eq (T.id_of decl) id) (Some row) (row_in ids.old id)) }
     ensures err_rows { OnErr result (rows.new ≡ rows.old) }
     ensures err_ids { OnErr result ((id : List ℕ) → row_in ids.new id ≡ row_in ids.old id) }
 {

@@ -104,8 +104,8 @@ impl Schema {
         &self.rows.interfaces.decls
     }
 
-    /// What every schema keeps.
-    pub(crate) fn rules(&self)
+    /// What every schema keeps, for the proofs of its callers.
+    pub fn rules(&self)
         ensures { IsSchema self.now }
     {
         let _ = &self.rows;

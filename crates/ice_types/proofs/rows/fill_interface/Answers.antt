@@ -1,7 +1,3 @@
-use Rattle.std.proofs.Common.{List, ap, subst, ◌≡◌, ◌<◌, length, sym, ◌∙◌}
-use Rattle.std.specs.Prelude.{slice_index_or}
-use Rattle.ice_types.specs.declared.declarations.InterfaceDecl.{InterfaceDecl}
-use Rattle.ice_types.specs.Tables.{changed}
 use Rattle.ice_types.proofs.Items.{set_changed}
 use Rattle.ice_types.proofs.Defined.{filled_interface}
 use Rattle.ice_types.proofs.rows.fill_interface.Goals as goal

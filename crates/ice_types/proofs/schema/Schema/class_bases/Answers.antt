@@ -1,4 +1,4 @@
-use Rattle.std.proofs.Common.{ℕ, ◌≤◌, ◌<◌, sym, subst, arith}
+use Rattle.std.proofs.Common.{ℕ, ◌≤◌, sym, subst, arith}
 use Rattle.ice_types.specs.Tables.{Tables}
 use Rattle.ice_types.specs.Rules.{defined, IsSchema}
 use Rattle.ice_types.specs.Kept.{tables_of}
