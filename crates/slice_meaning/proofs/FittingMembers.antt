@@ -1,5 +1,5 @@
 -- What has no fault may be added to the schema: exceptions and classes.
-use Rattle.std.proofs.Common.{◌≡◌, ◌≢◌, ℕ, suc, ◌≤◌, ◌<◌, ◌+◌, Bool, true, false, not, List, [], ◌∷◌, ◌++◌, map, length, Option, Some, None, Result, Ok, Err, refl, sym, ap, ◌∙◌, subst, arith}
+use Rattle.std.proofs.Common.{◌≡◌, ℕ, ◌≤◌, ◌+◌, Bool, true, false, not, List, [], ◌∷◌, ◌++◌, map, Option, Some, None, Result, Ok, Err, refl, sym, subst, arith}
 use Rattle.std.specs.Prelude.{All, IsTrue, flat_map}
 use Rattle.std.proofs.lemmas.List.Elements.{All-nil, All-cons}
 use Rattle.slice_syntax.specs.declared.tree.Word.{Word}
@@ -9,22 +9,21 @@ use Rattle.slice_syntax.specs.declared.tree.Field.{Field}
 use Rattle.slice_syntax.specs.declared.tree.Item.TheVariants as items
 use Rattle.ice_types.specs.declared.kind.TypeRef.{TypeRef}
 use Rattle.ice_types.specs.declared.declarations.Member.{Member}
-use Rattle.ice_types.specs.declared.schema.TheConstants.{MOST_NUMBER}
-use Rattle.ice_types.specs.Tables.{Tables, is_defined}
+use Rattle.ice_types.specs.Tables.{is_defined}
 use Rattle.ice_types.specs.Fits.{IsOf, AreOf, NumbersFit, MembersFit, ClassBaseFits, ClassFits, ExceptionBaseFits, ExceptionFits, names_of, tags_of}
 use Rattle.slice_meaning.specs.declared.fault.CheckKind.{CheckKind}
 use Rattle.slice_meaning.specs.declared.fault.CheckKind.TheVariants as rows
 use Rattle.slice_meaning.specs.declared.fault.Fault.{Fault}
 use Rattle.slice_meaning.specs.Known.{Known, with_class_name}
-use Rattle.slice_meaning.specs.Uses.{where_true, unless_ok, type_of, class_named, exception_of}
+use Rattle.slice_meaning.specs.Uses.{type_of, class_named, exception_of}
 use Rattle.slice_meaning.specs.Values.{number_of}
 use Rattle.slice_meaning.specs.Clashes.{new_name, reopened_name, second_names, is_class}
-use Rattle.slice_meaning.specs.Members.{has_number, new_number, with_number, tag_fault, with_tag, tag_faults, field_faults, fields_faults, tag_of, members_of, with_field}
+use Rattle.slice_meaning.specs.Members.{has_number, new_number, with_number, tag_faults, field_faults, fields_faults, tag_of, members_of, with_field}
 use Rattle.slice_meaning.specs.Faults.{faults, as_class_base, class_base_faults, exception_base_faults}
 use Rattle.slice_meaning.specs.After.{meant, base_at}
 use Rattle.slice_meaning.specs.Rows.{KnowsRows}
-use Rattle.slice_meaning.proofs.NoFaults.{both_none, test_off, is_ok}
-use Rattle.slice_meaning.proofs.Counting.{one_if, count, is_number, differ, number_more, are_new}
+use Rattle.slice_meaning.proofs.NoFaults.{both_none, test_off}
+use Rattle.slice_meaning.proofs.Counting.{count, is_number, differ, number_more, are_new}
 use Rattle.slice_meaning.proofs.Fitting.{number_within, new_off, fields_new}
 use Rattle.slice_meaning.proofs.KnownNames.{type_row, exception_row}
 use Rattle.slice_meaning.proofs.Shapes.{Within}

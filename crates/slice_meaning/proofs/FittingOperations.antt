@@ -1,11 +1,9 @@
 -- What has no fault may be added to the schema: interfaces with their operations.
-use Rattle.std.proofs.Common.{◌≡◌, ◌≢◌, ℕ, zero, suc, ◌≤◌, ◌<◌, ◌+◌, Bool, true, false, cond, not, List, [], ◌∷◌, ◌++◌, map, length, Option, Some, None, Result, Ok, Err, refl, sym, ap, ◌∙◌, subst, arith}
-use Rattle.std.specs.Prelude.{All, IsTrue, flat_map, filter, sum_by, nat_lt, unwrap_or, codes, ◌||◌, ◌&&◌}
-use Rattle.std.specs.Option.{is_none, is_some}
+use Rattle.std.proofs.Common.{◌≡◌, ℕ, suc, ◌≤◌, ◌<◌, ◌+◌, Bool, true, false, cond, not, List, [], ◌∷◌, ◌++◌, map, length, Option, Some, None, Result, Ok, Err, refl, sym, ap, ◌∙◌, subst, arith}
+use Rattle.std.specs.Prelude.{All, IsTrue, flat_map, sum_by, nat_lt, codes, ◌||◌, ◌&&◌}
 use Rattle.std.specs.Char.{to_ascii_lowercase}
 use Rattle.std.specs.List.{list_all}
-use Rattle.std.specs.Str.{str_to_ascii_lowercase, bytes_eq}
-use Rattle.std.proofs.lemmas.Bool.{eqb-true, eq-eqb}
+use Rattle.std.specs.Str.{str_to_ascii_lowercase}
 use Rattle.std.proofs.lemmas.Bool.Decides.{nat_tests}
 use Rattle.std.proofs.lemmas.List.Elements.{All-nil, All-cons, All-head, All-tail, All-append}
 use Rattle.std.proofs.lemmas.List.Sums.{sum_by-cons}
@@ -22,20 +20,19 @@ use Rattle.slice_syntax.specs.declared.tree.Item.TheVariants as items
 use Rattle.slice_syntax.specs.Places.{Each, IsPlain, HasPlainNames, InOp, InField}
 use Rattle.ice_types.specs.declared.kind.TypeRef.{TypeRef}
 use Rattle.ice_types.specs.declared.declarations.Member.{Member}
-use Rattle.ice_types.specs.declared.declarations.OpDecl.{OpDecl}
-use Rattle.ice_types.specs.declared.schema.TheConstants.{MOST_NUMBER, MOST_BASES}
+use Rattle.ice_types.specs.declared.schema.TheConstants.{MOST_BASES}
 use Rattle.ice_types.specs.Tables.{Tables, is_defined}
 use Rattle.ice_types.specs.Measures.{paths_of}
-use Rattle.ice_types.specs.Fits.{IsOf, AreOf, AreRequired, AreRising, ShapeFits, OpFits, BasesFit, InterfaceFits, DifferFrom, names_of, tags_of, members_of_op, paths_over}
+use Rattle.ice_types.specs.Fits.{IsOf, AreOf, OpFits, BasesFit, InterfaceFits, DifferFrom, names_of, tags_of, members_of_op, paths_over}
 use Rattle.slice_meaning.specs.declared.fault.CheckKind.{CheckKind}
 use Rattle.slice_meaning.specs.declared.fault.CheckKind.TheVariants as rows
 use Rattle.slice_meaning.specs.declared.fault.Fault.{Fault}
 use Rattle.slice_meaning.specs.Names.{Name}
 use Rattle.slice_meaning.specs.Known.{Known, with_interface_name}
-use Rattle.slice_meaning.specs.Uses.{where_true, type_of, interface_named, exception_of}
+use Rattle.slice_meaning.specs.Uses.{type_of, interface_named, exception_of}
 use Rattle.slice_meaning.specs.Values.{number_of}
 use Rattle.slice_meaning.specs.Clashes.{reopened_name, second_names, is_interface}
-use Rattle.slice_meaning.specs.Members.{has_number, with_number, tag_faults, tag_of, members_of, ins, outs, order_faults, result_faults, thrown_faults, field_faults, op_faults, required, put, optional, shape, as_member, returned, with_meaning, named, op_of}
+use Rattle.slice_meaning.specs.Members.{has_number, with_number, tag_faults, tag_of, members_of, ins, outs, order_faults, result_faults, thrown_faults, field_faults, op_faults, required, optional, as_member, returned, with_meaning, named, op_of}
 use Rattle.slice_meaning.specs.Faults.{faults, as_interface_base, with_base, bases_faults, paths_by, base_count, base_limits}
 use Rattle.slice_meaning.specs.Rows.{KnowsRows}
 use Rattle.slice_meaning.proofs.NoFaults.{both_none, test_off, either_off}

@@ -1,5 +1,5 @@
 -- What a name stands for is one of the declarations, and its row is there.
-use Rattle.std.proofs.Common.{◌≡◌, ℕ, zero, suc, ◌<◌, Bool, true, false, cond, List, [], ◌∷◌, length, Option, Some, None, Result, Ok, Err, refl, sym, ap, ◌∙◌, subst, arith}
+use Rattle.std.proofs.Common.{◌≡◌, ℕ, zero, suc, ◌<◌, Bool, true, false, cond, List, [], ◌∷◌, length, Option, Some, None, Result, Ok, refl, subst, arith}
 use Rattle.std.specs.Prelude.{find, option_map, option_and_then, ok_or, slice_get, if◌then◌else◌, ◌==◌}
 use Rattle.std.specs.Option.{option_or}
 use Rattle.slice_syntax.specs.declared.tree.Path.{Path}
@@ -11,7 +11,6 @@ use Rattle.slice_syntax.specs.Sorts.{word_bool, word_byte, word_short, word_int,
 use Rattle.slice_syntax.specs.Places.{Each}
 use Rattle.ice_types.specs.declared.kind.TypeRef.{TypeRef}
 use Rattle.ice_types.specs.declared.kind.TypeRef.TheVariants as kinds
-use Rattle.ice_types.specs.declared.measure.Measure.{Measure}
 use Rattle.ice_types.specs.Tables.{Tables}
 use Rattle.ice_types.specs.Measures.{measure, proxy, reference, built_in as plain}
 use Rattle.std.proofs.lemmas.Option.{slice_get_within}

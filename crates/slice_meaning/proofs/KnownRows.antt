@@ -1,18 +1,15 @@
 -- Names stand for rows that the tables have, from one declaration to the next.
-use Rattle.std.proofs.Common.{◌≡◌, ℕ, zero, suc, ◌≤◌, ◌<◌, ◌+◌, Bool, List, [], ◌∷◌, ◌++◌, length, Option, Some, None, Result, Ok, Err, refl, sym, ap, ◌∙◌, subst, arith, length-append}
+use Rattle.std.proofs.Common.{◌≡◌, ℕ, zero, suc, ◌≤◌, ◌<◌, List, [], ◌∷◌, ◌++◌, length, Option, Some, None, Result, Ok, Err, refl, ap, arith, length-append}
 use Rattle.std.specs.Prelude.{slice_get, max, ◌&&◌}
 use Rattle.slice_syntax.specs.declared.tree.Word.{Word}
 use Rattle.slice_syntax.specs.declared.tree.Path.{Path}
-use Rattle.slice_syntax.specs.declared.tree.TypeWord.{TypeWord}
 use Rattle.slice_syntax.specs.declared.tree.Constant.{Constant}
 use Rattle.slice_syntax.specs.declared.tree.Field.{Field}
 use Rattle.slice_syntax.specs.declared.tree.OpTree.{OpTree}
 use Rattle.slice_syntax.specs.declared.tree.Item.{Item}
 use Rattle.slice_syntax.specs.declared.tree.Item.TheVariants as items
 use Rattle.slice_syntax.specs.Places.{Each, HasNoTags}
-use Rattle.ice_types.specs.declared.kind.TypeRef.{TypeRef}
 use Rattle.ice_types.specs.declared.kind.TypeRef.TheVariants as kinds
-use Rattle.ice_types.specs.declared.measure.Measure.{Measure}
 use Rattle.ice_types.specs.declared.declarations.SeqDecl.{SeqDecl}
 use Rattle.ice_types.specs.declared.declarations.DictDecl.{DictDecl}
 use Rattle.ice_types.specs.declared.declarations.StructDecl.{StructDecl}
@@ -21,7 +18,7 @@ use Rattle.ice_types.specs.declared.declarations.ExceptionDecl.{ExceptionDecl}
 use Rattle.ice_types.specs.declared.declarations.Member.{Member}
 use Rattle.ice_types.specs.declared.declarations.OpDecl.{OpDecl}
 use Rattle.ice_types.specs.Tables.{Tables, with_seq, with_dict, with_struct, with_enum, with_class, with_exception, with_interface, changed, define_class, define_interface}
-use Rattle.ice_types.specs.Measures.{measure, measure_members, sequence_of, dictionary_of, struct_of, container, enumeration, reference, structure}
+use Rattle.ice_types.specs.Measures.{measure, container, enumeration, reference, structure}
 use Rattle.ice_types.specs.Fits.{SeqFits, DictFits, StructFits, IsOf}
 use Rattle.ice_types.proofs.Items.{slice_get-front, slice_get-last}
 use Rattle.ice_types.proofs.Levels.{Keeps, measure_kept, members_kept}
@@ -32,9 +29,8 @@ use Rattle.slice_meaning.specs.declared.fault.CheckKind.{CheckKind}
 use Rattle.slice_meaning.specs.Names.{Scope, Declared}
 use Rattle.slice_meaning.specs.Known.{Known, nothing_known, with_name, with_new_class, with_new_interface, with_class_name, with_interface_name, standing_here, id_here}
 use Rattle.slice_meaning.specs.Values.{typed}
-use Rattle.slice_meaning.specs.Members.{members_of}
 use Rattle.slice_meaning.specs.Faults.{faults}
-use Rattle.slice_meaning.specs.After.{after, kind_of, with_type, with_entries, with_enum_name, with_enumerators, with_class_body, with_interface_body, enum_decl, struct_decl, seq_decl, dict_decl, exception_decl, enumerator}
+use Rattle.slice_meaning.specs.After.{after, kind_of, with_entries, with_enum_name, with_class_body, with_interface_body, enum_decl, struct_decl, seq_decl, dict_decl, exception_decl, enumerator}
 use Rattle.slice_meaning.specs.Meaning.{next_file}
 use Rattle.slice_meaning.specs.Rows.{HasRow, KnowsRows}
 use Rattle.slice_meaning.proofs.Fitting.{seq_fits, dict_fits, struct_fits}

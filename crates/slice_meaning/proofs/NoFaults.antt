@@ -1,13 +1,12 @@
 -- What there is where no fault is found.
-use Rattle.std.proofs.Common.{◌≡◌, ℕ, Bool, true, false, List, [], ◌∷◌, ◌++◌, Option, Some, None, Result, Ok, Err, refl}
+use Rattle.std.proofs.Common.{◌≡◌, ℕ, Bool, true, false, List, [], ◌∷◌, ◌++◌, Result, Ok, Err, refl}
 use Rattle.std.specs.Prelude.{◌||◌}
 use Rattle.slice_syntax.specs.declared.tree.TypeWord.{TypeWord}
 use Rattle.ice_types.specs.declared.kind.TypeRef.{TypeRef}
 use Rattle.ice_types.specs.declared.kind.TypeRef.TheVariants as kinds
 use Rattle.slice_meaning.specs.declared.fault.CheckKind.{CheckKind}
-use Rattle.slice_meaning.specs.declared.fault.Fault.{Fault}
 use Rattle.slice_meaning.specs.Known.{Known}
-use Rattle.slice_meaning.specs.Uses.{fault_at, where_true, unless_ok, type_of}
+use Rattle.slice_meaning.specs.Uses.{where_true, unless_ok, type_of}
 use Rattle.slice_meaning.specs.After.{kind_of}
 
 pub both_none : {A : Type 0} (xs ys : List A) → xs ++ ys ≡ [] → (xs ≡ []) × (ys ≡ [])

@@ -1,5 +1,5 @@
 -- What holds of each token of two parts holds of each of either.
-use Rattle.std.proofs.Common.{List, [], ◌∷◌, ◌++◌}
+use Rattle.std.proofs.Common.{[], ◌∷◌, ◌++◌}
 use Rattle.slice_syntax.specs.Lexemes.{Lexeme, Lexemes}
 use Rattle.slice_syntax.specs.Places.{Each}
 

@@ -6,7 +6,7 @@ mod Loops
 mod Fitting
 mod Fits
 mod Nesting
-mod Breaking
+pub mod Breaking
 mod Series
 mod Starts
 mod Exits

@@ -5,7 +5,7 @@ use Rattle.slice_syntax.specs.declared.tree.Item.{Item}
 use Rattle.slice_lexer.specs.declared.token.Token.{Token}
 use Rattle.slice_lexer.specs.Lexing.{Lexes, AreSpans}
 use Rattle.slice_lexer.proofs.Standing.{lexes_spans}
-use Rattle.slice_syntax.specs.Lexemes.{Lexeme, Lexemes, lexemes}
+use Rattle.slice_syntax.specs.Lexemes.{Lexemes, lexemes}
 use Rattle.slice_syntax.specs.Grammar.{Grammar, Spells, Runs, one, many, parted, both}
 use Rattle.slice_syntax.specs.Grammar as grammar
 use Rattle.slice_syntax.specs.Rules as rules

@@ -1,5 +1,5 @@
 -- Each declaration of a text is as the grammar has it: its names are letters, digits and `_`, and no member of a struct is optional.
-use Rattle.std.proofs.Common.{ℕ, zero, suc, ◌≡◌, ◌⊎◌, Bool, true, false, List, [], ◌∷◌, ◌++◌, length, sym, subst, inl, inr, refl, arith}
+use Rattle.std.proofs.Common.{ℕ, zero, suc, ◌≡◌, Bool, true, false, List, [], ◌∷◌, ◌++◌, length, sym, subst, inl, inr, refl, arith}
 use Rattle.std.specs.Prelude.{IsTrue, Contains, ◌&&◌, ◌==◌, if◌then◌else◌, drop}
 use Rattle.std.specs.List.{list_all}
 use Rattle.slice_lexer.specs.Bytes.{backslash, first, is_word_byte}
@@ -10,17 +10,13 @@ use Rattle.slice_lexer.specs.declared.token.TokenKind.TheVariants as kinds
 use Rattle.slice_lexer.specs.Lexing.{Lexes, IsTokenOf}
 use Rattle.slice_lexer.proofs.Sizes.{letter_goes_on}
 use Rattle.slice_lexer.proofs.Standing.{lexes_stand}
-use Rattle.slice_syntax.specs.declared.sort.Sort.{Sort}
 use Rattle.slice_syntax.specs.declared.sort.Sort.TheVariants as sorts
 use Rattle.slice_syntax.specs.declared.tree.Word.{Word}
 use Rattle.slice_syntax.specs.declared.tree.Item.{Item}
 use Rattle.slice_syntax.specs.declared.tree.File.{File}
 use Rattle.slice_syntax.specs.Lexemes.{Lexeme, Lexemes, lexemes, IsAlone, has, sort_of, sort_by, directive_sort, name_of, is_include, is_guard, is_define, is_pragma, is_end}
-use Rattle.slice_syntax.specs.Grammar.{Grammar, Spells, Runs, one, both}
-use Rattle.slice_syntax.specs.Grammar as grammar
 use Rattle.slice_syntax.specs.Rules as rules
-use Rattle.slice_syntax.specs.Files.{Body, none, plain, nested, head, enters, exits, Reads}
-use Rattle.slice_syntax.specs.Sorts.{colons}
+use Rattle.slice_syntax.specs.Files.{Body, none, plain, nested, enters, exits, Reads}
 use Rattle.slice_syntax.specs.Places.{Each, IsPlain, IsRegular, AreRegular}
 use Rattle.slice_syntax.proofs.Cursors.{never_word}
 use Rattle.slice_syntax.proofs.Tagless.{no_tags}

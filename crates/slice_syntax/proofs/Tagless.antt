@@ -1,5 +1,5 @@
 -- No member of a struct is optional, since the grammar has no tag there.
-use Rattle.std.proofs.Common.{◌≡◌, ℕ, List, [], ◌∷◌, Option, None, Some, refl}
+use Rattle.std.proofs.Common.{◌≡◌, List, [], ◌∷◌, Option, None, refl}
 use Rattle.slice_syntax.specs.declared.tree.Word.{Word}
 use Rattle.slice_syntax.specs.declared.tree.Path.{Path}
 use Rattle.slice_syntax.specs.declared.tree.TypeWord.{TypeWord}
@@ -8,7 +8,7 @@ use Rattle.slice_syntax.specs.declared.tree.Field.{Field}
 use Rattle.slice_syntax.specs.declared.tree.OpTree.{OpTree}
 use Rattle.slice_syntax.specs.declared.tree.Item.{Item}
 use Rattle.slice_syntax.specs.Lexemes.{Lexeme, Lexemes}
-use Rattle.slice_syntax.specs.Grammar.{Grammar, both, Spells}
+use Rattle.slice_syntax.specs.Grammar.{both, Spells}
 use Rattle.slice_syntax.specs.Rules as rules
 use Rattle.slice_syntax.specs.Places.{Each, HasNoTags}
 use Rattle.slice_syntax.proofs.Giving.{Gives, by_made, by_both, by_or, by_series, by_any, by_first, by_second}

@@ -1,5 +1,5 @@
 -- What holds of tokens holds of the places and names in what they spell.
-use Rattle.std.proofs.Common.{ℕ, ◌⊎◌, Bool, true, false, List, [], ◌∷◌, ◌++◌, map, Option, Some, None, sym, subst, inl, inr}
+use Rattle.std.proofs.Common.{ℕ, List, [], ◌∷◌, map, Option, Some, None}
 use Rattle.std.specs.Prelude.{unwrap_or, IsTrue}
 use Rattle.slice_syntax.specs.declared.sort.Sort.{Sort}
 use Rattle.slice_syntax.specs.declared.sort.Sort.TheVariants as sorts
@@ -12,8 +12,7 @@ use Rattle.slice_syntax.specs.declared.tree.Param.{Param}
 use Rattle.slice_syntax.specs.declared.tree.OpTree.{OpTree}
 use Rattle.slice_syntax.specs.declared.tree.Item.{Item}
 use Rattle.slice_syntax.specs.Lexemes.{Lexeme, Lexemes, has, sort_of}
-use Rattle.slice_syntax.specs.Grammar.{Grammar, nothing, token, made, both, or, series, Spells, Runs, one, optional, many, parted}
-use Rattle.slice_syntax.specs.Grammar as grammar
+use Rattle.slice_syntax.specs.Grammar.{both, Spells, one}
 use Rattle.slice_syntax.specs.Rules as rules
 use Rattle.slice_syntax.specs.Sorts.{colons}
 use Rattle.slice_syntax.specs.Files.{head}
