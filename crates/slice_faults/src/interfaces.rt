@@ -42,8 +42,10 @@ pub(crate) fn interface<'a>(
 ) -> Result<Option<Fault>, AllocError>
     requires plain { HasPlainNames (items.Interface word.now bases.now ops.now) }
     requires kept { IsKept (known_of known.old) }
-    ensures fault { IfOk result (λ fault. fault ≡ noted None (faults (known_of known.old) (items.Interface word.now bases.now ops.now))) }
-    ensures after { IfOk result (λ fault. fault ≡ None → known_of known.new ≡ after (known_of known.old) (items.Interface word.now bases.now ops.now)) }
+    ensures fault { IfOk result (λ fault. fault
+        ≡ noted None (faults (known_of known.old) (items.Interface word.now bases.now ops.now))) }
+    ensures after { IfOk result (λ fault. fault ≡ None
+        → known_of known.new ≡ after (known_of known.old) (items.Interface word.now bases.now ops.now)) }
 {
     match ops {
         Some(ops) => defined(alloc, known, word, bases, ops),
@@ -60,8 +62,10 @@ fn declared<'a>(
 ) -> Result<Option<Fault>, AllocError>
     requires plain { HasPlainNames (items.Interface word.now bases.now None) }
     requires kept { IsKept (known_of known.old) }
-    ensures fault { IfOk result (λ fault. fault ≡ noted None (faults (known_of known.old) (items.Interface word.now bases.now None))) }
-    ensures after { IfOk result (λ fault. fault ≡ None → known_of known.new ≡ after (known_of known.old) (items.Interface word.now bases.now None)) }
+    ensures fault { IfOk result (λ fault. fault
+        ≡ noted None (faults (known_of known.old) (items.Interface word.now bases.now None))) }
+    ensures after { IfOk result (λ fault. fault ≡ None
+        → known_of known.new ≡ after (known_of known.old) (items.Interface word.now bases.now None)) }
 {
     let mut found = Found::new();
     note_name(alloc, known, word, false, &mut found)?;
@@ -79,8 +83,10 @@ fn defined<'a>(
 ) -> Result<Option<Fault>, AllocError>
     requires plain { HasPlainNames (items.Interface word.now bases.now (Some ops.now)) }
     requires kept { IsKept (known_of known.old) }
-    ensures fault { IfOk result (λ fault. fault ≡ noted None (faults (known_of known.old) (items.Interface word.now bases.now (Some ops.now)))) }
-    ensures after { IfOk result (λ fault. fault ≡ None → known_of known.new ≡ after (known_of known.old) (items.Interface word.now bases.now (Some ops.now))) }
+    ensures fault { IfOk result (λ fault. fault
+        ≡ noted None (faults (known_of known.old) (items.Interface word.now bases.now (Some ops.now)))) }
+    ensures after { IfOk result (λ fault. fault ≡ None
+        → known_of known.new ≡ after (known_of known.old) (items.Interface word.now bases.now (Some ops.now))) }
 {
     rows_known();
     sound_fits();
@@ -110,7 +116,9 @@ fn note_name(
     defines: bool,
     found: &mut Found,
 ) -> Result<(), AllocError>
-    ensures { OnOk result (found.new.first ≡ noted found.old.first (reopened_name (known_of known.now) (is_interface (known_of known.now) defines) word.now)) }
+    ensures { OnOk result (found.new.first
+        ≡ noted found.old.first (reopened_name (known_of known.now) (is_interface
+        (known_of known.now) defines) word.now)) }
 {
     let again = match standing_here(known, word) {
         Some(standing) => is_interface(known, defines, standing),
@@ -134,7 +142,8 @@ fn put_name<'a>(alloc: Global, known: &mut Known<'a>, word: &'a Word) -> Result<
     requires plain { IsPlain word.now.name }
     requires kept { IsKept (known_of known.old) }
     ensures named { OnOk result (known_of known.new ≡ with_interface_name (known_of known.old) word.now) }
-    ensures undefined { OnOk result (standing_here (known_of known.old) word.now ≡ None → is_defined known.new.rows.defined_interfaces (interface_at (known_of known.new) word.now) ≡ false) }
+    ensures undefined { OnOk result (standing_here (known_of known.old) word.now ≡ None
+        → is_defined known.new.rows.defined_interfaces (interface_at (known_of known.new) word.now) ≡ false) }
 {
     if standing_here(known, word).is_none() {
         has_room(known.rows.schema().interfaces().len())?;
@@ -154,9 +163,12 @@ fn fill(
     ops: &[OpTree],
 ) -> Result<(), AllocError>
     requires there { interface_at (known_of known.old) word.now < length known.old.rows.interfaces }
-    requires undefined { is_defined known.old.rows.defined_interfaces (interface_at (known_of known.old) word.now) ≡ false }
-    requires fits { InterfaceFits known.old.rows (named (interface_named (known_of known.old)) bases.now) (map (op_of (known_of known.old)) ops.now) }
-    ensures { OnOk result (known_of known.new ≡ with_interface_body (known_of known.old) word.now bases.now (Some ops.now)) }
+    requires undefined { is_defined known.old.rows.defined_interfaces (interface_at (known_of known.old) word.now)
+        ≡ false }
+    requires fits { InterfaceFits known.old.rows (named (interface_named
+        (known_of known.old)) bases.now) (map (op_of (known_of known.old)) ops.now) }
+    ensures { OnOk result (known_of known.new
+        ≡ with_interface_body (known_of known.old) word.now bases.now (Some ops.now)) }
 {
     let bases = bases_of(alloc, known, bases)?;
     let ops = operations_of(alloc, known, ops)?;
@@ -206,7 +218,8 @@ fn note_body(
     ops: &[OpTree],
     found: &mut Found,
 ) -> Result<(), AllocError>
-    ensures { OnOk result (found.new.first ≡ noted found.old.first (body_faults (known_of known.now) word.now bases.now ops.now)) }
+    ensures { OnOk result (found.new.first
+        ≡ noted found.old.first (body_faults (known_of known.now) word.now bases.now ops.now)) }
 {
     note_limits(known, word, bases, found);
     note_bases(alloc, known, bases, found)?;
@@ -267,8 +280,12 @@ fn note_base(
     before: &mut NumberSet,
     found: &mut Found,
 ) -> Result<(), AllocError>
-    ensures found { (ns : List ℕ) → HoldsNumbers before.old.numbers ns → OnOk result (found.new.first ≡ noted found.old.first (as_interface_base (known_of known.now) ns path.now.place (interface_named (known_of known.now) path.now))) }
-    ensures held { (ns : List ℕ) → HoldsNumbers before.old.numbers ns → OnOk result (HoldsNumbers before.new.numbers (with_base ns (interface_named (known_of known.now) path.now))) }
+    ensures found { (ns : List ℕ) → HoldsNumbers before.old.numbers ns
+        → OnOk result (found.new.first
+        ≡ noted found.old.first (as_interface_base (known_of known.now) ns path.now.place (interface_named
+        (known_of known.now) path.now))) }
+    ensures held { (ns : List ℕ) → HoldsNumbers before.old.numbers ns
+        → OnOk result (HoldsNumbers before.new.numbers (with_base ns (interface_named (known_of known.now) path.now))) }
 {
     match interface_named(known, path) {
         Ok(at) => {
@@ -308,7 +325,8 @@ fn note_operations(
     ops: &[OpTree],
     found: &mut Found,
 ) -> Result<(), AllocError>
-    ensures { OnOk result (found.new.first ≡ noted found.old.first (flat_map (op_faults (known_of known.now)) ops.now)) }
+    ensures { OnOk result (found.new.first
+        ≡ noted found.old.first (flat_map (op_faults (known_of known.now)) ops.now)) }
 {
     for op in ops {
         note_operation(alloc, known, op, found)?;
