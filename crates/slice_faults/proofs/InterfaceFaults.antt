@@ -41,7 +41,7 @@ interface_ready k m word bases ops all none same knows fresh is h so =
 -- and what it holds fits
 pub interface_fits : (k m : Known) (word : Word) (bases paths : List Path) (ops trees : List OpTree) (all : Option Fault) (none : Bool) → paths ≡ bases → trees ≡ ops → m ≡ with_interface_name k word
     → (faults k (items.Interface word bases (Some ops)) ≡ []
-        → InterfaceFits (with_interface_name k word).tables (named (interface_named (with_interface_name k word)) bases) (map (op_of (with_interface_name k word)) ops))
+    → InterfaceFits (with_interface_name k word).tables (named (interface_named (with_interface_name k word)) bases) (map (op_of (with_interface_name k word)) ops))
     → is_some all ≡ not none → none ≡ true → all ≡ noted None (faults k (items.Interface word bases (Some ops))) → InterfaceFits m.tables (named (interface_named m) paths) (map (op_of m) trees)
 interface_fits k m word bases paths ops trees all none p t same law is h so =
     subst (λ (l : List Path). InterfaceFits m.tables (named (interface_named m) l) (map (op_of m) trees)) (sym p)

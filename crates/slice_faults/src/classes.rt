@@ -29,7 +29,7 @@ use slice_syntax::{Field, Path, Word};
 use std::alloc::{AllocError, Global};
 
 /// Declares a class, and defines it where its members are told, or answers its fault.
-pub fn class<'a>(
+pub(crate) fn class<'a>(
     alloc: Global,
     known: &mut Known<'a>,
     word: &'a Word,
@@ -38,8 +38,10 @@ pub fn class<'a>(
 ) -> Result<Option<Fault>, AllocError>
     requires plain { IsPlain word.now.name }
     requires kept { IsKept (known_of known.old) }
-    ensures fault { IfOk result (λ fault. fault ≡ noted None (faults (known_of known.old) (items.Class word.now base.now fields.now))) }
-    ensures after { IfOk result (λ fault. fault ≡ None → known_of known.new ≡ after (known_of known.old) (items.Class word.now base.now fields.now)) }
+    ensures fault { IfOk result (λ fault. fault
+        ≡ noted None (faults (known_of known.old) (items.Class word.now base.now fields.now))) }
+    ensures after { IfOk result (λ fault. fault ≡ None
+        → known_of known.new ≡ after (known_of known.old) (items.Class word.now base.now fields.now)) }
 {
     match fields {
         Some(fields) => defined(alloc, known, word, base, fields),
@@ -56,8 +58,10 @@ fn declared<'a>(
 ) -> Result<Option<Fault>, AllocError>
     requires plain { IsPlain word.now.name }
     requires kept { IsKept (known_of known.old) }
-    ensures fault { IfOk result (λ fault. fault ≡ noted None (faults (known_of known.old) (items.Class word.now base.now None))) }
-    ensures after { IfOk result (λ fault. fault ≡ None → known_of known.new ≡ after (known_of known.old) (items.Class word.now base.now None)) }
+    ensures fault { IfOk result (λ fault. fault
+        ≡ noted None (faults (known_of known.old) (items.Class word.now base.now None))) }
+    ensures after { IfOk result (λ fault. fault ≡ None
+        → known_of known.new ≡ after (known_of known.old) (items.Class word.now base.now None)) }
 {
     let mut found = Found::new();
     note_name(alloc, known, word, false, &mut found)?;
@@ -75,8 +79,10 @@ fn defined<'a>(
 ) -> Result<Option<Fault>, AllocError>
     requires plain { IsPlain word.now.name }
     requires kept { IsKept (known_of known.old) }
-    ensures fault { IfOk result (λ fault. fault ≡ noted None (faults (known_of known.old) (items.Class word.now base.now (Some fields.now)))) }
-    ensures after { IfOk result (λ fault. fault ≡ None → known_of known.new ≡ after (known_of known.old) (items.Class word.now base.now (Some fields.now))) }
+    ensures fault { IfOk result (λ fault. fault
+        ≡ noted None (faults (known_of known.old) (items.Class word.now base.now (Some fields.now)))) }
+    ensures after { IfOk result (λ fault. fault ≡ None
+        → known_of known.new ≡ after (known_of known.old) (items.Class word.now base.now (Some fields.now))) }
 {
     rows_known();
     sound_fits();
@@ -100,7 +106,8 @@ fn note_name(
     defines: bool,
     found: &mut Found,
 ) -> Result<(), AllocError>
-    ensures { OnOk result (found.new.first ≡ noted found.old.first (reopened_name (known_of known.now) (is_class (known_of known.now) defines) word.now)) }
+    ensures { OnOk result (found.new.first
+        ≡ noted found.old.first (reopened_name (known_of known.now) (is_class (known_of known.now) defines) word.now)) }
 {
     let again = match standing_here(known, word) {
         Some(standing) => is_class(known, defines, standing),
@@ -114,7 +121,7 @@ fn is_class(known: &Known, defines: bool, standing: Standing) -> bool
     ensures { result ≡ is_class (known_of known.now) defines standing }
 {
     match as_class(standing) {
-        Some(at) => !(defines && known.schema.is_class_defined(at)),
+        Some(at) => !(defines && known.rows.schema().is_class_defined(at)),
         None => false,
     }
 }
@@ -130,20 +137,17 @@ fn as_class(standing: Standing) -> Option<u32>
 }
 
 /// Declares the class, unless something has the name already.
-fn put_name<'a>(
-    alloc: Global,
-    known: &mut Known<'a>,
-    word: &'a Word,
-) -> Result<(), AllocError>
+fn put_name<'a>(alloc: Global, known: &mut Known<'a>, word: &'a Word) -> Result<(), AllocError>
     requires plain { IsPlain word.now.name }
     requires kept { IsKept (known_of known.old) }
     ensures named { OnOk result (known_of known.new ≡ with_class_name (known_of known.old) word.now) }
-    ensures undefined { OnOk result (standing_here (known_of known.old) word.now ≡ None → is_defined known.new.schema.defined_classes (class_at (known_of known.new) word.now) ≡ false) }
+    ensures undefined { OnOk result (standing_here (known_of known.old) word.now ≡ None
+        → is_defined known.new.rows.defined_classes (class_at (known_of known.new) word.now) ≡ false) }
 {
     if standing_here(known, word).is_none() {
-        has_room(known.schema.classes().len())?;
+        has_room(known.rows.schema().classes().len())?;
         let id = new_id(alloc, known, word)?;
-        let at = known.schema.add_class(id)?;
+        let at = known.rows.add_class(id)?;
         declare(alloc, known, word, Standing::Type(TypeRef::Class(Some(at))))?;
     }
     Ok(())
@@ -160,10 +164,11 @@ fn note_base(known: &Known, base: &Option<Path>, found: &mut Found)
 
 /// The row that applies to a base.
 fn base_row(known: &Known, path: &Path) -> Option<CheckKind>
-    ensures { where_row path.now.place result ≡ as_class_base (known_of known.now) path.now.place (class_named (known_of known.now) path.now) }
+    ensures { where_row path.now.place result
+        ≡ as_class_base (known_of known.now) path.now.place (class_named (known_of known.now) path.now) }
 {
     match class_named(known, path) {
-        Ok(at) if known.schema.is_class_defined(at) => None,
+        Ok(at) if known.rows.schema().is_class_defined(at) => None,
         Ok(_) => Some(CheckKind::BadBase),
         Err(row) => Some(row),
     }
@@ -187,15 +192,17 @@ fn fill(
     base: &Option<Path>,
     fields: &[Field],
 ) -> Result<(), AllocError>
-    requires there { class_at (known_of known.old) word.now < length known.old.schema.classes }
-    requires undefined { is_defined known.old.schema.defined_classes (class_at (known_of known.old) word.now) ≡ false }
-    requires fits { ClassFits known.old.schema (base_at (class_named (known_of known.old)) base.now) (members_of (known_of known.old) fields.now) }
-    ensures { OnOk result (known_of known.new ≡ with_class_body (known_of known.old) word.now base.now (Some fields.now)) }
+    requires there { class_at (known_of known.old) word.now < length known.old.rows.classes }
+    requires undefined { is_defined known.old.rows.defined_classes (class_at (known_of known.old) word.now) ≡ false }
+    requires fits { ClassFits known.old.rows (base_at (class_named
+        (known_of known.old)) base.now) (members_of (known_of known.old) fields.now) }
+    ensures { OnOk result (known_of known.new
+        ≡ with_class_body (known_of known.old) word.now base.now (Some fields.now)) }
 {
     let members = members_of(alloc, known, fields)?;
     let base = base_at(known, base);
     let at = place_of(known, word);
-    known.schema.define_class(at, base, members);
+    known.rows.define_class(at, base, members);
     Ok(())
 }
 

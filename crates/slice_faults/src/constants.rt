@@ -17,15 +17,17 @@ use slice_syntax::{Constant, TypeWord, Word};
 use std::alloc::{AllocError, Global};
 
 /// Declares a constant, or answers its fault.
-pub fn constant<'a>(
+pub(crate) fn constant<'a>(
     alloc: Global,
     known: &mut Known<'a>,
     kind: &TypeWord,
     word: &'a Word,
     value: &Constant,
 ) -> Result<Option<Fault>, AllocError>
-    ensures fault { IfOk result (λ fault. fault ≡ noted None (faults (known_of known.old) (items.Const kind.now word.now value.now))) }
-    ensures after { IfOk result (λ fault. fault ≡ None → known_of known.new ≡ after (known_of known.old) (items.Const kind.now word.now value.now)) }
+    ensures fault { IfOk result (λ fault. fault
+        ≡ noted None (faults (known_of known.old) (items.Const kind.now word.now value.now))) }
+    ensures after { IfOk result (λ fault. fault ≡ None
+        → known_of known.new ≡ after (known_of known.old) (items.Const kind.now word.now value.now)) }
 {
     let fault = constant_fault(alloc, known, kind, word, value)?;
     if fault.is_none() {
@@ -45,7 +47,8 @@ fn constant_fault(
     word: &Word,
     value: &Constant,
 ) -> Result<Option<Fault>, AllocError>
-    ensures { IfOk result (λ fault. fault ≡ noted None (faults (known_of known.now) (items.Const kind.now word.now value.now))) }
+    ensures { IfOk result (λ fault. fault
+        ≡ noted None (faults (known_of known.now) (items.Const kind.now word.now value.now))) }
 {
     let mut found = Found::new();
     note_new_name(alloc, known, word, &mut found)?;

@@ -23,7 +23,7 @@ use slice_syntax::{TypeWord, Word};
 use std::alloc::{AllocError, Global};
 
 /// Declares a sequence, or answers its fault.
-pub fn sequence<'a>(
+pub(crate) fn sequence<'a>(
     alloc: Global,
     known: &mut Known<'a>,
     word: &'a Word,
@@ -31,15 +31,17 @@ pub fn sequence<'a>(
 ) -> Result<Option<Fault>, AllocError>
     requires plain { IsPlain word.now.name }
     requires kept { IsKept (known_of known.old) }
-    ensures fault { IfOk result (λ fault. fault ≡ noted None (faults (known_of known.old) (items.Seq word.now element.now))) }
-    ensures after { IfOk result (λ fault. fault ≡ None → known_of known.new ≡ after (known_of known.old) (items.Seq word.now element.now)) }
+    ensures fault { IfOk result (λ fault. fault
+        ≡ noted None (faults (known_of known.old) (items.Seq word.now element.now))) }
+    ensures after { IfOk result (λ fault. fault ≡ None
+        → known_of known.new ≡ after (known_of known.old) (items.Seq word.now element.now)) }
 {
     let fault = sequence_fault(alloc, known, word, element)?;
     if fault.is_none() {
-        has_room(known.schema.seqs().len())?;
+        has_room(known.rows.schema().seqs().len())?;
         let id = new_id(alloc, known, word)?;
         let element = kind_of(known, element);
-        let at = known.schema.add_seq(SeqDecl { id, element })?;
+        let at = known.rows.add_seq(SeqDecl { id, element })?;
         declare(alloc, known, word, Standing::Type(TypeRef::Seq(at)))?;
     }
     Ok(fault)
@@ -67,7 +69,7 @@ fn sequence_fault(
 }
 
 /// Declares a dictionary, or answers its fault.
-pub fn dictionary<'a>(
+pub(crate) fn dictionary<'a>(
     alloc: Global,
     known: &mut Known<'a>,
     word: &'a Word,
@@ -76,16 +78,18 @@ pub fn dictionary<'a>(
 ) -> Result<Option<Fault>, AllocError>
     requires plain { IsPlain word.now.name }
     requires kept { IsKept (known_of known.old) }
-    ensures fault { IfOk result (λ fault. fault ≡ noted None (faults (known_of known.old) (items.Dict word.now key.now value.now))) }
-    ensures after { IfOk result (λ fault. fault ≡ None → known_of known.new ≡ after (known_of known.old) (items.Dict word.now key.now value.now)) }
+    ensures fault { IfOk result (λ fault. fault
+        ≡ noted None (faults (known_of known.old) (items.Dict word.now key.now value.now))) }
+    ensures after { IfOk result (λ fault. fault ≡ None
+        → known_of known.new ≡ after (known_of known.old) (items.Dict word.now key.now value.now)) }
 {
     let fault = dictionary_fault(alloc, known, word, key, value)?;
     if fault.is_none() {
-        has_room(known.schema.dicts().len())?;
+        has_room(known.rows.schema().dicts().len())?;
         let id = new_id(alloc, known, word)?;
         let key = kind_of(known, key);
         let value = kind_of(known, value);
-        let at = known.schema.add_dict(DictDecl { id, key, value })?;
+        let at = known.rows.add_dict(DictDecl { id, key, value })?;
         declare(alloc, known, word, Standing::Type(TypeRef::Dict(at)))?;
     }
     Ok(fault)
@@ -100,7 +104,8 @@ fn dictionary_fault(
     key: &TypeWord,
     value: &TypeWord,
 ) -> Result<Option<Fault>, AllocError>
-    ensures { IfOk result (λ fault. fault ≡ noted None (faults (known_of known.now) (items.Dict word.now key.now value.now))) }
+    ensures { IfOk result (λ fault. fault
+        ≡ noted None (faults (known_of known.now) (items.Dict word.now key.now value.now))) }
 {
     let mut found = Found::new();
     note_new_name(alloc, known, word, &mut found)?;
@@ -118,17 +123,19 @@ fn is_deep(known: &Known, levels: u32, word: &TypeWord) -> bool
     ensures { result ≡ is_deep (known_of known.now).tables levels (type_of (known_of known.now) word.now) }
 {
     match type_of(known, word) {
-        Ok(kind) => known.schema.measure_within(levels, kind).is_none(),
+        Ok(kind) => known.rows.schema().measure_within(levels, kind).is_none(),
         Err(_) => false,
     }
 }
 
 /// Notes a key that may be none.
 fn note_key(known: &Known, word: &TypeWord, found: &mut Found)
-    ensures { found.new.first ≡ noted found.old.first (key_faults (known_of known.now).tables (type_place word.now) (type_of (known_of known.now) word.now)) }
+    ensures { found.new.first
+        ≡ noted found.old.first (key_faults (known_of known.now).tables (type_place word.now) (type_of
+        (known_of known.now) word.now)) }
 {
     if let Ok(kind) = type_of(known, word) {
-        let is_no_key = match known.schema.measure_within(MOST_DEPTH, kind) {
+        let is_no_key = match known.rows.schema().measure_within(MOST_DEPTH, kind) {
             Some(measure) => !measure.is_key,
             None => false,
         };

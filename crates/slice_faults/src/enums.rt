@@ -27,7 +27,7 @@ use slice_syntax::{Constant, Word};
 use std::alloc::{AllocError, Global};
 
 /// Declares an enum with its enumerators, or answers its fault.
-pub fn enumeration<'a>(
+pub(crate) fn enumeration<'a>(
     alloc: Global,
     known: &mut Known<'a>,
     word: &'a Word,
@@ -35,16 +35,18 @@ pub fn enumeration<'a>(
 ) -> Result<Option<Fault>, AllocError>
     requires plain { IsPlain word.now.name }
     requires kept { IsKept (known_of known.old) }
-    ensures fault { IfOk result (λ fault. fault ≡ noted None (faults (known_of known.old) (items.Enum word.now entries.now))) }
-    ensures after { IfOk result (λ fault. fault ≡ None → known_of known.new ≡ after (known_of known.old) (items.Enum word.now entries.now)) }
+    ensures fault { IfOk result (λ fault. fault
+        ≡ noted None (faults (known_of known.old) (items.Enum word.now entries.now))) }
+    ensures after { IfOk result (λ fault. fault ≡ None
+        → known_of known.new ≡ after (known_of known.old) (items.Enum word.now entries.now)) }
 {
     let mut found = Found::new();
     let rows = note_enum(alloc, known, word, entries, &mut found)?;
     let fault = found.first;
     if fault.is_none() {
-        has_room(known.schema.enums().len())?;
+        has_room(known.rows.schema().enums().len())?;
         let id = new_id(alloc, known, word)?;
-        let at = known.schema.add_enum(EnumDecl { id, entries: rows })?;
+        let at = known.rows.add_enum(alloc, EnumDecl { id, entries: rows })?;
         declare(alloc, known, word, Standing::Type(TypeRef::Enum(at)))?;
         declare_inside(alloc, known, at, entries.as_slice())?;
     }
@@ -60,7 +62,8 @@ fn note_enum(
     entries: &List<(Word, Option<Constant>)>,
     found: &mut Found,
 ) -> Result<List<Entry>, AllocError>
-    ensures found { OnOk result (found.new.first ≡ noted found.old.first (faults (known_of known.now) (items.Enum word.now entries.now))) }
+    ensures found { OnOk result (found.new.first
+        ≡ noted found.old.first (faults (known_of known.now) (items.Enum word.now entries.now))) }
     ensures rows { IfOk result (λ rows. rows ≡ entries_of (known_of known.now) 0 entries.now) }
 {
     note_new_name(alloc, known, word, found)?;
@@ -77,7 +80,8 @@ fn note_entries(
     entries: &[(Word, Option<Constant>)],
     found: &mut Found,
 ) -> Result<List<Entry>, AllocError>
-    ensures found { OnOk result (found.new.first ≡ noted found.old.first (entry_faults (known_of known.now) 0 [] entries.now)) }
+    ensures found { OnOk result (found.new.first
+        ≡ noted found.old.first (entry_faults (known_of known.now) 0 [] entries.now)) }
     ensures rows { IfOk result (λ rows. rows ≡ entries_of (known_of known.now) 0 entries.now) }
 {
     let mut rows = List::new(alloc);
@@ -153,8 +157,13 @@ fn declare_inside<'a>(
     at: u32,
     entries: &'a [(Word, Option<Constant>)],
 ) -> Result<(), AllocError>
-    requires { AreFree known.old.file at (scope_at known.old.names (length known.old.names)) entries.now known.old.names }
-    ensures { OnOk result (known_of known.new ≡ record (known_of known.old) { declared = with_entries known.old.file at (scope_at known.old.names (length known.old.names)) entries.now known.old.names }) }
+    requires { AreFree known.old.file at (scope_at known.old.names
+        (length known.old.names)) entries.now known.old.names }
+    ensures { OnOk result (known_of known.new
+        ≡ record (known_of known.old) {
+          declared = with_entries known.old.file at (scope_at known.old.names
+              (length known.old.names)) entries.now known.old.names;
+        }) }
 {
     let inside = known.names.len();
     let file = known.file;

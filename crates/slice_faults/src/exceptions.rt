@@ -24,7 +24,7 @@ use slice_syntax::{Field, Path, Word};
 use std::alloc::{AllocError, Global};
 
 /// Declares an exception, or answers its fault.
-pub fn exception<'a>(
+pub(crate) fn exception<'a>(
     alloc: Global,
     known: &mut Known<'a>,
     word: &'a Word,
@@ -33,17 +33,19 @@ pub fn exception<'a>(
 ) -> Result<Option<Fault>, AllocError>
     requires plain { IsPlain word.now.name }
     requires kept { IsKept (known_of known.old) }
-    ensures fault { IfOk result (λ fault. fault ≡ noted None (faults (known_of known.old) (items.Exception word.now base.now fields.now))) }
-    ensures after { IfOk result (λ fault. fault ≡ None → known_of known.new ≡ after (known_of known.old) (items.Exception word.now base.now fields.now)) }
+    ensures fault { IfOk result (λ fault. fault
+        ≡ noted None (faults (known_of known.old) (items.Exception word.now base.now fields.now))) }
+    ensures after { IfOk result (λ fault. fault ≡ None
+        → known_of known.new ≡ after (known_of known.old) (items.Exception word.now base.now fields.now)) }
 {
     let fault = exception_fault(alloc, known, word, base, fields)?;
     if fault.is_none() {
-        has_room(known.schema.exceptions().len())?;
+        has_room(known.rows.schema().exceptions().len())?;
         let id = new_id(alloc, known, word)?;
         let base = base_at(known, base);
         let members = members_of(alloc, known, fields.as_slice())?;
         let at = known
-            .schema
+            .rows
             .add_exception(ExceptionDecl { id, base, members })?;
         declare(alloc, known, word, Standing::Exception(at))?;
     }
@@ -59,7 +61,8 @@ fn exception_fault(
     base: &Option<Path>,
     fields: &List<Field>,
 ) -> Result<Option<Fault>, AllocError>
-    ensures { IfOk result (λ fault. fault ≡ noted None (faults (known_of known.now) (items.Exception word.now base.now fields.now))) }
+    ensures { IfOk result (λ fault. fault
+        ≡ noted None (faults (known_of known.now) (items.Exception word.now base.now fields.now))) }
 {
     let mut found = Found::new();
     note_new_name(alloc, known, word, &mut found)?;

@@ -13,6 +13,7 @@ ghost use Rattle.slice_faults.specs.Answer.{IsAnswer, answer_of};
 use crate::fault::CheckFault;
 use crate::items::declare_all;
 use crate::known::Known;
+use crate::rows::Rows;
 use crate::undefined::first_undefined;
 use ice_types::Schema;
 use slice_meaning::{CheckKind, Fault};
@@ -27,8 +28,8 @@ pub fn check(alloc: Global, files: &[File]) -> Result<Schema, CheckFault>
 {
     let mut known = nothing_known(alloc);
     let found = first_fault(alloc, &mut known, files)?;
-    let Known { schema, .. } = known;
-    answer(schema, found)
+    let Known { rows, .. } = known;
+    answer(rows.into_schema(), found)
 }
 
 /// The schema, or the fault where one was found.
@@ -53,7 +54,8 @@ fn first_fault<'a>(
 ) -> Result<Option<(u32, Fault)>, AllocError>
     requires regular { Each AreRegular files.now }
     requires kept { IsKept (known_of known.old) }
-    ensures { IfOk result (λ found. checked_from (known_of known.old) files.now ≡ answer_of (known_of known.new).tables found) }
+    ensures { IfOk result (λ found. checked_from (known_of known.old) files.now
+        ≡ answer_of (known_of known.new).tables found) }
 {
     match declare_files(alloc, known, files)? {
         Some(found) => Ok(Some(found)),
@@ -63,7 +65,8 @@ fn first_fault<'a>(
 
 /// The first class that is never defined, as a fault with its file.
 fn never_defined(known: &Known) -> Option<(u32, Fault)>
-    ensures { at_end (known_of known.now).tables (earlier None (undefined (known_of known.now))) ≡ answer_of (known_of known.now).tables result }
+    ensures { at_end (known_of known.now).tables (earlier None (undefined (known_of known.now)))
+        ≡ answer_of (known_of known.now).tables result }
 {
     match first_undefined(known) {
         Some((file, place)) => Some((
@@ -85,7 +88,7 @@ fn nothing_known<'a>(alloc: Global) -> Known<'a>
         file: 0,
         scope: 0,
         names: Scopes::new(alloc),
-        schema: Schema::new(alloc),
+        rows: Rows::new(alloc),
     }
 }
 
@@ -97,9 +100,11 @@ fn declare_files<'a>(
 ) -> Result<Option<(u32, Fault)>, AllocError>
     requires regular { Each AreRegular files.now }
     requires kept { IsKept (known_of known.old) }
-    ensures fault { IfOk result (λ found. IfSome found (λ fault. checked_from (known_of known.old) files.now ≡ Err fault)) }
+    ensures fault { IfOk result (λ found. IfSome found (λ fault. checked_from (known_of known.old) files.now
+        ≡ Err fault)) }
     ensures none { IfOk result (λ found. found ≡ None
-        → checked_from (known_of known.old) files.now ≡ at_end (known_of known.new).tables (earlier None (undefined (known_of known.new)))) }
+        → checked_from (known_of known.old) files.now
+        ≡ at_end (known_of known.new).tables (earlier None (undefined (known_of known.new)))) }
 {
     for file in files {
         let at = known.file;

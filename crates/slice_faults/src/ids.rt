@@ -21,7 +21,7 @@ pub(crate) fn new_id(alloc: Global, known: &Known, word: &Word) -> Result<Name, 
     requires new { declared_in known.now.names word.now.name (scope_at known.now.names known.now.scope) ≡ None }
     ensures is { IfOk result (λ id. id ≡ id_here (known_of known.now) word.now) }
     ensures type_id { IfOk result (λ id. IsTypeId id) }
-    ensures new_id { IfOk result (λ id. IsNewId known.now.schema id) }
+    ensures new_id { IfOk result (λ id. IsNewId known.now.rows id) }
 {
     let mut names = scope_names(alloc, known)?;
     let mut id = String::new(alloc);

@@ -33,7 +33,7 @@ use slice_syntax::{OpTree, Path, Word};
 use std::alloc::{AllocError, Global};
 
 /// Declares an interface, and defines it where its operations are told, or answers its fault.
-pub fn interface<'a>(
+pub(crate) fn interface<'a>(
     alloc: Global,
     known: &mut Known<'a>,
     word: &'a Word,
@@ -42,8 +42,10 @@ pub fn interface<'a>(
 ) -> Result<Option<Fault>, AllocError>
     requires plain { HasPlainNames (items.Interface word.now bases.now ops.now) }
     requires kept { IsKept (known_of known.old) }
-    ensures fault { IfOk result (λ fault. fault ≡ noted None (faults (known_of known.old) (items.Interface word.now bases.now ops.now))) }
-    ensures after { IfOk result (λ fault. fault ≡ None → known_of known.new ≡ after (known_of known.old) (items.Interface word.now bases.now ops.now)) }
+    ensures fault { IfOk result (λ fault. fault
+        ≡ noted None (faults (known_of known.old) (items.Interface word.now bases.now ops.now))) }
+    ensures after { IfOk result (λ fault. fault ≡ None
+        → known_of known.new ≡ after (known_of known.old) (items.Interface word.now bases.now ops.now)) }
 {
     match ops {
         Some(ops) => defined(alloc, known, word, bases, ops),
@@ -60,8 +62,10 @@ fn declared<'a>(
 ) -> Result<Option<Fault>, AllocError>
     requires plain { HasPlainNames (items.Interface word.now bases.now None) }
     requires kept { IsKept (known_of known.old) }
-    ensures fault { IfOk result (λ fault. fault ≡ noted None (faults (known_of known.old) (items.Interface word.now bases.now None))) }
-    ensures after { IfOk result (λ fault. fault ≡ None → known_of known.new ≡ after (known_of known.old) (items.Interface word.now bases.now None)) }
+    ensures fault { IfOk result (λ fault. fault
+        ≡ noted None (faults (known_of known.old) (items.Interface word.now bases.now None))) }
+    ensures after { IfOk result (λ fault. fault ≡ None
+        → known_of known.new ≡ after (known_of known.old) (items.Interface word.now bases.now None)) }
 {
     let mut found = Found::new();
     note_name(alloc, known, word, false, &mut found)?;
@@ -79,15 +83,24 @@ fn defined<'a>(
 ) -> Result<Option<Fault>, AllocError>
     requires plain { HasPlainNames (items.Interface word.now bases.now (Some ops.now)) }
     requires kept { IsKept (known_of known.old) }
-    ensures fault { IfOk result (λ fault. fault ≡ noted None (faults (known_of known.old) (items.Interface word.now bases.now (Some ops.now)))) }
-    ensures after { IfOk result (λ fault. fault ≡ None → known_of known.new ≡ after (known_of known.old) (items.Interface word.now bases.now (Some ops.now))) }
+    ensures fault { IfOk result (λ fault. fault
+        ≡ noted None (faults (known_of known.old) (items.Interface word.now bases.now (Some ops.now)))) }
+    ensures after { IfOk result (λ fault. fault ≡ None
+        → known_of known.new ≡ after (known_of known.old) (items.Interface word.now bases.now (Some ops.now))) }
 {
     rows_known();
     sound_fits();
     let mut found = Found::new();
     note_name(alloc, known, word, true, &mut found)?;
     put_name(alloc, known, word)?;
-    note_body(alloc, known, word, bases.as_slice(), ops.as_slice(), &mut found)?;
+    note_body(
+        alloc,
+        known,
+        word,
+        bases.as_slice(),
+        ops.as_slice(),
+        &mut found,
+    )?;
     if found.first.is_none() {
         fill(alloc, known, word, bases.as_slice(), ops.as_slice())?;
     }
@@ -103,7 +116,9 @@ fn note_name(
     defines: bool,
     found: &mut Found,
 ) -> Result<(), AllocError>
-    ensures { OnOk result (found.new.first ≡ noted found.old.first (reopened_name (known_of known.now) (is_interface (known_of known.now) defines) word.now)) }
+    ensures { OnOk result (found.new.first
+        ≡ noted found.old.first (reopened_name (known_of known.now) (is_interface
+        (known_of known.now) defines) word.now)) }
 {
     let again = match standing_here(known, word) {
         Some(standing) => is_interface(known, defines, standing),
@@ -117,26 +132,23 @@ fn is_interface(known: &Known, defines: bool, standing: Standing) -> bool
     ensures { result ≡ is_interface (known_of known.now) defines standing }
 {
     match as_interface(standing) {
-        Some(at) => !(defines && known.schema.is_interface_defined(at)),
+        Some(at) => !(defines && known.rows.schema().is_interface_defined(at)),
         None => false,
     }
 }
 
 /// Declares the interface, unless something has the name already.
-fn put_name<'a>(
-    alloc: Global,
-    known: &mut Known<'a>,
-    word: &'a Word,
-) -> Result<(), AllocError>
+fn put_name<'a>(alloc: Global, known: &mut Known<'a>, word: &'a Word) -> Result<(), AllocError>
     requires plain { IsPlain word.now.name }
     requires kept { IsKept (known_of known.old) }
     ensures named { OnOk result (known_of known.new ≡ with_interface_name (known_of known.old) word.now) }
-    ensures undefined { OnOk result (standing_here (known_of known.old) word.now ≡ None → is_defined known.new.schema.defined_interfaces (interface_at (known_of known.new) word.now) ≡ false) }
+    ensures undefined { OnOk result (standing_here (known_of known.old) word.now ≡ None
+        → is_defined known.new.rows.defined_interfaces (interface_at (known_of known.new) word.now) ≡ false) }
 {
     if standing_here(known, word).is_none() {
-        has_room(known.schema.interfaces().len())?;
+        has_room(known.rows.schema().interfaces().len())?;
         let id = new_id(alloc, known, word)?;
-        let at = known.schema.add_interface(id)?;
+        let at = known.rows.add_interface(id)?;
         declare(alloc, known, word, Standing::Interface(at))?;
     }
     Ok(())
@@ -150,15 +162,18 @@ fn fill(
     bases: &[Path],
     ops: &[OpTree],
 ) -> Result<(), AllocError>
-    requires there { interface_at (known_of known.old) word.now < length known.old.schema.interfaces }
-    requires undefined { is_defined known.old.schema.defined_interfaces (interface_at (known_of known.old) word.now) ≡ false }
-    requires fits { InterfaceFits known.old.schema (named (interface_named (known_of known.old)) bases.now) (map (op_of (known_of known.old)) ops.now) }
-    ensures { OnOk result (known_of known.new ≡ with_interface_body (known_of known.old) word.now bases.now (Some ops.now)) }
+    requires there { interface_at (known_of known.old) word.now < length known.old.rows.interfaces }
+    requires undefined { is_defined known.old.rows.defined_interfaces (interface_at (known_of known.old) word.now)
+        ≡ false }
+    requires fits { InterfaceFits known.old.rows (named (interface_named
+        (known_of known.old)) bases.now) (map (op_of (known_of known.old)) ops.now) }
+    ensures { OnOk result (known_of known.new
+        ≡ with_interface_body (known_of known.old) word.now bases.now (Some ops.now)) }
 {
     let bases = bases_of(alloc, known, bases)?;
     let ops = operations_of(alloc, known, ops)?;
     let at = place_of(known, word);
-    known.schema.define_interface(at, bases, ops);
+    known.rows.define_interface(at, bases, ops);
     Ok(())
 }
 
@@ -203,7 +218,8 @@ fn note_body(
     ops: &[OpTree],
     found: &mut Found,
 ) -> Result<(), AllocError>
-    ensures { OnOk result (found.new.first ≡ noted found.old.first (body_faults (known_of known.now) word.now bases.now ops.now)) }
+    ensures { OnOk result (found.new.first
+        ≡ noted found.old.first (body_faults (known_of known.now) word.now bases.now ops.now)) }
 {
     note_limits(known, word, bases, found);
     note_bases(alloc, known, bases, found)?;
@@ -215,11 +231,7 @@ fn note_body(
 fn note_limits(known: &Known, word: &Word, bases: &[Path], found: &mut Found)
     ensures { found.new.first ≡ noted found.old.first (base_limits (known_of known.now) word.now bases.now) }
 {
-    found.note_where(
-        has_too_many(known, bases),
-        word.place,
-        CheckKind::TooBig,
-    );
+    found.note_where(has_too_many(known, bases), word.place, CheckKind::TooBig);
 }
 
 /// Whether bases, counted by the paths that lead to them, are too many.
@@ -240,7 +252,7 @@ fn base_count(known: &Known, path: &Path) -> u64
     ensures most { result ≤ 2 ^ 32 }
 {
     match interface_named(known, path) {
-        Ok(at) => u64::from(known.schema.paths(at)) + 1,
+        Ok(at) => u64::from(known.rows.schema().paths(at)) + 1,
         Err(_) => 0,
     }
 }
@@ -268,13 +280,17 @@ fn note_base(
     before: &mut NumberSet,
     found: &mut Found,
 ) -> Result<(), AllocError>
-    ensures found { (ns : List ℕ) → HoldsNumbers before.old.numbers ns → OnOk result (found.new.first ≡ noted found.old.first (as_interface_base (known_of known.now) ns path.now.place (interface_named (known_of known.now) path.now))) }
-    ensures held { (ns : List ℕ) → HoldsNumbers before.old.numbers ns → OnOk result (HoldsNumbers before.new.numbers (with_base ns (interface_named (known_of known.now) path.now))) }
+    ensures found { (ns : List ℕ) → HoldsNumbers before.old.numbers ns
+        → OnOk result (found.new.first
+        ≡ noted found.old.first (as_interface_base (known_of known.now) ns path.now.place (interface_named
+        (known_of known.now) path.now))) }
+    ensures held { (ns : List ℕ) → HoldsNumbers before.old.numbers ns
+        → OnOk result (HoldsNumbers before.new.numbers (with_base ns (interface_named (known_of known.now) path.now))) }
 {
     match interface_named(known, path) {
         Ok(at) => {
             let is_new = before.numbers.insert(at)?;
-            let is_bad = !known.schema.is_interface_defined(at) || !is_new;
+            let is_bad = !known.rows.schema().is_interface_defined(at) || !is_new;
             found.note_where(is_bad, path.place, CheckKind::BadBase);
         }
         Err(row) => found.note_where(true, path.place, row),
@@ -309,7 +325,8 @@ fn note_operations(
     ops: &[OpTree],
     found: &mut Found,
 ) -> Result<(), AllocError>
-    ensures { OnOk result (found.new.first ≡ noted found.old.first (flat_map (op_faults (known_of known.now)) ops.now)) }
+    ensures { OnOk result (found.new.first
+        ≡ noted found.old.first (flat_map (op_faults (known_of known.now)) ops.now)) }
 {
     for op in ops {
         note_operation(alloc, known, op, found)?;

@@ -30,7 +30,8 @@ pub(crate) fn declare_all<'a>(
     requires regular { Each IsRegular items.now }
     requires kept { IsKept (known_of known.old) }
     ensures fault { IfOk result (λ fault. fault ≡ broken (known_of known.old) items.now) }
-    ensures after { IfOk result (λ fault. fault ≡ None → known_of known.new ≡ after_all (known_of known.old) items.now) }
+    ensures after { IfOk result (λ fault. fault ≡ None
+        → known_of known.new ≡ after_all (known_of known.old) items.now) }
     ensures kept { IfOk result (λ fault. fault ≡ None → IsKept (known_of known.new)) }
 {
     for item in items {

@@ -35,7 +35,8 @@ pub(crate) fn add_member(
     field: &Field,
     members: &mut List<Member>,
 ) -> Result<(), AllocError>
-    ensures { OnOk result (members.new ≡ members.old ++ with_field (known_of known.now) field.now (type_of (known_of known.now) field.now.kind) []) }
+    ensures { OnOk result (members.new
+        ≡ members.old ++ with_field (known_of known.now) field.now (type_of (known_of known.now) field.now.kind) []) }
 {
     if let Ok(kind) = type_of(known, &field.kind) {
         let name = Name::of(alloc, field.word.name.as_str())?;

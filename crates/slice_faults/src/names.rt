@@ -49,7 +49,9 @@ pub(crate) fn note_reopened(
     again: bool,
     found: &mut Found,
 ) -> Result<(), AllocError>
-    ensures { OnOk result (found.new.first ≡ noted found.old.first (where_true (is_taken (known_of known.now) word.now && not again) word.now.place rows.Clash)) }
+    ensures { OnOk result (found.new.first
+        ≡ noted found.old.first (where_true (is_taken
+        (known_of known.now) word.now && not again) word.now.place rows.Clash)) }
 {
     let taken = known
         .names

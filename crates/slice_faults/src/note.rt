@@ -22,7 +22,8 @@ pub(crate) fn note_row(row: Option<CheckKind>, place: u32, found: &mut Found)
 
 /// Notes a definition that has no members.
 pub(crate) fn note_none<T>(members: &List<T>, word: &Word, found: &mut Found)
-    ensures { found.new.first ≡ noted found.old.first (where_true (is_empty members.now) word.now.place rows.NoMembers) }
+    ensures { found.new.first
+        ≡ noted found.old.first (where_true (is_empty members.now) word.now.place rows.NoMembers) }
 {
     found.note_where(members.is_empty(), word.place, CheckKind::NoMembers);
 }

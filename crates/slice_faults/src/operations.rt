@@ -46,7 +46,9 @@ fn note_tags(
     out: bool,
     found: &mut Found,
 ) -> Result<(), AllocError>
-    ensures { OnOk result (found.new.first ≡ noted found.old.first (tag_faults (known_of known.now) [] (first.now ∷ map (λ f. f.tag) (side out params.now)))) }
+    ensures { OnOk result (found.new.first
+        ≡ noted found.old.first (tag_faults
+        (known_of known.now) [] (first.now ∷ map (λ f. f.tag) (side out params.now)))) }
 {
     let mut numbers = NumberSet::new(alloc);
     note_tag(known, &mut numbers, first, found)?;
@@ -64,8 +66,13 @@ fn note_side_tag(
     numbers: &mut NumberSet,
     found: &mut Found,
 ) -> Result<(), AllocError>
-    ensures found { (before : List ℕ) → HoldsNumbers numbers.old.numbers before → OnOk result (found.new.first ≡ noted found.old.first (cond (is_side out param.now) (tag_fault (known_of known.now) before param.now.field.tag) [])) }
-    ensures held { (before : List ℕ) → HoldsNumbers numbers.old.numbers before → OnOk result (HoldsNumbers numbers.new.numbers (cond (is_side out param.now) (with_tag (known_of known.now) before param.now.field.tag) before)) }
+    ensures found { (before : List ℕ) → HoldsNumbers numbers.old.numbers before
+        → OnOk result (found.new.first
+        ≡ noted found.old.first (cond (is_side out param.now) (tag_fault
+        (known_of known.now) before param.now.field.tag) [])) }
+    ensures held { (before : List ℕ) → HoldsNumbers numbers.old.numbers before
+        → OnOk result (HoldsNumbers numbers.new.numbers (cond (is_side out param.now) (with_tag
+        (known_of known.now) before param.now.field.tag) before)) }
 {
     if param.out == out {
         note_tag(known, numbers, &param.field.tag, found)
@@ -85,7 +92,8 @@ fn note_result(known: &Known, word: &Option<TypeWord>, found: &mut Found)
 
 /// Notes what is wrong with the types of parameters, and with their values.
 fn note_params(known: &Known, params: &[Param], found: &mut Found)
-    ensures { found.new.first ≡ noted found.old.first (flat_map (λ p. field_faults (known_of known.now) p.field) params.now) }
+    ensures { found.new.first
+        ≡ noted found.old.first (flat_map (λ p. field_faults (known_of known.now) p.field) params.now) }
 {
     for param in params {
         note_field(known, &param.field, found);

@@ -37,7 +37,8 @@ fn take(
     required: &mut Vec<Member>,
     optional: &mut BTreeMap<(u32, usize), Member>,
 ) -> Result<(), AllocError>
-    ensures required { OnOk result (required.new.items ≡ cond (is_none member.tag) (required.old.items ++ member ∷ []) required.old.items) }
+    ensures required { OnOk result (required.new.items
+        ≡ cond (is_none member.tag) (required.old.items ++ member ∷ []) required.old.items) }
     ensures optional { OnOk result (optional.new.entries ≡ put_in optional.old.entries behind member) }
 {
     match member.tag {

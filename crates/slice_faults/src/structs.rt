@@ -25,7 +25,7 @@ use slice_syntax::{Field, Word};
 use std::alloc::{AllocError, Global};
 
 /// Declares a struct, or answers its fault.
-pub fn structure<'a>(
+pub(crate) fn structure<'a>(
     alloc: Global,
     known: &mut Known<'a>,
     word: &'a Word,
@@ -34,15 +34,17 @@ pub fn structure<'a>(
     requires plain { IsPlain word.now.name }
     requires no_tags { Each (λ f. f.tag ≡ None) fields.now }
     requires kept { IsKept (known_of known.old) }
-    ensures fault { IfOk result (λ fault. fault ≡ noted None (faults (known_of known.old) (items.Struct word.now fields.now))) }
-    ensures after { IfOk result (λ fault. fault ≡ None → known_of known.new ≡ after (known_of known.old) (items.Struct word.now fields.now)) }
+    ensures fault { IfOk result (λ fault. fault
+        ≡ noted None (faults (known_of known.old) (items.Struct word.now fields.now))) }
+    ensures after { IfOk result (λ fault. fault ≡ None
+        → known_of known.new ≡ after (known_of known.old) (items.Struct word.now fields.now)) }
 {
     let members = members_of(alloc, known, fields.as_slice())?;
     let fault = struct_fault(alloc, known, word, fields, members.as_slice())?;
     if fault.is_none() {
-        has_room(known.schema.structs().len())?;
+        has_room(known.rows.schema().structs().len())?;
         let id = new_id(alloc, known, word)?;
-        let at = known.schema.add_struct(StructDecl { id, members })?;
+        let at = known.rows.add_struct(StructDecl { id, members })?;
         declare(alloc, known, word, Standing::Type(TypeRef::Struct(at)))?;
     }
     Ok(fault)
@@ -58,7 +60,8 @@ fn struct_fault(
     members: &[Member],
 ) -> Result<Option<Fault>, AllocError>
     requires { members.now ≡ members_of (known_of known.now) fields.now }
-    ensures { IfOk result (λ fault. fault ≡ noted None (faults (known_of known.now) (items.Struct word.now fields.now))) }
+    ensures { IfOk result (λ fault. fault
+        ≡ noted None (faults (known_of known.now) (items.Struct word.now fields.now))) }
 {
     let mut found = Found::new();
     note_new_name(alloc, known, word, &mut found)?;
@@ -70,19 +73,27 @@ fn struct_fault(
 
 /// Notes members that nest too deep, or whose smallest spellings together are too long.
 fn note_limits(known: &Known, place: u32, members: &[Member], found: &mut Found)
-    ensures { found.new.first ≡ noted found.old.first (struct_limits place (measure_members (measure (known_of known.now).tables (MOST_DEPTH - 1)) members.now)) }
+    ensures { found.new.first
+        ≡ noted found.old.first (struct_limits place (measure_members (measure
+        (known_of known.now).tables (MOST_DEPTH - 1)) members.now)) }
 {
     note_row(limit(known, members), place, found);
 }
 
 /// The row that applies to members that nest too deep, or whose smallest spellings together are too long.
 fn limit(known: &Known, members: &[Member]) -> Option<CheckKind>
-    ensures { (place : ℕ) → where_row place result ≡ struct_limits place (measure_members (measure (known_of known.now).tables (MOST_DEPTH - 1)) members.now) }
+    ensures { (place : ℕ)
+        → where_row place result
+        ≡ struct_limits place (measure_members (measure (known_of known.now).tables (MOST_DEPTH - 1)) members.now) }
 {
     let most = u64::from(MOST_SMALLEST);
     let mut smallest = 0;
     for member in members {
-        match known.schema.measure_within(MOST_DEPTH - 1, member.kind) {
+        match known
+            .rows
+            .schema()
+            .measure_within(MOST_DEPTH - 1, member.kind)
+        {
             Some(measure) => smallest = (smallest + u64::from(measure.smallest)).min(most + 1),
             None => return Some(CheckKind::TooDeep),
         }

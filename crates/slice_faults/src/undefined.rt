@@ -29,7 +29,8 @@ pub(crate) fn first_undefined(known: &Known) -> Option<(u32, u32)>
 fn with_class(known: &Known, number: usize, first: Option<(u32, u32)>) -> Option<(u32, u32)>
     requires inner { 0 < number }
     requires within { number ≤ length known.now.names }
-    ensures { (e : Option Declared) (d : Declared) → declared_at known.now.names number ≡ Some d → first ≡ option_map stands_at e
+    ensures { (e : Option Declared) (d : Declared) → declared_at known.now.names number ≡ Some d
+        → first ≡ option_map stands_at e
         → result ≡ option_map stands_at (earlier e (filter (is_undefined (known_of known.now).tables) (d ∷ []))) }
 {
     if is_undefined(known, known.names.standing(number)) {
@@ -41,7 +42,8 @@ fn with_class(known: &Known, number: usize, first: Option<(u32, u32)>) -> Option
 
 /// The one of two places that comes first.
 fn sooner(first: Option<(u32, u32)>, other: (u32, u32)) -> (u32, u32)
-    ensures { (e : Option Declared) (d : Declared) → first ≡ option_map stands_at e → other ≡ stands_at d → Some result ≡ option_map stands_at (earlier e (d ∷ [])) }
+    ensures { (e : Option Declared) (d : Declared) → first ≡ option_map stands_at e → other ≡ stands_at d
+        → Some result ≡ option_map stands_at (earlier e (d ∷ [])) }
 {
     match first {
         Some(first) if first.0 < other.0 || (first.0 == other.0 && first.1 <= other.1) => first,
@@ -54,7 +56,7 @@ fn is_undefined(known: &Known, standing: Standing) -> bool
     ensures { (d : Declared) → d.standing ≡ standing → result ≡ is_undefined (known_of known.now).tables d }
 {
     match standing {
-        Standing::Type(TypeRef::Class(Some(at))) => !known.schema.is_class_defined(at),
+        Standing::Type(TypeRef::Class(Some(at))) => !known.rows.schema().is_class_defined(at),
         _ => false,
     }
 }

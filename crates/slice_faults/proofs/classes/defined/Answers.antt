@@ -25,7 +25,7 @@ fault c = class_noted (known_of c.args.known.now) (known_of c.put_name.new.known
 rows : (c : goal.After-as_slice-then-is_none) → KnowsRows (known_of c.put_name.new.known)
 rows c = subst KnowsRows (sym c.in_ok-put_name.ensures.named) (c.rows_known.ensures.class (known_of c.args.known.now) c.args.word.now c.requires.kept.rows)
 
-open_row : (c : goal.After-as_slice-then-is_none) → IsOpen c.put_name.new.known.schema.defined_classes (class_at (known_of c.put_name.new.known) c.args.word.now) (length c.put_name.new.known.schema.classes)
+open_row : (c : goal.After-as_slice-then-is_none) → IsOpen c.put_name.new.known.rows.defined_classes (class_at (known_of c.put_name.new.known) c.args.word.now) (length c.put_name.new.known.rows.classes)
 open_row c = class_ready (known_of c.args.known.now) (known_of c.put_name.new.known) c.args.word.now c.args.base.now c.args.fields.now c.note_fields.new.found.first c.is_none.result c.in_ok-put_name.ensures.named (rows c)
     c.in_ok-put_name.ensures.undefined c.is_none.ensures c.if-is_none.true (fault c)
 

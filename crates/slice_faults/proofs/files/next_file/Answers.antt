@@ -8,6 +8,6 @@ use Rattle.slice_faults.proofs.files.next_file.Goals as goal
 pub returns : goal.returns
 returns c =
     let k = c.args.known.now in
-    let make : ℕ → Scope → meaning.Known = λ file scope. record { file = file; scope = scope; declared = k.names; tables = k.schema } in
+    let make : ℕ → Scope → meaning.Known = λ file scope. record { file = file; scope = scope; declared = k.names; tables = k.rows } in
     let next : c.in_ok-known.field-0 ≡ suc k.file = omega (arith, c.in_ok-known.ensures) in
     ap (λ file. make file (scope_at k.names 0)) next ∙ ap (make (suc k.file)) (zero_scope k.names)

@@ -19,7 +19,7 @@ fault c = interface_noted (known_of c.args.known.now) (known_of c.put_name.new.k
 rows : (c : goal.After-as_slice-then-is_none-2) → KnowsRows (known_of c.put_name.new.known)
 rows c = subst KnowsRows (sym c.in_ok-put_name.ensures.named) (c.rows_known.ensures.interface (known_of c.args.known.now) c.args.word.now c.requires.kept.rows)
 
-open_row : (c : goal.After-as_slice-then-is_none-2) → IsOpen c.put_name.new.known.schema.defined_interfaces (interface_at (known_of c.put_name.new.known) c.args.word.now) (length c.put_name.new.known.schema.interfaces)
+open_row : (c : goal.After-as_slice-then-is_none-2) → IsOpen c.put_name.new.known.rows.defined_interfaces (interface_at (known_of c.put_name.new.known) c.args.word.now) (length c.put_name.new.known.rows.interfaces)
 open_row c = interface_ready (known_of c.args.known.now) (known_of c.put_name.new.known) c.args.word.now c.args.bases.now c.args.ops.now c.note_body.new.found.first c.is_none.result c.in_ok-put_name.ensures.named (rows c)
     c.in_ok-put_name.ensures.undefined c.is_none.ensures c.if-is_none.true (fault c)
 

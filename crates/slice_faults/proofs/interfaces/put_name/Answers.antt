@@ -8,4 +8,4 @@ pub returns-in_ok-declare-clause-undefined : goal.returns-in_ok-declare-clause-u
 returns-in_ok-declare-clause-undefined c = λ none.
     let old = c.args.known.now in
     let mid : meaning.Known = record { file = old.file; scope = scope_at old.names old.scope; declared = old.names; tables = c.add_interface.new.self } in
-    interface_undefined mid (known_of c.declare.new.known) c.args.word.now c.in_ok-at.at old.schema c.in_ok-id.id c.in_ok-declare.ensures c.in_ok-at.ensures.ok.1 c.in_ok-at.ensures.ok.0 c.add_interface.ensures.rules
+    interface_undefined mid (known_of c.declare.new.known) c.args.word.now c.in_ok-at.at old.rows c.in_ok-id.id c.in_ok-declare.ensures c.in_ok-at.ensures.ok.1 c.in_ok-at.ensures.ok.0 c.add_interface.ensures.rules
