@@ -153,7 +153,7 @@ def is_name(tokens, at):
 
 def other_words(tokens, names, chance):
     """Yields tokens in which each type is another one, later ones and the module among them, and each name one that may stand already."""
-    words = sorted({it for it in tokens if is_word(it)} - lexer.KEYWORDS)
+    words = sorted({it for it in tokens if is_word(it)} - set(lexer.KEYWORDS))
     for at, token in enumerate(tokens):
         if is_type(tokens, at):
             types = [*names, swapped(token), chance.choice(words), chance.choice(sorted(lexer.KEYWORDS))]

@@ -1,4 +1,5 @@
-"""The answers that `ice check FILE` and `ice relay FILE TYPE` have to give: status, standard output, and the line on standard error."""
+"""The answers that `ice check FILE` and `ice relay FILE TYPE` have to give: status, standard output, and the line on standard
+error."""
 import kinds
 import loading
 import names

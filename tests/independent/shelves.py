@@ -16,6 +16,7 @@ UNKNOWN = ["Nothing", "a", "B", "Order", "unit"]
 BUILT_IN = ["bool", "byte", "short", "int", "long", "string"]
 TYPES = ("struct", "sequence", "dictionary", "enum", "class")
 BLANKS = [" ", " ", " ", "\n", "\t", "\r\n", "\f", "\n    ", " // é\n", "/* {; */", "/**/ ", "//\n"]
+ODD = b'{ } ; :: int module optional * 1 " /* 09 0x $ # = [ \\ \xff 1a 9223372036854775809'.split() + [b""]
 METADATA = [["[", '"deprecated"', "]"], ["[", '"a:b"', ",", '"\\"]"', "]"]]
 MOST_TAG = 2**31 - 1
 
@@ -55,7 +56,8 @@ class ShelfMaker:
 
     def one_of(self, sorts, **wanted):
         """Returns something declared of one of the sorts, later ones the likelier, or None."""
-        some = [it for it in self.declared if it.sort in sorts and all(getattr(it, key) == value for key, value in wanted.items())]
+        some = [it for it in self.declared if it.sort in sorts]
+        some = [it for it in some if all(getattr(it, key) == value for key, value in wanted.items())]
         return self.chance.choice(some[-4:] if self.likely(0.5) else some) if some else None
 
     # Names
@@ -99,7 +101,8 @@ class ShelfMaker:
         left = words if self.likely(0.3) else words[self.chance.randint(0, shared) if self.likely(0.3) else shared :]
         is_outer = left == words and self.likely(0.5)
         if self.slips():
-            left = self.chance.choice([(self.chance.choice(UNKNOWN),), tuple(self.other_case(it) for it in left), left[1:] or left, (*left, left[-1])])
+            others = [(self.chance.choice(UNKNOWN),), tuple(self.other_case(it) for it in left), left[1:] or left]
+            left = self.chance.choice([*others, (*left, left[-1])])
         tokens = ["::"] if is_outer else []
         for it in left:
             tokens += [*self.spelled(it), "::"]
@@ -109,7 +112,7 @@ class ShelfMaker:
         """Returns a scoped name for something of one of the sorts, and that thing; None where there is none."""
         found = self.one_of(sorts, **wanted)
         if found is None or self.slips():
-            found = self.one_of(("struct", "sequence", "dictionary", "enum", "class", "exception", "interface", "const", "module")) if self.slips() else found
+            found = self.one_of((*TYPES, "exception", "interface", "const", "module")) if self.slips() else found
         return (self.path(found.path), found) if found else None
 
     # Types and values
@@ -120,14 +123,18 @@ class ShelfMaker:
             return [self.chance.choice(["float", "double", self.chance.choice(UNKNOWN)])], None
         if self.likely(0.55):
             if self.likely(0.1):
-                return self.chance.choice([["Object"], ["Object", "*"], ["Value"]]) if not only_keys or self.slips() else ["int"], None
+                some = [["Object"], ["Object", "*"], ["Value"]] if not only_keys or self.slips() else [["int"]]
+                return self.chance.choice(some), None
             word = self.chance.choice(BUILT_IN)
             return [word], word
         if not only_keys and self.likely(0.15) or self.slips():
             found = self.named("interface") if not self.slips() else self.named(*TYPES, "exception")
             if found:
                 return [*found[0], "*"], None
-        found = self.named(*TYPES, may_be_key=True) if only_keys and not self.slips() else self.named(*TYPES, *(["interface", "exception", "module"] if self.slips() else []))
+        if only_keys and not self.slips():
+            found = self.named(*TYPES, may_be_key=True)
+        else:
+            found = self.named(*TYPES, *(["interface", "exception", "module"] if self.slips() else []))
         return found or (["int"], "int")
 
     def number(self, number):
@@ -138,7 +145,8 @@ class ShelfMaker:
 
     def any_value(self):
         found = self.one_of(("const", "enum", "struct", "module"))
-        some = [["true"], ["false"], ['"a"'], self.number(self.chance.choice([0, 1, -1, 300, 2**31, 2**63, -(2**63)])), ["Nothing"]]
+        number = self.number(self.chance.choice([0, 1, -1, 300, 2**31, 2**63, -(2**63)]))
+        some = [["true"], ["false"], ['"a"'], number, ["Nothing"]]
         return self.path(found.path) if found and self.likely(0.4) else self.chance.choice(some)
 
     def integer(self, least, most):
@@ -210,7 +218,8 @@ class ShelfMaker:
             if self.likely(0.35) or last > MOST_TAG and not self.slips():
                 most = MOST_TAG if self.likely(0.2) else last + 3
                 least = 0 if self.slips() else min(last, MOST_TAG)
-                value, last = self.integer(least, max(least, min(most, MOST_TAG))) if not self.slips() else (self.any_value(), last)
+                most = max(least, min(most, MOST_TAG))
+                value, last = (self.any_value(), last) if self.slips() else self.integer(least, most)
                 tokens += ["=", *value]
             tokens.append(",")
         tokens = tokens[:-1] if entries and self.likely(0.8) else tokens
@@ -252,7 +261,8 @@ class ShelfMaker:
 
     def forward(self, sort):
         """Returns the name of a class or an interface that is defined now: one that waits for it in this scope, or a new one."""
-        waiting = [it for it in self.declared if it.sort == sort and it.path[:-1] == self.open and (not it.is_defined or self.slips())]
+        here = [it for it in self.declared if it.sort == sort and it.path[:-1] == self.open]
+        waiting = [it for it in here if not it.is_defined or self.slips()]
         if waiting and self.likely(0.7):
             found = self.chance.choice(waiting)
             name = self.other_case(found.path[-1]) if self.slips() else found.path[-1]
@@ -314,7 +324,8 @@ class ShelfMaker:
         for at, (is_out, it) in enumerate(zip(outs, self.distinct(len(outs)))):
             tokens += [","] if at else []
             tokens += ["out"] if is_out else []
-            tokens += [*(self.tag(results if is_out else arguments) if self.likely(0.3) else []), *self.type()[0], *self.spelled(it)]
+            tokens += self.tag(results if is_out else arguments) if self.likely(0.3) else []
+            tokens += [*self.type()[0], *self.spelled(it)]
         tokens.append(")")
         thrown = [it[0] for it in (self.named("exception") for _ in range(self.chance.choice([0, 0, 1, 2]))) if it]
         for at, it in enumerate(thrown):
@@ -343,7 +354,8 @@ class ShelfMaker:
         return self.chance.choice(METADATA) if self.likely(0.05) else []
 
     def definitions(self, count):
-        makers = [self.struct, self.sequence, self.dictionary, self.enum, self.constant, self.class_, self.exception, self.interface, self.declaration]
+        makers = [self.struct, self.sequence, self.dictionary, self.enum, self.constant]
+        makers += [self.class_, self.exception, self.interface, self.declaration]
         weights = [4, 3, 3, 3, 4, 4, 2, 4, 2]
         tokens = []
         for _ in range(count):
@@ -426,23 +438,29 @@ def broken(chance):
     name = chance.choice(list(files))
     pieces = files[name].split(b" ")
     at = chance.randrange(len(pieces))
-    odd = [b"", b"{", b"}", b";", b"::", b"int", b"module", b"optional", b"*", b"1", b'"', b"/*", b"09", b"0x", b"$", b"#", b"=", b"[", b"\\", b"\xff", b"1a", b"9223372036854775809"]
-    pieces[at] = chance.choice([pieces[at] + b" " + pieces[at], chance.choice(odd), pieces[at] + chance.choice(odd), pieces[at][1:]])
+    piece = pieces[at]
+    pieces[at] = chance.choice([piece + b" " + piece, chance.choice(ODD), piece + chance.choice(ODD), piece[1:]])
     return {**files, name: b" ".join(pieces)}
 
 
 def deep(chance):
     """Types around one another, up to about the greatest depth."""
-    depth, wanted, tokens, last = 1, chance.choice([98, 99, 100, 100, 101, 101, 102]), [], chance.choice(["int", "string", "C", "Object", "I*"])
-    number = 0
+    depth, wanted = 1, chance.choice([98, 99, 100, 100, 101, 101, 102])
+    last, tokens, number = chance.choice(["int", "string", "C", "Object", "I*"]), [], 0
     while depth < wanted:
         number += 1
         name = f"T{number}"
-        sort = chance.choice(["sequence", "struct", "dictionary"]) if wanted - depth > 1 else chance.choice(["sequence", "struct"])
-        depth += 2 if sort == "dictionary" else 1
-        tokens.append({"sequence": f"sequence<{last}> {name};", "struct": f"struct {name} {{ int a; {last} b; }};", "dictionary": f"dictionary<int, {last}> {name};"}[sort])
+        around = {
+            "sequence": (1, f"sequence<{last}> {name};"),
+            "struct": (1, f"struct {name} {{ int a; {last} b; }};"),
+            "dictionary": (2, f"dictionary<int, {last}> {name};"),
+        }
+        levels, text = around[chance.choice(list(around) if wanted - depth > 1 else ["sequence", "struct"])]
+        depth += levels
+        tokens.append(text)
         last = name
-    more = chance.choice(["", f"struct U {{ {last} a; float b; }};", f"struct U {{ float a; {last} b; }};", f"sequence<{last}> U;", f"class U {{ {last} a; }};"])
+    members = chance.choice([f"{last} a; float b;", f"float a; {last} b;"])
+    more = chance.choice(["", f"struct U {{ {members} }};", f"sequence<{last}> U;", f"class U {{ {last} a; }};"])
     text = " ".join(["module M { class C { }; interface I { };", *tokens, more, "};"])
     return {FILE: text.encode()}
 
