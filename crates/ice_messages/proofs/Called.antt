@@ -1,7 +1,7 @@
 -- What a call and an answer are made of is read as it is spelled, and what is put spells it.
-use Rattle.std.proofs.Common.{◌≡◌, ℕ, ℤ, pos, negsuc, zero, suc, ◌+◌, ◌≤◌, Bool, true, false, IsTrue, List, [], ◌∷◌, ◌++◌, length, Result, Ok, Err, refl, sym, ap, subst, ◌∙◌, inl, inr, arith, ltb, take, drop}
+use Rattle.std.proofs.Common.{◌≡◌, ℕ, ℤ, pos, negsuc, zero, suc, ◌≤◌, false, List, [], ◌∷◌, ◌++◌, length, Ok, refl, sym, ap, subst, ◌∙◌, inl, inr, arith, ltb, take, drop}
 use Rattle.std.proofs.lemmas.Bool.{leb-true, ltb-false, le-ltb}
-use Rattle.ice_messages.specs.Parts.{Part, IsLawful, byte, int, size, text, both, made, tested, chosen, times, SpellsTimes}
+use Rattle.ice_messages.specs.Parts.{IsLawful, int, text, SpellsTimes}
 use Rattle.std.specs.Int.{w32}
 use Rattle.std.proofs.lemmas.List.{length-append, take-append-le, take_at, take-append-drop}
 use Rattle.ice_prims.specs.Rest.{Rest, ◌>>=◌, Took, bytes_at}
@@ -9,7 +9,7 @@ use Rattle.ice_prims.specs.Number.{signed_at, SpellsSigned}
 use Rattle.ice_prims.proofs.Parts.{chosen as choice, then_ok, between, bytes_found, bytes_only}
 use Rattle.ice_messages.specs.declared.message.TheConstants.{LARGEST}
 use Rattle.ice_messages.specs.declared.message.Answer.{Answer}
-use Rattle.ice_messages.specs.Context.{Entry, context, entries}
+use Rattle.ice_messages.specs.Context.{context}
 use Rattle.ice_messages.specs.Calls.{identity, facet_of, facet_texts, texts, facet, mode, claimed, IsEncapsulation, encapsulation, call, missing, answer_by, answer, status_of}
 use Rattle.ice_messages.proofs.Contexts.{entries_lawful, entries_length}
 use Rattle.ice_messages.proofs.Joined.{answer as done, byte_lawful, int_lawful, size_lawful, text_lawful, both_lawful, made_sorted, made_lawful, tested_lawful, chosen_lawful, times_lawful}

@@ -1,21 +1,19 @@
 -- The entries of a context: read as they are spelled, and written in rising order of their names.
-use Rattle.std.proofs.Common.{◌≡◌, ℕ, zero, suc, ◌+◌, Bool, true, false, cond, List, [], ◌∷◌, ◌++◌, length, Option, None, Some, Result, Ok, Err, refl, sym, ap, subst, ◌∙◌, append_assoc, append-nil, arith}
+use Rattle.std.proofs.Common.{◌≡◌, ℕ, zero, suc, ◌+◌, Bool, true, false, cond, List, [], ◌∷◌, ◌++◌, length, Option, None, Some, Result, Ok, refl, sym, ap, subst, ◌∙◌, append_assoc, append-nil, arith}
 use Rattle.std.specs.List.{flat_map, AllByRecursion}
 use Rattle.std.specs.List.Sorted.{IsStrictlySortedBy}
 use Rattle.std.specs.Ordering.{is_eq, match_ordering, ordering_reverse}
 use Rattle.std.specs.declared.cmp.Ordering.{Ordering}
 use Rattle.std.specs.declared.cmp.Ordering.TheVariants.{Less, Equal, Greater}
-use Rattle.std.specs.BTreeMap.{insert_entry}
 use Rattle.std.specs.Map.{keys_of}
 use Rattle.std.proofs.lemmas.Cmp.{nat_list_cmp_total}
 use Rattle.ice_prims.specs.declared.fault.Fault.{Fault}
-use Rattle.ice_prims.specs.declared.fault.Kind.TheVariants.{EqualKey}
-use Rattle.ice_prims.specs.Rest.{Rest, fault, ◌>>=◌, Took, IsBytes}
-use Rattle.ice_prims.specs.Number.{text_at, SpellsText}
-use Rattle.ice_prims.proofs.Parts.{then_ok, ok_is, Took-none, Took-none-is, Took-then, between, Took-fits, IsBytes-front, IsBytes-rest}
-use Rattle.ice_messages.specs.Parts.{Part, Each, IsLawful, text, both}
+use Rattle.ice_prims.specs.Rest.{Rest, ◌>>=◌, Took, IsBytes}
+use Rattle.ice_prims.specs.Number.{text_at}
+use Rattle.ice_prims.proofs.Parts.{then_ok, Took-none, Took-none-is, Took-then, between, Took-fits, IsBytes-front, IsBytes-rest}
+use Rattle.ice_messages.specs.Parts.{Each, IsLawful, text, both}
 use Rattle.ice_messages.specs.Context.{Entry, name_cmp, value_of, with_entry, new_name, entries_at, SpellsEntries, entries, AreRising}
-use Rattle.ice_messages.proofs.Joined.{lands, text_lawful, both_lawful}
+use Rattle.ice_messages.proofs.Joined.{lands, text_lawful}
 
 -- a name that was new
 newly : {A : Type 0} {C : Type 0} (held : Option (List ℕ)) (place : ℕ) (next : Result A Fault) (y : A) → new_name held place next ≡ Ok y → (held ≡ None → next ≡ Ok y → C) → C

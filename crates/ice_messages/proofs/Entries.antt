@@ -1,5 +1,5 @@
 -- Reading entries one after the other, as a loop does, with the entries so far in a map.
-use Rattle.std.proofs.Common.{◌≡◌, ℕ, suc, ◌-◌, ◌+◌, ◌<◌, ◌≤◌, List, [], ◌∷◌, Option, None, Some, Result, Ok, Err, Bor, refl, sym, ap, ◌∙◌, arith, Bool, true, false, cond}
+use Rattle.std.proofs.Common.{◌≡◌, ℕ, suc, ◌-◌, ◌+◌, ◌<◌, List, [], ◌∷◌, Option, None, Some, Result, Ok, Err, Bor, refl, sym, ap, ◌∙◌, arith, Bool, true, false, cond}
 use Rattle.std.specs.Ordering.{is_eq, match_ordering}
 use Rattle.std.specs.declared.cmp.Ordering.{Ordering}
 use Rattle.std.specs.declared.cmp.Ordering.TheVariants.{Less, Equal, Greater}
@@ -8,9 +8,9 @@ use Rattle.std.specs.BTreeMap.{insert_entry}
 use Rattle.std.specs.Map.{lookup}
 use Rattle.ice_prims.specs.declared.fault.Fault.{Fault}
 use Rattle.ice_prims.specs.declared.fault.Kind.TheVariants.{EqualKey}
-use Rattle.ice_prims.specs.Rest.{Rest, fault, ◌>>=◌}
+use Rattle.ice_prims.specs.Rest.{Rest}
 use Rattle.ice_prims.specs.Number.{text_at}
-use Rattle.ice_messages.specs.Context.{Entry, name_cmp, value_of, with_entry, new_name, entries_at}
+use Rattle.ice_messages.specs.Context.{Entry, name_cmp, value_of, with_entry, entries_at}
 use Rattle.ice_messages.specs.Seen.{all_seen}
 
 -- a text that is lent

@@ -1,15 +1,14 @@
 -- Each way of joining parts keeps what ties reading, spelling and what is put.
-use Rattle.std.proofs.Common.{◌≡◌, ℕ, ℤ, zero, suc, ◌+◌, Bool, true, false, IsTrue, if◌then◌else◌, List, [], ◌∷◌, ◌++◌, length, Result, Ok, Err, refl, sym, ap, subst, ◌∙◌, inl, inr}
+use Rattle.std.proofs.Common.{◌≡◌, ℕ, zero, suc, Bool, true, false, IsTrue, if◌then◌else◌, List, [], ◌∷◌, ◌++◌, length, Result, Ok, Err, refl, ap, subst}
 use Rattle.std.specs.List.{flat_map}
 use Rattle.std.specs.Str.{bytes_eq}
 use Rattle.std.proofs.lemmas.Slice.Eq.{bytes_eq-Decides}
 use Rattle.ice_prims.specs.declared.fault.Fault.{Fault}
 use Rattle.ice_prims.specs.declared.fault.Kind.{Kind}
 use Rattle.ice_prims.specs.Rest.{Rest, fault, ◌>>=◌, Took, IsBytes, bytes_at}
-use Rattle.ice_prims.specs.Laws.{FoundPart, OnlyPart, IsExact}
-use Rattle.ice_prims.proofs.Parts.{chosen as choice, then_ok, ok_is, Took-none, Took-none-is, Took-then, between, Took-fits, IsBytes-front, IsBytes-rest, bytes_found, bytes_only}
+use Rattle.ice_prims.proofs.Parts.{then_ok, ok_is, Took-none, Took-none-is, Took-then, between, Took-fits, IsBytes-front, IsBytes-rest, bytes_found, bytes_only}
 use Rattle.ice_prims.proofs.Spelled.{byte_exact, int_exact, size_exact, text_exact}
-use Rattle.ice_messages.specs.Parts.{Part, IsLawful, byte, int, size, text, exactly, nothing, both, made, tested, chosen, times, read_times, SpellsTimes}
+use Rattle.ice_messages.specs.Parts.{Part, IsLawful, byte, int, size, text, exactly, nothing, both, made, tested, chosen, times, read_times}
 
 abbrev pub answer : {A : Type 0} → A → Result A Fault
 answer x = Ok x

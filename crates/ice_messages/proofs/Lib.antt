@@ -8,5 +8,6 @@ mod Called
 mod Whole
 mod Streams
 mod Runs
+mod Orderly
 mod Nexts
 mod Running

@@ -1,5 +1,6 @@
 -- What stands next, step by step.
-use Rattle.std.proofs.Common.{◌≡◌, ℕ, ℤ, suc, ◌+◌, ◌≤◌, ◌<◌, Bool, true, false, cond, ltb, leb, List, [], ◌++◌, length, take, drop, ◌-◌, Option, None, Some, Result, Ok, Err, refl, sym, ap, ◌∙◌, arith}
+use Rattle.std.proofs.Common.{◌≡◌, ℕ, ℤ, ◌+◌, ◌≤◌, ◌<◌, Bool, true, false, cond, ltb, leb, List, [], ◌∷◌, ◌++◌, length, take, drop, ◌-◌, Option, None, Some, Result, Ok, Err, refl, sym, subst, ap, ◌∙◌, arith}
+use Rattle.std.specs.Result.{IfOk}
 use Rattle.std.proofs.lemmas.Bool.{le-ltb, lt-ltb, leb-true, leb-false}
 use Rattle.std.proofs.lemmas.List.{drop_at, length-append, length-drop}
 use Rattle.std.proofs.Math.Seq.{take-length}
@@ -7,14 +8,17 @@ use Rattle.ice_prims.specs.declared.fault.Fault.{Fault}
 use Rattle.ice_prims.specs.declared.fault.ReadFault.{ReadFault}
 use Rattle.ice_prims.specs.declared.fault.ReadFault.TheVariants as faults
 use Rattle.ice_prims.specs.Rest.{Rest, ◌>>=◌, IsBytes, whole, after}
-use Rattle.ice_prims.specs.Taking.{Fails}
+use Rattle.ice_prims.specs.Taking.{Fails, GivesUnlessMemory}
 use Rattle.ice_messages.specs.declared.message.Message.{Message}
 use Rattle.ice_messages.specs.declared.message.TheConstants.{LARGEST, HEADER_BYTES}
 use Rattle.ice_messages.specs.Calls.{claimed}
-use Rattle.ice_messages.specs.Messages.{header, message_at}
-use Rattle.ice_messages.specs.Streams.{good_header, started, counted, next_at}
+use Rattle.ice_messages.specs.Messages.{header, message_at, ended, whole_message_at}
+use Rattle.ice_messages.specs.Streams.{good_header, counted, next_at}
 use Rattle.ice_messages.specs.Next.{whole_next, size_counted, IsCounted}
-use Rattle.ice_messages.proofs.Whole.{message_found}
+use Rattle.ice_prims.proofs.Parts.{Took-fits, then_ok}
+use Rattle.ice_messages.specs.Written.{IsOrderly}
+use Rattle.ice_messages.proofs.Orderly.{orderly}
+use Rattle.ice_messages.proofs.Whole.{message_found, message_sort}
 use Rattle.ice_messages.proofs.Streams.{whole_header}
 
 -- fewer bytes than a header has
@@ -57,14 +61,26 @@ pub next_fails : (e : ReadFault) (bytes : List ℕ) → next_at bytes ≡ whole_
 next_fails faults.Memory bytes is h = tt
 next_fails (faults.Broken f) bytes is h = is ∙ (rw h refl)
 
-pub next_is : (bytes : List ℕ) (m : Message) (r : Rest) → IsBytes bytes → next_at bytes ≡ whole_next bytes → message_at (whole bytes) ≡ Ok (m, r) → (next_at bytes ≡ Ok (Some (m, after (whole bytes) r.place))) × (r.place ≤ length bytes)
+pub next_is : (bytes : List ℕ) (m : Message) (r : Rest) → IsBytes bytes → next_at bytes ≡ whole_next bytes → message_at (whole bytes) ≡ Ok (m, r) → (next_at bytes ≡ Ok (Some (m, after (whole bytes) r.place))) × (r.place ≤ length bytes) × IsOrderly m
 next_is bytes m r fits is h =
     let f = message_found (whole bytes) (m, r) fits h in
     let place : r.place ≡ length f.0 = omega (arith, f.1.moved) in
     let behind : drop r.place bytes ≡ r.bytes = ap (λ (z : List ℕ). drop r.place z) f.1.parts ∙ drop_at f.0 r.bytes r.place (sym place) in
     let same : after (whole bytes) r.place ≡ r = ap (λ (z : List ℕ). record { place = 0 + r.place; bytes = z }) behind ∙ ap (λ (p : ℕ). record { place = p; bytes = r.bytes }) (omega arith) in
-    (is ∙ (rw (h, same) refl), omega (arith, place, ap length f.1.parts, length-append f.0 r.bytes))
+    (is ∙ (rw (h, same) refl), omega (arith, place, ap length f.1.parts, length-append f.0 r.bytes), orderly m (message_sort f.0 m ((Took-fits (whole bytes) r f.0 fits f.1).0) f.2))
 
 -- all that is left behind a place
 pub cut_all : (xs : List ℕ) (n : ℕ) → take (length xs - n) (drop n xs) ≡ drop n xs
 cut_all xs n = ap (λ (m : ℕ). take m (drop n xs)) (sym (length-drop n xs)) ∙ take-length (drop n xs)
+
+-- a whole message that was read
+ended_same : {A : Type 0} (left : List ℕ) (place : ℕ) (x y : A) → ended left place x ≡ Ok y → x ≡ y
+ended_same [] place x y e = cc
+ended_same (b ∷ bs) place x y e = absurd cc
+
+pub read_orderly : (bytes : List ℕ) (r : Result Message ReadFault) → IsBytes bytes → GivesUnlessMemory (λ m. m) r (whole_message_at (whole bytes)) → IfOk r IsOrderly
+read_orderly bytes (Err e) fits h = tt
+read_orderly bytes (Ok m) fits h =
+    then_ok (message_at (whole bytes)) (λ x. ended x.1.bytes x.1.place x.0) m h λ x x_is last.
+    let f = message_found (whole bytes) x fits x_is in
+    subst IsOrderly (ended_same x.1.bytes x.1.place x.0 m last) (orderly x.0 (message_sort f.0 x.0 ((Took-fits (whole bytes) x.1 f.0 fits f.1).0) f.2))

@@ -1,6 +1,6 @@
 -- What was fed to a reader is the messages that it handed out, and what it holds.
-use Rattle.std.proofs.Common.{◌≡◌, List, ℕ, [], ◌∷◌, ◌++◌, Option, None, Some, Result, Ok, Err, refl, sym, ap, subst, ◌∙◌, append_assoc}
-use Rattle.ice_prims.specs.Rest.{Rest, IsBytes}
+use Rattle.std.proofs.Common.{◌≡◌, List, ℕ, [], ◌∷◌, ◌++◌, refl, sym, ap, subst, ◌∙◌, append_assoc}
+use Rattle.ice_prims.specs.Rest.{IsBytes}
 use Rattle.ice_prims.proofs.Parts.{IsBytes-front, IsBytes-rest}
 use Rattle.ice_messages.specs.declared.message.Message.{Message}
 use Rattle.ice_messages.specs.Messages.{SpellsMessage}

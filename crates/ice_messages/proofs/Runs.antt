@@ -1,14 +1,14 @@
 -- Bytes have one way to be read as messages, and the messages of a front of bytes are the first ones of all.
-use Rattle.std.proofs.Common.{◌≡◌, ℕ, zero, suc, ◌+◌, ◌≤◌, ◌<◌, ◌⊎◌, List, [], ◌∷◌, ◌++◌, length, Option, None, Some, Result, Ok, Err, refl, sym, ap, subst, ◌∙◌, inl, inr, arith, append_assoc}
+use Rattle.std.proofs.Common.{◌≡◌, ℕ, zero, suc, ◌≤◌, List, [], ◌∷◌, ◌++◌, length, Option, None, Some, Result, Ok, Err, refl, sym, ap, subst, ◌∙◌, inl, inr, arith, append_assoc}
 use Rattle.std.proofs.lemmas.List.{length-append}
 use Rattle.ice_prims.specs.declared.fault.Fault.{Fault}
 use Rattle.ice_prims.specs.Rest.{Rest, ◌>>=◌, IsBytes, whole}
-use Rattle.ice_prims.proofs.Parts.{chosen as choice, then_ok, ok_is, IsBytes-rest}
+use Rattle.ice_prims.proofs.Parts.{chosen as choice, then_ok, IsBytes-rest}
 use Rattle.ice_messages.specs.declared.message.Message.{Message}
 use Rattle.ice_messages.specs.declared.message.TheConstants.{LARGEST, HEADER_BYTES}
 use Rattle.ice_messages.specs.Calls.{claimed}
 use Rattle.ice_messages.specs.Messages.{message_at, SpellsMessage}
-use Rattle.ice_messages.specs.Streams.{Stream, IsFront, started, counted, next_at, StreamEnds, IsStream}
+use Rattle.ice_messages.specs.Streams.{Stream, started, counted, next_at, StreamEnds, IsStream}
 use Rattle.ice_messages.proofs.Whole.{message_found}
 use Rattle.ice_messages.proofs.Streams.{messages_apart, message_long, next_message, front_next, next_front}
 use Rattle.std.proofs.Common.{cond, ltb}

@@ -1,21 +1,20 @@
 -- Messages one after the other: bytes have one way to be read as a stream, and its messages are those of each longer one.
-use Rattle.std.proofs.Common.{◌≡◌, ℕ, ℤ, pos, negsuc, zero, suc, ◌+◌, ◌≤◌, ◌<◌, ◌⊎◌, Bool, true, false, List, [], ◌∷◌, ◌++◌, length, take, drop, Option, None, Some, Result, Ok, Err, refl, sym, ap, subst, ◌∙◌, inl, inr, arith, append-nil, append_assoc, ltb, cond}
+use Rattle.std.proofs.Common.{◌≡◌, ℕ, ℤ, pos, zero, suc, ◌+◌, ◌≤◌, ◌<◌, true, false, List, [], ◌∷◌, ◌++◌, length, take, drop, None, Some, Ok, refl, sym, ap, subst, ◌∙◌, inl, inr, arith, append-nil, append_assoc, ltb, cond}
 use Rattle.std.specs.Prelude.{slice_index}
 use Rattle.std.specs.Int.{w32, cast_signed, from_le_bytes}
 use Rattle.std.proofs.lemmas.Bool.{ltb-true, ltb-false, le-ltb, lt-ltb, leb-true, le-leb}
 use Rattle.std.proofs.Math.ListN.{drop_of_length-le}
 use Rattle.std.proofs.lemmas.List.{length-append, length-drop, take-append-drop, nil_from_length}
-use Rattle.ice_prims.specs.declared.fault.Fault.{Fault}
 use Rattle.ice_prims.specs.Rest.{Rest, ◌>>=◌, Took, IsBytes, whole}
 use Rattle.ice_prims.specs.Laws.{any}
-use Rattle.ice_prims.proofs.Parts.{chosen as choice, then_ok, ok_is, between, Took-fits, IsBytes-front, IsBytes-rest}
+use Rattle.ice_prims.proofs.Parts.{chosen as choice, then_ok, ok_is, IsBytes-rest}
 use Rattle.ice_messages.specs.declared.message.Message.{Message}
 use Rattle.ice_messages.specs.declared.message.TheConstants.{LARGEST, HEADER_BYTES}
 use Rattle.ice_messages.specs.Calls.{claimed}
 use Rattle.ice_messages.specs.Messages.{header, message_at, SpellsMessage}
-use Rattle.ice_messages.specs.Streams.{Stream, BeginsHeader, BeginsMessage, IsFront, good_header, started, counted, next_at}
+use Rattle.ice_messages.specs.Streams.{IsFront, good_header, started, counted, next_at}
 use Rattle.ice_messages.proofs.Called.{claimed_ok, claimed_is}
-use Rattle.ice_messages.proofs.Whole.{header_lawful, header_long, message_found, message_only}
+use Rattle.ice_messages.proofs.Whole.{header_lawful, header_long, message_only}
 
 -- ---- one message
 

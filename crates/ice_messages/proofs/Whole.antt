@@ -1,18 +1,17 @@
 -- Whole messages are read as they are spelled, and what is put spells them.
-use Rattle.std.proofs.Common.{◌≡◌, ℕ, ℤ, pos, negsuc, zero, suc, ◌+◌, ◌-◌, ◌≤◌, ◌<◌, Bool, true, false, IsTrue, List, [], ◌∷◌, ◌++◌, length, take, drop, Result, Ok, Err, refl, sym, ap, subst, ◌∙◌, inl, inr, arith, append-nil}
+use Rattle.std.proofs.Common.{◌≡◌, ℕ, ℤ, pos, negsuc, zero, suc, ◌+◌, ◌-◌, ◌≤◌, IsTrue, List, [], ◌∷◌, ◌++◌, length, Ok, refl, sym, ap, subst, ◌∙◌, arith, append-nil}
 use Rattle.std.specs.Prelude.{FitsSigned}
 use Rattle.std.specs.Int.{w32}
 use Rattle.std.proofs.lemmas.Bool.{leb-true, le-leb}
 use Rattle.std.proofs.lemmas.List.{length-append}
 use Rattle.ice_prims.specs.Rest.{Rest, ◌>>=◌, Took, IsBytes, bound_at, bytes_at}
 use Rattle.ice_prims.proofs.Parts.{then_ok, ok_is, between, Took-then, Took-fits, IsBytes-rest, bytes_found, bytes_only}
-use Rattle.ice_messages.specs.declared.message.Call.{Call}
 use Rattle.ice_messages.specs.declared.message.Message.{Message}
 use Rattle.ice_messages.specs.declared.message.Message.TheVariants.{Request, Batch, Reply, Validate, Close}
 use Rattle.ice_messages.specs.declared.message.TheConstants.{LARGEST, HEADER_BYTES}
-use Rattle.ice_messages.specs.Parts.{Part, IsLawful, byte, int, exactly, nothing, both, made, tested, chosen, times}
+use Rattle.ice_messages.specs.Parts.{Part, IsLawful}
 use Rattle.ice_messages.specs.Calls.{call, claimed}
-use Rattle.ice_messages.specs.Messages.{calls, is_count, count_of, body_by, type_of, magic, versions, message_type, compression, header, ended, filled, message_at, SpellsMessage, message_bytes, IsMessage}
+use Rattle.ice_messages.specs.Messages.{calls, is_count, count_of, body_by, type_of, magic, versions, compression, header, ended, filled, message_at, SpellsMessage, message_bytes, IsMessage}
 use Rattle.ice_messages.proofs.Joined.{answer as done, byte_lawful, int_lawful, exactly_lawful, nothing_lawful, both_lawful, made_lawful, made_sorted, tested_lawful, chosen_lawful, times_lawful}
 use Rattle.ice_messages.proofs.Called.{call_lawful, answer_lawful, times_length, claimed_ok, claimed_is}
 

@@ -1,9 +1,8 @@
 -- What a call and an answer are made of. (Ice manual, "Protocol Messages".)
-use Rattle.std.specs.Prelude.{ℕ, ℤ, pos, negsuc, zero, suc, ◌≡◌, ◌≤◌, Bool, true, false, List, [], ◌∷◌, ◌++◌, length, Result, Ok, nat_le, nat_lt, if◌then◌else◌}
+use Rattle.std.specs.Prelude.{ℕ, ℤ, pos, negsuc, zero, suc, ◌≡◌, ◌≤◌, List, [], ◌∷◌, ◌++◌, length, Result, Ok, nat_le, nat_lt, if◌then◌else◌}
 use Rattle.std.specs.Int.{w32}
 use Rattle.ice_types.specs.declared.identity.Identity.{Identity}
 use Rattle.ice_prims.specs.declared.fault.Fault.{Fault}
-use Rattle.ice_prims.specs.declared.fault.Kind.{Kind}
 use Rattle.ice_prims.specs.declared.fault.Kind.TheVariants.{Short, TooLarge, BadSize, BadFacet, BadMode, BadStatus}
 use Rattle.ice_prims.specs.Rest.{Rest, fault, ◌>>=◌, bytes_at}
 use Rattle.ice_prims.specs.Number.{signed_at, SpellsSigned}
@@ -11,8 +10,8 @@ use Rattle.ice_messages.specs.declared.message.Call.{Call}
 use Rattle.ice_messages.specs.declared.message.Answer.{Answer}
 use Rattle.ice_messages.specs.declared.message.Answer.TheVariants.{Done, Raised, Missing, Unknown}
 use Rattle.ice_messages.specs.declared.message.TheConstants.{LARGEST, SMALLEST_ENCAPSULATION}
-use Rattle.ice_messages.specs.Parts.{Part, byte, int, size, text, both, made, tested, chosen, times}
-use Rattle.ice_messages.specs.Context.{Entry, context}
+use Rattle.ice_messages.specs.Parts.{Part, byte, size, text, both, made, tested, chosen, times}
+use Rattle.ice_messages.specs.Context.{context}
 
 -- ---- identity, facet, mode
 

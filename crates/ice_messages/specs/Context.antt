@@ -1,5 +1,5 @@
 -- The context of a call: names with values, no name twice. (Ice manual, "Request Contexts".)
-use Rattle.std.specs.Prelude.{ℕ, zero, suc, ◌<◌, ◌^◌, ◌≡◌, List, [], ◌∷◌, ◌++◌, length, Option, None, Some, Result, Ok}
+use Rattle.std.specs.Prelude.{ℕ, zero, suc, ◌≡◌, List, [], ◌++◌, length, Option, None, Some, Result, Ok}
 use Rattle.std.specs.List.{flat_map}
 use Rattle.std.specs.List.Sorted.{IsStrictlySortedBy}
 use Rattle.std.specs.Ordering.{nat_cmp, is_eq}
@@ -10,7 +10,7 @@ use Rattle.std.specs.Map.{lookup, keys_of}
 use Rattle.ice_prims.specs.declared.fault.Fault.{Fault}
 use Rattle.ice_prims.specs.declared.fault.Kind.TheVariants.{EqualKey}
 use Rattle.ice_prims.specs.Rest.{Rest, fault, ◌>>=◌}
-use Rattle.ice_prims.specs.Number.{text_at, SpellsText, size_at}
+use Rattle.ice_prims.specs.Number.{text_at, SpellsText}
 use Rattle.ice_messages.specs.Parts.{Part, Each, size, text, both, chosen}
 
 abbrev pub Entry : Type 0

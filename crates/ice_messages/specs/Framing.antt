@@ -1,5 +1,5 @@
 -- A reader of messages that come in pieces.
-use Rattle.std.specs.Prelude.{ℕ, ◌≡◌, List, [], ◌∷◌, ◌++◌, length, Option, None, Some, IsSome, Result, Ok, Err}
+use Rattle.std.specs.Prelude.{ℕ, ◌≡◌, List, [], ◌∷◌, ◌++◌, Option, None, Some, IsSome, Result, Ok, Err}
 use Rattle.ice_prims.specs.declared.fault.Fault.{Fault}
 use Rattle.ice_prims.specs.declared.fault.ReadFault.{ReadFault}
 use Rattle.ice_prims.specs.declared.fault.ReadFault.TheVariants as read_faults
@@ -8,6 +8,7 @@ use Rattle.ice_messages.specs.declared.message.Message.{Message}
 use Rattle.ice_messages.specs.declared.fault.FeedFault.{FeedFault}
 use Rattle.ice_messages.specs.declared.fault.FeedFault.TheVariants.{Stopped, Memory}
 use Rattle.ice_messages.specs.Streams.{next_at}
+use Rattle.ice_messages.specs.Written.{IsOrderly}
 
 -- the bytes that were fed and are of no message yet, and the fault that stopped the reader
 pub record Held : Type 0 where
@@ -32,6 +33,7 @@ IsFaultOf old fault = elim old.stopped [ None ↦ next_at old.bytes ≡ Err faul
 abbrev pub NextOf : Held → Held → Result (Option Message) ReadFault → Type 0
 NextOf old new (Ok None) = (old.stopped ≡ None) × (next_at old.bytes ≡ Ok None) × (new ≡ old)
 NextOf old new (Ok (Some m)) = (old.stopped ≡ None) × (rest : Rest) × (next_at old.bytes ≡ Ok (Some (m, rest))) × (new ≡ record { bytes = rest.bytes; stopped = None })
+    × IsOrderly m
 NextOf old new (Err (read_faults.Broken fault)) = IsFaultOf old fault × (new ≡ record { bytes = old.bytes; stopped = Some fault })
 NextOf old new (Err read_faults.Memory) = (old.stopped ≡ None) × (new ≡ old)
 

@@ -6,6 +6,7 @@ use Rattle.ice_prims.specs.Rest.{Rest, after, whole, ◌>>=◌}
 use Rattle.ice_prims.specs.Taking.{Fails}
 use Rattle.ice_messages.specs.declared.message.Message.{Message}
 use Rattle.ice_messages.specs.Streams.{next_at}
+use Rattle.ice_messages.specs.Written.{IsOrderly}
 use Rattle.ice_messages.specs.Messages.{header, message_at}
 use Rattle.ice_messages.specs.Calls.{claimed}
 use Rattle.ice_messages.specs.declared.message.TheConstants.{LARGEST, HEADER_BYTES}
@@ -17,7 +18,7 @@ whole_next bytes = message_at (whole bytes) >>= λ m. Ok (Some m)
 -- the message with how many bytes it has, or none
 abbrev pub StandsNext : Result (Option (Message × ℕ)) ReadFault → List ℕ → Type 0
 StandsNext (Ok None) bytes = next_at bytes ≡ Ok None
-StandsNext (Ok (Some x)) bytes = (next_at bytes ≡ Ok (Some (x.0, after (whole bytes) x.1))) × (x.1 ≤ length bytes)
+StandsNext (Ok (Some x)) bytes = (next_at bytes ≡ Ok (Some (x.0, after (whole bytes) x.1))) × (x.1 ≤ length bytes) × IsOrderly x.0
 StandsNext (Err e) bytes = Fails e (next_at bytes)
 
 -- the size that a whole header counts

@@ -1,12 +1,13 @@
 //! Reading a message. (Ice manual, "Protocol Messages".)
 
-ghost use Rattle.std.specs.Prelude.{◌≡◌, ◌<◌, ◌-◌, ◌≤◌, ℕ, ℤ, List, Ok, length};
+ghost use Rattle.std.specs.Prelude.{IfOk, ◌≡◌, ◌<◌, ◌-◌, ◌≤◌, ℕ, ℤ, List, Ok, length};
 ghost use Rattle.ice_prims.specs.Rest.{whole};
 ghost use Rattle.ice_prims.specs.Taking.{GivesUnlessMemory, Takes};
 ghost use Rattle.ice_messages.specs.Parts.{read_times, exactly};
 ghost use Rattle.ice_messages.specs.Calls.{call};
 ghost use Rattle.ice_messages.specs.Messages.{header, magic, versions, message_type, compression, body_by, calls, filled, message_at, whole_message_at};
 ghost use Rattle.ice_messages.specs.Answers.{Reads, Sees, Fills};
+ghost use Rattle.ice_messages.specs.Written.{IsOrderly};
 
 use crate::message::{Call, HEADER_BYTES, Message};
 use crate::read_call::{take_answer, take_call};
@@ -18,6 +19,14 @@ use std::alloc::Global;
 /// The message that the bytes are, or their first fault. A size above the number of bytes is `Short`, and bytes behind
 /// the message are `LeftOver`.
 pub fn read_message(alloc: Global, bytes: &[u8]) -> Result<Message, ReadFault>
+    ensures message { GivesUnlessMemory (λ m. m) result (whole_message_at (whole bytes.now)) }
+    ensures orderly { IfOk result IsOrderly }
+{
+    whole_message(alloc, bytes)
+}
+
+/// The message that all of the bytes are.
+fn whole_message(alloc: Global, bytes: &[u8]) -> Result<Message, ReadFault>
     ensures { GivesUnlessMemory (λ m. m) result (whole_message_at (whole bytes.now)) }
 {
     let mut cursor = Cursor::new(bytes);

@@ -1,4 +1,4 @@
-use Rattle.std.proofs.Common.{◌≡◌, ◌++◌, length, subst, arith}
+use Rattle.std.proofs.Common.{◌++◌, subst, arith}
 use Rattle.std.proofs.lemmas.List.{length-append}
 use Rattle.ice_messages.specs.Parts.{text}
 use Rattle.ice_messages.specs.Calls.{identity, facet}

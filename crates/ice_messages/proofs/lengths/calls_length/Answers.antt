@@ -1,4 +1,4 @@
-use Rattle.std.proofs.Common.{◌≡◌, length}
+use Rattle.std.proofs.Common.{length}
 use Rattle.std.specs.List.{flat_map}
 use Rattle.ice_messages.specs.Calls.{call}
 use Rattle.ice_messages.proofs.Sums.{none_more}

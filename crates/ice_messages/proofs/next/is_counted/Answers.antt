@@ -1,4 +1,3 @@
-use Rattle.std.proofs.Common.{◌≡◌}
 use Rattle.std.proofs.lemmas.Result.{err_from_is_err_and}
 use Rattle.ice_messages.proofs.Nexts.{size_bad, is_counted}
 use Rattle.ice_messages.proofs.next.is_counted.Goals as goal

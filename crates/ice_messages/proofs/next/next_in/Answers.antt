@@ -1,4 +1,4 @@
-use Rattle.std.proofs.Common.{◌≡◌, ◌∙◌, sym, ap, subst, arith, Bool, Ok}
+use Rattle.std.proofs.Common.{◌∙◌, sym, ap, subst, arith, Bool, Ok}
 use Rattle.std.proofs.lemmas.Result.{err_from_is_err_and}
 use Rattle.ice_prims.specs.Rest.{whole}
 use Rattle.ice_messages.specs.Messages.{header, message_at}

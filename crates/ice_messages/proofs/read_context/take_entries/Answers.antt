@@ -1,4 +1,4 @@
-use Rattle.std.proofs.Common.{◌≡◌, [], sym, ◌∙◌, ap}
+use Rattle.std.proofs.Common.{[], sym, ◌∙◌}
 use Rattle.std.proofs.lemmas.Result.{err_from_is_err_and}
 use Rattle.ice_messages.specs.Context.{entries_at}
 use Rattle.ice_messages.specs.Seen.{seen}

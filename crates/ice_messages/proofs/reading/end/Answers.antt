@@ -1,4 +1,4 @@
-use Rattle.std.proofs.Common.{◌≡◌, ◌∙◌}
+use Rattle.std.proofs.Common.{◌∙◌}
 use Rattle.ice_messages.proofs.Times.{some_left}
 use Rattle.ice_messages.proofs.reading.end.Goals as goal
 

@@ -16,4 +16,4 @@ returns-in-Ok-Some c =
     let same : bytes ≡ c.args.self.now.bytes = cut_all c.deref.result.now c.self.inside.head ∙ held in
     let found : next_at c.args.self.now.bytes ≡ Ok (Some (c.in-Ok-Some.message, after (whole c.args.self.now.bytes) c.in-Ok-Some.length)) =
     subst (λ (z : List ℕ). next_at z ≡ Ok (Some (c.in-Ok-Some.message, after (whole z) c.in-Ok-Some.length))) same next in
-    (search rules, after (whole c.args.self.now.bytes) c.in-Ok-Some.length, found, search rules)
+    (search rules, after (whole c.args.self.now.bytes) c.in-Ok-Some.length, found, search rules, stands.2)
