@@ -3,7 +3,7 @@
 
 use ice_node::{Outcome, node, report};
 use ice_ports::{FolderShelf, StdSink, StdSource};
-use slice_check::MOST_BYTES;
+use slice_lexer::MOST_BYTES;
 use std::alloc::AllocError;
 use std::io::ErrorKind;
 use std::process::ExitCode;

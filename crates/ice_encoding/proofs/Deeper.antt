@@ -1,5 +1,5 @@
 -- A type of a schema is read alike at every number of levels from those within which it nests.
-use Rattle.std.proofs.Common.{ℕ, zero, suc, ◌≤◌, ◌≡◌, max, List, [], ◌∷◌, map, replicate, refl, ap, ◌∙◌, arith, Result, Ok, Err, Option, Some}
+use Rattle.std.proofs.Common.{ℕ, zero, suc, ◌≤◌, ◌≡◌, max, ◌&&◌, List, [], ◌∷◌, map, replicate, refl, ap, ◌∙◌, arith, Result, Ok, Err, Option, Some}
 use Rattle.std.specs.Prelude.{slice_get}
 use Rattle.ice_types.specs.declared.kind.TypeRef.{TypeRef}
 use Rattle.ice_types.specs.declared.kind.TypeRef.TheVariants as kinds
@@ -81,10 +81,12 @@ module _ {R S : Type 0} (port : Port R S) (t : Tables) where
   value_alike (suc levels) (suc more) le kinds.Int m e s r = refl
   value_alike (suc levels) (suc more) le kinds.Long m e s r = refl
   value_alike (suc levels) (suc more) le kinds.Text m e s r = refl
+  value_alike (suc levels) (suc more) le (kinds.Enum at) m e s r = refl
+  value_alike (suc levels) (suc more) le (kinds.Proxy at) m e s r = refl
   value_alike (suc levels) (suc more) le (kinds.Class at) m e s r = refl
   value_alike (suc levels) (suc more) le (kinds.Seq at) m e s r =
       found_by (slice_get t.seqs at) (λ q. sequence_of (measure t levels q.element)) m e λ q q_is parts.
-      found_by (measure t levels q.element) (λ x. Some (container (suc x.depth))) m parts λ x x_is last.
+      found_by (measure t levels q.element) (λ x. Some (container (suc x.depth) x.is_built)) m parts λ x x_is last.
       let read = value_at port t levels in
       let other = value_at port t more in
       rw q_is (made_alike sequence (sized (λ n. each_at read (replicate n q.element))) (sized (λ n. each_at other (replicate n q.element)))
@@ -92,8 +94,8 @@ module _ {R S : Type 0} (port : Port R S) (t : Tables) where
   value_alike (suc zero) (suc more) le (kinds.Dict at) m e s r = absurd cc
   value_alike (suc (suc levels)) (suc more) le (kinds.Dict at) m e s r =
       found_by (slice_get t.dicts at) (λ d. dictionary_of (measure t levels d.key) (measure t levels d.value)) m e λ d d_is parts.
-      found_by (measure t levels d.key) (λ k. measured (measure t levels d.value) (λ w. Some (container (suc (suc (max k.depth w.depth)))))) m parts λ k k_is rest.
-      found_by (measure t levels d.value) (λ w. Some (container (suc (suc (max k.depth w.depth))))) m rest λ w w_is last.
+      found_by (measure t levels d.key) (λ k. measured (measure t levels d.value) (λ w. Some (container (suc (suc (max k.depth w.depth))) (k.is_built && w.is_built)))) m parts λ k k_is rest.
+      found_by (measure t levels d.value) (λ w. Some (container (suc (suc (max k.depth w.depth))) (k.is_built && w.is_built))) m rest λ w w_is last.
       let read = value_at port t (suc levels) in
       let other = value_at port t more in
       let key = value_alike (suc levels) more (omega (arith, le)) d.key k (measure_more t levels (suc levels) (omega arith) d.key k k_is) in

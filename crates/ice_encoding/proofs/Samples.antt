@@ -1,5 +1,5 @@
 -- What the definitions answer at inputs that are written out, byte by byte.
-use Rattle.std.proofs.Common.{◌≡◌, ℕ, zero, suc, true, false, List, [], ◌∷◌, ◌++◌, replicate, Ok, refl, sym, ap, subst, inl, inr}
+use Rattle.std.proofs.Common.{◌≡◌, ℕ, zero, suc, true, false, List, [], ◌∷◌, ◌++◌, replicate, None, Ok, refl, sym, ap, subst, inl, inr}
 use Rattle.std.specs.Prelude.{pos, negsuc, Result}
 use Rattle.std.specs.declared.cmp.Ordering.TheVariants.{Less}
 use Rattle.std.specs.Str.{is_utf8, chars}
@@ -8,7 +8,7 @@ use Rattle.ice_types.specs.declared.kind.TypeRef.{TypeRef}
 use Rattle.ice_types.specs.declared.kind.TypeRef.TheVariants as kinds
 use Rattle.ice_types.specs.declared.declarations.SeqDecl.{SeqDecl}
 use Rattle.ice_types.specs.declared.declarations.Member.{Member}
-use Rattle.ice_types.specs.Tables.{Tables}
+use Rattle.ice_types.specs.Tables.{Tables, no_types}
 use Rattle.ice_prims.specs.declared.fault.Fault.{Fault}
 use Rattle.ice_prims.specs.declared.fault.Kind.TheVariants.{Short, TooLarge, BadSize, BadVersion, BadBool, BadText, EqualKey, LeftOver}
 use Rattle.ice_prims.specs.Rest.{fault, whole}
@@ -21,12 +21,12 @@ use Rattle.ice_encoding.specs.Encapsulation.{encapsulation_at, encapsulation_byt
 
 -- a member of a struct
 abbrev member : TypeRef → Member
-member kind = record { name = []; kind = kind }
+member kind = record { name = []; kind = kind; tag = None }
 
 -- A sequence of bytes, one of ints, and one of strings. A struct of two bytes, one of a short, that struct and a string.
 -- A dictionary of bytes by the struct of two bytes.
 abbrev tables : Tables
-tables = record { seqs = record { id = []; element = kinds.Byte } ∷ record { id = []; element = kinds.Int } ∷ record { id = []; element = kinds.Text } ∷ []; dicts = record { id = []; key = kinds.Struct 0; value = kinds.Byte } ∷ []; structs = record { id = []; members = member kinds.Byte ∷ member kinds.Byte ∷ [] } ∷ record { id = []; members = member kinds.Short ∷ member (kinds.Struct 0) ∷ member kinds.Text ∷ [] } ∷ [] }
+tables = record no_types { seqs = record { id = []; element = kinds.Byte } ∷ record { id = []; element = kinds.Int } ∷ record { id = []; element = kinds.Text } ∷ []; dicts = record { id = []; key = kinds.Struct 0; value = kinds.Byte } ∷ []; structs = record { id = []; members = member kinds.Byte ∷ member kinds.Byte ∷ [] } ∷ record { id = []; members = member kinds.Short ∷ member (kinds.Struct 0) ∷ member kinds.Text ∷ [] } ∷ [] }
 
 -- what an input is read as
 abbrev reads : TypeRef → List ℕ → Result Tree Fault
@@ -230,6 +230,6 @@ abbrev deep : ℕ → Tree
 deep zero = sequence (tree (byte 7) none)
 deep (suc n) = sequence (tree (deep n) none)
 
-hundred_levels : plain_value_at (record { seqs = nested 98; dicts = []; structs = [] }) (kinds.Seq 98) (whole (replicate 99 1 ++ 7 ∷ [])) ≡ Ok (deep 98, record { place = 100; bytes = [] })
+hundred_levels : plain_value_at (record no_types { seqs = nested 98 }) (kinds.Seq 98) (whole (replicate 99 1 ++ 7 ∷ [])) ≡ Ok (deep 98, record { place = 100; bytes = [] })
 unfolding plain_value_at
 hundred_levels = refl

@@ -1,5 +1,5 @@
 -- What bytes spell is a value of its type, and the keys in a value of a type rise.
-use Rattle.std.proofs.Common.{ℕ, zero, suc, ◌+◌, ◌<◌, ◌^◌, ◌≡◌, max, Bool, true, false, ◌&&◌, List, [], ◌∷◌, ◌++◌, map, replicate, refl, sym, ap, ◌∙◌, subst, arith, Option, Some}
+use Rattle.std.proofs.Common.{ℕ, zero, suc, ◌+◌, ◌<◌, ◌^◌, ◌≡◌, max, Bool, true, false, ◌&&◌, List, [], ◌∷◌, ◌++◌, map, replicate, refl, sym, ap, ◌∙◌, subst, arith, Option, None, Some}
 use Rattle.std.specs.Prelude.{slice_get}
 use Rattle.std.specs.Ordering.{is_lt}
 use Rattle.ice_types.specs.declared.kind.TypeRef.{TypeRef}
@@ -63,17 +63,20 @@ module _ {R S : Type 0} (port : Port R S) (t : Tables) where
   key_typed (suc levels) (suc other) kinds.Int m e k bytes v from to fits h = (h.0, int_exact.sort bytes h.0 fits h.2.0, h.1)
   key_typed (suc levels) (suc other) kinds.Long m e k bytes v from to fits h = (h.0, long_exact.sort bytes h.0 fits h.2.0, h.1)
   key_typed (suc levels) (suc other) kinds.Text m e k bytes v from to fits h = let is = text_exact.sort bytes h.0 fits h.2.0 in (h.0, is.0, is.1, h.1)
-  key_typed (suc levels) (suc other) (kinds.Class at) m e k bytes v from to fits h = no_key null m e refl k
+  key_typed (suc levels) (suc other) (kinds.Enum at) m e k bytes v from to fits h = h
+  key_typed (suc levels) (suc other) (kinds.Proxy at) m e k bytes v from to fits h = h
+  key_typed (suc levels) (suc other) (kinds.Class None) m e k bytes v from to fits h = no_key null m e refl k
+  key_typed (suc levels) (suc other) (kinds.Class (Some at)) m e k bytes v from to fits h = found_by (slice_get t.classes at) (λ c. Some null) m e λ c c_is last. no_key null m last refl k
   key_typed (suc levels) (suc other) (kinds.Seq at) m e k bytes v from to fits h =
       found_by (slice_get t.seqs at) (λ q. sequence_of (measure t levels q.element)) m e λ q q_is parts.
-      found_by (measure t levels q.element) (λ x. Some (container (suc x.depth))) m parts λ x x_is last.
-      no_key (container (suc x.depth)) m last refl k
+      found_by (measure t levels q.element) (λ x. Some (container (suc x.depth) x.is_built)) m parts λ x x_is last.
+      no_key (container (suc x.depth) x.is_built) m last refl k
   key_typed (suc zero) (suc other) (kinds.Dict at) m e k bytes v from to fits h = absurd cc
   key_typed (suc (suc levels)) (suc other) (kinds.Dict at) m e k bytes v from to fits h =
       found_by (slice_get t.dicts at) (λ d. dictionary_of (measure t levels d.key) (measure t levels d.value)) m e λ d d_is parts.
-      found_by (measure t levels d.key) (λ k. measured (measure t levels d.value) (λ w. Some (container (suc (suc (max k.depth w.depth)))))) m parts λ x x_is more.
-      found_by (measure t levels d.value) (λ w. Some (container (suc (suc (max x.depth w.depth))))) m more λ w w_is last.
-      no_key (container (suc (suc (max x.depth w.depth)))) m last refl k
+      found_by (measure t levels d.key) (λ k. measured (measure t levels d.value) (λ w. Some (container (suc (suc (max k.depth w.depth))) (k.is_built && w.is_built)))) m parts λ x x_is more.
+      found_by (measure t levels d.value) (λ w. Some (container (suc (suc (max x.depth w.depth))) (x.is_built && w.is_built))) m more λ w w_is last.
+      no_key (container (suc (suc (max x.depth w.depth))) (x.is_built && w.is_built)) m last refl k
   key_typed (suc levels) (suc other) (kinds.Struct at) m e k bytes v from to fits h =
       found_by (slice_get t.structs at) (λ d. struct_of (measure_members (measure t levels) d.members)) m e λ d d_is parts.
       found_by (measure_members (measure t levels) d.members) (λ x. Some (structure x)) m parts λ x x_is last.
@@ -131,13 +134,15 @@ module _ {R S : Type 0} (port : Port R S) (t : Tables) (rules : IsSchema t) (Ref
   value_typed (suc levels) kinds.Int bytes v from to fits h = (h.0, int_exact.sort bytes h.0 fits h.2.0, h.1)
   value_typed (suc levels) kinds.Long bytes v from to fits h = (h.0, long_exact.sort bytes h.0 fits h.2.0, h.1)
   value_typed (suc levels) kinds.Text bytes v from to fits h = let is = text_exact.sort bytes h.0 fits h.2.0 in (h.0, is.0, is.1, h.1)
+  value_typed (suc levels) (kinds.Enum at) bytes v from to fits h = h
+  value_typed (suc levels) (kinds.Proxy at) bytes v from to fits h = h
   value_typed (suc levels) (kinds.Class declared) bytes v from to fits h = (h.0, refers declared bytes h.0 from to fits h.2, h.1)
   value_typed (suc levels) (kinds.Seq at) bytes v from to fits (q, row, (items, is, (n, front, body, parts, size, each))) =
       let all = each_typed (SpellsValue port t levels) (HasType t Refer levels) (value_typed levels) (replicate n q.element) body items from to (rest_fits bytes front body parts fits) each in
       let same = same_each (HasType t Refer levels) q.element n items all in
       (q, row, items, is, subst (λ (i : ℕ). i < 2 ^ 31) (sym same.1) (size_exact.sort front n (front_fits bytes front body parts fits) size), same.0)
   value_typed (suc levels) (kinds.Dict at) bytes v from to fits (d, row, (pairs, is, (n, front, body, parts, size, some))) =
-      let of_key = rules.rows (kinds.Dict at) d row in
+      let of_key = rules.dicts at d row in
       let all = pairs_typed (SpellsValue port t levels d.key) (SpellsValue port t levels d.value) (HasType t no_reference levels d.key) (HasType t Refer levels d.value)
       (key_typed port t 98 levels d.key of_key.0 of_key.2 of_key.3) (value_typed levels d.value) n 0 no_entry body pairs from to (rest_fits bytes front body parts fits) (record { typed = tt; rise = tt; many = refl }) some in
       (d, row, pairs, is, subst (λ (i : ℕ). i < 2 ^ 31) (sym (all.many ∙ omega arith)) (size_exact.sort front n (front_fits bytes front body parts fits) size), all.rise, all.typed)
@@ -166,6 +171,8 @@ typed_ordered t Refer (suc levels) kinds.Short v h = rw h.2 tt
 typed_ordered t Refer (suc levels) kinds.Int v h = rw h.2 tt
 typed_ordered t Refer (suc levels) kinds.Long v h = rw h.2 tt
 typed_ordered t Refer (suc levels) kinds.Text v h = rw h.3 tt
+typed_ordered t Refer (suc levels) (kinds.Enum at) v h = absurd h
+typed_ordered t Refer (suc levels) (kinds.Proxy at) v h = absurd h
 typed_ordered t Refer (suc levels) (kinds.Class declared) v h = rw h.2 tt
 typed_ordered t Refer (suc levels) (kinds.Seq at) v (q, row, items, is, many, all) = rw is (tt, all_ordered (HasType t Refer levels q.element) (typed_ordered t Refer levels q.element) items all)
 typed_ordered t Refer (suc levels) (kinds.Dict at) v (d, row, pairs, is, many, rising, all) =

@@ -92,6 +92,8 @@ module _ {R S W : Type 0} (port : Port R S) (t : Tables) (refer : Writer W (Opti
   value_written Refer good (suc levels) kinds.Int v (z, fits, is) = as_it_is (suc levels) kinds.Int v (int z) is (λ s. (z, refl, (int_exact.put z fits, refl)))
   value_written Refer good (suc levels) kinds.Long v (z, fits, is) = as_it_is (suc levels) kinds.Long v (long z) is (λ s. (z, refl, (long_exact.put z fits, refl)))
   value_written Refer good (suc levels) kinds.Text v (x, utf8, lt, is) = as_it_is (suc levels) kinds.Text v (text x) is (λ s. (x, refl, (text_exact.put x (utf8, lt), refl)))
+  value_written Refer good (suc levels) (kinds.Enum at) v h = absurd h
+  value_written Refer good (suc levels) (kinds.Proxy at) v h = absurd h
   value_written Refer good (suc levels) (kinds.Class declared) v (n, refers, is) = as_it_is (suc levels) (kinds.Class declared) v (reference n) is (λ s. (n, refl, good declared n refers s))
   value_written Refer good (suc levels) (kinds.Seq at) v (q, row, items, is, many, all) =
       let each = all_written refer seen (HasType t Refer levels q.element) q.element (SpellsValue port t levels) (value_written Refer good levels q.element) items all in

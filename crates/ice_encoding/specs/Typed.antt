@@ -52,6 +52,9 @@ module _ (t : Tables) where
       × (entry_count pairs < 2 ^ 31) × IsRising pairs × PairsOf (HasType no_reference levels d.key) (HasType Refer levels d.value) pairs
   HasType Refer (suc levels) (kinds.Struct at) v = (d : StructDecl) × (slice_get t.structs at ≡ Some d) × (members : Trees) × (v ≡ struct members)
       × EachOf (HasType Refer levels) (map (λ m. m.kind) d.members) members
+  -- enums and proxies are not carried yet: they have no values
+  HasType Refer (suc levels) (kinds.Enum at) v = ⊥
+  HasType Refer (suc levels) (kinds.Proxy at) v = ⊥
   HasType Refer (suc levels) (kinds.Class declared) v = (n : Option ℕ) × Refer declared n × (v ≡ reference n)
 
 -- a number that a size can have

@@ -5,14 +5,18 @@ use Rattle.std.specs.Io.KnownBytes.{Appends, Keeps}
 use Rattle.std.proofs.lemmas.Grind.{flat_map-append}
 use Rattle.std.proofs.lemmas.List.{take-append-drop, drop_more}
 use Rattle.ice_ports.specs.Failures.{one_more}
-use Rattle.ice_node.specs.Words.{Command}
+use Rattle.ice_node.specs.Words.{Word, Command, check}
 use Rattle.ice_node.specs.Outside.{Files, Failures}
-use Rattle.ice_node.specs.Streams.{AppendsPrefix, Writes}
-use Rattle.ice_node.specs.Statuses.{done, Decides, Causes, TakesInput, Takes, Outputs}
+use Rattle.ice_relay.specs.Streams.{AppendsPrefix, Writes}
+use Rattle.ice_node.specs.Answers.{Answer, done, usage, no_such_name, not_built, slice_refused, input_refused, read_failed, write_failed, no_memory}
+use Rattle.ice_node.specs.Decided.{Decides}
+use Rattle.ice_node.specs.Causes.{Causes}
+use Rattle.ice_node.specs.Effects.{TakesInput, Takes, Outputs}
 use Rattle.ice_node.specs.declared.outcome.Outcome.{Outcome}
 use Rattle.ice_node.specs.declared.outcome.Outcome.TheVariants as outcomes
 use Rattle.ice_node.specs.Outcomes.{Prints, answer_of}
-use Rattle.ice_node.proofs.KnownBytes.{Appends-none, Appends-then}
+use Rattle.ice_node.proofs.Keeping.{keeps_itself}
+use Rattle.ice_relay.proofs.KnownBytes.{Appends-none, Appends-then}
 
 -- what was decided was written, or a write of it failed
 pub printed : (asked : Option Command) (files : Option Files) (input left : Option (List ℕ)) (before after : Failures) (bytes : List ℕ) (outcome : Outcome) → Decides asked files input (done bytes) → after.shelf ≡ before.shelf → after.source ≡ before.source → TakesInput asked input left
@@ -20,35 +24,26 @@ pub printed : (asked : Option Command) (files : Option Files) (input left : Opti
 printed asked files input left before after bytes outcome decided shelf source taken (inl p) = rw p.0 ((decided, (shelf, source, p.1)), taken)
 printed asked files input left before after bytes outcome decided shelf source taken (inr p) = rw p.0 ((decided, (shelf, source, p.1)), taken)
 
-keeps_itself : (old : Option (List ℕ)) → Keeps old old
-keeps_itself None = tt
-keeps_itself (Some bytes) = refl
+-- `check` takes nothing of the input, whatever the answer
+pub check_takes_nothing : (file : Word) (old : Option (List ℕ)) (answer : Answer) → Takes (Some (check file)) old old answer
+check_takes_nothing file old (done bytes) = keeps_itself old
+check_takes_nothing file old usage = keeps_itself old
+check_takes_nothing file old (no_such_name word) = keeps_itself old
+check_takes_nothing file old (not_built word) = keeps_itself old
+check_takes_nothing file old (slice_refused broken) = keeps_itself old
+check_takes_nothing file old input_refused = keeps_itself old
+check_takes_nothing file old read_failed = keeps_itself old
+check_takes_nothing file old (write_failed bytes) = keeps_itself old
+check_takes_nothing file old no_memory = keeps_itself old
 
 -- nothing was written of no bytes, whatever the answer
 pub outputs_nothing : (old : Option (List ℕ)) (answer : Outcome) → Outputs old old (answer_of answer [])
 outputs_nothing old outcomes.Done = Appends-none old
 outputs_nothing old outcomes.Usage = keeps_itself old
 outputs_nothing old (outcomes.NoSuchName word) = keeps_itself old
-outputs_nothing old outcomes.SliceRefused = keeps_itself old
+outputs_nothing old (outcomes.NotBuilt word) = keeps_itself old
+outputs_nothing old (outcomes.SliceRefused file place kind) = keeps_itself old
 outputs_nothing old outcomes.InputRefused = keeps_itself old
 outputs_nothing old outcomes.ReadFailed = keeps_itself old
 outputs_nothing old outcomes.WriteFailed = ([], [], refl, Appends-none old)
 outputs_nothing old outcomes.Memory = keeps_itself old
-
--- the pieces before one, a prefix of it, and what is left
-abbrev seen : Bor (List ℕ) → List ℕ
-seen piece = piece.now
-
-pub stops_in : (a b c : Option (List ℕ)) (pieces : List (Bor (List ℕ))) (i : ℕ) (other : Bor (List ℕ)) (text : List ℕ) → i < length pieces → text ≡ (get_or pieces i other).now → Appends a b (flat_map (λ p. p.now) (take i pieces)) → AppendsPrefix b c text
-    → AppendsPrefix a c (flat_map (λ p. p.now) pieces)
-stops_in a b c pieces i other text lt text_is p q =
-    let piece = get_or pieces i other in
-    let before = flat_map seen (take i pieces) in
-    let rest = flat_map seen (drop (i + 1) pieces) in
-    let behind : flat_map seen (drop i pieces) ≡ piece.now ++ rest = ap (flat_map seen) (drop_more pieces i other lt) in
-    let all : flat_map seen pieces ≡ before ++ (piece.now ++ rest) = ap (flat_map seen) (sym (take-append-drop i pieces)) ∙ flat_map-append seen (take i pieces) (drop i pieces) ∙ ap (λ (l : List ℕ). before ++ l) behind in
-    let cut : piece.now ≡ q.0 ++ q.1 = sym text_is ∙ q.2 in
-    (before ++ q.0, q.1 ++ rest, all ∙ ap (λ (l : List ℕ). before ++ (l ++ rest)) cut ∙ simp append_assoc, Appends-then a b c before q.0 p q.3)
-
-pub writes_prefix : {X E : Type 0} (a c : Option (List ℕ)) (before after : ℕ) (r : Result X E) (e : E) (bytes : List ℕ) → r ≡ Err e → AppendsPrefix a c bytes → after ≡ one_more before → Writes a c before after r bytes
-writes_prefix a c before after r e bytes is h count = rw is (h, count)

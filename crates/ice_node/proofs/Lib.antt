@@ -1,7 +1,6 @@
+pub mod Keeping
+pub mod Naming
 pub mod CommandForms
-pub mod EncapsulationSteps
-pub mod KnownBytes
-pub mod Inputs
 pub mod Relaying
 pub mod Answering
 pub mod OneAnswer

@@ -1,6 +1,5 @@
 -- What was loaded and read, and what it comes to.
-use Rattle.std.proofs.Common.{◌≡◌, ℕ, ℤ, pos, ◌+◌, ◌<◌, ◌^◌, List, [], ◌∷◌, ◌++◌, length, take, Option, None, Some, IsSome, Result, Ok, Err, refl, sym, ap, subst, ◌∙◌, append_assoc, arith, inl, inr}
-use Rattle.std.specs.Prelude.{IfSome}
+use Rattle.std.proofs.Common.{◌≡◌, ℕ, ℤ, pos, ◌+◌, ◌<◌, ◌^◌, List, [], ◌∷◌, ◌++◌, length, take, Option, None, Some, Result, Ok, Err, refl, sym, ap, subst, ◌∙◌, append_assoc, arith, inl, inr}
 use Rattle.std.specs.Int.{w32, from_le_bytes, cast_signed}
 use Rattle.std.proofs.lemmas.List.{append-nil, length-append, take_at}
 use Rattle.ice_types.specs.declared.kind.TypeRef.{TypeRef}
@@ -16,91 +15,116 @@ use Rattle.ice_encoding.specs.Canonical.{canonical, HasSizes}
 use Rattle.ice_encoding.specs.Encapsulation.{SpellsEncapsulation, encapsulation_at, encapsulation_bytes}
 use Rattle.ice_encoding.proofs.Plain.{plain_sizes}
 use Rattle.ice_encoding.proofs.Encapsulations.{encapsulation_found, encapsulation_only, encapsulation_canon}
-use Rattle.ice_ports.specs.Files.{file_named, IsThere}
-use Rattle.ice_node.specs.Words.{Word, relay}
-use Rattle.slice_check.specs.SliceText.{Means}
-use Rattle.ice_node.specs.Streams.{Claims, IsSize, ReadsInput}
-use Rattle.ice_node.specs.Outside.{Files, Failures, NoneFailed}
-use Rattle.ice_node.specs.Statuses.{IsType, Causes, IsSchema, HasNoSchema, IsValue, HasNoValue}
-use Rattle.ice_node.specs.Outcomes.{Canonicalizes, FindsSchema, answer_of, of_text, of_read}
+use Rattle.ice_relay.specs.Relaying.{Canonicalizes}
+use Rattle.ice_relay.proofs.Values.{claims_length}
+use Rattle.ice_node.specs.Words.{Word, relay, check}
+use Rattle.ice_ports.specs.declared.ports.PortFault.{PortFault}
+use Rattle.ice_ports.specs.declared.ports.PortFault.TheVariants as ports
+use Rattle.ice_ports.specs.Failures.{count_after}
+use Rattle.ice_ports.specs.Files.{is_failed}
+use Rattle.ice_relay.specs.Streams.{Claims, IsSize, ReadsInput, TakesFrugally}
+use Rattle.ice_relay.proofs.Inputs.{nothing_is_frugal}
+use Rattle.ice_node.proofs.Keeping.{keeps_itself}
+use Rattle.ice_node.specs.Outside.{Files, Failures, NoneFailed, counts}
+use Rattle.ice_node.specs.Answers.{Answer, done, usage, no_such_name, not_built, slice_refused, input_refused, read_failed, write_failed, no_memory}
+use Rattle.ice_node.specs.Decided.{IsBuilt, IsSchema, IsNamed, WithType, WithBuilt, IsValue, HasNoValue}
+use Rattle.ice_node.specs.Causes.{Causes}
+use Rattle.ice_node.specs.Effects.{Takes}
+use Rattle.ice_node.specs.Outcomes.{GivesNoSchema, FindsSchema, FindsType, answer_of, of_port, of_read}
 use Rattle.ice_node.specs.declared.outcome.Outcome.{Outcome}
-use Rattle.slice_check.specs.Reading.{Answers}
-use Rattle.slice_check.specs.declared.fault.TextFault.{TextFault}
-use Rattle.slice_check.specs.declared.fault.TextFault.TheVariants as text_faults
 
 -- ---- the file
 
-pub told_is : (files : Option Files) (file : Word) (text : List ℕ) (t : Tables) → IfSome files (λ known. Some text ≡ file_named known file) → Means text t → IsSchema files file t
-told_is None file text t e m = tt
-told_is (Some known) file text t e m = (text, sym e, m)
+-- the commands that load a file, where it gives no schema
+pub relay_unloaded : (files : Option Files) (input : Option (List ℕ)) (file word : Word) (before after source sink : ℕ) (answer : Answer) → GivesNoSchema files file before after answer → Causes (Some (relay file word)) files input (counts before source sink) (counts after source sink) answer
+relay_unloaded files input file word before after source sink (slice_refused broken) h = (inl (broken, h.0, refl), (h.1, refl, refl))
+relay_unloaded files input file word before after source sink read_failed h = inl (h, refl, refl)
+relay_unloaded files input file word before after source sink no_memory h = (tt, (h, refl, refl))
+relay_unloaded files input file word before after source sink (done bytes) h = absurd h
+relay_unloaded files input file word before after source sink usage h = absurd h
+relay_unloaded files input file word before after source sink (no_such_name name) h = absurd h
+relay_unloaded files input file word before after source sink (not_built name) h = absurd h
+relay_unloaded files input file word before after source sink input_refused h = absurd h
+relay_unloaded files input file word before after source sink (write_failed bytes) h = absurd h
 
-pub told_none : (files : Option Files) (file : Word) (text : List ℕ) → IfSome files (λ known. Some text ≡ file_named known file) → ((t : Tables) → Means text t → ⊥) → HasNoSchema files file
-told_none None file text e none = tt
-told_none (Some known) file text e none = λ t m. let same : text ≡ m.0 = cc in none t (subst (λ (x : List ℕ). Means x t) (sym same) m.2)
+pub check_unloaded : (files : Option Files) (input : Option (List ℕ)) (file : Word) (before after source sink : ℕ) (answer : Answer) → GivesNoSchema files file before after answer → Causes (Some (check file)) files input (counts before source sink) (counts after source sink) answer
+check_unloaded files input file before after source sink (slice_refused broken) h = (inl (broken, h.0, refl), (h.1, refl, refl))
+check_unloaded files input file before after source sink read_failed h = (h, refl, refl)
+check_unloaded files input file before after source sink no_memory h = (tt, (h, refl, refl))
+check_unloaded files input file before after source sink (done bytes) h = absurd h
+check_unloaded files input file before after source sink usage h = absurd h
+check_unloaded files input file before after source sink (no_such_name name) h = absurd h
+check_unloaded files input file before after source sink (not_built name) h = absurd h
+check_unloaded files input file before after source sink input_refused h = absurd h
+check_unloaded files input file before after source sink (write_failed bytes) h = absurd h
 
-pub is_there : (files : Option Files) (file : Word) (text : List ℕ) → IfSome files (λ known. Some text ≡ file_named known file) → IsThere files file
-is_there None file text e = tt
-is_there (Some known) file text e = subst (λ (x : Option (List ℕ)). IsSome x) e refl
+-- nothing was taken of the input by then
+pub unloaded_takes : (files : Option Files) (file word : Word) (before after : ℕ) (old : Option (List ℕ)) (answer : Answer) → GivesNoSchema files file before after answer → Takes (Some (relay file word)) old old answer
+unloaded_takes files file word before after old (slice_refused broken) h = keeps_itself old
+unloaded_takes files file word before after old read_failed h = nothing_is_frugal old old (keeps_itself old)
+unloaded_takes files file word before after old no_memory h = nothing_is_frugal old old (keeps_itself old)
+unloaded_takes files file word before after old (done bytes) h = absurd h
+unloaded_takes files file word before after old usage h = absurd h
+unloaded_takes files file word before after old (no_such_name name) h = absurd h
+unloaded_takes files file word before after old (not_built name) h = absurd h
+unloaded_takes files file word before after old input_refused h = absurd h
+unloaded_takes files file word before after old (write_failed bytes) h = absurd h
 
--- a text that means no schema, or for which memory ran out
-pub text_refused : (files : Option Files) (file : Word) (text : List ℕ) (before after : ℕ) (fault : TextFault) (result : Result Tables Outcome) (outcome : Outcome) → result ≡ Err outcome → outcome ≡ of_text fault → IfSome files (λ known. Some text ≡ file_named known file)
-    → Answers (Means text) (Err fault) → after ≡ before → FindsSchema files file before after result
-text_refused files file text before after text_faults.Refused result outcome is from there none count = rw (is, from) (λ word input source sink. (told_none files file text there none, (count, refl, refl)))
-text_refused files file text before after text_faults.Memory result outcome is from there none count = rw (is, from) (λ word input source sink. (is_there files file text there, (count, refl, refl)))
+-- ---- the type
+
+pub unbuilt : (t : Tables) (word : Word) (kind : TypeRef) (answer : Answer) → IsNamed t word kind → (IsBuilt t kind → ⊥) → answer ≡ not_built word → WithType t word answer (λ k. WithBuilt t k word answer ⊥)
+unbuilt t word kind answer named no_values is = inr (kind, named, inl (no_values, is))
+
+pub relay_untyped : (files : Option Files) (input : Option (List ℕ)) (file word : Word) (t : Tables) (before after : Failures) (answer : Answer) → IsSchema files file t → NoneFailed before after → WithType t word answer (λ kind. WithBuilt t kind word answer ⊥) → Causes (Some (relay file word)) files input before after answer
+relay_untyped files input file word t before after answer schema none (inl unnamed) = rw unnamed.1 (inr (t, schema, inl (unnamed.0, refl)), none)
+relay_untyped files input file word t before after answer schema none (inr (kind, named, inl unbuilt)) = rw unbuilt.1 (inr (t, schema, inr (kind, named, inl (unbuilt.0, refl))), none)
+relay_untyped files input file word t before after answer schema none (inr (kind, named, inr never)) = absurd never.1
+
+pub untyped_takes : (file word : Word) (t : Tables) (old : Option (List ℕ)) (answer : Answer) → WithType t word answer (λ kind. WithBuilt t kind word answer ⊥) → Takes (Some (relay file word)) old old answer
+untyped_takes file word t old answer (inl unnamed) = rw unnamed.1 (keeps_itself old)
+untyped_takes file word t old answer (inr (kind, named, inl no_values)) = rw no_values.1 (keeps_itself old)
+untyped_takes file word t old answer (inr (kind, named, inr never)) = absurd never.1
+
+-- ---- the input
+
+-- a read of it failed, or there was no memory for it
+pub input_unread : (files : Option Files) (input : Option (List ℕ)) (file word : Word) (t : Tables) (kind : TypeRef) (before after : Failures) (fault : PortFault) (outcome : Outcome) → outcome ≡ of_port fault → IsSchema files file t → IsNamed t word kind → IsBuilt t kind
+    → after.shelf ≡ before.shelf → after.source ≡ count_after before.source (is_failed {T = List ℕ} (Err fault)) → after.sink ≡ before.sink → Causes (Some (relay file word)) files input before after (answer_of outcome [])
+input_unread files input file word t kind before after ports.Failed outcome from schema named built shelf source sink = rw from (inr ((t, kind, schema, named, built), (shelf, source, sink)))
+input_unread files input file word t kind before after ports.Memory outcome from schema named built shelf source sink = rw from (tt, (shelf, source, sink))
+
+pub unread_takes : (file word : Word) (old now : Option (List ℕ)) (fault : PortFault) (outcome : Outcome) → outcome ≡ of_port fault → TakesFrugally old now → Takes (Some (relay file word)) old now (answer_of outcome [])
+unread_takes file word old now ports.Failed outcome from taken = rw from taken
+unread_takes file word old now ports.Memory outcome from taken = rw from taken
+
+pub unfound_takes : (file word : Word) (old now : Option (List ℕ)) (fault : ReadFault) (outcome : Outcome) → outcome ≡ of_read fault → TakesFrugally old now → Takes (Some (relay file word)) old now (answer_of outcome [])
+unfound_takes file word old now (faults.Broken fault) outcome from taken = rw from taken
+unfound_takes file word old now faults.Memory outcome from taken = rw from taken
 
 -- ---- the value
 
 module _ (t : Tables) (kind : TypeRef) where
-  pub value_fits : (input : List ℕ) (v : Tree) → IsBytes input → encapsulation_at t kind (whole input) ≡ Ok v → SpellsEncapsulation t kind input v × HasSizes v × (length (canonical v) + 6 < 2 ^ 31)
-  value_fits input v fits e =
-      let h = encapsulation_found t kind input v fits e in
-      let canon = encapsulation_canon t kind input v fits h in
-      let long : length (encapsulation_bytes v) ≡ length (canonical v) + 6 = length-append (signed_bytes w32 (pos (length (canonical v) + 6))) (1 ∷ 1 ∷ canonical v) ∙ omega arith in
-      (h, plain_sizes t kind h.1 v h.5, omega (arith, long, canon.1, h.4))
-
-  pub none_fits : (input : List ℕ) (fault : Fault) → encapsulation_at t kind (whole input) ≡ Err fault → (v : Tree) → SpellsEncapsulation t kind input v → ⊥
-  none_fits input fault e v h = let read = encapsulation_only t kind input v h in cc
-
-  -- the first four bytes claim one size
-  claims_length : (bytes got rest : List ℕ) (v : Tree) (z : ℤ) → bytes ≡ got ++ rest → Claims got z → SpellsEncapsulation t kind bytes v → IsSize z (length bytes)
-  claims_length bytes got rest v z e c h =
-      let all : c.size ++ (c.more ++ rest) ≡ h.0 ++ 1 ∷ 1 ∷ h.1 = sym (append_assoc c.size c.more rest) ∙ ap (λ (l : List ℕ). l ++ rest) (sym c.parts) ∙ sym e ∙ h.2 in
-      let same : c.size ≡ h.0 = sym (take_at c.size (c.more ++ rest) 4 c.spelled.0) ∙ ap (take 4) all ∙ take_at h.0 (1 ∷ 1 ∷ h.1) 4 h.3.0 in
-      let claimed : z ≡ pos (length bytes) = c.spelled.1 ∙ ap (λ (l : List ℕ). cast_signed w32 (from_le_bytes w32 l)) same ∙ sym h.3.1 in
-      let long : length bytes ≡ length h.0 + length (1 ∷ 1 ∷ h.1) = ap length h.2 ∙ length-append h.0 (1 ∷ 1 ∷ h.1) in
-      (claimed, omega (arith, long, h.3.0), h.4)
-
-  pub input_accepted : (before now : Option (List ℕ)) (got : List ℕ) (v : Tree) → ReadsInput before now got → SpellsEncapsulation t kind got v → IsValue before t kind v
-  input_accepted None now got v r h = tt
-  input_accepted (Some known) None got v r h = absurd r.0
-  input_accepted (Some known) (Some rest) got v r h = elim r.1 [
+  pub value_read : (before now : Option (List ℕ)) (got : List ℕ) (v : Tree) → ReadsInput before now got → SpellsEncapsulation t kind got v → IsValue before t kind v
+  value_read None now got v r h = tt
+  value_read (Some known) None got v r h = absurd r.0
+  value_read (Some known) (Some rest) got v r h = elim r.1 [
     | inl end ↦ let same : got ≡ known = sym (r.0 ∙ ap (λ (l : List ℕ). got ++ l) end ∙ append-nil got) in subst (λ (l : List ℕ). SpellsEncapsulation t kind l v) same h
-    | inr past ↦ absurd (let size = claims_length got got [] v past.0 (sym (append-nil got)) past.1 h in let below : length got < length got = past.2 (length got) size in omega arith)
+    | inr past ↦ absurd (let size = claims_length t kind got got [] v past.0 (sym (append-nil got)) past.1 h in let below : length got < length got = past.2 (length got) size in omega arith)
   ]
 
-  pub input_refused : (before now : Option (List ℕ)) (got : List ℕ) → ReadsInput before now got → ((v : Tree) → SpellsEncapsulation t kind got v → ⊥) → HasNoValue before t kind
-  input_refused None now got r none = tt
-  input_refused (Some known) None got r none = absurd r.0
-  input_refused (Some known) (Some rest) got r none = λ v h. elim r.1 [
+  pub no_value_read : (before now : Option (List ℕ)) (got : List ℕ) → ReadsInput before now got → ((v : Tree) → SpellsEncapsulation t kind got v → ⊥) → HasNoValue before t kind
+  no_value_read None now got r none = tt
+  no_value_read (Some known) None got r none = absurd r.0
+  no_value_read (Some known) (Some rest) got r none = λ v h. elim r.1 [
     | inl end ↦ let same : known ≡ got = r.0 ∙ ap (λ (l : List ℕ). got ++ l) end ∙ append-nil got in none v (subst (λ (l : List ℕ). SpellsEncapsulation t kind l v) same h)
     | inr past ↦
-        let size = claims_length known got rest v past.0 r.0 past.1 h in
+        let size = claims_length t kind known got rest v past.0 r.0 past.1 h in
         let below : length known < length got = past.2 (length known) size in
         omega (arith, ap length r.0, length-append got rest)
   ]
 
-  -- no value where reading failed, unless memory ran out
-  pub none_canonical : (input : List ℕ) (fault : ReadFault) → Fails fault (encapsulation_at t kind (whole input)) → Canonicalizes t kind input (Err fault)
-  none_canonical input faults.Memory h = tt
-  none_canonical input (faults.Broken fault) h = none_fits input fault h
-
--- a file that means a schema is there
-pub schema_there : (files : Option Files) (file : Word) (t : Tables) → IsSchema files file t → IsThere files file
-schema_there None file t m = tt
-schema_there (Some known) file t m = subst (λ (x : Option (List ℕ)). IsSome x) (sym m.1) refl
-
 -- an input that holds no value, or for which memory ran out
 pub input_gives_none : (files : Option Files) (input now : Option (List ℕ)) (file word : Word) (t : Tables) (kind : TypeRef) (got : List ℕ) (before after : Failures) (fault : ReadFault) (outcome : Outcome) → outcome ≡ of_read fault
-    → IsType files file word t kind → ReadsInput input now got → Canonicalizes t kind got (Err fault) → NoneFailed before after → Causes (Some (relay file word)) files input before after (answer_of outcome [])
-input_gives_none files input now file word t kind got before after (faults.Broken fault) outcome from type read none counts = rw from ((t, kind, type, input_refused t kind input now got read none), counts)
-input_gives_none files input now file word t kind got before after faults.Memory outcome from type read none counts = rw from (schema_there files file t type.0, counts)
+    → IsSchema files file t → IsNamed t word kind → IsBuilt t kind → ReadsInput input now got → Canonicalizes t kind got (Err fault) → NoneFailed before after → Causes (Some (relay file word)) files input before after (answer_of outcome [])
+input_gives_none files input now file word t kind got before after (faults.Broken fault) outcome from schema named built read none counts = rw from (inr (t, schema, inr (kind, named, inr (built, inl (no_value_read t kind input now got read none, refl)))), counts)
+input_gives_none files input now file word t kind got before after faults.Memory outcome from schema named built read none counts = rw from (tt, counts)

@@ -11,6 +11,8 @@ Word = List ℕ
 pub data Command : Type 0 where
   -- the Slice file, and the name of the type
   relay : Word → Word → Command
+  -- the Slice file
+  check : Word → Command
   help : Command
   version : Command
 
@@ -22,6 +24,7 @@ IsWord word = length word ≤ MOST_OF_A_WORD
 abbrev pub Form : List Word → Command → Type 0
 Form words (relay file kind) =
     (words ≡ codes "relay" ∷ file ∷ kind ∷ []) × IsWord file × IsWord kind
+Form words (check file) = (words ≡ codes "check" ∷ file ∷ []) × IsWord file
 Form words help = words ≡ codes "--help" ∷ []
 Form words version = words ≡ codes "--version" ∷ []
 
@@ -37,6 +40,7 @@ words_of words = map string_bytes words
 -- the command, wherever its words lie in memory
 abbrev pub asked_of : Option Written → Option Command
 asked_of (Some (written.Relay file kind)) = Some (relay file.now kind.now)
+asked_of (Some (written.Check file)) = Some (check file.now)
 asked_of (Some written.Help) = Some help
 asked_of (Some written.Version) = Some version
 asked_of None = None

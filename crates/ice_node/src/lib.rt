@@ -1,20 +1,19 @@
 //! The words of the command line, and what the program does for them.
 #![tactic(auto)]
 
-mod encapsulation;
+mod check;
 mod help;
-mod input;
+mod loading;
 mod outcome;
 mod output;
 mod relay;
 mod top_call;
+mod type_words;
 mod words;
 
-pub use encapsulation::{decode, encode};
 pub use help::{HELP, VERSION};
-pub use input::read_input;
-pub use outcome::Outcome;
-pub use output::{print, report, write_all};
+pub use outcome::{Line, Outcome};
+pub use output::{print, report};
 pub use top_call::{answers_apart, node};
 pub use words::{Command, command_of, forms_apart};
 

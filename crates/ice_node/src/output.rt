@@ -1,13 +1,14 @@
 //! Bytes to a sink: an answer, or the line that says why there is none.
 
 ghost use Rattle.std.specs.Prelude.{◌≡◌, ℕ, List};
-ghost use Rattle.std.specs.List.{flat_map};
-ghost use Rattle.ice_node.specs.Streams.{Writes};
-ghost use Rattle.ice_node.specs.Statuses.{status, Outputs, GetsLine};
+ghost use Rattle.ice_node.specs.Answers.{status};
+ghost use Rattle.ice_node.specs.Effects.{Outputs, GetsLine};
 ghost use Rattle.ice_node.specs.Outcomes.{Prints, answer_of};
 
 use crate::outcome::Outcome;
 use ice_ports::{Failed, Sink};
+use ice_relay::{write_all, write_pieces};
+use itoa::Buffer;
 
 /// Writes the whole answer. A sink that fails has taken a prefix of it, and is not asked again.
 pub fn print<K: Sink>(bytes: &[u8], sink: &mut K) -> Outcome<'static>
@@ -27,30 +28,7 @@ pub fn report<E: Sink>(outcome: Outcome<'_>, errors: &mut E) -> u8
     ensures line { (bytes : List ℕ) → GetsLine (E.taken errors.old) (E.taken errors.new)
         (E.failures errors.old) (E.failures errors.new) (answer_of outcome.entry bytes) }
 {
-    let _ = write_pieces(errors, &outcome.line());
+    let mut digits = Buffer::new();
+    let _ = write_pieces(errors, &outcome.line(&mut digits));
     outcome.status()
-}
-
-/// Writes all of the bytes. A sink that fails has taken a prefix of them, and is not asked again.
-pub fn write_all<K: Sink>(sink: &mut K, bytes: &[u8]) -> Result<(), Failed>
-    ensures { Writes (K.taken sink.old) (K.taken sink.new)
-        (K.failures sink.old) (K.failures sink.new) result bytes.now }
-{
-    let mut at = 0;
-    while at < bytes.len() {
-        at += sink.write(&bytes[at..])?;
-    }
-    Ok(())
-}
-
-/// Writes the texts one after the other.
-fn write_pieces<K: Sink>(sink: &mut K, pieces: &[&str]) -> Result<(), Failed>
-    ensures { Writes (K.taken sink.old) (K.taken sink.new)
-        (K.failures sink.old) (K.failures sink.new) result
-        (flat_map (λ piece. piece.now) pieces.now) }
-{
-    for piece in pieces {
-        write_all(sink, piece.as_bytes())?;
-    }
-    Ok(())
 }

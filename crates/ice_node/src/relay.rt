@@ -1,16 +1,17 @@
 //! `relay FILE TYPE`: one encapsulation in, the canonical one out.
 
-ghost use Rattle.std.specs.Prelude.{ℕ};
+ghost use Rattle.std.specs.Prelude.{ℕ, ◌↔◌, IsTrue};
+ghost use Rattle.ice_node.specs.Decided.{IsBuilt};
+ghost use Rattle.ice_node.specs.Words.{relay as wanted};
 ghost use Rattle.ice_node.specs.Outside.{counts};
-ghost use Rattle.ice_node.specs.Outcomes.{FindsSchema, FindsBytes, TakesFound, Canonicalizes, bytes_found};
+ghost use Rattle.ice_node.specs.Outcomes.{FindsType, FindsBytes, TakesFound, bytes_found};
 
-use crate::encapsulation::{decode, encode};
-use crate::input::read_input;
+use crate::loading::load_schema;
 use crate::outcome::Outcome;
+use crate::type_words::type_of_word;
 use ice_ports::{Shelf, Source};
-use ice_prims::ReadFault;
-use ice_types::{Schema, TypeRef};
-use slice_check::schema_of;
+use ice_relay::{canonical_of, read_input};
+use ice_types::{MOST_DEPTH, Schema, TypeRef};
 use std::alloc::Global;
 
 /// The canonical encapsulation of the value of the type that the source holds, or why there is
@@ -18,48 +19,41 @@ use std::alloc::Global;
 pub fn relay<'a, H: Shelf, S: Source>(
     alloc: Global,
     file: &str,
-    kind: &'a str,
+    word: &'a str,
     shelf: &mut H,
     source: &mut S,
 ) -> Result<Vec<u8>, Outcome<'a>>
     ensures found { (sink : ℕ)
-        → FindsBytes (H.files shelf.old) (S.left source.old) file.now kind.now
+        → FindsBytes (wanted file.now word.now) (H.files shelf.old) (S.left source.old)
         (counts (H.failures shelf.old) (S.failures source.old) sink)
         (counts (H.failures shelf.new) (S.failures source.new) sink) (bytes_found result) }
-    ensures taken { TakesFound file.now kind.now (S.left source.old) (S.left source.new) result }
+    ensures taken { TakesFound (wanted file.now word.now) (S.left source.old) (S.left source.new) result }
 {
     let schema = load_schema(alloc, file, shelf)?;
-    let Some(kind) = schema.type_named(kind) else {
-        return Err(Outcome::NoSuchName(kind));
-    };
+    let kind = built_type(&schema, word)?;
     let input = read_input(alloc, source)?;
     Ok(canonical_of(alloc, &schema, kind, input.as_slice())?)
 }
 
-/// The schema that the file on the shelf means.
-fn load_schema<H: Shelf>(
-    alloc: Global,
-    file: &str,
-    shelf: &mut H,
-) -> Result<Schema, Outcome<'static>>
-    ensures { FindsSchema (H.files shelf.old) file.now
-        (H.failures shelf.old) (H.failures shelf.new) result }
+/// The type that the word names, whose values the node carries.
+fn built_type<'a>(schema: &Schema, word: &'a str) -> Result<TypeRef, Outcome<'a>>
+    ensures { FindsType schema.now word.now result }
 {
-    let Some(text) = shelf.load(alloc, file)? else {
-        return Err(Outcome::SliceRefused);
+    let Some(kind) = type_of_word(schema, word) else {
+        return Err(Outcome::NoSuchName(word));
     };
-    Ok(schema_of(alloc, text.as_slice())?)
+    if !is_built(schema, kind) {
+        return Err(Outcome::NotBuilt(word));
+    }
+    Ok(kind)
 }
 
-/// The canonical encapsulation of the value that the whole input holds.
-fn canonical_of(
-    alloc: Global,
-    schema: &Schema,
-    kind: TypeRef,
-    input: &[u8],
-) -> Result<Vec<u8>, ReadFault>
-    ensures { Canonicalizes schema.now kind input.now result }
+/// Whether the node carries values of the type.
+fn is_built(schema: &Schema, kind: TypeRef) -> bool
+    ensures { IsTrue result ↔ IsBuilt schema.now kind }
 {
-    let value = decode(alloc, schema, kind, input)?;
-    Ok(encode(alloc, &value)?)
+    match schema.measure_within(MOST_DEPTH, kind) {
+        Some(found) => found.is_built,
+        None => false,
+    }
 }

@@ -1,5 +1,5 @@
-//! `node` over an outside in memory: what comes of each failure. What comes of words, texts and
-//! inputs, the cases show.
+//! `node` over an outside in memory: a call of each command and refusal, and what comes of each
+//! failure. What comes of other words, texts and inputs, the cases show.
 
 use super::node;
 use ice_ports::{MemShelf, MemSink, MemSource};
@@ -7,86 +7,272 @@ use ice_types::{Bytes, List, Name};
 use std::alloc::{AllocError, Global};
 use std::test::Fail;
 
-const TEXT: &[u8] = b"module M { sequence<byte> Q; };";
+/// The shelf: each file's name and text.
+const FILES: &[(&str, &str)] = &[
+    (
+        "s.ice",
+        "#include \"t.ice\"\nmodule M { sequence<T::Small> Q; sequence<Q> Qs; };",
+    ),
+    ("t.ice", "module T { sequence<byte> Small; };"),
+    (
+        "w.ice",
+        "module M { dictionary<string, int> D; sequence<byte> Q; class N { int v; N next; }; \
+        class P { int p; }; class O { optional(1) int a; }; class B { int b; }; \
+        class F extends B { string d; B other; }; };",
+    ),
+    (
+        "forest.ice",
+        "module Points { struct Point { int x; int y; }; sequence<Point> List; }; \
+        module Trees { class Tree { int value; Tree left; Tree right; }; }; \
+        module Forests { interface Named { string name(); }; interface Forest extends Named { \
+        void put(Trees::Tree t); idempotent Trees::Tree get(); }; };",
+    ),
+    (
+        "i.ice",
+        "module M { interface I; enum E { a, b }; struct S { int n; I* i; }; sequence<S> Q; \
+        dictionary<E, Q> D; dictionary<E, int> K; exception X { S s; }; };",
+    ),
+    ("m.ice", "module M { struct S { float x; }; };"),
+    ("a.ice", "#include \"b.ice\""),
+    ("u.ice", "module M { class C; sequence<C> Q; };"),
+    ("e.ice", "module M { enum E { a, A }; };"),
+    ("n.ice", "module M { };\n"),
+    (
+        "l.ice",
+        "#include \"n.ice\"\n#include \"e.ice\"\nmodule M { struct S { }; };",
+    ),
+    ("x.ice", "module M { struct S { int a }; };"),
+];
+
+/// The words of a call, and the status, output and line that are wanted.
+type Call = (&'static [&'static str], u8, &'static str, &'static str);
+
+const CALLS: &[Call] = &[
+    (
+        &["check", "w.ice"],
+        0,
+        "ok: 2 types, 5 classes, 0 exceptions, 0 interfaces\n",
+        "",
+    ),
+    (
+        &["check", "forest.ice"],
+        0,
+        "ok: 2 types, 1 classes, 0 exceptions, 2 interfaces\n",
+        "",
+    ),
+    (
+        &["check", "i.ice"],
+        0,
+        "ok: 5 types, 0 classes, 1 exceptions, 1 interfaces\n",
+        "",
+    ),
+    (
+        &["check", "s.ice"],
+        0,
+        "ok: 3 types, 0 classes, 0 exceptions, 0 interfaces\n",
+        "",
+    ),
+    (&["check", "m.ice"], 3, "", "ice: m.ice:22: FloatUsed\n"),
+    (&["check", "none.ice"], 3, "", "ice: none.ice:0: NoFile\n"),
+    (&["check", "a.ice"], 3, "", "ice: a.ice:0: NoFile\n"),
+    (&["check", "u.ice"], 3, "", "ice: u.ice:17: Undefined\n"),
+    (&["check", "e.ice"], 3, "", "ice: e.ice:23: Clash\n"),
+    (&["check", "l.ice"], 3, "", "ice: e.ice:23: Clash\n"),
+    (&["check", "x.ice"], 3, "", "ice: x.ice:28: Expected\n"),
+    (&["check"], 2, "", "ice: usage\n"),
+    (&["check", "w.ice", "int"], 2, "", "ice: usage\n"),
+    (&["relay"], 2, "", "ice: usage\n"),
+    (&["relay", "w.ice"], 2, "", "ice: usage\n"),
+    (
+        &["relay", "l.ice", "::M::Zed"],
+        3,
+        "",
+        "ice: e.ice:23: Clash\n",
+    ),
+    (
+        &["relay", "w.ice", "::M::Zed"],
+        2,
+        "",
+        "ice: no such name ::M::Zed\n",
+    ),
+    (
+        &["relay", "i.ice", "::M::I"],
+        2,
+        "",
+        "ice: no such name ::M::I\n",
+    ),
+    (
+        &["relay", "i.ice", "::M::X"],
+        2,
+        "",
+        "ice: no such name ::M::X\n",
+    ),
+    (
+        &["relay", "w.ice", "::M::N*"],
+        2,
+        "",
+        "ice: no such name ::M::N*\n",
+    ),
+    (
+        &["relay", "w.ice", "Value"],
+        2,
+        "",
+        "ice: no such name Value\n",
+    ),
+    (
+        &["relay", "w.ice", "::M::N"],
+        2,
+        "",
+        "ice: not built ::M::N\n",
+    ),
+    (
+        &["relay", "w.ice", "Object"],
+        2,
+        "",
+        "ice: not built Object\n",
+    ),
+    (
+        &["relay", "w.ice", "Object*"],
+        2,
+        "",
+        "ice: not built Object*\n",
+    ),
+    (
+        &["relay", "i.ice", "::M::I*"],
+        2,
+        "",
+        "ice: not built ::M::I*\n",
+    ),
+    (
+        &["relay", "i.ice", "::M::D"],
+        2,
+        "",
+        "ice: not built ::M::D\n",
+    ),
+    (
+        &["relay", "i.ice", "::M::K"],
+        2,
+        "",
+        "ice: not built ::M::K\n",
+    ),
+    (&["relay", "w.ice", "::M::D"], 4, "", "ice: input refused\n"),
+];
 
 const INPUT: &[u8] = &[9, 0, 0, 0, 1, 1, 2, 7, 8];
 
-const WORDS: &[&str] = &["relay", "s.ice", "::M::Q"];
+const RELAY: &[&str] = &["relay", "s.ice", "::T::Small"];
 
 const READ: &str = "ice: read failed\n";
 
 const WRITE: &str = "ice: write failed\n";
 
-/// How many bytes a read gives at most; which loads, reads and writes fail, counted from 0; how
-/// many bytes the sink and the sink of errors take; the status, output and line that are wanted.
-type Run = (
+/// How the outside is: how many bytes a read gives at most; which loads, reads and writes fail,
+/// counted from 0; how many bytes the sink and the sink of errors take.
+type Outside = (
     u32,
     &'static [u64],
     &'static [u64],
     &'static [u64],
     u32,
     u32,
-    u8,
-    &'static [u8],
-    &'static str,
 );
 
-/// Nine bytes in pieces of one byte are ten reads, the last of which finds the end.
+const WELL: Outside = (4096, &[], &[], &[], 99, 99);
+
+/// The outside of a relay of nine bytes, and the status, output and line that are wanted.
+type Run = (Outside, u8, &'static [u8], &'static str);
+
+/// The file and the one that it includes are two loads. Nine bytes in pieces of one byte are ten
+/// reads, the last of which finds the end.
 const RUNS: &[Run] = &[
-    (1, &[], &[], &[], 99, 99, 0, INPUT, ""),
-    (4096, &[1], &[], &[1], 99, 0, 0, INPUT, ""),
-    (4096, &[0], &[], &[], 99, 99, 5, b"", READ),
-    (4096, &[], &[1], &[], 99, 99, 5, b"", READ),
-    (1, &[], &[0], &[], 99, 99, 5, b"", READ),
-    (1, &[], &[4], &[], 99, 99, 5, b"", READ),
-    (1, &[], &[9], &[], 99, 3, 5, b"", "ice"),
-    (1, &[], &[10], &[], 99, 99, 0, INPUT, ""),
-    (1, &[], &[], &[0], 99, 99, 6, b"", WRITE),
-    (1, &[], &[], &[], 3, 99, 6, &[9, 0, 0], WRITE),
-    (1, &[], &[], &[], 0, 0, 6, b"", ""),
+    ((1, &[], &[], &[], 99, 99), 0, INPUT, ""),
+    ((4096, &[2], &[], &[1], 99, 0), 0, INPUT, ""),
+    ((4096, &[0], &[], &[], 99, 99), 5, b"", READ),
+    ((4096, &[1], &[], &[], 99, 99), 5, b"", READ),
+    ((4096, &[], &[1], &[], 99, 99), 5, b"", READ),
+    ((1, &[], &[0], &[], 99, 99), 5, b"", READ),
+    ((1, &[], &[4], &[], 99, 99), 5, b"", READ),
+    ((1, &[], &[9], &[], 99, 3), 5, b"", "ice"),
+    ((1, &[], &[10], &[], 99, 99), 0, INPUT, ""),
+    ((1, &[], &[], &[0], 99, 99), 6, b"", WRITE),
+    ((1, &[], &[], &[], 3, 99), 6, &[9, 0, 0], WRITE),
+    ((1, &[], &[], &[], 0, 0), 6, b"", ""),
 ];
 
 fn bytes(alloc: Global, items: &[u8]) -> Result<Bytes, AllocError> {
     Ok(List::from_vec(Vec::from_slice(alloc, items)?))
 }
 
-fn words(alloc: Global) -> Result<Vec<String>, AllocError> {
-    let mut words = Vec::new(alloc);
-    for word in WORDS {
-        words.push(String::from_str(alloc, word)?)?;
-    }
-    Ok(words)
-}
-
 fn calls(alloc: Global, numbers: &[u64]) -> Result<List<u64>, AllocError> {
     Ok(List::from_vec(Vec::from_slice(alloc, numbers)?))
 }
 
-/// Whether the run comes to what is wanted.
-fn comes(alloc: Global, run: &Run) -> Result<bool, AllocError> {
-    let (piece, loads, reads, writes, room, line_room, status, output, line) = run;
+fn shelf(alloc: Global, failing: &[u64]) -> Result<MemShelf, AllocError> {
     let mut files = List::new(alloc);
-    files.push((Name::of(alloc, "s.ice")?, bytes(alloc, TEXT)?))?;
-    let mut shelf = MemShelf::new(files, calls(alloc, loads)?);
+    for (name, text) in FILES {
+        files.push((Name::of(alloc, name)?, bytes(alloc, text.as_bytes())?))?;
+    }
+    Ok(MemShelf::new(files, calls(alloc, failing)?))
+}
+
+fn word(alloc: Global, text: &str) -> Result<String, AllocError> {
+    String::from_str(alloc, text)
+}
+
+fn words_of(alloc: Global, texts: &[&str]) -> Result<List<String>, AllocError> {
+    let mut words = List::new(alloc);
+    for text in texts {
+        words.push(word(alloc, text)?)?;
+    }
+    Ok(words)
+}
+
+/// Whether the call comes to the status, output and line.
+fn comes(
+    alloc: Global,
+    words: &[&str],
+    outside: &Outside,
+    status: u8,
+    output: &[u8],
+    line: &str,
+) -> Result<bool, AllocError> {
+    let (piece, loads, reads, writes, room, line_room) = outside;
+    let words = words_of(alloc, words)?;
+    let mut shelf = shelf(alloc, loads)?;
     let mut source = MemSource::new(bytes(alloc, INPUT)?, (*piece).max(1), calls(alloc, reads)?);
     let mut sink = MemSink::new(alloc, (*room).min(99), calls(alloc, writes)?)?;
     let mut errors = MemSink::new(alloc, (*line_room).min(99), calls(alloc, &[])?)?;
-    let words = words(alloc)?;
+    let words = words.as_slice();
     let ended = node(
         alloc,
-        words.as_slice(),
+        words,
         &mut shelf,
         &mut source,
         &mut sink,
         &mut errors,
     );
-    Ok(ended == *status && sink.taken() == *output && errors.taken() == line.as_bytes())
+    Ok(ended == status && sink.taken() == output && errors.taken() == line.as_bytes())
+}
+
+#[test]
+fn each_answer_has_its_status_and_line(rt: HostRuntime) -> Result<(), Fail> {
+    for (at, (words, status, output, line)) in CALLS.iter().enumerate() {
+        let output = output.as_bytes();
+        assert!(rt;
+            comes(rt.alloc(), words, &WELL, *status, output, line)?,
+            "in call {at}"
+        );
+    }
+    Ok(())
 }
 
 #[test]
 fn each_failure_has_its_status(rt: HostRuntime) -> Result<(), Fail> {
-    for (at, run) in RUNS.iter().enumerate() {
-        assert!(rt; comes(rt.alloc(), run)?, "in run {at}");
+    for (at, (outside, status, output, line)) in RUNS.iter().enumerate() {
+        assert!(rt;
+            comes(rt.alloc(), RELAY, outside, *status, output, line)?,
+            "in run {at}"
+        );
     }
     Ok(())
 }

@@ -3,9 +3,14 @@
 ghost use Rattle.std.specs.Prelude.{◌≡◌, List, ℕ, Option, Some};
 ghost use Rattle.ice_node.specs.Words.{Word, Command as Asked, Asks, words_of};
 ghost use Rattle.ice_node.specs.Outside.{Files, Outside, counts};
-ghost use Rattle.ice_node.specs.Statuses.{Answer, Answered, Decided, Ends, Causes, Takes, Outputs};
+ghost use Rattle.ice_node.specs.Answers.{Answer};
+ghost use Rattle.ice_node.specs.Decided.{Decided};
+ghost use Rattle.ice_node.specs.Causes.{Causes};
+ghost use Rattle.ice_node.specs.Effects.{Takes, Outputs};
+ghost use Rattle.ice_node.specs.Statuses.{Answered, Ends};
 ghost use Rattle.ice_node.specs.Outcomes.{answer_of};
 
+use crate::check::check;
 use crate::help::{HELP, VERSION};
 use crate::outcome::Outcome;
 use crate::output::{print, report};
@@ -80,6 +85,10 @@ fn run<'a, H: Shelf, S: Source, K: Sink>(
     match command_of(words) {
         Some(Command::Relay { file, kind }) => match relay(alloc, file, kind, shelf, source) {
             Ok(bytes) => print(bytes.as_slice(), sink),
+            Err(outcome) => outcome,
+        },
+        Some(Command::Check { file }) => match check(alloc, file, shelf) {
+            Ok(text) => print(text.as_bytes(), sink),
             Err(outcome) => outcome,
         },
         Some(Command::Help) => print(HELP.as_bytes(), sink),

@@ -11,6 +11,8 @@ const MOST_OF_A_WORD: usize = 8192;
 pub enum Command<'a> {
     /// To relay values of the type `kind`, which the Slice file defines.
     Relay { file: &'a str, kind: &'a str },
+    /// To check the Slice file and all that it includes.
+    Check { file: &'a str },
     /// To print how the program is called.
     Help,
     /// To print the program's version.
@@ -23,6 +25,7 @@ pub fn command_of(words: &[String]) -> Option<Command<'_>>
 {
     match words {
         [option] => option_of(option.as_str()),
+        [command, file] => check_of(command.as_str(), file.as_str()),
         [command, file, kind] => relay_of(command.as_str(), file.as_str(), kind.as_str()),
         _ => None,
     }
@@ -35,6 +38,16 @@ fn option_of(word: &str) -> Option<Command<'_>>
         "--help" => Some(Command::Help),
         "--version" => Some(Command::Version),
         _ => None,
+    }
+}
+
+fn check_of<'a>(word: &'a str, file: &'a str) -> Option<Command<'a>>
+    ensures { Asks (word.now ∷ file.now ∷ []) (asked_of result) }
+{
+    if word == "check" && file.len() <= MOST_OF_A_WORD {
+        Some(Command::Check { file })
+    } else {
+        None
     }
 }
 

@@ -61,6 +61,13 @@ const LOADS: &[(&str, Option<&[u8]>)] = &[
     ("", None),
 ];
 
+/// A name of 256 bytes: no file of the system has one.
+const TOO_LONG: &str = "\
+    0123456789abcdef0123456789abcdef0123456789abcdef0123456789abcdef\
+    0123456789abcdef0123456789abcdef0123456789abcdef0123456789abcdef\
+    0123456789abcdef0123456789abcdef0123456789abcdef0123456789abcdef\
+    0123456789abcdef0123456789abcdef0123456789abcdef0123456789abcdef";
+
 #[test]
 fn a_folder_has_files_and_no_others(rt: HostRuntime) {
     let alloc = rt.alloc();
@@ -68,6 +75,7 @@ fn a_folder_has_files_and_no_others(rt: HostRuntime) {
     for (name, content) in LOADS {
         assert!(rt; has(alloc, &mut shelf, name, *content));
     }
+    assert!(rt; has(alloc, &mut shelf, TOO_LONG, None));
     assert!(rt; shelf.failures() == 0);
     assert!(rt; !has(alloc, &mut shelf, ".", None));
     assert!(rt; shelf.failures() == 1);

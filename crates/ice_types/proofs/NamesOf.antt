@@ -5,7 +5,7 @@ use Rattle.std.proofs.lemmas.List.Elements.{All-nil, All-cons, All-head, All-tai
 use Rattle.std.proofs.lemmas.Slice.Eq.{bytes_eq-Decides}
 use Rattle.std.proofs.lemmas.List.{drop_more}
 use Rattle.ice_types.specs.declared.declarations.Member.{Member}
-use Rattle.ice_types.specs.Measures.{names_of}
+use Rattle.ice_types.specs.Fits.{names_of}
 use Rattle.ice_types.specs.Names.{IsFree, AreNew, has}
 
 clash : {C : Type 0} (b : Bool) → b ≡ true → b ≡ false → C

@@ -2,5 +2,13 @@ pub mod formers
 pub mod Names
 pub mod Tables
 pub mod Measures
+pub mod Fits
+pub mod Bases
 pub mod Rules
+pub mod Kept
+pub mod Ids
 pub mod Parts
+pub mod Inherited
+pub mod Formats
+pub mod Lacking
+pub mod Object

@@ -6,7 +6,7 @@ use std::marker::Model;
 /// Items in order. Contracts see the list of them, and not where it lies in memory.
 #[derive(Debug, Drop)]
 pub struct List<T> {
-    items: Vec<T>,
+    pub(crate) items: Vec<T>,
 }
 
 /// Bytes in order.
@@ -24,7 +24,7 @@ impl<T> Model for List<T> {
 }
 
 impl<T> List<T> {
-    ghost use Rattle.std.specs.Prelude.{◌≡◌, [], ◌∷◌, ◌++◌, MatchOption, slice_get, length, IsTrue, ◌↔◌};
+    ghost use Rattle.std.specs.Prelude.{◌≡◌, [], ◌∷◌, ◌++◌, MatchOption, slice_get, slice_set, length, IsTrue, ◌↔◌, ◌<◌};
     ghost use Rattle.std.specs.Option.{option_copied};
 
     /// A list of no items, which takes no memory.
@@ -69,6 +69,16 @@ impl<T> List<T> {
         ensures { MatchOption result ((self.old ≡ []) × (self.new ≡ [])) (λ last. self.old ≡ self.new ++ last ∷ []) }
     {
         self.items.pop()
+    }
+
+    /// Puts another item at a place counted from 0.
+    pub(crate) fn put(&mut self, at: usize, item: T)
+    where
+        T: Drop,
+        requires { at < length self.old }
+        ensures { self.new ≡ slice_set self.old at item }
+    {
+        self.items[at] = item;
     }
 
     /// All items, which are not copied.

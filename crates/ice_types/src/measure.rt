@@ -1,13 +1,14 @@
 //! What a schema says of each of its types.
 
 ghost use Rattle.std.specs.Prelude.{◌≡◌, ◌+◌, ◌<◌, ◌^◌};
-ghost use Rattle.ice_types.specs.Measures.{built_in, reference, container, no_members, with_member, structure};
+ghost use Rattle.ice_types.specs.Measures.{built_in, container, enumeration, no_members, proxy, reference, structure, with_member};
 
 /// What a schema says of a type.
 #[derive(Clone, Copy, Debug, PartialEq, Eq)]
 pub struct Measure {
-    /// How deep the type nests: 1 for a built-in type, one more than its element for a sequence, two
-    /// more than the deeper of its parts for a dictionary, one more than its deepest member for a struct.
+    /// How deep the type nests: 1 for a built-in type, an enum, a proxy and a class, one more than its
+    /// element for a sequence, two more than the deeper of its parts for a dictionary, one more than its
+    /// deepest member for a struct.
     pub depth: u32,
     /// The length in bytes of its smallest spelling.
     pub smallest: u32,
@@ -15,6 +16,8 @@ pub struct Measure {
     pub is_fixed: bool,
     /// Whether its values may be keys of a dictionary.
     pub is_key: bool,
+    /// Whether it is made of types whose values the node carries: no enum, proxy or class is in it.
+    pub is_built: bool,
 }
 
 impl Measure {
@@ -27,18 +30,46 @@ impl Measure {
             smallest,
             is_fixed,
             is_key: true,
+            is_built: true,
         }
     }
 
-    /// Of a sequence or dictionary that nests so deep.
-    pub(crate) fn container(depth: u32) -> Measure
-        ensures { result ≡ container depth }
+    /// Of a sequence or dictionary that nests so deep, by whether the node carries its parts.
+    pub(crate) fn container(depth: u32, is_built: bool) -> Measure
+        ensures { result ≡ container depth is_built }
     {
         Measure {
             depth,
             smallest: 1,
             is_fixed: false,
             is_key: false,
+            is_built,
+        }
+    }
+
+    /// Of an enum.
+    pub(crate) fn enumeration() -> Measure
+        ensures { result ≡ enumeration }
+    {
+        Measure {
+            depth: 1,
+            smallest: 1,
+            is_fixed: false,
+            is_key: true,
+            is_built: false,
+        }
+    }
+
+    /// Of a proxy, which may be null.
+    pub(crate) fn proxy() -> Measure
+        ensures { result ≡ proxy }
+    {
+        Measure {
+            depth: 1,
+            smallest: 2,
+            is_fixed: false,
+            is_key: false,
+            is_built: false,
         }
     }
 
@@ -51,6 +82,7 @@ impl Measure {
             smallest: 1,
             is_fixed: false,
             is_key: false,
+            is_built: false,
         }
     }
 
@@ -63,6 +95,7 @@ impl Measure {
             smallest: 0,
             is_fixed: true,
             is_key: true,
+            is_built: true,
         }
     }
 
@@ -76,6 +109,7 @@ impl Measure {
             smallest: self.smallest + member.smallest,
             is_fixed: self.is_fixed && member.is_fixed,
             is_key: self.is_key && member.is_key,
+            is_built: self.is_built && member.is_built,
         }
     }
 
@@ -89,6 +123,7 @@ impl Measure {
             smallest: self.smallest,
             is_fixed: self.is_fixed,
             is_key: self.is_key,
+            is_built: self.is_built,
         }
     }
 }

@@ -2,7 +2,7 @@
 
 ghost use Rattle.std.specs.Prelude.{[], IfOk, IsTrue, ◌↔◌};
 ghost use Rattle.ice_types.specs.Names.{AreNew};
-ghost use Rattle.ice_types.specs.Measures.{names_of};
+ghost use Rattle.ice_types.specs.Fits.{names_of};
 
 use crate::declarations::Member;
 use std::alloc::{AllocError, Global};

@@ -1,9 +1,17 @@
-//! The rows of a table by place, and what the schema says of each.
+//! The rows of the tables by place, and what the schema says of each.
 
-ghost use Rattle.std.specs.Prelude.{◌≡◌, ◌<◌, ◌++◌, [], ◌∷◌, List, ℕ, MatchOption, OnOk, OnErr, length, map};
-ghost use Rattle.ice_types.specs.Tables.{HasId, LacksId};
+ghost use Rattle.std.specs.Prelude.{◌≡◌, ◌<◌, ◌++◌, [], ◌∷◌, List, ℕ, MatchOption, OnOk, OnErr, Some, None, cond, bytes_eq, length, map};
+ghost use Rattle.ice_types.specs.Ids.{row_in};
+ghost use Rattle.ice_types.specs.Tables.{changed, no_types};
+ghost use Rattle.ice_types.specs.Kept.{beside_of, tables_of};
+ghost use Rattle.ice_types.specs.Rules.{nothing};
 
-use crate::declarations::{DictDecl, SeqDecl, StructDecl};
+use crate::declarations::{
+    ClassDecl, DictDecl, EnumDecl, ExceptionDecl, InterfaceDecl, Member, OpDecl, SeqDecl,
+    StructDecl,
+};
+use crate::ids::Ids;
+use crate::kind::RowRef;
 use crate::list::List;
 use crate::measure::Measure;
 use std::alloc::{AllocError, Global};
@@ -44,51 +52,158 @@ impl Row for StructDecl {
     }
 }
 
-/// The rows of a table. Beside each, at the same place, is what the schema says of its type.
-#[derive(Debug, Drop)]
-pub(crate) struct Rows<T> {
-    pub decls: List<T>,
-    pub measures: List<Measure>,
+impl Row for EnumDecl {
+    ghost id_of = { λ e. e.id };
+
+    fn id(&self) -> &str {
+        self.id.as_str()
+    }
 }
 
-impl<T> Rows<T> {
+impl Row for ClassDecl {
+    ghost id_of = { λ c. c.id };
+
+    fn id(&self) -> &str {
+        self.id.as_str()
+    }
+}
+
+impl Row for ExceptionDecl {
+    ghost id_of = { λ e. e.id };
+
+    fn id(&self) -> &str {
+        self.id.as_str()
+    }
+}
+
+impl Row for InterfaceDecl {
+    ghost id_of = { λ i. i.id };
+
+    fn id(&self) -> &str {
+        self.id.as_str()
+    }
+}
+
+/// The rows of a table. Beside each, at the same place, is what the schema says of it.
+#[derive(Debug, Drop)]
+pub(crate) struct Rows<T, S> {
+    pub decls: List<T>,
+    pub beside: List<S>,
+}
+
+impl<T, S> Rows<T, S> {
     /// No rows, which take no memory.
-    pub fn new(alloc: Global) -> Rows<T>
+    pub fn new(alloc: Global) -> Rows<T, S>
         ensures decls { result.decls ≡ [] }
-        ensures measures { result.measures ≡ [] }
+        ensures beside { result.beside ≡ [] }
     {
         Rows {
             decls: List::new(alloc),
-            measures: List::new(alloc),
+            beside: List::new(alloc),
         }
     }
 }
 
-impl<T: Drop> Rows<T> {
+impl<T: Drop, S: Drop> Rows<T, S> {
     /// Adds a row. Out of memory leaves the rows as they were.
-    pub fn add(&mut self, decl: T, measure: Measure) -> Result<(), AllocError>
+    fn add(&mut self, decl: T, beside: S) -> Result<(), AllocError>
         ensures decls { OnOk result (self.new.decls ≡ self.old.decls ++ decl ∷ []) }
-        ensures measures { OnOk result (self.new.measures ≡ self.old.measures ++ measure ∷ []) }
+        ensures beside { OnOk result (self.new.beside ≡ self.old.beside ++ beside ∷ []) }
         ensures err { OnErr result (self.new ≡ self.old) }
     {
-        self.measures.push(measure)?;
+        self.beside.push(beside)?;
         let pushed = self.decls.push(decl);
         if pushed.is_err() {
-            self.measures.pop();
+            self.beside.pop();
         }
         pushed
     }
 }
 
-/// The place of the row with this type id.
-pub(crate) fn place_of<T: Row>(rows: &[T], id: &str) -> Option<u32>
-    requires { length rows.now < MOST_ROWS }
-    ensures { MatchOption result (LacksId (map T.id_of rows.now) id.now) (HasId (map T.id_of rows.now) id.now) }
+/// Adds a row with what stands beside it, and its id. Out of memory leaves all as it was.
+pub(crate) fn add_row<T: Row + Drop, S: Drop>(
+    rows: &mut Rows<T, S>,
+    ids: &mut Ids,
+    decl: T,
+    beside: S,
+    row: RowRef,
+) -> Result<(), AllocError>
+    ensures decls { OnOk result (rows.new.decls ≡ rows.old.decls ++ decl ∷ []) }
+    ensures beside { OnOk result (rows.new.beside ≡ rows.old.beside ++ beside ∷ []) }
+    ensures ids { OnOk result ((id : List ℕ) →
+        row_in ids.new id ≡ cond (bytes_eq (T.id_of decl) id) (Some row) (row_in ids.old id)) }
+    ensures err_rows { OnErr result (rows.new ≡ rows.old) }
+    ensures err_ids { OnErr result ((id : List ℕ) → row_in ids.new id ≡ row_in ids.old id) }
 {
-    for (at, row) in rows.iter().enumerate() {
-        if row.id() == id {
-            return Some(at as u32);
+    let id = ids.copied(decl.id())?;
+    rows.add(decl, beside)?;
+    let added = ids.insert(id, row);
+    if added.is_err() {
+        rows.decls.pop();
+        rows.beside.pop();
+    }
+    added
+}
+
+/// Puts a base and members into the class at this place.
+pub(crate) fn fill_class(
+    classes: &mut List<ClassDecl>,
+    at: u32,
+    base: Option<u32>,
+    members: List<Member>,
+)
+    requires { at < length classes.old }
+    ensures { classes.new ≡ changed (λ c. record { id = c.id; base = base; members = members }) classes.old at }
+{
+    let class = &mut classes.items[at as usize];
+    class.base = base;
+    class.members = members;
+}
+
+/// Puts bases and operations into the interface at this place.
+pub(crate) fn fill_interface(
+    interfaces: &mut List<InterfaceDecl>,
+    at: u32,
+    bases: List<u32>,
+    ops: List<OpDecl>,
+)
+    requires { at < length interfaces.old }
+    ensures { interfaces.new ≡ changed (λ i. record { id = i.id; bases = bases; ops = ops }) interfaces.old at }
+{
+    let interface = &mut interfaces.items[at as usize];
+    interface.bases = bases;
+    interface.ops = ops;
+}
+
+/// The rows of all tables.
+#[derive(Debug, Drop)]
+pub(crate) struct TableRows {
+    pub seqs: Rows<SeqDecl, Measure>,
+    pub dicts: Rows<DictDecl, Measure>,
+    pub structs: Rows<StructDecl, Measure>,
+    pub enums: Rows<EnumDecl, Measure>,
+    /// Beside each class how many bases it has, None while it is only declared.
+    pub classes: Rows<ClassDecl, Option<u32>>,
+    /// Beside each exception how many bases it has.
+    pub exceptions: Rows<ExceptionDecl, u32>,
+    /// Beside each interface how many bases it has by paths, None while it is only declared.
+    pub interfaces: Rows<InterfaceDecl, Option<u32>>,
+}
+
+impl TableRows {
+    /// No rows, which take no memory.
+    pub fn new(alloc: Global) -> TableRows
+        ensures tables { tables_of result ≡ no_types }
+        ensures beside { beside_of result ≡ nothing }
+    {
+        TableRows {
+            seqs: Rows::new(alloc),
+            dicts: Rows::new(alloc),
+            structs: Rows::new(alloc),
+            enums: Rows::new(alloc),
+            classes: Rows::new(alloc),
+            exceptions: Rows::new(alloc),
+            interfaces: Rows::new(alloc),
         }
     }
-    None
 }

@@ -58,6 +58,8 @@ module _ (t : Tables) where
   read_begun (suc levels) kinds.Int r (y, e) = plain_there int (signed_at w32) r y e
   read_begun (suc levels) kinds.Long r (y, e) = plain_there long (signed_at w64) r y e
   read_begun (suc levels) kinds.Text r (y, e) = plain_there text text_at r y e
+  read_begun (suc levels) (kinds.Enum at) r (y, e) = absurd cc
+  read_begun (suc levels) (kinds.Proxy at) r (y, e) = absurd cc
   read_begun (suc levels) (kinds.Class at) r (y, e) =
       then_ok (by_number.read at tt r) (λ x. Ok (reference x.0, x.1, x.2)) y e λ x x_is last.
       then_ok (size_at r) (λ n. Ok (number_of n.0, tt, n.1)) x x_is λ n n_is done. (n, n_is)

@@ -36,6 +36,9 @@ module _ (t : Tables) where
   Begins (suc levels) kinds.Int r = IsThere (signed_at w32 r)
   Begins (suc levels) kinds.Long r = IsThere (signed_at w64 r)
   Begins (suc levels) kinds.Text r = IsThere (text_at r)
+  -- enums and proxies are not carried yet
+  Begins (suc levels) (kinds.Enum at) r = ⊥
+  Begins (suc levels) (kinds.Proxy at) r = ⊥
   Begins (suc levels) (kinds.Class at) r = IsThere (size_at r)
   Begins (suc levels) (kinds.Seq at) r = (q : SeqDecl) × (slice_get t.seqs at ≡ Some q) × BeginsMany (Begins levels q.element) r
   Begins (suc levels) (kinds.Dict at) r = (d : DictDecl) × (slice_get t.dicts at ≡ Some d) × BeginsMany (Begins levels d.key) r

@@ -18,7 +18,8 @@ use std::alloc::{AllocError, Global};
 
 /// The value of the type at the front, with the first fault from the left. A refusal leaves the
 /// cursor as it was. Memory is taken for what is read, never for what a size merely claims: it can run
-/// out only once the first part of the value is there.
+/// out only once the first part of the value is there. Enums and proxies are not carried yet: where a
+/// value of one is due, reading is refused.
 /// (Ice manual, "Data Encoding".)
 pub fn read_value<'a>(
     alloc: Global,
@@ -110,6 +111,9 @@ fn read_parts(
             }
             None => Err(ReadFault::Broken(cursor.fault(Kind::LeftOver))),
         },
+        TypeRef::Enum(_) | TypeRef::Proxy(_) => {
+            Err(ReadFault::Broken(cursor.fault(Kind::LeftOver)))
+        }
         TypeRef::Class(_) => Ok(Value::Reference(number_of(cursor.take_size()?))),
     }
 }

@@ -1,10 +1,7 @@
-pub mod Samples
-pub mod TokenFronts
-pub mod SliceNames
-pub mod Fronts
-pub mod TypeIds
-pub mod KnownTypes
-pub mod OneReading
-pub mod Members
-pub mod Bodies
-pub mod FileReading
+mod Texts
+mod Steps
+mod Sets
+mod Includes
+mod Coming
+mod Ranges
+mod Faults

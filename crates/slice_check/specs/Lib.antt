@@ -1,2 +1,5 @@
-pub mod SliceText
-pub mod Reading
+pub mod Answers
+pub mod Walking
+pub mod Held
+pub mod Opening
+pub mod Standing

@@ -48,7 +48,7 @@ token_ok sorts (first ∷ others) after l e = at_test (has sorts (sort_of first)
   at_test true test is = let same : first ≡ l = (ok_parts first l others after is).0 in subst (λ (x : Lexeme). IsTrue (has sorts (sort_of x))) same test
   at_test false test is = absurd cc
 
-never_word : (a b c d e : Bool) → has (sorts.Word ∷ []) (if a then sorts.Include else if b then sorts.Guard else if c then sorts.Aside else if d then sorts.Aside else if e then sorts.EndGuard else sorts.Stray) ≡ true → ⊥
+pub never_word : (a b c d e : Bool) → has (sorts.Word ∷ []) (if a then sorts.Include else if b then sorts.Guard else if c then sorts.Aside else if d then sorts.Aside else if e then sorts.EndGuard else sorts.Stray) ≡ true → ⊥
 never_word true b c d e h = absurd cc
 never_word false true c d e h = absurd cc
 never_word false false true d e h = absurd cc

@@ -6,9 +6,15 @@ mod Loops
 mod Fitting
 mod Fits
 mod Nesting
-mod Breaking
+pub mod Breaking
 mod Series
 mod Starts
 mod Exits
 mod Moves
 mod Guards
+mod Holding
+mod Giving
+mod Transfers
+pub mod Orders
+mod Tagless
+pub mod RegularItems

@@ -6,4 +6,5 @@ pub mod Files
 pub mod Reading
 pub mod Moving
 pub mod Taking
+pub mod Places
 pub mod Syntax

@@ -1,6 +1,9 @@
-use Rattle.std.proofs.Common.{[], Some}
-use Rattle.ice_node.specs.Words.{relay}
-use Rattle.ice_node.proofs.Answering.{printed, outputs_nothing}
+use Rattle.std.proofs.Common.{[], Some, string_bytes, refl}
+use Rattle.ice_node.specs.Words.{relay, check, help}
+use Rattle.ice_node.specs.declared.help.TheConstants.{HELP}
+use Rattle.ice_node.specs.Outcomes.{answer_of}
+use Rattle.ice_node.proofs.Answering.{printed, outputs_nothing, check_takes_nothing}
+use Rattle.ice_node.proofs.Keeping.{keeps_itself}
 use Rattle.ice_node.proofs.top_call.run.Goals as goal
 
 pub returns-in-Ok : goal.returns-in-Ok
@@ -16,3 +19,29 @@ returns-in-Ok g c =
 pub returns-in-Err : goal.returns-in-Err
 returns-in-Err g c =
     ([], Some (relay c.in-Some-Relay.file.now c.in-Some-Relay.kind.now), (rw c.in-Some-Relay.field-0-is at c.in-Some-Relay.ensures), c.in-Err.ensures.found (g.K.Sink.failures c.args.sink.now), c.in-Err.ensures.taken, outputs_nothing (g.K.Sink.taken c.args.sink.now) c.in-Err.outcome)
+
+pub returns-in-Ok-check : goal.returns-in-Ok-check
+returns-in-Ok-check g c =
+    let input = g.S.Source.left c.args.source.now in
+    let found = c.in-Ok-check.ensures input (g.S.Source.failures c.args.source.now) (g.K.Sink.failures c.args.sink.now) in
+    let asked = Some (check c.in-Some-Check.file.now) in
+    let came = printed asked (g.H.Shelf.files c.args.shelf.now) input input
+    (record { shelf = g.H.Shelf.failures c.args.shelf.now; source = g.S.Source.failures c.args.source.now; sink = g.K.Sink.failures c.args.sink.now })
+    (record { shelf = g.H.Shelf.failures c.check.new.shelf; source = g.S.Source.failures c.args.source.now; sink = g.K.Sink.failures c.print-in-Ok-check.new.sink })
+    (string_bytes c.in-Ok-check.text) c.print-in-Ok-check.result found.0 found.1.0 found.1.1 (keeps_itself input) c.print-in-Ok-check.ensures.outcome in
+    (string_bytes c.in-Ok-check.text, asked, (rw c.in-Some-Check.field-0-is at c.in-Some-Check.ensures), came.0, came.1, (rw c.as_bytes.ensures.value at c.print-in-Ok-check.ensures.output))
+
+pub returns-in-Err-check : goal.returns-in-Err-check
+returns-in-Err-check g c =
+    let input = g.S.Source.left c.args.source.now in
+    let found = c.in-Err-check.ensures input (g.S.Source.failures c.args.source.now) (g.K.Sink.failures c.args.sink.now) in
+    ([], Some (check c.in-Some-Check.file.now), (rw c.in-Some-Check.field-0-is at c.in-Some-Check.ensures), found, check_takes_nothing c.in-Some-Check.file.now input (answer_of c.in-Err-check.outcome []), outputs_nothing (g.K.Sink.taken c.args.sink.now) c.in-Err-check.outcome)
+
+pub returns-in-Some-Help : goal.returns-in-Some-Help
+returns-in-Some-Help g c =
+    let input = g.S.Source.left c.args.source.now in
+    let came = printed (Some help) (g.H.Shelf.files c.args.shelf.now) input input
+    (record { shelf = g.H.Shelf.failures c.args.shelf.now; source = g.S.Source.failures c.args.source.now; sink = g.K.Sink.failures c.args.sink.now })
+    (record { shelf = g.H.Shelf.failures c.args.shelf.now; source = g.S.Source.failures c.args.source.now; sink = g.K.Sink.failures c.print-in-Some-Help.new.sink })
+    HELP.now c.print-in-Some-Help.result refl refl refl (keeps_itself input) c.print-in-Some-Help.ensures.outcome in
+    (HELP.now, Some help, (rw c.in-Some-Help.field-0-is at c.in-Some-Help.ensures), came.0, came.1, (rw c.as_bytes-in-Some-Help.ensures.value at c.print-in-Some-Help.ensures.output))

@@ -1,12 +1,13 @@
 use Rattle.std.proofs.Common.{sym, ◌∙◌}
-use Rattle.ice_types.proofs.Added.{IsKept-seq-added}
+use Rattle.ice_types.specs.Ids.{row_in}
+use Rattle.ice_types.proofs.AddedTypes.{added_seq}
 use Rattle.ice_types.proofs.schema.Schema.add_seq.Goals as goal
 
 pub invariant_of-self-2 : goal.invariant_of-self-2
 invariant_of-self-2 c =
-    IsKept-seq-added c.self.inside.seqs.decls c.add.new.self.decls c.self.inside.dicts.decls c.self.inside.structs.decls c.self.inside.seqs.measures c.add.new.self.measures c.self.inside.dicts.measures c.self.inside.structs.measures
-    c.args.self.now c.args.decl c.in-Some.measure c.self.invariant c.self.view_is c.in_ok-add.ensures.decls c.in_ok-add.ensures.measures
+    added_seq c.self.inside.rows c.add_row.new.rows c.args.self.now (row_in c.self.inside.ids) (row_in c.add_row.new.ids) c.self.invariant c.self.view_is c.args.decl c.in-Some.measure
+    c.in_ok-add_row.ensures.decls c.in_ok-add_row.ensures.beside c.len-at.result c.len-at.ensures c.in_ok-add_row.ensures.ids
     c.requires.room c.requires.type_id c.requires.new_id c.requires.fits (sym c.in-Some.is ∙ c.measure_seq.ensures)
 
 pub returns-clause-rules : goal.returns-clause-rules
-returns-clause-rules c = (invariant_of-self-2 c).rules
+returns-clause-rules c = (invariant_of-self-2 c).kept.rules

@@ -1,5 +1,6 @@
-use Rattle.ice_types.proofs.Added.{IsKept-none}
+use Rattle.ice_types.specs.Ids.{row_in}
+use Rattle.ice_types.proofs.NoRows.{held_nothing}
 use Rattle.ice_types.proofs.schema.Schema.new.Goals as goal
 
 pub invariant_of-result : goal.invariant_of-result
-invariant_of-result c = rw (c.new.ensures.decls, c.new.ensures.measures, c.new-2.ensures.decls, c.new-2.ensures.measures, c.new-3.ensures.decls, c.new-3.ensures.measures) IsKept-none
+invariant_of-result c = rw (c.new.ensures.tables, c.new.ensures.beside) (held_nothing (row_in c.new-2.result) c.new-2.ensures)

@@ -1,0 +1,13 @@
+mod Joined
+mod Contexts
+mod Entries
+mod Times
+mod Sums
+mod Putting
+mod Called
+mod Whole
+mod Streams
+mod Runs
+mod Orderly
+mod Nexts
+mod Running

@@ -1,0 +1,10 @@
+pub mod Parts
+pub mod Context
+pub mod Calls
+pub mod Messages
+pub mod Streams
+pub mod Answers
+pub mod Seen
+pub mod Written
+pub mod Framing
+pub mod Next

@@ -1,0 +1,32 @@
+-- What the calls answer that look at what stands next.
+use Rattle.std.specs.Prelude.{ℕ, ◌≡◌, ◌≤◌, Bool, true, false, List, length, Option, None, Some, Result, Ok, Err}
+use Rattle.ice_prims.specs.declared.fault.Fault.{Fault}
+use Rattle.ice_prims.specs.declared.fault.ReadFault.{ReadFault}
+use Rattle.ice_prims.specs.Rest.{Rest, after, whole, ◌>>=◌}
+use Rattle.ice_prims.specs.Taking.{Fails}
+use Rattle.ice_messages.specs.declared.message.Message.{Message}
+use Rattle.ice_messages.specs.Streams.{next_at}
+use Rattle.ice_messages.specs.Written.{IsOrderly}
+use Rattle.ice_messages.specs.Messages.{header, message_at}
+use Rattle.ice_messages.specs.Calls.{claimed}
+use Rattle.ice_messages.specs.declared.message.TheConstants.{LARGEST, HEADER_BYTES}
+
+-- the message that begins the bytes
+abbrev pub whole_next : List ℕ → Result (Option (Message × Rest)) Fault
+whole_next bytes = message_at (whole bytes) >>= λ m. Ok (Some m)
+
+-- the message with how many bytes it has, or none
+abbrev pub StandsNext : Result (Option (Message × ℕ)) ReadFault → List ℕ → Type 0
+StandsNext (Ok None) bytes = next_at bytes ≡ Ok None
+StandsNext (Ok (Some x)) bytes = (next_at bytes ≡ Ok (Some (x.0, after (whole bytes) x.1))) × (x.1 ≤ length bytes) × IsOrderly x.0
+StandsNext (Err e) bytes = Fails e (next_at bytes)
+
+-- the size that a whole header counts
+abbrev pub size_counted : List ℕ → Result ℕ Fault
+size_counted bytes = header.read (whole bytes) >>= λ head. claimed 10 LARGEST HEADER_BYTES head.0.1
+
+-- whether a message is whole, by a header that is, or the fault of that header
+abbrev pub IsCounted : Result Bool Fault → List ℕ → Type 0
+IsCounted (Ok true) bytes = next_at bytes ≡ whole_next bytes
+IsCounted (Ok false) bytes = next_at bytes ≡ Ok None
+IsCounted (Err e) bytes = next_at bytes ≡ Err e

@@ -1,0 +1,55 @@
+//! What the definitions promise of each other, one law a function.
+
+ghost use Rattle.std.specs.Prelude.{◌≡◌, ◌≤◌, ◌++◌, ℕ, List, Ok, None, Some, Option, Result, length, ◌↔◌};
+ghost use Rattle.ice_prims.specs.declared.fault.Fault.{Fault};
+ghost use Rattle.ice_prims.specs.Rest.{IsBytes};
+ghost use Rattle.ice_prims.specs.Laws.{FoundPart, OnlyPart};
+ghost use Rattle.ice_messages.specs.declared.message.Message.{Message};
+ghost use Rattle.ice_messages.specs.Messages.{message_at, message_bytes, SpellsMessage, IsMessage};
+ghost use Rattle.ice_messages.specs.Streams.{Stream, IsStream, IsFront, next_at};
+ghost use Rattle.ice_messages.specs.Framing.{Held, Ran};
+
+/// What is read is spelled by the bytes that were taken, and what is spelled is read, whatever follows it.
+pub fn messages_exact()
+    ensures found { FoundPart message_at SpellsMessage }
+    ensures only { OnlyPart message_at SpellsMessage }
+    ensures sort { (bytes : List ℕ) (m : Message) → IsBytes bytes → SpellsMessage bytes m → IsMessage m }
+{}
+
+/// No spelling of a message begins another, and none has fewer bytes than a header.
+pub fn messages_apart()
+    ensures apart { (a b x y : List ℕ) (m n : Message)
+        → SpellsMessage a m → SpellsMessage b n → a ++ x ≡ b ++ y → (m ≡ n) × (x ≡ y) }
+    ensures long { (bytes : List ℕ) (m : Message) → SpellsMessage bytes m → 14 ≤ length bytes }
+{}
+
+/// What is written of a message, where it is not longer than a message may be, spells it.
+pub fn messages_written()
+    ensures { (m : Message) → IsMessage m → length (message_bytes m) ≤ 1048576 → SpellsMessage (message_bytes m) m }
+{}
+
+/// Bytes are messages, one after the other, and then a front or a fault: in one way, and in one alone.
+pub fn one_stream()
+    ensures some { (bytes : List ℕ) → IsBytes bytes
+        → (ms : List Message) × (rest : List ℕ) × (end : Option Fault) × IsStream bytes ms rest end }
+    ensures one { (bytes : List ℕ) (ms ns : List Message) (rest left : List ℕ) (a b : Option Fault)
+        → IsStream bytes ms rest a → IsStream bytes ns left b → (ms ≡ ns) × (rest ≡ left) × (a ≡ b) }
+{}
+
+/// What stands next is none as long as the bytes are a front, and else a message or a fault.
+pub fn fronts_wait()
+    ensures { (bytes : List ℕ) → IsBytes bytes → IsFront bytes ↔ (next_at bytes ≡ Ok None) }
+{}
+
+/// The messages of the first bytes of a stream are the first messages of the stream.
+pub fn first_messages()
+    ensures { (bytes more left rest : List ℕ) (ns ms : List Message) (end : Option Fault)
+        → Stream bytes ns left → IsStream (bytes ++ more) ms rest end → (others : List Message) × (ms ≡ ns ++ others) }
+{}
+
+/// Whatever the pieces: the bytes that were fed to a reader are the messages that it handed out, one after the other, and
+/// the bytes that it holds.
+pub fn pieces_read()
+    ensures { (bytes : List ℕ) (ms : List Message) (held : Held) → Ran bytes ms held → IsBytes bytes
+        → Stream bytes ms held.bytes }
+{}

@@ -1,0 +1,28 @@
+//! Sizes that count what they stand in.
+
+ghost use Rattle.std.specs.Prelude.{◌≡◌, ◌<◌, ◌^◌, ℕ, List, Ok, Err, Result, length};
+ghost use Rattle.ice_messages.specs.Calls.{claimed};
+
+use crate::message::LARGEST;
+use ice_prims::{Fault, Kind};
+
+/// The size that an int claims for what begins at `place`, where `left` bytes are left and `smallest` is the least there
+/// is. `TooLarge` above 1,048,576, then `Short` above `left`, then `BadSize`.
+pub fn claimed_size(place: u64, left: usize, smallest: u32, claim: i32) -> Result<u32, Fault>
+    ensures { claimed place left smallest claim ≡ result }
+{
+    let wrong = |kind| Err(Fault { place, kind });
+    if claim < 0 {
+        return wrong(Kind::BadSize);
+    }
+    let size = claim as u32;
+    if size > LARGEST {
+        wrong(Kind::TooLarge)
+    } else if size as usize > left {
+        wrong(Kind::Short)
+    } else if size < smallest {
+        wrong(Kind::BadSize)
+    } else {
+        Ok(size)
+    }
+}

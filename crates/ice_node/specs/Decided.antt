@@ -1,0 +1,108 @@
+-- What each command comes to by its words, the files and the input, where the outside tells them.
+-- Each step decides only what those before it let through: the Slice file, the name of the type,
+-- whether its values are built, the input.
+use Rattle.std.specs.Prelude.{ℕ, true, ◌≡◌, ◌+◌, ◌⊎◌, List, ◌++◌, length, Option, Some, None, IfSome, codes}
+use Rattle.std.specs.Fmt.{decimal}
+use Rattle.ice_types.specs.declared.kind.TypeRef.{TypeRef}
+use Rattle.ice_types.specs.declared.measure.Measure.{Measure}
+use Rattle.ice_types.specs.declared.schema.TheConstants.{MOST_DEPTH}
+use Rattle.ice_types.specs.Tables.{Tables}
+use Rattle.ice_types.specs.Measures.{measure}
+use Rattle.ice_encoding.specs.Tree.{Tree}
+use Rattle.ice_encoding.specs.Encapsulation.{SpellsEncapsulation, encapsulation_bytes}
+use Rattle.slice_meaning.specs.Printed.{LoadBreak}
+use Rattle.slice_meaning.specs.Loading.{Loads, LoadBreaks}
+use Rattle.ice_node.specs.declared.help.TheConstants.{HELP, VERSION}
+use Rattle.ice_node.specs.Words.{Word, Command, relay, check, help, version, Asks}
+use Rattle.ice_node.specs.TypeWords.{IsTypeWord}
+use Rattle.ice_node.specs.Outside.{Files}
+use Rattle.ice_node.specs.Answers.{Answer, done, usage, no_such_name, not_built, slice_refused, input_refused}
+
+-- ---- the steps
+
+-- FILE and what it includes mean this schema, where the shelf tells its files
+abbrev pub IsSchema : Option Files → Word → Tables → Type 0
+IsSchema files file t = IfSome files (λ known. Loads known file t)
+
+-- this is their first fault
+abbrev pub IsFault : Option Files → Word → LoadBreak → Type 0
+IsFault files file broken = IfSome files (λ known. LoadBreaks known file broken)
+
+-- FILE is refused, or means a schema, from which it goes on
+abbrev pub WithSchema : Option Files → Word → Answer → (Tables → Type 0) → Type 0
+WithSchema files file answer Next =
+    ((broken : LoadBreak) × IsFault files file broken × (answer ≡ slice_refused broken))
+    ⊎ ((t : Tables) × IsSchema files file t × Next t)
+
+-- the word names this type, and no other
+abbrev pub IsNamed : Tables → Word → TypeRef → Type 0
+IsNamed t word kind = IsTypeWord t word kind
+    × ((other : TypeRef) → IsTypeWord t word other → other ≡ kind)
+
+-- the word names no type, or one, from which it goes on
+abbrev pub WithType : Tables → Word → Answer → (TypeRef → Type 0) → Type 0
+WithType t word answer Next =
+    (((kind : TypeRef) → IsTypeWord t word kind → ⊥) × (answer ≡ no_such_name word))
+    ⊎ ((kind : TypeRef) × IsNamed t word kind × Next kind)
+
+-- Values of the type are carried: it reaches no enum, class or proxy through elements, keys and members.
+abbrev pub IsBuilt : Tables → TypeRef → Type 0
+IsBuilt t kind = (m : Measure) × (measure t MOST_DEPTH kind ≡ Some m) × (m.is_built ≡ true)
+
+-- the type that the word names has values that are not carried yet, or it goes on
+abbrev pub WithBuilt : Tables → TypeRef → Word → Answer → Type 0 → Type 0
+WithBuilt t kind word answer Next =
+    ((IsBuilt t kind → ⊥) × (answer ≡ not_built word)) ⊎ (IsBuilt t kind × Next)
+
+-- the input is one encapsulation of this value alone, where the source tells it
+abbrev pub IsValue : Option (List ℕ) → Tables → TypeRef → Tree → Type 0
+IsValue input t kind v = IfSome input (λ known. SpellsEncapsulation t kind known v)
+
+-- the input is no encapsulation of a value of the type, where the source tells it
+abbrev pub HasNoValue : Option (List ℕ) → Tables → TypeRef → Type 0
+HasNoValue input t kind =
+    IfSome input (λ known. (v : Tree) → SpellsEncapsulation t kind known v → ⊥)
+
+-- the input is refused, or holds a value, from which it goes on
+abbrev pub WithValue : Option (List ℕ) → Tables → TypeRef → Answer → (Tree → Type 0) → Type 0
+WithValue input t kind answer Next = (HasNoValue input t kind × (answer ≡ input_refused))
+    ⊎ ((v : Tree) × IsValue input t kind v × Next v)
+
+-- ---- the commands
+
+-- `relay FILE TYPE`: the canonical encapsulation of the value
+abbrev pub Relays : Option Files → Option (List ℕ) → Word → Word → Answer → Type 0
+Relays files input file word answer =
+    WithSchema files file answer (λ t.
+    WithType t word answer (λ kind.
+    WithBuilt t kind word answer (
+    WithValue input t kind answer (λ v.
+    answer ≡ done (encapsulation_bytes v)))))
+
+-- what `check` says of so many definitions
+abbrev pub count_line : (types classes exceptions interfaces : ℕ) → List ℕ
+count_line types classes exceptions interfaces = codes "ok: " ++ (decimal types
+    ++ (codes " types, " ++ (decimal classes ++ (codes " classes, " ++ (decimal exceptions
+    ++ (codes " exceptions, " ++ (decimal interfaces ++ codes " interfaces\n")))))))
+
+-- of the rows of the tables: the types are the sequences, dictionaries, structs and enums
+abbrev pub summary : Tables → List ℕ
+summary t = count_line (length t.seqs + length t.dicts + length t.structs + length t.enums)
+    (length t.classes) (length t.exceptions) (length t.interfaces)
+
+-- `check FILE`: how many there are of each sort of definition
+abbrev pub Checks : Option Files → Word → Answer → Type 0
+Checks files file answer = WithSchema files file answer (λ t. answer ≡ done (summary t))
+
+-- what a command comes to, and words that are none
+abbrev pub Decides : Option Command → Option Files → Option (List ℕ) → Answer → Type 0
+Decides (Some (relay file word)) files input answer = Relays files input file word answer
+Decides (Some (check file)) files input answer = Checks files file answer
+Decides (Some help) files input answer = answer ≡ done HELP.now
+Decides (Some version) files input answer = answer ≡ done VERSION.now
+Decides None files input answer = answer ≡ usage
+
+-- what the words come to, with these files and this input
+abbrev pub Decided : List Word → Files → List ℕ → Answer → Type 0
+Decided words files input answer = (asked : Option Command)
+    × Asks words asked × Decides asked (Some files) (Some input) answer

@@ -1,0 +1,45 @@
+-- What each answer took of the input, and what the sinks got.
+use Rattle.std.specs.Prelude.{ℕ, ◌≡◌, ◌⊎◌, List, Option, Some, None}
+use Rattle.std.specs.Io.KnownBytes.{Keeps, Appends}
+use Rattle.ice_ports.specs.Failures.{one_more}
+use Rattle.ice_node.specs.Words.{Command, relay, check, help, version}
+use Rattle.ice_relay.specs.Streams.{TakesFrugally, AppendsPrefix}
+use Rattle.ice_node.specs.Answers.{Answer, done, usage, no_such_name, not_built, slice_refused, input_refused, read_failed, write_failed, no_memory, error_line}
+
+-- no more of the input than the encapsulation that it claims and one byte, for `relay` alone
+abbrev pub TakesInput : Option Command → Option (List ℕ) → Option (List ℕ) → Type 0
+TakesInput (Some (relay file word)) old new = TakesFrugally old new
+TakesInput (Some (check file)) old new = Keeps old new
+TakesInput (Some help) old new = Keeps old new
+TakesInput (Some version) old new = Keeps old new
+TakesInput None old new = Keeps old new
+
+-- what was taken of the input: nothing where the answer comes without it
+abbrev pub Takes : Option Command → Option (List ℕ) → Option (List ℕ) → Answer → Type 0
+Takes asked old new (done bytes) = TakesInput asked old new
+Takes asked old new usage = Keeps old new
+Takes asked old new (no_such_name word) = Keeps old new
+Takes asked old new (not_built word) = Keeps old new
+Takes asked old new (slice_refused broken) = Keeps old new
+Takes asked old new input_refused = TakesInput asked old new
+Takes asked old new read_failed = TakesInput asked old new
+Takes asked old new (write_failed bytes) = TakesInput asked old new
+Takes asked old new no_memory = TakesInput asked old new
+
+-- what the sink got: the bytes, a prefix of them after a failed write, and nothing of a refusal
+abbrev pub Outputs : Option (List ℕ) → Option (List ℕ) → Answer → Type 0
+Outputs old new (done bytes) = Appends old new bytes
+Outputs old new usage = Keeps old new
+Outputs old new (no_such_name word) = Keeps old new
+Outputs old new (not_built word) = Keeps old new
+Outputs old new (slice_refused broken) = Keeps old new
+Outputs old new input_refused = Keeps old new
+Outputs old new read_failed = Keeps old new
+Outputs old new (write_failed bytes) = AppendsPrefix old new bytes
+Outputs old new no_memory = Keeps old new
+
+-- what the sink of errors got: the line, or a prefix of it where a write to it failed
+abbrev pub GetsLine : (old new : Option (List ℕ)) → (before after : ℕ) → Answer → Type 0
+GetsLine old new before after answer =
+    (Appends old new (error_line answer) × (after ≡ before))
+    ⊎ (AppendsPrefix old new (error_line answer) × (after ≡ one_more before))

@@ -1,0 +1,5 @@
+pub mod EncapsulationSteps
+pub mod KnownBytes
+pub mod Inputs
+pub mod Values
+pub mod Written

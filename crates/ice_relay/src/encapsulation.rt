@@ -1,0 +1,105 @@
+//! A value in an encapsulation: its size, the version 1.1, and the value. (Ice manual, "Basic Data
+//! Encoding", "Encapsulations".)
+
+ghost use Rattle.std.specs.Prelude.{◌≡◌, ◌++◌, ◌+◌, ◌<◌, ◌≤◌, ◌^◌, length, drop, IfOk, vec_len};
+ghost use Rattle.std.specs.Int.{w32};
+ghost use Rattle.ice_prims.specs.Rest.{whole};
+ghost use Rattle.ice_prims.specs.Bytes.{signed_bytes};
+ghost use Rattle.ice_prims.specs.Taking.{GivesUnlessMemory};
+ghost use Rattle.ice_encoding.specs.Canonical.{canonical, HasSizes};
+ghost use Rattle.ice_encoding.specs.Encapsulation.{version_at, encapsulation_at, encapsulation_bytes};
+ghost use Rattle.graph_arena.specs.View.{view};
+ghost use Rattle.ice_relay.specs.Steps.{Bounds, TakesVersion, IsEnd};
+
+use graph_arena::Value;
+use ice_encoding::{LARGEST, SIZE_BYTES, SMALLEST};
+use ice_prims::{Cursor, Fault, Kind, ReadFault, put_byte, put_int};
+use ice_types::{Schema, TypeRef};
+use ice_values::{read_value, write_value};
+use std::alloc::{AllocError, Global};
+
+/// The value of the type that the whole input holds in one encapsulation, or the first fault from
+/// the left. Nothing may follow the value, or the encapsulation.
+pub fn decode(
+    alloc: Global,
+    schema: &Schema,
+    kind: TypeRef,
+    input: &[u8],
+) -> Result<Value, ReadFault>
+    ensures { GivesUnlessMemory view result (encapsulation_at schema.now kind (whole input.now)) }
+{
+    let mut cursor = Cursor::new(input);
+    let size = cursor.take_int()?;
+    let size = bound_of(size, input.len())?;
+    let mut bound = cursor.split(size - SIZE_BYTES)?;
+    take_version(&mut bound)?;
+    let value = read_value(alloc, schema, kind, &mut bound)?;
+    end(&bound)?;
+    end(&cursor)?;
+    Ok(value)
+}
+
+/// The bytes of an encapsulation that claims this size, where so many are there.
+fn bound_of(size: i32, there: usize) -> Result<usize, Fault>
+    ensures { Bounds result size there }
+{
+    let kind = if size > LARGEST as i32 {
+        Kind::TooLarge
+    } else if size >= 0 && size as usize > there {
+        Kind::Short
+    } else if size < SMALLEST as i32 {
+        Kind::BadSize
+    } else {
+        return Ok(size as usize);
+    };
+    Err(Fault { place: 0, kind })
+}
+
+/// The two version bytes, which are one part.
+fn take_version(cursor: &mut Cursor<'_>) -> Result<(), Fault>
+    ensures { TakesVersion result cursor.new (version_at cursor.old) }
+{
+    let wrong = cursor.fault(Kind::BadVersion);
+    match cursor.take_bytes(2)? {
+        [1, 1] => Ok(()),
+        _ => Err(wrong),
+    }
+}
+
+/// The end of a bound.
+fn end(cursor: &Cursor<'_>) -> Result<(), Fault>
+    ensures { IsEnd result cursor.now }
+{
+    if cursor.left() > 0 {
+        return Err(cursor.fault(Kind::LeftOver));
+    }
+    Ok(())
+}
+
+/// The canonical encapsulation of the value.
+pub fn encode(alloc: Global, value: &Value) -> Result<Vec<u8>, AllocError>
+    requires sizes { HasSizes (view value.now) }
+    requires limit { length (canonical (view value.now)) + 6 < 2 ^ 31 }
+    ensures { IfOk result (λ out. out.items ≡ encapsulation_bytes (view value.now)) }
+{
+    let mut out = Vec::new(alloc);
+    put_int(&mut out, 0)?;
+    put_byte(&mut out, 1)?;
+    put_byte(&mut out, 1)?;
+    write_value(value, &mut out)?;
+    let size = out.len() as i32;
+    patch_size(&mut out, size);
+    Ok(out)
+}
+
+/// Puts the size over the first four bytes.
+fn patch_size(out: &mut Vec<u8>, size: i32)
+    requires { 4 ≤ vec_len out.old }
+    ensures { out.new.items ≡ signed_bytes w32 size ++ drop 4 out.old.items }
+{
+    let [a, b, c, d] = size.to_le_bytes();
+    out[0] = a;
+    out[1] = b;
+    out[2] = c;
+    out[3] = d;
+}

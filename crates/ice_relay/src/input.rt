@@ -1,0 +1,64 @@
+//! An encapsulation from a source.
+
+ghost use Rattle.std.specs.Prelude.{◌≡◌, ◌≤◌, length, IfOk, OnOk, OnErr, vec_len};
+ghost use Rattle.ice_ports.specs.Failures.{count_after};
+ghost use Rattle.ice_ports.specs.Files.{is_failed};
+ghost use Rattle.ice_relay.specs.Streams.{ReadsUpTo, TakesUpTo, ReadsInput, TakesFrugally, ClaimsSize};
+
+use ice_encoding::{LARGEST, SIZE_BYTES, SMALLEST};
+use ice_ports::{MOST_OF_A_READ, PortFault, Source};
+use ice_prims::Cursor;
+use std::alloc::Global;
+
+/// The input up to one byte after the encapsulation that it claims, or to its end. Where the size
+/// is none, no more than the size is read. What was read of a source that fails is lost; that was
+/// no more either. (Ice manual, "Encapsulations".)
+pub fn read_input<S: Source>(alloc: Global, source: &mut S) -> Result<Vec<u8>, PortFault>
+    ensures read { IfOk result (λ got.
+        ReadsInput (S.left source.old) (S.left source.new) got.items) }
+    ensures taken { TakesFrugally (S.left source.old) (S.left source.new) }
+    ensures count { S.failures source.new ≡ count_after (S.failures source.old) (is_failed result) }
+{
+    let mut input = Vec::new(alloc);
+    read_up_to(source, &mut input, SIZE_BYTES)?;
+    let Some(size) = claimed_size(input.as_slice()) else {
+        return Ok(input);
+    };
+    read_up_to(source, &mut input, size + 1)?;
+    Ok(input)
+}
+
+/// The size of the encapsulation that begins with these bytes; None where they are fewer than a
+/// size has, or where they claim a size that no encapsulation has.
+fn claimed_size(bytes: &[u8]) -> Option<usize>
+    requires { length bytes.now ≤ SIZE_BYTES }
+    ensures { ClaimsSize bytes.now result }
+{
+    match Cursor::new(bytes).take_int() {
+        Ok(size) if SMALLEST as i32 <= size && size <= LARGEST as i32 => Some(size as usize),
+        _ => None,
+    }
+}
+
+/// Reads after the bytes that are there until there are so many in all, or until the input ends.
+/// After a fault no more than that was taken.
+fn read_up_to<S: Source>(source: &mut S, bytes: &mut Vec<u8>, goal: usize) -> Result<(), PortFault>
+    requires { vec_len bytes.old ≤ goal }
+    ensures read { OnOk result (ReadsUpTo goal
+        (S.left source.old) (S.left source.new) bytes.old.items bytes.new.items) }
+    ensures taken { OnErr result (TakesUpTo goal
+        (S.left source.old) (S.left source.new) bytes.old.items) }
+    ensures count { S.failures source.new ≡ count_after (S.failures source.old) (is_failed result) }
+{
+    let mut buffer = [0; MOST_OF_A_READ];
+    while bytes.len() < goal {
+        let most = (goal - bytes.len()).min(MOST_OF_A_READ);
+        let piece = &mut buffer[..most];
+        let count = source.read(piece)?;
+        if count == 0 {
+            return Ok(());
+        }
+        bytes.extend_from_slice(&piece[..count])?;
+    }
+    Ok(())
+}

@@ -1,0 +1,8 @@
+use Rattle.ice_types.specs.Kept.{beside_of, tables_of}
+use Rattle.ice_types.proofs.Counted.{class_counts}
+use Rattle.ice_types.proofs.schema.Schema.is_a.Goals as goal
+
+pub derives_from-requires : goal.derives_from-requires
+derives_from-requires c =
+    let rows = c.self.inside.rows in
+    rw (c.as_slice.ensures, c.as_slice-2.ensures) (class_counts (tables_of rows) (beside_of rows) c.self.invariant.kept)

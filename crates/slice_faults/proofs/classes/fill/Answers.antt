@@ -1,0 +1,7 @@
+use Rattle.slice_meaning.specs.Known as meaning
+use Rattle.slice_faults.specs.Held.{known_of}
+use Rattle.slice_faults.proofs.ClassFaults.{same_fits}
+use Rattle.slice_faults.proofs.classes.fill.Goals as goal
+
+pub define_class-requires-clause-fits : goal.define_class-requires-clause-fits
+define_class-requires-clause-fits c = same_fits (known_of c.args.known.now) c.args.base.now c.args.fields.now c.base_at-base.result c.in_ok-members.members c.base_at-base.ensures c.in_ok-members.ensures c.requires.fits
