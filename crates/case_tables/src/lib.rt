@@ -6,8 +6,19 @@ ghost use Rattle.std.specs.List.{position};
 ghost use Rattle.std.specs.Str.{bytes_eq};
 ghost use Rattle.case_tables.specs.Tables.{names_seen, are_distinct};
 
+/// A table of the names in this order.
+macro_rules! case_table {
+    ($($name:literal),* $(,)?) => {
+        CaseTable { names: &[$($name),*] }
+    };
+}
+
+mod flags;
+mod protocol_words;
 mod slice_words;
 
+pub use flags::flags_valid;
+pub use protocol_words::{formats, message_types, operation_modes, proxy_modes, reply_statuses};
 pub use slice_words::{codes_apart, keywords, symbols};
 
 /// Names in the order of their codes, no two of which are equal, and at most 256.

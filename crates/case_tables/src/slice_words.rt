@@ -11,13 +11,6 @@ pub fn codes_apart<const N: usize>(table: &CaseTable<N>)
     ensures { HasOneCode table.now }
 {}
 
-/// A table of the names in this order.
-macro_rules! case_table {
-    ($($name:literal),* $(,)?) => {
-        CaseTable { names: &[$($name),*] }
-    };
-}
-
 /// The words of Slice that are no identifiers, unless a `\` stands before them.
 pub fn keywords() -> CaseTable<30>
     ensures { names_of result ≡ keyword_names }

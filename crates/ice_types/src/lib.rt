@@ -19,6 +19,7 @@ mod name;
 mod object;
 mod optional_format;
 mod own_names;
+mod proxy;
 mod rows;
 mod same_rows;
 mod schema;
@@ -39,5 +40,6 @@ pub use optional_format::{
     FORMAT_VSIZE,
 };
 pub use own_names::have_own_names;
+pub use proxy::{Endpoint, Proxy};
 pub use rows::MOST_ROWS;
 pub use schema::{MOST_BASES, MOST_DEPTH, MOST_NUMBER, MOST_SMALLEST, Schema};

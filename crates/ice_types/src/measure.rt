@@ -16,7 +16,7 @@ pub struct Measure {
     pub is_fixed: bool,
     /// Whether its values may be keys of a dictionary.
     pub is_key: bool,
-    /// Whether it is made of types whose values the node carries: no enum, proxy or class is in it.
+    /// Whether it is made of types whose values the node carries: no class is in it.
     pub is_built: bool,
 }
 
@@ -56,7 +56,7 @@ impl Measure {
             smallest: 1,
             is_fixed: false,
             is_key: true,
-            is_built: false,
+            is_built: true,
         }
     }
 
@@ -69,7 +69,7 @@ impl Measure {
             smallest: 2,
             is_fixed: false,
             is_key: false,
-            is_built: false,
+            is_built: true,
         }
     }
 
