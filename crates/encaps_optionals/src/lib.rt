@@ -1,0 +1,20 @@
+//! Encapsulations that are opened and wrapped, the tags of optional members, and the values of
+//! unknown ones, which are passed over by their format. (Ice manual, "The Ice Encoding".)
+#![tactic(auto)]
+
+mod encapsulation;
+mod formats;
+mod prefix;
+mod size;
+mod skipping;
+mod tags;
+
+pub use encapsulation::{open_encaps, wrap_encaps};
+pub use formats::formats_named;
+pub use prefix::{bound_by_int, bound_by_size};
+pub use size::claimed_size;
+pub use skipping::{Skipped, skip_format};
+pub use tags::{put_tag, take_tag};
+
+#[cfg(test)]
+mod tests;

@@ -1,0 +1,28 @@
+//! Sizes that count what they stand in.
+
+ghost use Rattle.std.specs.Prelude.{◌≡◌};
+ghost use Rattle.ice_parts.specs.Bounds.{claimed};
+
+use ice_parts::LARGEST;
+use ice_prims::{Fault, Kind};
+
+/// The size that an int claims for what begins at `place`, where `left` bytes are left and there is no
+/// smaller one than `smallest`. `TooLarge` above 1,048,576, then `Short` above `left`, then `BadSize`.
+pub fn claimed_size(place: u64, left: usize, smallest: usize, claim: i32) -> Result<usize, Fault>
+    ensures { claimed place left smallest claim ≡ result }
+{
+    let wrong = |kind| Err(Fault { place, kind });
+    if claim < 0 {
+        return wrong(Kind::BadSize);
+    }
+    let size = claim as usize;
+    if size > LARGEST {
+        wrong(Kind::TooLarge)
+    } else if size > left {
+        wrong(Kind::Short)
+    } else if size < smallest {
+        wrong(Kind::BadSize)
+    } else {
+        Ok(size)
+    }
+}
