@@ -1,0 +1,17 @@
+pub mod Digits
+pub mod Progress
+pub mod Loops
+pub mod Fewer
+pub mod EndpointLoop
+pub mod ReadBack
+pub mod Standing
+pub mod Parts
+pub mod OptionTexts
+pub mod EndpointTexts
+pub mod WholeText
+pub mod Appended
+pub mod WordsTyped
+pub mod Typed
+pub mod Shorter
+pub mod Measured
+pub mod Sized

@@ -1,0 +1,12 @@
+pub mod Letters
+pub mod EscapeCases
+pub mod Written
+pub mod Readings
+pub mod Standing
+pub mod Following
+pub mod Sole
+pub mod Digits
+pub mod Appended
+pub mod Quotes
+pub mod Found
+pub mod Kept
