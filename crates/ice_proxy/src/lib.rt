@@ -1,0 +1,16 @@
+//! Proxies as bytes and as texts: read with the first fault, and written; and the endpoints that can
+//! be used. The texts are those of `proxy_text` and `proxy_words`.
+#![tactic(auto)]
+
+mod read;
+mod read_endpoint;
+mod take;
+mod tcp;
+mod write;
+mod write_endpoint;
+
+pub use proxy_text::{parse_text, print_text};
+pub use proxy_words::{TextFault, escape_identity, parse_identity, print_identity, quote};
+pub use read::read_proxy;
+pub use tcp::tcp_of;
+pub use write::write_proxy;
