@@ -3,7 +3,7 @@ use Rattle.std.proofs.Common.{◌≡◌, ◌↔◌, ◌+◌, Bool, true, false, 
 use Rattle.std.specs.Ordering.{is_lt, is_eq}
 use Rattle.std.specs.declared.cmp.Ordering.{Ordering}
 use Rattle.std.specs.declared.cmp.Ordering.TheVariants.{Less, Equal, Greater}
-use Rattle.ice_encoding.specs.Tree.{Tree, boolean, byte, short, int, long, text, sequence, dictionary, struct, reference, Trees, none, tree, Entries, no_entry, entry, entry_count, Everywhere, InEach, InPairs}
+use Rattle.ice_encoding.specs.Tree.{Tree, boolean, byte, short, int, long, text, sequence, dictionary, struct, enumerator, proxy, reference, Trees, none, tree, Entries, no_entry, entry, entry_count, Everywhere, InEach, InPairs}
 use Rattle.ice_encoding.specs.Order.{tree_cmp, insert}
 use Rattle.ice_encoding.specs.Same.{Same, SomePair, SameEach, AreAmong}
 use Rattle.ice_encoding.proofs.Order.{equal_is, equal_self}
@@ -39,6 +39,8 @@ mutual
   same_sorted (int z) = refl
   same_sorted (long z) = refl
   same_sorted (text s) = refl
+  same_sorted (enumerator n) = refl
+  same_sorted (proxy p) = refl
   same_sorted (reference n) = refl
   same_sorted (sequence items) = (sorted_each items, refl, each_sorted items)
   same_sorted (dictionary pairs) = (sorted_onto no_entry pairs, refl, sym (onto_count no_entry pairs ∙ omega arith), among_sorted no_entry pairs)
@@ -121,6 +123,8 @@ mutual
   repeats (int z) h = never (λ x. x)
   repeats (long z) h = never (λ x. x)
   repeats (text s) h = never (λ x. x)
+  repeats (enumerator n) h = never (λ x. x)
+  repeats (proxy p) h = never (λ x. x)
   repeats (reference n) h = never (λ x. x)
   repeats (sequence items) h = both_ways (some_repeats items h.1) (inside_alone (λ x. x))
   repeats (dictionary pairs) h = pairs_repeat pairs h.0 h.1

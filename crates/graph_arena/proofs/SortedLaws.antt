@@ -1,6 +1,6 @@
 -- What is sorted has its dictionaries in rising key order, and what has them so is sorted already.
 use Rattle.std.proofs.Common.{◌≡◌, Bool, true, false, ◌||◌, refl, sym, ap, subst, ◌∙◌}
-use Rattle.ice_encoding.specs.Tree.{Tree, boolean, byte, short, int, long, text, sequence, dictionary, struct, reference, Trees, none, tree, Entries, no_entry, entry, InEach, InPairs}
+use Rattle.ice_encoding.specs.Tree.{Tree, boolean, byte, short, int, long, text, sequence, dictionary, struct, enumerator, proxy, reference, Trees, none, tree, Entries, no_entry, entry, InEach, InPairs}
 use Rattle.ice_encoding.specs.Order.{IsRising, KeysRise, IsOrdered, insert, has_key, AreBelow}
 use Rattle.ice_encoding.proofs.Order.{less_then, is_new, has_none, insert_rising}
 use Rattle.ice_encoding.proofs.Inserting.{insert_inside, join, join_none, join_join, insert_last, lacks_above}
@@ -19,6 +19,8 @@ mutual
   sorted_is (int z) e = tt
   sorted_is (long z) e = tt
   sorted_is (text s) e = tt
+  sorted_is (enumerator n) e = tt
+  sorted_is (proxy p) e = tt
   sorted_is (reference n) e = tt
   sorted_is (sequence items) e = (tt, each_is items e)
   sorted_is (dictionary pairs) e = onto_is no_entry pairs tt tt (equal_is pairs ∙ e)
@@ -57,6 +59,8 @@ mutual
   stays (int z) h = refl
   stays (long z) h = refl
   stays (text s) h = refl
+  stays (enumerator n) h = refl
+  stays (proxy p) h = refl
   stays (reference n) h = refl
   stays (sequence items) h = ap sequence (each_stays items h.1)
   stays (dictionary pairs) h = ap dictionary (onto_stays no_entry pairs h.0 h.1)
@@ -80,6 +84,8 @@ mutual
   differ (int z) h = refl
   differ (long z) h = refl
   differ (text s) h = refl
+  differ (enumerator n) h = refl
+  differ (proxy p) h = refl
   differ (reference n) h = refl
   differ (sequence items) h = each_differ items h.1
   differ (dictionary pairs) h = sym (equal_is pairs) ∙ onto_differ no_entry pairs h.0 h.1

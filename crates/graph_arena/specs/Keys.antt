@@ -1,6 +1,6 @@
 -- Keys that stand twice in a dictionary, apart from how they are found. (Ice manual, "Dictionaries": each key stands once.)
 use Rattle.std.specs.Prelude.{◌≡◌, ◌⊎◌}
-use Rattle.ice_encoding.specs.Tree.{Tree, boolean, byte, short, int, long, text, sequence, dictionary, struct, reference, Trees, none, tree, Entries, no_entry, entry}
+use Rattle.ice_encoding.specs.Tree.{Tree, boolean, byte, short, int, long, text, sequence, dictionary, struct, enumerator, proxy, reference, Trees, none, tree, Entries, no_entry, entry}
 use Rattle.ice_encoding.specs.Order.{IsOrdered}
 
 -- the value is so, or some value in it is, the keys among them
@@ -15,6 +15,8 @@ abbrev mutual
   Somewhere P (sequence items) = P (sequence items) ⊎ InSome P items
   Somewhere P (dictionary pairs) = P (dictionary pairs) ⊎ InSomePair P pairs
   Somewhere P (struct members) = P (struct members) ⊎ InSome P members
+  Somewhere P (enumerator n) = P (enumerator n)
+  Somewhere P (proxy p) = P (proxy p)
   Somewhere P (reference n) = P (reference n)
 
   pub InSome : (Tree → Type 0) → Trees → Type 0
@@ -46,6 +48,8 @@ RepeatsKey (text s) = ⊥
 RepeatsKey (sequence items) = ⊥
 RepeatsKey (dictionary pairs) = HasKeyTwice pairs
 RepeatsKey (struct members) = ⊥
+RepeatsKey (enumerator n) = ⊥
+RepeatsKey (proxy p) = ⊥
 RepeatsKey (reference n) = ⊥
 
 abbrev pub AreOrderedKeys : Entries → Type 0
@@ -63,4 +67,6 @@ HasOrderedKeys (text s) = Unit {0}
 HasOrderedKeys (sequence items) = Unit {0}
 HasOrderedKeys (dictionary pairs) = AreOrderedKeys pairs
 HasOrderedKeys (struct members) = Unit {0}
+HasOrderedKeys (enumerator n) = Unit {0}
+HasOrderedKeys (proxy p) = Unit {0}
 HasOrderedKeys (reference n) = Unit {0}

@@ -2,7 +2,7 @@
 use Rattle.std.specs.Prelude.{Bool, false, ◌||◌}
 use Rattle.std.specs.Ordering.{is_eq}
 use Rattle.ice_encoding.specs.Order.{tree_cmp, insert}
-use Rattle.ice_encoding.specs.Tree.{Tree, boolean, byte, short, int, long, text, sequence, dictionary, struct, reference, Trees, none, tree, Entries, no_entry, entry}
+use Rattle.ice_encoding.specs.Tree.{Tree, boolean, byte, short, int, long, text, sequence, dictionary, struct, enumerator, proxy, reference, Trees, none, tree, Entries, no_entry, entry}
 
 -- each dictionary's pairs, put at their places one after the other, and so inside them
 abbrev mutual
@@ -16,6 +16,8 @@ abbrev mutual
   sorted (sequence items) = sequence (sorted_each items)
   sorted (dictionary pairs) = dictionary (sorted_onto no_entry pairs)
   sorted (struct members) = struct (sorted_each members)
+  sorted (enumerator n) = enumerator n
+  sorted (proxy p) = proxy p
   sorted (reference n) = reference n
 
   pub sorted_each : Trees → Trees
@@ -43,6 +45,8 @@ abbrev mutual
   has_equal_keys (sequence items) = some_has_equal_keys items
   has_equal_keys (dictionary pairs) = have_equal_keys pairs
   has_equal_keys (struct members) = some_has_equal_keys members
+  has_equal_keys (enumerator n) = false
+  has_equal_keys (proxy p) = false
   has_equal_keys (reference n) = false
 
   pub some_has_equal_keys : Trees → Bool

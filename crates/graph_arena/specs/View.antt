@@ -1,6 +1,10 @@
 -- A value without where it lies in memory.
-use Rattle.std.specs.Prelude.{List, [], ◌∷◌, map}
-use Rattle.ice_encoding.specs.Tree.{Tree, boolean, byte, short, int, long, text, sequence, dictionary, struct, reference, Trees, none, tree, Entries, no_entry, entry}
+use Rattle.std.specs.Prelude.{List, [], ◌∷◌, map, Option}
+use Rattle.std.specs.Option.{option_map}
+use Rattle.std.specs.declared.boxed.Box.{Box}
+use Rattle.std.specs.declared.alloc.Global.{Global}
+use Rattle.ice_types.specs.declared.proxy.Proxy.{Proxy}
+use Rattle.ice_encoding.specs.Tree.{Tree, boolean, byte, short, int, long, text, sequence, dictionary, struct, enumerator, proxy, reference, Trees, none, tree, Entries, no_entry, entry}
 use Rattle.graph_arena.specs.declared.value.Value.{Value, fold-Value}
 use Rattle.graph_arena.specs.declared.value.Value.TheOpen.{Value-F}
 
@@ -11,6 +15,10 @@ trees_of (v ∷ vs) = tree v (trees_of vs)
 abbrev pub entries_of : List (Tree × Tree) → Entries
 entries_of [] = no_entry
 entries_of (p ∷ ps) = entry p.0 p.1 (entries_of ps)
+
+-- without the box that it lies in
+abbrev pub unboxed : Option (Box Proxy Global) → Option Proxy
+unboxed p = option_map (λ b. b.value) p
 
 -- one level, whose parts are seen as trees already
 abbrev pub view_step : Value-F Tree → Tree
@@ -23,6 +31,8 @@ view_step (Value-F.Text s) = text s
 view_step (Value-F.Seq items) = sequence (trees_of items)
 view_step (Value-F.Pairs pairs) = dictionary (entries_of pairs)
 view_step (Value-F.Members items) = struct (trees_of items)
+view_step (Value-F.Enum n) = enumerator n
+view_step (Value-F.Proxy p) = proxy (unboxed p)
 view_step (Value-F.Reference n) = reference n
 
 abbrev pub view : Value → Tree

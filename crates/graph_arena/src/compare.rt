@@ -1,5 +1,6 @@
 //! The order of values, which is that of dictionary keys: false before true, numbers by value, texts
-//! by their bytes, structs member by member. Values of two sorts stand in the order of their sorts.
+//! by their bytes, structs member by member, enumerators by their numbers. Values of two sorts stand
+//! in the order of their sorts.
 
 ghost use Rattle.std.specs.Prelude.{◌≡◌, Some, refl};
 ghost use Rattle.std.specs.Ordering.{eq_by_cmp, on};
@@ -9,6 +10,7 @@ ghost use Rattle.graph_arena.specs.View.{view, view_all, view_pairs};
 ghost use Rattle.graph_arena.specs.Comparing.{values_alike, values_equal, values_partial, values_total};
 
 use crate::Value;
+use crate::proxy_order::compare_some;
 use std::cmp::Ordering;
 
 impl PartialEq for Value {
@@ -63,6 +65,8 @@ fn compare(a: &Value, b: &Value) -> Ordering
         (Value::Seq(a), Value::Seq(b)) => compare_each(a.as_slice(), b.as_slice()),
         (Value::Pairs(a), Value::Pairs(b)) => compare_pairs(a.as_slice(), b.as_slice()),
         (Value::Members(a), Value::Members(b)) => compare_each(a.as_slice(), b.as_slice()),
+        (Value::Enum(a), Value::Enum(b)) => a.cmp(b),
+        (Value::Proxy(a), Value::Proxy(b)) => compare_some(a, b),
         (Value::Reference(a), Value::Reference(b)) => size_of(*a).cmp(&size_of(*b)),
         _ => rank(a).cmp(&rank(b)),
     }
@@ -82,7 +86,9 @@ fn rank(value: &Value) -> u8
         Value::Seq(_) => 6,
         Value::Pairs(_) => 7,
         Value::Members(_) => 8,
-        Value::Reference(_) => 9,
+        Value::Enum(_) => 9,
+        Value::Proxy(_) => 10,
+        Value::Reference(_) => 11,
     }
 }
 

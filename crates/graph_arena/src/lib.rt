@@ -4,6 +4,8 @@
 mod compare;
 mod laws;
 mod order;
+mod proxy_copy;
+mod proxy_order;
 mod sort;
 #[cfg(test)]
 mod tests;

@@ -19,6 +19,8 @@ pub fn is_sorted(value: &Value) -> bool
         | Value::Int(_)
         | Value::Long(_)
         | Value::Text(_)
+        | Value::Enum(_)
+        | Value::Proxy(_)
         | Value::Reference(_) => true,
         Value::Seq(items) | Value::Members(items) => are_sorted(items.as_slice()),
         Value::Pairs(pairs) => {

@@ -1,5 +1,5 @@
 use crate::{Value, is_sorted, sort_pairs};
-use ice_types::{List, Name};
+use ice_types::{Bytes, Endpoint, Identity, List, Name};
 use std::alloc::{AllocError, Global};
 use std::process::Abort;
 use std::test::Fail;
@@ -13,11 +13,14 @@ enum Key {
     Int(i32),
     Long(i64),
     Text(&'static str),
+    Enum(u32),
+    /// A proxy of this name, or null.
+    Proxy(Option<&'static str>),
     /// A struct of a text and a number.
     Both(&'static str, i32),
 }
 
-use Key::{Bool, Both, Byte, Int, Long, Short, Text};
+use Key::{Bool, Both, Byte, Enum, Int, Long, Proxy, Short, Text};
 
 /// Keys as they stand, and in rising order, or none where two are equal.
 const ORDERS: &[(&[Key], Option<&[Key]>)] = &[
@@ -49,12 +52,19 @@ const ORDERS: &[(&[Key], Option<&[Key]>)] = &[
             Text("\u{10000}"),
         ]),
     ),
+    (&[Enum(300), Enum(1)], Some(&[Enum(1), Enum(300)])),
+    (
+        &[Proxy(Some("b")), Proxy(Some("a")), Proxy(None)],
+        Some(&[Proxy(None), Proxy(Some("a")), Proxy(Some("b"))]),
+    ),
     (
         &[Both("ab", 1), Both("a", 2), Both("a", -1)],
         Some(&[Both("a", -1), Both("a", 2), Both("ab", 1)]),
     ),
     (&[Int(1), Int(2), Int(2), Int(3)], None),
     (&[Both("a", 1), Both("b", 1), Both("a", 1)], None),
+    (&[Enum(0), Enum(1), Enum(0)], None),
+    (&[Proxy(Some("a")), Proxy(Some("a"))], None),
 ];
 
 fn value_of(alloc: Global, key: Key) -> Result<Value, AllocError> {
@@ -65,6 +75,9 @@ fn value_of(alloc: Global, key: Key) -> Result<Value, AllocError> {
         Int(n) => Ok(Value::Int(n)),
         Long(n) => Ok(Value::Long(n)),
         Text(text) => Ok(Value::Text(Name::of(alloc, text)?)),
+        Enum(n) => Ok(Value::Enum(n)),
+        Proxy(None) => Ok(Value::Proxy(None)),
+        Proxy(Some(name)) => Ok(Value::Proxy(Some(Box::new(alloc, proxy_of(alloc, name)?)?))),
         Both(text, n) => {
             let mut members = List::new(alloc);
             members.push(Value::Text(Name::of(alloc, text)?))?;
@@ -72,6 +85,36 @@ fn value_of(alloc: Global, key: Key) -> Result<Value, AllocError> {
             Ok(Value::Members(members))
         }
     }
+}
+
+/// A proxy of this name, with an endpoint of each sort.
+fn proxy_of(alloc: Global, name: &str) -> Result<ice_types::Proxy, AllocError> {
+    let mut endpoints = List::new(alloc);
+    endpoints.push(Endpoint::Tcp {
+        host: Name::of(alloc, "host")?,
+        port: 10000,
+        timeout: -1,
+        compress: false,
+    })?;
+    endpoints.push(Endpoint::Opaque {
+        kind: 3,
+        major: 1,
+        minor: 0,
+        bytes: Bytes::from_vec(Vec::from_slice(alloc, &[7, 8])?),
+    })?;
+    Ok(ice_types::Proxy {
+        identity: Identity {
+            name: Name::of(alloc, name)?,
+            category: Name::of(alloc, "")?,
+        },
+        facet: Name::of(alloc, "f")?,
+        mode: 0,
+        secure: false,
+        protocol: (1, 0),
+        encoding: (1, 1),
+        endpoints,
+        adapter: Name::of(alloc, "")?,
+    })
 }
 
 /// A dictionary of these keys, each with itself as its value.

@@ -1,6 +1,6 @@
 //! A value of any type.
 
-use ice_types::{List, Name};
+use ice_types::{List, Name, Proxy};
 
 /// A value, by the form that its type gives it. It holds no name of its type.
 #[derive(Debug, Drop)]
@@ -17,6 +17,10 @@ pub enum Value {
     Pairs(List<(Value, Value)>),
     /// The values of a struct's members, in order.
     Members(List<Value>),
+    /// The number of an enumerator.
+    Enum(u32),
+    /// A proxy, or None for the null proxy.
+    Proxy(Option<Box<Proxy>>),
     /// The number of a class instance, counted from 0, or None for null.
     Reference(Option<u32>),
 }

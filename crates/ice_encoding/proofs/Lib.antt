@@ -1,10 +1,13 @@
+pub mod Proxies
 pub mod Order
+pub mod Enums
 pub mod Inserting
 pub mod Same
 pub mod Values
 pub mod Written
 pub mod Typed
 pub mod Deeper
+pub mod SpelledSizes
 pub mod Canonical
 pub mod Sizes
 pub mod Smallest

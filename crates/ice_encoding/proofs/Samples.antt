@@ -1,5 +1,5 @@
 -- What the definitions answer at inputs that are written out, byte by byte.
-use Rattle.std.proofs.Common.{◌≡◌, ℕ, zero, suc, true, false, List, [], ◌∷◌, ◌++◌, replicate, None, Ok, refl, sym, ap, subst, inl, inr}
+use Rattle.std.proofs.Common.{◌≡◌, ℕ, zero, suc, true, false, List, [], ◌∷◌, ◌++◌, replicate, Option, None, Some, Ok, refl, sym, ap, subst, inl, inr}
 use Rattle.std.specs.Prelude.{pos, negsuc, Result}
 use Rattle.std.specs.declared.cmp.Ordering.TheVariants.{Less}
 use Rattle.std.specs.Str.{is_utf8, chars}
@@ -8,12 +8,14 @@ use Rattle.ice_types.specs.declared.kind.TypeRef.{TypeRef}
 use Rattle.ice_types.specs.declared.kind.TypeRef.TheVariants as kinds
 use Rattle.ice_types.specs.declared.declarations.SeqDecl.{SeqDecl}
 use Rattle.ice_types.specs.declared.declarations.Member.{Member}
+use Rattle.ice_types.specs.declared.declarations.Entry.{Entry}
+use Rattle.ice_types.specs.declared.proxy.Proxy.{Proxy}
 use Rattle.ice_types.specs.Tables.{Tables, no_types}
 use Rattle.ice_prims.specs.declared.fault.Fault.{Fault}
-use Rattle.ice_prims.specs.declared.fault.Kind.TheVariants.{Short, TooLarge, BadSize, BadVersion, BadBool, BadText, EqualKey, LeftOver}
+use Rattle.ice_prims.specs.declared.fault.Kind.TheVariants.{Short, TooLarge, BadSize, BadVersion, BadBool, BadText, BadEnum, EqualKey, BadIdentity, LeftOver}
 use Rattle.ice_prims.specs.Rest.{fault, whole}
 use Rattle.ice_prims.specs.Bytes.{size_bytes}
-use Rattle.ice_encoding.specs.Tree.{Tree, boolean, byte, short, int, long, text, sequence, dictionary, struct, none, tree, Entries, no_entry, entry, entry_count}
+use Rattle.ice_encoding.specs.Tree.{Tree, boolean, byte, short, int, long, text, sequence, dictionary, struct, enumerator, proxy, none, tree, Entries, no_entry, entry, entry_count}
 use Rattle.ice_encoding.specs.Order.{tree_cmp, IsRising}
 use Rattle.ice_encoding.specs.Same.{Same, AreAmong}
 use Rattle.ice_encoding.specs.Value.{plain_value_at}
@@ -23,10 +25,14 @@ use Rattle.ice_encoding.specs.Encapsulation.{encapsulation_at, encapsulation_byt
 abbrev member : TypeRef → Member
 member kind = record { name = []; kind = kind; tag = None }
 
+-- an entry of an enum
+abbrev numbered : ℕ → Entry
+numbered number = record { name = []; number = number }
+
 -- A sequence of bytes, one of ints, and one of strings. A struct of two bytes, one of a short, that struct and a string.
--- A dictionary of bytes by the struct of two bytes.
+-- An enum of the numbers 0, 1 and 300. A dictionary of bytes by the struct of two bytes, and one by the enum.
 abbrev tables : Tables
-tables = record no_types { seqs = record { id = []; element = kinds.Byte } ∷ record { id = []; element = kinds.Int } ∷ record { id = []; element = kinds.Text } ∷ []; dicts = record { id = []; key = kinds.Struct 0; value = kinds.Byte } ∷ []; structs = record { id = []; members = member kinds.Byte ∷ member kinds.Byte ∷ [] } ∷ record { id = []; members = member kinds.Short ∷ member (kinds.Struct 0) ∷ member kinds.Text ∷ [] } ∷ [] }
+tables = record no_types { seqs = record { id = []; element = kinds.Byte } ∷ record { id = []; element = kinds.Int } ∷ record { id = []; element = kinds.Text } ∷ []; dicts = record { id = []; key = kinds.Struct 0; value = kinds.Byte } ∷ record { id = []; key = kinds.Enum 0; value = kinds.Byte } ∷ []; enums = record { id = []; entries = numbered 0 ∷ numbered 1 ∷ numbered 300 ∷ [] } ∷ []; structs = record { id = []; members = member kinds.Byte ∷ member kinds.Byte ∷ [] } ∷ record { id = []; members = member kinds.Short ∷ member (kinds.Struct 0) ∷ member kinds.Text ∷ [] } ∷ [] }
 
 -- what an input is read as
 abbrev reads : TypeRef → List ℕ → Result Tree Fault
@@ -80,6 +86,74 @@ equal_struct_keys = refl
 struct_cut_short : reads (kinds.Struct 0) (headed 7 (1 ∷ [])) ≡ fault 7 Short
 unfolding plain_value_at
 struct_cut_short = refl
+
+enumerator_in_a_byte : reads (kinds.Enum 0) (headed 7 (1 ∷ [])) ≡ Ok (enumerator 1)
+unfolding plain_value_at
+enumerator_in_a_byte = refl
+
+enumerator_in_five : reads (kinds.Enum 0) (headed 11 (255 ∷ 44 ∷ 1 ∷ 0 ∷ 0 ∷ [])) ≡ Ok (enumerator 300)
+unfolding plain_value_at
+enumerator_in_five = refl
+
+enumerator_written : encapsulation_bytes (enumerator 300) ≡ headed 11 (255 ∷ 44 ∷ 1 ∷ 0 ∷ 0 ∷ [])
+enumerator_written = refl
+
+unknown_number : reads (kinds.Enum 0) (headed 7 (2 ∷ [])) ≡ fault 6 BadEnum
+unfolding plain_value_at
+unknown_number = refl
+
+-- the place is that of the first of five bytes
+unknown_in_five : reads (kinds.Enum 0) (headed 11 (255 ∷ 45 ∷ 1 ∷ 0 ∷ 0 ∷ [])) ≡ fault 6 BadEnum
+unfolding plain_value_at
+unknown_in_five = refl
+
+-- 1 in five bytes: the size is at fault
+enumerator_long_form : reads (kinds.Enum 0) (headed 11 (255 ∷ 1 ∷ 0 ∷ 0 ∷ 0 ∷ [])) ≡ fault 6 BadSize
+unfolding plain_value_at
+enumerator_long_form = refl
+
+enumerator_cut_short : reads (kinds.Enum 0) (headed 6 []) ≡ fault 6 Short
+unfolding plain_value_at
+enumerator_cut_short = refl
+
+-- keys in falling order
+enum_keys : reads (kinds.Dict 1) (headed 15 (2 ∷ 255 ∷ 44 ∷ 1 ∷ 0 ∷ 0 ∷ 70 ∷ 1 ∷ 80 ∷ [])) ≡ Ok (dictionary (entry (enumerator 1) (byte 80) (entry (enumerator 300) (byte 70) no_entry)))
+unfolding plain_value_at
+enum_keys = refl
+
+equal_enum_keys : reads (kinds.Dict 1) (headed 11 (2 ∷ 1 ∷ 70 ∷ 1 ∷ 80 ∷ [])) ≡ fault 9 EqualKey
+unfolding plain_value_at
+equal_enum_keys = refl
+
+no_such_enum : reads (kinds.Enum 1) (headed 7 (0 ∷ [])) ≡ fault 6 LeftOver
+unfolding plain_value_at
+no_such_enum = refl
+
+null_proxy : reads (kinds.Proxy None) (headed 8 (0 ∷ 0 ∷ [])) ≡ Ok (proxy None)
+unfolding plain_value_at is_utf8 chars encode
+null_proxy = refl
+
+-- the object `a` of the adapter `A`: twoway, protocol 1.0, encoding 1.1
+abbrev object : Option Proxy
+object = Some (record { identity = record { name = 97 ∷ []; category = [] }; facet = []; mode = 0; secure = false; protocol = (1, 0); encoding = (1, 1); endpoints = []; adapter = 65 ∷ [] })
+
+-- of an interface that is not in the tables, which is not looked at
+some_proxy : reads (kinds.Proxy (Some 0)) (headed 19 (1 ∷ 97 ∷ 0 ∷ 0 ∷ 0 ∷ 0 ∷ 1 ∷ 0 ∷ 1 ∷ 1 ∷ 0 ∷ 1 ∷ 65 ∷ [])) ≡ Ok (proxy object)
+unfolding plain_value_at is_utf8 chars encode
+some_proxy = refl
+
+-- the same with its facet as one empty text, which is written as none
+empty_facet : reads (kinds.Proxy None) (headed 20 (1 ∷ 97 ∷ 0 ∷ 1 ∷ 0 ∷ 0 ∷ 0 ∷ 1 ∷ 0 ∷ 1 ∷ 1 ∷ 0 ∷ 1 ∷ 65 ∷ [])) ≡ Ok (proxy object)
+unfolding plain_value_at is_utf8 chars encode
+empty_facet = refl
+
+proxy_written : encapsulation_bytes (proxy object) ≡ headed 19 (1 ∷ 97 ∷ 0 ∷ 0 ∷ 0 ∷ 0 ∷ 1 ∷ 0 ∷ 1 ∷ 1 ∷ 0 ∷ 1 ∷ 65 ∷ [])
+proxy_written = refl
+
+-- a category without a name
+bad_identity : reads (kinds.Proxy None) (headed 9 (0 ∷ 1 ∷ 97 ∷ [])) ≡ fault 6 BadIdentity
+unfolding plain_value_at is_utf8 chars encode
+bad_identity = refl
 
 one_byte : size_bytes 254 ≡ 254 ∷ []
 one_byte = refl
@@ -181,6 +255,12 @@ by_bytes = refl
 
 front_first : tree_cmp (text (97 ∷ [])) (text (97 ∷ 97 ∷ [])) ≡ Less
 front_first = refl
+
+null_first : tree_cmp (proxy None) (proxy object) ≡ Less
+null_first = refl
+
+least_number_first : tree_cmp (enumerator 1) (enumerator 300) ≡ Less
+least_number_first = refl
 
 first_member_first : tree_cmp (struct (tree (byte 0) (tree (byte 1) none))) (struct (tree (byte 1) (tree (byte 0) none))) ≡ Less
 first_member_first = refl

@@ -9,10 +9,11 @@ use Rattle.ice_types.specs.declared.declarations.StructDecl.{StructDecl}
 use Rattle.ice_types.specs.declared.measure.Measure.{Measure}
 use Rattle.ice_types.specs.Tables.{Tables}
 use Rattle.ice_types.specs.Rules.{IsSchema}
-use Rattle.ice_types.specs.Measures.{reference as null, measure, measured, measure_members, with_member, container, structure, sequence_of, dictionary_of, struct_of}
+use Rattle.ice_types.specs.Measures.{reference as null, proxy, measure, measured, measure_members, with_member, container, structure, sequence_of, dictionary_of, struct_of}
 use Rattle.ice_types.proofs.Levels.{found_by, some_is}
 use Rattle.ice_prims.specs.Rest.{IsBytes}
 use Rattle.ice_prims.proofs.Parts.{IsBytes-front, IsBytes-rest}
+use Rattle.ice_parts.proofs.Proxied.{proxy_lawful}
 use Rattle.ice_prims.proofs.Spelled.{short_exact, int_exact, long_exact, size_exact, text_exact}
 use Rattle.ice_encoding.specs.Tree.{Tree, Trees, none, tree, tree_count, Entries, no_entry, entry, entry_count, InEach, InPairs}
 use Rattle.ice_encoding.specs.Order.{tree_cmp, IsRising, KeysRise, IsOrdered, insert}
@@ -63,8 +64,9 @@ module _ {R S : Type 0} (port : Port R S) (t : Tables) where
   key_typed (suc levels) (suc other) kinds.Int m e k bytes v from to fits h = (h.0, int_exact.sort bytes h.0 fits h.2.0, h.1)
   key_typed (suc levels) (suc other) kinds.Long m e k bytes v from to fits h = (h.0, long_exact.sort bytes h.0 fits h.2.0, h.1)
   key_typed (suc levels) (suc other) kinds.Text m e k bytes v from to fits h = let is = text_exact.sort bytes h.0 fits h.2.0 in (h.0, is.0, is.1, h.1)
-  key_typed (suc levels) (suc other) (kinds.Enum at) m e k bytes v from to fits h = h
-  key_typed (suc levels) (suc other) (kinds.Proxy at) m e k bytes v from to fits h = h
+  key_typed (suc levels) (suc other) (kinds.Enum at) m e k bytes v from to fits h = (h.0, h.1, h.2.0, h.2.2.0.1, size_exact.sort bytes h.2.0 fits h.2.2.0.0, h.2.1)
+  key_typed (suc levels) (suc other) (kinds.Proxy None) m e k bytes v from to fits h = no_key proxy m e refl k
+  key_typed (suc levels) (suc other) (kinds.Proxy (Some at)) m e k bytes v from to fits h = found_by (slice_get t.interfaces at) (λ i. Some proxy) m e λ i i_is last. no_key proxy m last refl k
   key_typed (suc levels) (suc other) (kinds.Class None) m e k bytes v from to fits h = no_key null m e refl k
   key_typed (suc levels) (suc other) (kinds.Class (Some at)) m e k bytes v from to fits h = found_by (slice_get t.classes at) (λ c. Some null) m e λ c c_is last. no_key null m last refl k
   key_typed (suc levels) (suc other) (kinds.Seq at) m e k bytes v from to fits h =
@@ -134,8 +136,8 @@ module _ {R S : Type 0} (port : Port R S) (t : Tables) (rules : IsSchema t) (Ref
   value_typed (suc levels) kinds.Int bytes v from to fits h = (h.0, int_exact.sort bytes h.0 fits h.2.0, h.1)
   value_typed (suc levels) kinds.Long bytes v from to fits h = (h.0, long_exact.sort bytes h.0 fits h.2.0, h.1)
   value_typed (suc levels) kinds.Text bytes v from to fits h = let is = text_exact.sort bytes h.0 fits h.2.0 in (h.0, is.0, is.1, h.1)
-  value_typed (suc levels) (kinds.Enum at) bytes v from to fits h = h
-  value_typed (suc levels) (kinds.Proxy at) bytes v from to fits h = h
+  value_typed (suc levels) (kinds.Enum at) bytes v from to fits h = (h.0, h.1, h.2.0, h.2.2.0.1, size_exact.sort bytes h.2.0 fits h.2.2.0.0, h.2.1)
+  value_typed (suc levels) (kinds.Proxy at) bytes v from to fits h = (h.0, proxy_lawful.sort bytes h.0 fits h.2.0, h.1)
   value_typed (suc levels) (kinds.Class declared) bytes v from to fits h = (h.0, refers declared bytes h.0 from to fits h.2, h.1)
   value_typed (suc levels) (kinds.Seq at) bytes v from to fits (q, row, (items, is, (n, front, body, parts, size, each))) =
       let all = each_typed (SpellsValue port t levels) (HasType t Refer levels) (value_typed levels) (replicate n q.element) body items from to (rest_fits bytes front body parts fits) each in
@@ -171,8 +173,8 @@ typed_ordered t Refer (suc levels) kinds.Short v h = rw h.2 tt
 typed_ordered t Refer (suc levels) kinds.Int v h = rw h.2 tt
 typed_ordered t Refer (suc levels) kinds.Long v h = rw h.2 tt
 typed_ordered t Refer (suc levels) kinds.Text v h = rw h.3 tt
-typed_ordered t Refer (suc levels) (kinds.Enum at) v h = absurd h
-typed_ordered t Refer (suc levels) (kinds.Proxy at) v h = absurd h
+typed_ordered t Refer (suc levels) (kinds.Enum at) v h = rw h.5 tt
+typed_ordered t Refer (suc levels) (kinds.Proxy at) v h = rw h.2 tt
 typed_ordered t Refer (suc levels) (kinds.Class declared) v h = rw h.2 tt
 typed_ordered t Refer (suc levels) (kinds.Seq at) v (q, row, items, is, many, all) = rw is (tt, all_ordered (HasType t Refer levels q.element) (typed_ordered t Refer levels q.element) items all)
 typed_ordered t Refer (suc levels) (kinds.Dict at) v (d, row, pairs, is, many, rising, all) =

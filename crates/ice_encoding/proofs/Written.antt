@@ -3,8 +3,9 @@ use Rattle.std.proofs.Common.{ℕ, suc, zero, ◌≡◌, List, [], ◌∷◌, ma
 use Rattle.ice_types.specs.declared.kind.TypeRef.{TypeRef}
 use Rattle.ice_types.specs.declared.kind.TypeRef.TheVariants as kinds
 use Rattle.ice_types.specs.Tables.{Tables}
+use Rattle.ice_parts.proofs.Proxied.{proxy_lawful}
 use Rattle.ice_prims.proofs.Spelled.{bool_exact, short_exact, int_exact, long_exact, size_exact, text_exact}
-use Rattle.ice_encoding.specs.Tree.{Tree, boolean, byte, short, int, long, text, sequence, dictionary, struct, reference, Trees, none, tree, tree_count, Entries, no_entry, entry, entry_count}
+use Rattle.ice_encoding.specs.Tree.{Tree, boolean, byte, short, int, long, text, sequence, dictionary, struct, enumerator, proxy, reference, Trees, none, tree, tree_count, Entries, no_entry, entry, entry_count}
 use Rattle.ice_encoding.specs.Order.{IsRising, insert, AreBelow}
 use Rattle.ice_encoding.specs.Port.{Port, Speller, size_of, by_number}
 use Rattle.ice_encoding.specs.Spelling.{Each, Pairs, SpellsValue}
@@ -92,8 +93,8 @@ module _ {R S W : Type 0} (port : Port R S) (t : Tables) (refer : Writer W (Opti
   value_written Refer good (suc levels) kinds.Int v (z, fits, is) = as_it_is (suc levels) kinds.Int v (int z) is (λ s. (z, refl, (int_exact.put z fits, refl)))
   value_written Refer good (suc levels) kinds.Long v (z, fits, is) = as_it_is (suc levels) kinds.Long v (long z) is (λ s. (z, refl, (long_exact.put z fits, refl)))
   value_written Refer good (suc levels) kinds.Text v (x, utf8, lt, is) = as_it_is (suc levels) kinds.Text v (text x) is (λ s. (x, refl, (text_exact.put x (utf8, lt), refl)))
-  value_written Refer good (suc levels) (kinds.Enum at) v h = absurd h
-  value_written Refer good (suc levels) (kinds.Proxy at) v h = absurd h
+  value_written Refer good (suc levels) (kinds.Enum at) v (e, row, n, has, lt, is) = as_it_is (suc levels) (kinds.Enum at) v (enumerator n) is (λ s. (e, row, (n, refl, ((size_exact.put n lt, has), refl))))
+  value_written Refer good (suc levels) (kinds.Proxy at) v (p, there, is) = as_it_is (suc levels) (kinds.Proxy at) v (proxy p) is (λ s. (p, refl, (proxy_lawful.put p there, refl)))
   value_written Refer good (suc levels) (kinds.Class declared) v (n, refers, is) = as_it_is (suc levels) (kinds.Class declared) v (reference n) is (λ s. (n, refl, good declared n refers s))
   value_written Refer good (suc levels) (kinds.Seq at) v (q, row, items, is, many, all) =
       let each = all_written refer seen (HasType t Refer levels q.element) q.element (SpellsValue port t levels) (value_written Refer good levels q.element) items all in

@@ -1,7 +1,9 @@
 pub mod Tree
+pub mod Proxies
 pub mod Order
 pub mod Same
 pub mod Port
+pub mod Enum
 pub mod Spelling
 pub mod Reading
 pub mod Value

@@ -2,8 +2,9 @@
 use Rattle.std.specs.Prelude.{ℕ, List, [], ◌∷◌, ◌++◌, Option}
 use Rattle.std.specs.Int.{w16, w32, w64}
 use Rattle.ice_prims.specs.Bytes.{bool_bytes, signed_bytes, size_bytes, text_bytes}
+use Rattle.ice_parts.specs.Proxy as parts
 use Rattle.ice_encoding.specs.Port.{Speller, size_of}
-use Rattle.ice_encoding.specs.Tree.{Tree, boolean, byte, short, int, long, text, sequence, dictionary, struct, reference, Trees, none, tree, tree_count, Entries, no_entry, entry, entry_count}
+use Rattle.ice_encoding.specs.Tree.{Tree, boolean, byte, short, int, long, text, sequence, dictionary, struct, enumerator, proxy, reference, Trees, none, tree, tree_count, Entries, no_entry, entry, entry_count}
 
 -- the bytes that are appended, and the state that writing goes on from
 abbrev pub Piece : Type 0 → Type 0
@@ -38,6 +39,8 @@ module _ {S : Type 0} (refer : Writer S (Option ℕ)) where
     written (sequence items) = exactly (size_bytes (tree_count items)) >> written_each items
     written (dictionary pairs) = exactly (size_bytes (entry_count pairs)) >> written_pairs pairs
     written (struct members) = written_each members
+    written (enumerator n) = exactly (size_bytes n)
+    written (proxy p) = exactly (parts.proxy.put p)
     written (reference n) = refer n
 
     pub written_each : Writer S Trees

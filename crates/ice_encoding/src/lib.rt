@@ -1,12 +1,10 @@
 //! Which bytes spell a value of a type, the first fault of bytes that spell none, and the canonical
-//! bytes of a value. The definitions stand in `specs/`; here are the limits that they name, and
-//! functions without bodies, each with a law of the definitions as its contract.
+//! bytes of a value. The definitions stand in `specs/`; here are functions without bodies, each
+//! with a law of the definitions as its contract.
 #![tactic(auto)]
 
-mod encapsulation;
 mod laws;
 
-pub use encapsulation::{LARGEST, SIZE_BYTES, SMALLEST};
 pub use laws::{
     encapsulations_apart, encapsulations_canonical, encapsulations_found, encapsulations_in_a_row,
     encapsulations_only, equal_values, fixed_sizes, levels_suffice, pairs_in_any_order,

@@ -1,19 +1,26 @@
 -- A value that was read has begun.
 use Rattle.std.proofs.Common.{◌≡◌, ◌<◌, ℕ, zero, suc, List, [], ◌∷◌, length, get_or, map, replicate, Result, Ok, Option, Some, None, refl, ap, subst, ◌∙◌, inl, inr, ◌⊎◌}
-use Rattle.std.specs.Prelude.{slice_get}
+use Rattle.std.specs.Prelude.{slice_get, if◌then◌else◌}
 use Rattle.ice_types.specs.declared.kind.TypeRef.{TypeRef}
 use Rattle.ice_types.specs.declared.kind.TypeRef.TheVariants as kinds
 use Rattle.ice_types.specs.declared.declarations.DictDecl.{DictDecl}
 use Rattle.ice_types.specs.declared.declarations.Member.{Member}
+use Rattle.ice_types.specs.declared.identity.Identity.{Identity}
+use Rattle.ice_types.specs.declared.proxy.Proxy.{Proxy}
 use Rattle.ice_types.specs.Tables.{Tables}
 use Rattle.ice_prims.specs.declared.fault.Fault.{Fault}
-use Rattle.ice_prims.specs.Rest.{Rest, ◌>>=◌}
+use Rattle.ice_prims.specs.declared.fault.Kind.TheVariants.{BadIdentity}
+use Rattle.ice_prims.specs.Rest.{Rest, fault, ◌>>=◌}
 use Rattle.std.specs.Int.{w16, w32, w64}
 use Rattle.ice_prims.specs.Number.{bool_at, byte_at, signed_at, size_at, text_at}
 use Rattle.ice_prims.proofs.Parts.{then_ok}
-use Rattle.ice_encoding.specs.Tree.{Tree, boolean, byte, short, int, long, text, sequence, dictionary, struct, reference, Trees, tree, Entries, no_entry}
+use Rattle.ice_parts.specs.Parts.{tested, both, text as text_part}
+use Rattle.ice_parts.specs.Identity.{identity}
+use Rattle.ice_parts.specs.Proxy as parts
+use Rattle.ice_encoding.specs.Tree.{Tree, boolean, byte, short, int, long, text, sequence, dictionary, struct, enumerator, proxy, reference, Trees, tree, Entries, no_entry}
 use Rattle.ice_encoding.specs.Order.{insert}
 use Rattle.ice_encoding.specs.Port.{Reader, by_number, number_of}
+use Rattle.ice_encoding.specs.Enum.{enumerator_at}
 use Rattle.ice_encoding.specs.Reading.{plain, made, sized, each_at, new_key, pairs_at, listed, value_at}
 use Rattle.ice_values.specs.Begun.{IsThere, BeginsMany, BeginsFirst, Begins}
 
@@ -49,6 +56,17 @@ plain_there make read r y e =
     then_ok (plain read tt r) (λ x. Ok (make x.0, x.1, x.2)) y e λ x x_is last.
     then_ok (read r) (λ x. Ok (x.0, tt, x.1)) x x_is λ z z_is done. (z, z_is)
 
+abbrev identity_made : List ℕ × List ℕ → Identity
+identity_made x = record { name = x.0; category = x.1 }
+
+-- a proxy begins with its name
+pub name_begun : (r : Rest) (x : Option Proxy × Rest) → parts.proxy.read r ≡ Ok x → IsThere (text_at r)
+name_begun r x e =
+    then_ok ((tested parts.is_whole BadIdentity identity).read r) (λ i. (parts.named i.0 i.0.name).read i.1) x e λ i i_is later.
+    then_ok (identity.read r) (λ y. if parts.is_whole y.0 then Ok y else fault r.place BadIdentity) i i_is λ y y_is last.
+    then_ok ((both text_part text_part).read r) (λ z. Ok (identity_made z.0, z.1)) y y_is λ z z_is done.
+    then_ok (text_at r) (λ a. text_at a.1 >>= λ b. Ok ((a.0, b.0), b.1)) z z_is λ a a_is behind. (a, a_is)
+
 module _ (t : Tables) where
   pub read_begun : (levels : ℕ) (kind : TypeRef) (r : Rest) → WasRead (value_at by_number t levels kind) r → Begins t levels kind r
   read_begun zero kind r (y, e) = absurd cc
@@ -58,8 +76,8 @@ module _ (t : Tables) where
   read_begun (suc levels) kinds.Int r (y, e) = plain_there int (signed_at w32) r y e
   read_begun (suc levels) kinds.Long r (y, e) = plain_there long (signed_at w64) r y e
   read_begun (suc levels) kinds.Text r (y, e) = plain_there text text_at r y e
-  read_begun (suc levels) (kinds.Enum at) r (y, e) = absurd cc
-  read_begun (suc levels) (kinds.Proxy at) r (y, e) = absurd cc
+  read_begun (suc levels) (kinds.Enum at) r (y, e) = row_begun (slice_get t.enums at) r _ y (λ d. IsThere (enumerator_at d.entries r)) e λ d made_is. plain_there enumerator (enumerator_at d.entries) r y made_is
+  read_begun (suc levels) (kinds.Proxy at) r (y, e) = let h = plain_there proxy parts.proxy.read r y e in name_begun r h.0 h.1
   read_begun (suc levels) (kinds.Class at) r (y, e) =
       then_ok (by_number.read at tt r) (λ x. Ok (reference x.0, x.1, x.2)) y e λ x x_is last.
       then_ok (size_at r) (λ n. Ok (number_of n.0, tt, n.1)) x x_is λ n n_is done. (n, n_is)

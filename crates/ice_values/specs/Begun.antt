@@ -6,12 +6,14 @@ use Rattle.ice_types.specs.declared.kind.TypeRef.TheVariants as kinds
 use Rattle.ice_types.specs.declared.declarations.SeqDecl.{SeqDecl}
 use Rattle.ice_types.specs.declared.declarations.DictDecl.{DictDecl}
 use Rattle.ice_types.specs.declared.declarations.StructDecl.{StructDecl}
+use Rattle.ice_types.specs.declared.declarations.EnumDecl.{EnumDecl}
 use Rattle.ice_types.specs.declared.declarations.Member.{Member}
 use Rattle.ice_types.specs.declared.schema.TheConstants.{MOST_DEPTH}
 use Rattle.ice_types.specs.Tables.{Tables}
 use Rattle.ice_prims.specs.declared.fault.Fault.{Fault}
 use Rattle.ice_prims.specs.Rest.{Rest}
 use Rattle.ice_prims.specs.Number.{bool_at, byte_at, signed_at, size_at, text_at}
+use Rattle.ice_encoding.specs.Enum.{enumerator_at}
 
 -- the part can be read
 abbrev pub IsThere : {A : Type 0} → Result (A × Rest) Fault → Type 0
@@ -36,9 +38,9 @@ module _ (t : Tables) where
   Begins (suc levels) kinds.Int r = IsThere (signed_at w32 r)
   Begins (suc levels) kinds.Long r = IsThere (signed_at w64 r)
   Begins (suc levels) kinds.Text r = IsThere (text_at r)
-  -- enums and proxies are not carried yet
-  Begins (suc levels) (kinds.Enum at) r = ⊥
-  Begins (suc levels) (kinds.Proxy at) r = ⊥
+  Begins (suc levels) (kinds.Enum at) r = (e : EnumDecl) × (slice_get t.enums at ≡ Some e) × IsThere (enumerator_at e.entries r)
+  -- its name
+  Begins (suc levels) (kinds.Proxy at) r = IsThere (text_at r)
   Begins (suc levels) (kinds.Class at) r = IsThere (size_at r)
   Begins (suc levels) (kinds.Seq at) r = (q : SeqDecl) × (slice_get t.seqs at ≡ Some q) × BeginsMany (Begins levels q.element) r
   Begins (suc levels) (kinds.Dict at) r = (d : DictDecl) × (slice_get t.dicts at ≡ Some d) × BeginsMany (Begins levels d.key) r

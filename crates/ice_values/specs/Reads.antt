@@ -23,6 +23,11 @@ abbrev pub ReadsPlain : {X Y : Type 0} → (X → Y) → Result X ReadFault → 
 ReadsPlain view (Ok x) new read = read ≡ Ok (view x, new)
 ReadsPlain view (Err e) new read = Fails e read
 
+-- the same of a call that takes no memory
+abbrev pub Sees : {A : Type 0} → Result A Fault → Rest → Result (A × Rest) Fault → Type 0
+Sees (Ok x) new read = read ≡ Ok (x, new)
+Sees (Err e) new read = read ≡ Err e
+
 -- values of these types, one after the other
 abbrev pub ReadsEach : Tables → ℕ → List TypeRef → Rest → Result (List Value) ReadFault → Rest → Type 0
 ReadsEach t levels ks old result new = Reads view_all result new (each_at (value_at by_number t levels) ks tt old)

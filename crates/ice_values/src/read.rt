@@ -2,24 +2,27 @@
 
 ghost use Rattle.std.specs.Prelude.{◌≡◌, ◌++◌, ◌∷◌, [], OnOk, suc, map, replicate, Err};
 ghost use Rattle.ice_prims.specs.Taking.{TakesUnlessMemory};
+ghost use Rattle.ice_prims.specs.Number.{text_at};
+ghost use Rattle.ice_parts.specs.Proxy as parts;
 ghost use Rattle.ice_encoding.specs.Port.{by_number, number_of};
+ghost use Rattle.ice_encoding.specs.Enum.{has_number, enumerator_at};
 ghost use Rattle.ice_encoding.specs.Order.{IsRising};
 ghost use Rattle.ice_encoding.specs.Reading.{value_at};
 ghost use Rattle.ice_encoding.specs.Tree.{no_entry};
 ghost use Rattle.ice_encoding.specs.Value.{plain_value_at};
-ghost use Rattle.graph_arena.specs.View.{view, view_pairs};
-ghost use Rattle.ice_values.specs.Reads.{Reads, ReadsPlain, ReadsEach, ReadsPairs};
-ghost use Rattle.ice_values.specs.Begun.{Begins, FirstBegins, HasBegun};
+ghost use Rattle.graph_arena.specs.View.{unboxed, view, view_pairs};
+ghost use Rattle.ice_values.specs.Reads.{Reads, ReadsPlain, ReadsEach, ReadsPairs, Sees};
+ghost use Rattle.ice_values.specs.Begun.{Begins, FirstBegins, HasBegun, IsThere};
 
 use graph_arena::{Value, in_order, is_above, keyed, put};
-use ice_prims::{Cursor, Kind, ReadFault};
-use ice_types::{DictDecl, List, MOST_DEPTH, Member, Name, Schema, TypeRef};
+use ice_prims::{Cursor, Fault, Kind, ReadFault};
+use ice_proxy::read_proxy;
+use ice_types::{DictDecl, Entry, List, MOST_DEPTH, Member, Name, Proxy, Schema, TypeRef};
 use std::alloc::{AllocError, Global};
 
 /// The value of the type at the front, with the first fault from the left. A refusal leaves the
 /// cursor as it was. Memory is taken for what is read, never for what a size merely claims: it can run
-/// out only once the first part of the value is there. Enums and proxies are not carried yet: where a
-/// value of one is due, reading is refused.
+/// out only once the first part of the value is there.
 /// (Ice manual, "Data Encoding".)
 pub fn read_value<'a>(
     alloc: Global,
@@ -83,6 +86,7 @@ fn read_parts(
     ensures value { Reads view result cursor.new (value_at by_number schema.now (suc levels) kind tt cursor.old) }
     ensures memory { result ≡ Err ReadFault.Memory → Begins schema.now (suc levels) kind cursor.old }
 {
+    let nowhere = cursor.fault(Kind::LeftOver);
     match kind {
         TypeRef::Bool => Ok(Value::Bool(cursor.take_bool()?)),
         TypeRef::Byte => Ok(Value::Byte(cursor.take_byte()?)),
@@ -90,32 +94,59 @@ fn read_parts(
         TypeRef::Int => Ok(Value::Int(cursor.take_int()?)),
         TypeRef::Long => Ok(Value::Long(cursor.take_long()?)),
         TypeRef::Text => Ok(Value::Text(Name::of(alloc, cursor.take_str()?)?)),
-        TypeRef::Seq(at) => match schema.seqs().get(at as usize) {
-            Some(decl) => {
-                let count = cursor.take_size()?;
-                Ok(Value::Seq(read_each(alloc, schema, levels, decl.element, count, cursor)?))
-            }
-            None => Err(ReadFault::Broken(cursor.fault(Kind::LeftOver))),
-        },
-        TypeRef::Dict(at) => match schema.dicts().get(at as usize) {
-            Some(decl) => {
-                let count = cursor.take_size()?;
-                Ok(Value::Pairs(read_pairs(alloc, schema, levels, decl, count, cursor)?))
-            }
-            None => Err(ReadFault::Broken(cursor.fault(Kind::LeftOver))),
-        },
-        TypeRef::Struct(at) => match schema.structs().get(at as usize) {
-            Some(decl) => {
-                let members = decl.members.as_slice();
-                Ok(Value::Members(read_members(alloc, schema, levels, members, cursor)?))
-            }
-            None => Err(ReadFault::Broken(cursor.fault(Kind::LeftOver))),
-        },
-        TypeRef::Enum(_) | TypeRef::Proxy(_) => {
-            Err(ReadFault::Broken(cursor.fault(Kind::LeftOver)))
+        TypeRef::Seq(at) => {
+            let decl = schema.seqs().get(at as usize).ok_or(nowhere)?;
+            let count = cursor.take_size()?;
+            Ok(Value::Seq(read_each(alloc, schema, levels, decl.element, count, cursor)?))
         }
+        TypeRef::Dict(at) => {
+            let decl = schema.dicts().get(at as usize).ok_or(nowhere)?;
+            let count = cursor.take_size()?;
+            Ok(Value::Pairs(read_pairs(alloc, schema, levels, decl, count, cursor)?))
+        }
+        TypeRef::Struct(at) => {
+            let decl = schema.structs().get(at as usize).ok_or(nowhere)?;
+            let members = decl.members.as_slice();
+            Ok(Value::Members(read_members(alloc, schema, levels, members, cursor)?))
+        }
+        TypeRef::Enum(at) => {
+            let decl = schema.enums().get(at as usize).ok_or(nowhere)?;
+            Ok(Value::Enum(take_enumerator(decl.entries.as_slice(), cursor)?))
+        }
+        TypeRef::Proxy(_) => Ok(Value::Proxy(take_proxy(alloc, cursor)?)),
         TypeRef::Class(_) => Ok(Value::Reference(number_of(cursor.take_size()?))),
     }
+}
+
+/// A proxy, None for null.
+fn take_proxy(alloc: Global, cursor: &mut Cursor<'_>) -> Result<Option<Box<Proxy>>, ReadFault>
+    ensures proxy { ReadsPlain unboxed result cursor.new (parts.proxy.read cursor.old) }
+    ensures memory { result ≡ Err ReadFault.Memory → IsThere (text_at cursor.old) }
+{
+    match read_proxy(alloc, cursor)? {
+        Some(proxy) => Ok(Some(Box::new(alloc, proxy)?)),
+        None => Ok(None),
+    }
+}
+
+/// The number of one of these entries.
+fn take_enumerator(entries: &[Entry], cursor: &mut Cursor<'_>) -> Result<u32, Fault>
+    ensures { Sees result cursor.new (enumerator_at entries.now cursor.old) }
+{
+    let unknown = cursor.fault(Kind::BadEnum);
+    let number = cursor.take_size()?;
+    if has_number(entries, number) {
+        Ok(number)
+    } else {
+        Err(unknown)
+    }
+}
+
+/// Whether one of the entries has the number.
+fn has_number(entries: &[Entry], number: u32) -> bool
+    ensures { result ≡ has_number entries.now number }
+{
+    entries.iter().any(|entry| entry.number == number)
 }
 
 /// The reference that a size stands for: 0 is null, any other one more than the number.

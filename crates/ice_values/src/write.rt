@@ -2,12 +2,15 @@
 
 ghost use Rattle.std.specs.Prelude.{◌≡◌, ◌++◌, OnOk, OnErr};
 ghost use Rattle.ice_prims.specs.Bytes.{Grows};
+ghost use Rattle.ice_parts.specs.Proxy as parts;
 ghost use Rattle.ice_encoding.specs.Tree.{InEach, InPairs};
 ghost use Rattle.ice_encoding.specs.Canonical.{canonical, canonical_each, canonical_pairs, HasSize, HasSizes};
-ghost use Rattle.graph_arena.specs.View.{view, view_all, view_pairs};
+ghost use Rattle.graph_arena.specs.View.{unboxed, view, view_all, view_pairs};
 
 use graph_arena::Value;
 use ice_prims::{put_bool, put_byte, put_int, put_long, put_short, put_size, put_str};
+use ice_proxy::write_proxy;
+use ice_types::Proxy;
 use std::alloc::AllocError;
 
 /// Puts the value's canonical bytes at the end of the output. Out of memory leaves the output as it was.
@@ -50,8 +53,22 @@ fn append(value: &Value, out: &mut Vec<u8>) -> Result<(), AllocError>
             append_pairs(pairs.as_slice(), out)?;
             Ok(())
         }
+        Value::Enum(number) => put_size(out, *number),
+        Value::Proxy(proxy) => append_proxy(proxy, out),
         Value::Reference(None) => put_size(out, 0),
         Value::Reference(Some(number)) => put_size(out, *number + 1),
+    }
+}
+
+/// A proxy, None for null.
+fn append_proxy(proxy: &Option<Box<Proxy>>, out: &mut Vec<u8>) -> Result<(), AllocError>
+    requires { parts.HasProxySizes (unboxed proxy.now) }
+    ensures ok { OnOk result (out.new.items ≡ out.old.items ++ parts.proxy.put (unboxed proxy.now)) }
+    ensures err { OnErr result (Grows out.old.items out.new.items) }
+{
+    match proxy {
+        Some(proxy) => write_proxy(out, Some(proxy)),
+        None => write_proxy(out, None),
     }
 }
 
