@@ -1,38 +1,20 @@
 -- What a call and an answer are made of is read as it is spelled, and what is put spells it.
-use Rattle.std.proofs.Common.{◌≡◌, ℕ, ℤ, pos, negsuc, zero, suc, ◌≤◌, false, List, [], ◌∷◌, ◌++◌, length, Ok, refl, sym, ap, subst, ◌∙◌, inl, inr, arith, ltb, take, drop}
-use Rattle.std.proofs.lemmas.Bool.{leb-true, ltb-false, le-ltb}
-use Rattle.ice_messages.specs.Parts.{IsLawful, int, text, SpellsTimes}
+use Rattle.std.proofs.Common.{◌≡◌, ℕ, ℤ, pos, zero, suc, ◌≤◌, List, [], ◌++◌, length, Ok, refl, sym, ap, subst, ◌∙◌, arith, take, drop}
+use Rattle.ice_parts.specs.Parts.{IsLawful, int}
 use Rattle.std.specs.Int.{w32}
 use Rattle.std.proofs.lemmas.List.{length-append, take-append-le, take_at, take-append-drop}
 use Rattle.ice_prims.specs.Rest.{Rest, ◌>>=◌, Took, bytes_at}
 use Rattle.ice_prims.specs.Number.{signed_at, SpellsSigned}
-use Rattle.ice_prims.proofs.Parts.{chosen as choice, then_ok, between, bytes_found, bytes_only}
-use Rattle.ice_messages.specs.declared.message.TheConstants.{LARGEST}
+use Rattle.ice_prims.proofs.Parts.{then_ok, between, bytes_found, bytes_only}
+use Rattle.ice_parts.specs.declared.limits.TheConstants.{LARGEST}
+use Rattle.ice_parts.specs.Bounds.{claimed}
+use Rattle.ice_parts.proofs.Joined.{byte_lawful, int_lawful, size_lawful, text_lawful, not_longer, both_lawful, made_lawful, tested_lawful, chosen_lawful}
+use Rattle.ice_parts.proofs.Bounded.{claimed_ok, claimed_is}
+use Rattle.ice_parts.proofs.Named.{identity_lawful, facet_lawful}
 use Rattle.ice_messages.specs.declared.message.Answer.{Answer}
 use Rattle.ice_messages.specs.Context.{context}
-use Rattle.ice_messages.specs.Calls.{identity, facet_of, facet_texts, texts, facet, mode, claimed, IsEncapsulation, encapsulation, call, missing, answer_by, answer, status_of}
+use Rattle.ice_messages.specs.Calls.{mode, IsEncapsulation, encapsulation, call, missing, answer_by, answer, status_of}
 use Rattle.ice_messages.proofs.Contexts.{entries_lawful, entries_length}
-use Rattle.ice_messages.proofs.Joined.{answer as done, byte_lawful, int_lawful, size_lawful, text_lawful, both_lawful, made_sorted, made_lawful, tested_lawful, chosen_lawful, times_lawful}
-
--- so many are so many
-pub times_length : {A : Type 0} (Spells : List ℕ → A → Type 0) (n : ℕ) (bytes : List ℕ) (items : List A) → SpellsTimes Spells n bytes items → length items ≡ n
-times_length Spells zero bytes items h = rw h.1 refl
-times_length Spells (suc n) bytes items h = rw h.4 (ap suc (times_length Spells n h.3 h.1 h.7))
-
-pub identity_lawful : IsLawful identity
-identity_lawful = made_lawful _ _ _ (λ x. refl) (both_lawful text text text_lawful text_lawful)
-
-pub texts_lawful : IsLawful texts
-texts_lawful = chosen_lawful _ _ _ (tested_lawful _ _ _ size_lawful) (times_lawful text text_lawful) (λ n a b items first second. times_length text.Spells n b items second)
-
-facet_again : (names : List (List ℕ)) → texts.Is names → texts.Is (facet_texts (facet_of names)) × (facet_of names ≡ facet_of (facet_texts (facet_of names)))
-facet_again [] is = (is, refl)
-facet_again ((c ∷ cs) ∷ []) is = (is, refl)
-facet_again ([] ∷ []) is = (((omega arith, refl), (refl, tt)), refl)
-facet_again (a ∷ (b ∷ others)) is = let few : suc (suc (length others)) ≤ 1 = leb-true (suc (suc (length others))) 1 is.0.1 in absurd (omega (arith, few))
-
-pub facet_lawful : IsLawful facet
-facet_lawful = made_sorted _ _ _ facet_again texts_lawful
 
 pub mode_lawful : IsLawful mode
 mode_lawful = tested_lawful _ _ _ byte_lawful
@@ -41,30 +23,6 @@ pub context_lawful : IsLawful context
 context_lawful = chosen_lawful _ _ _ size_lawful entries_lawful (λ n a b es first second. omega (arith, entries_length n [] b es second))
 
 -- ---- an encapsulation
-
-nat_ok : (m n : ℕ) → done m ≡ done n → m ≡ n
-nat_ok m n e = cc
-
--- a size that was taken is the one that was claimed, and within its bound
-pub claimed_ok : {C : Type 0} (place left smallest : ℕ) (z : ℤ) (n : ℕ) → claimed place left smallest z ≡ Ok n → (z ≡ pos n → n ≤ LARGEST → n ≤ left → smallest ≤ n → C) → C
-claimed_ok place left smallest (negsuc m) n e go = absurd cc
-claimed_ok place left smallest (pos m) n e go = elim (choice (ltb LARGEST m) _ _ (Ok n) e) [
-  | inl c ↦ absurd cc
-  | inr c ↦ elim (choice (ltb left m) _ _ (Ok n) c.1) [
-    | inl d ↦ absurd cc
-    | inr d ↦ elim (choice (ltb m smallest) _ _ (Ok n) d.1) [
-      | inl f ↦ absurd cc
-      | inr f ↦ let same : m ≡ n = nat_ok m n f.1 in go (ap pos same) (omega (arith, same, ltb-false _ _ c.0)) (omega (arith, same, ltb-false _ _ d.0)) (omega (arith, same, ltb-false _ _ f.0))
-    ]
-  ]
-]
-
-pub claimed_is : (place left smallest n : ℕ) → n ≤ LARGEST → n ≤ left → smallest ≤ n → claimed place left smallest (pos n) ≡ Ok n
-claimed_is place left smallest n large there small =
-    let within : ltb LARGEST n ≡ false = le-ltb _ _ large in
-    let inside : ltb left n ≡ false = le-ltb _ _ there in
-    let enough : ltb n smallest ≡ false = le-ltb _ _ small in
-    rw (within, inside, enough) refl
 
 begins : (a x b y : List ℕ) → a ++ x ≡ b ++ y → length a ≤ length b → (c : List ℕ) × (b ≡ a ++ c)
 begins a x b y e le =
@@ -98,6 +56,7 @@ encapsulation_lawful = record {
   only = λ r s bytes v k h. encapsulation_only r s v (rw (← h.0) k) h.1;
   sort = λ bytes x fits h. h.1;
   put = λ x is. (refl, is);
+  shortest = λ bytes x fits h. not_longer x bytes h.0;
 }
 
 -- ---- a call, an answer

@@ -1,5 +1,5 @@
 -- The entries of a context: read as they are spelled, and written in rising order of their names.
-use Rattle.std.proofs.Common.{◌≡◌, ℕ, zero, suc, ◌+◌, Bool, true, false, cond, List, [], ◌∷◌, ◌++◌, length, Option, None, Some, Result, Ok, refl, sym, ap, subst, ◌∙◌, append_assoc, append-nil, arith}
+use Rattle.std.proofs.Common.{◌≡◌, ℕ, zero, suc, ◌+◌, ◌≤◌, Bool, true, false, cond, List, [], ◌∷◌, ◌++◌, length, Option, None, Some, Result, Ok, refl, sym, ap, subst, ◌∙◌, append_assoc, append-nil, arith}
 use Rattle.std.specs.List.{flat_map, AllByRecursion}
 use Rattle.std.specs.List.Sorted.{IsStrictlySortedBy}
 use Rattle.std.specs.Ordering.{is_eq, match_ordering, ordering_reverse}
@@ -7,13 +7,14 @@ use Rattle.std.specs.declared.cmp.Ordering.{Ordering}
 use Rattle.std.specs.declared.cmp.Ordering.TheVariants.{Less, Equal, Greater}
 use Rattle.std.specs.Map.{keys_of}
 use Rattle.std.proofs.lemmas.Cmp.{nat_list_cmp_total}
+use Rattle.std.proofs.lemmas.List.{length-append}
 use Rattle.ice_prims.specs.declared.fault.Fault.{Fault}
 use Rattle.ice_prims.specs.Rest.{Rest, ◌>>=◌, Took, IsBytes}
 use Rattle.ice_prims.specs.Number.{text_at}
 use Rattle.ice_prims.proofs.Parts.{then_ok, Took-none, Took-none-is, Took-then, between, Took-fits, IsBytes-front, IsBytes-rest}
-use Rattle.ice_messages.specs.Parts.{Each, IsLawful, text, both}
+use Rattle.ice_parts.specs.Parts.{Each, IsLawful, text, both}
+use Rattle.ice_parts.proofs.Joined.{lands, text_lawful}
 use Rattle.ice_messages.specs.Context.{Entry, name_cmp, value_of, with_entry, new_name, entries_at, SpellsEntries, entries, AreRising}
-use Rattle.ice_messages.proofs.Joined.{lands, text_lawful}
 
 -- a name that was new
 newly : {A : Type 0} {C : Type 0} (held : Option (List ℕ)) (place : ℕ) (next : Result A Fault) (y : A) → new_name held place next ≡ Ok y → (held ≡ None → next ≡ Ok y → C) → C
@@ -149,14 +150,6 @@ entries_put before (e ∷ es) rising are =
           (subst (λ (all : List Entry). SpellsEntries (length es) (before ++ e ∷ []) (flat_map (both text text).put es) all) regroup later),
     )
 
-pub entries_lawful : (n : ℕ) → IsLawful (entries n)
-entries_lawful n = record {
-  found = entries_found n [];
-  only = entries_only n [];
-  sort = λ bytes es fits h. let keeps = entries_sort n [] bytes es fits h (no_entries, tt, refl) in (omega (arith, keeps.2), keeps.0, keeps.1);
-  put = λ es is. subst (λ (m : ℕ). SpellsEntries m [] (flat_map (both text text).put es) es) is.0 (entries_put [] es is.1 is.2);
-}
-
 -- ---- how many there are
 
 one_more : (k v : List ℕ) (e : Entry) (es : List Entry) (o : Ordering) → name_cmp k e.0 ≡ o → value_of (e ∷ es) k ≡ None → (value_of es k ≡ None → length (with_entry es (k, v)) ≡ suc (length es))
@@ -173,3 +166,53 @@ grown (e ∷ es) k v free = one_more k v e es (name_cmp k e.0) refl free (λ non
 pub entries_length : (n : ℕ) (before : List Entry) (bytes : List ℕ) (es : List Entry) → SpellsEntries n before bytes es → length es ≡ n + length before
 entries_length zero before bytes es h = rw h.1 (omega arith)
 entries_length (suc n) before bytes es h = omega (arith, entries_length n (with_entry before (h.0, h.1)) h.4 es h.9, grown before h.0 h.1 h.7)
+
+-- ---- how long they are
+
+abbrev put_all : List Entry → List ℕ
+put_all = flat_map (both text text).put
+
+longer_by : (k v : List ℕ) (e : Entry) (es : List Entry) (o : Ordering) → name_cmp k e.0 ≡ o → value_of (e ∷ es) k ≡ None
+    → (value_of es k ≡ None → length (put_all (with_entry es (k, v))) ≡ length ((both text text).put (k, v)) + length (put_all es))
+    → length (put_all (match_ordering o ((k, v) ∷ e ∷ es) ((e.0, v) ∷ es) (e ∷ with_entry es (k, v)))) ≡ length ((both text text).put (k, v)) + length (put_all (e ∷ es))
+longer_by k v e es Less e_is free more = length-append ((both text text).put (k, v)) (put_all (e ∷ es))
+longer_by k v e es Equal e_is free more = let taken : is_eq (name_cmp k e.0) ≡ true = rw e_is refl in absurd cc
+longer_by k v e es Greater e_is free more =
+    let apart : is_eq (name_cmp k e.0) ≡ false = rw e_is refl in
+    let later = more (subst (λ (b : Bool). cond b (Some e.1) (value_of es k) ≡ None) apart free) in
+    omega (arith, later, length-append ((both text text).put e) (put_all (with_entry es (k, v))), length-append ((both text text).put e) (put_all es))
+
+longer : (es : List Entry) (k v : List ℕ) → value_of es k ≡ None → length (put_all (with_entry es (k, v))) ≡ length ((both text text).put (k, v)) + length (put_all es)
+longer [] k v free = length-append ((both text text).put (k, v)) []
+longer (e ∷ es) k v free = longer_by k v e es (name_cmp k e.0) refl free (λ none. longer es k v none)
+
+entries_shortest : (n : ℕ) (before : List Entry) (bytes : List ℕ) (es : List Entry) → IsBytes bytes → SpellsEntries n before bytes es → length (put_all es) ≤ length bytes + length (put_all before)
+entries_shortest zero before bytes es fits h = rw h.1 (omega arith)
+entries_shortest (suc n) before bytes es fits h =
+    let parts : IsBytes (h.2 ++ (h.3 ++ h.4)) = rw (← h.5) fits in
+    let behind = IsBytes-rest h.2 (h.3 ++ h.4) parts in
+    let name = text_lawful.shortest h.2 h.0 (IsBytes-front h.2 (h.3 ++ h.4) parts) h.6 in
+    let value = text_lawful.shortest h.3 h.1 (IsBytes-front h.3 h.4 behind) h.8 in
+    let later = entries_shortest n (with_entry before (h.0, h.1)) h.4 es (IsBytes-rest h.3 h.4 behind) h.9 in
+    omega (
+      arith,
+      later,
+      longer before h.0 h.1 h.7,
+      length-append (text.put h.0) (text.put h.1),
+      name,
+      value,
+      ap length h.5,
+      length-append h.2 (h.3 ++ h.4),
+      length-append h.3 h.4,
+    )
+
+-- ---- together
+
+pub entries_lawful : (n : ℕ) → IsLawful (entries n)
+entries_lawful n = record {
+  found = entries_found n [];
+  only = entries_only n [];
+  sort = λ bytes es fits h. let keeps = entries_sort n [] bytes es fits h (no_entries, tt, refl) in (omega (arith, keeps.2), keeps.0, keeps.1);
+  put = λ es is. subst (λ (m : ℕ). SpellsEntries m [] (flat_map (both text text).put es) es) is.0 (entries_put [] es is.1 is.2);
+  shortest = λ bytes es fits h. omega (arith, entries_shortest n [] bytes es fits h);
+}

@@ -1,13 +1,11 @@
-mod Joined
 mod Contexts
 mod Entries
-mod Times
 mod Sums
 mod Putting
 mod Called
 mod Whole
-mod Streams
-mod Runs
+pub mod Streams
+pub mod Runs
 mod Orderly
 mod Nexts
 mod Running

@@ -2,12 +2,12 @@
 use Rattle.std.proofs.Common.{ℕ, suc, zero, ◌≤◌, List, [], ◌∷◌, arith}
 use Rattle.std.proofs.lemmas.Bool.{leb-true}
 use Rattle.ice_types.specs.declared.identity.Identity.{Identity}
+use Rattle.ice_parts.specs.Parts.{Each}
 use Rattle.ice_messages.specs.declared.message.Call.{Call}
 use Rattle.ice_messages.specs.declared.message.Answer.{Answer}
 use Rattle.ice_messages.specs.declared.message.Answer.TheVariants.{Done, Raised, Missing, Unknown}
 use Rattle.ice_messages.specs.declared.message.Message.{Message}
 use Rattle.ice_messages.specs.declared.message.Message.TheVariants.{Request, Batch, Reply, Validate, Close}
-use Rattle.ice_messages.specs.Parts.{Each}
 use Rattle.ice_messages.specs.Calls.{call, answer, answer_by}
 use Rattle.ice_messages.specs.Messages.{IsMessage}
 use Rattle.ice_messages.specs.Written.{IsCall, IsAnswer, IsOrderly}

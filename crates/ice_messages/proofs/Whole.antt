@@ -1,19 +1,22 @@
 -- Whole messages are read as they are spelled, and what is put spells them.
-use Rattle.std.proofs.Common.{◌≡◌, ℕ, ℤ, pos, negsuc, zero, suc, ◌+◌, ◌-◌, ◌≤◌, IsTrue, List, [], ◌∷◌, ◌++◌, length, Ok, refl, sym, ap, subst, ◌∙◌, arith, append-nil}
+use Rattle.std.proofs.Common.{◌≡◌, ℕ, ℤ, pos, negsuc, zero, suc, ◌+◌, ◌-◌, ◌≤◌, IsTrue, List, ◌++◌, length, Ok, refl, sym, ap, subst, ◌∙◌, arith}
 use Rattle.std.specs.Prelude.{FitsSigned}
 use Rattle.std.specs.Int.{w32}
 use Rattle.std.proofs.lemmas.Bool.{leb-true, le-leb}
 use Rattle.std.proofs.lemmas.List.{length-append}
 use Rattle.ice_prims.specs.Rest.{Rest, ◌>>=◌, Took, IsBytes, bound_at, bytes_at}
 use Rattle.ice_prims.proofs.Parts.{then_ok, ok_is, between, Took-then, Took-fits, IsBytes-rest, bytes_found, bytes_only}
+use Rattle.ice_parts.specs.declared.limits.TheConstants.{LARGEST}
+use Rattle.ice_parts.specs.Parts.{IsLawful}
+use Rattle.ice_parts.specs.Bounds.{claimed, filled}
+use Rattle.ice_parts.proofs.Joined.{answer as done, byte_lawful, int_lawful, exactly_lawful, nothing_lawful, both_lawful, made_lawful, made_sorted, tested_lawful, chosen_lawful, times_lawful, times_length}
+use Rattle.ice_parts.proofs.Bounded.{claimed_ok, claimed_is, filled_found, filled_only}
 use Rattle.ice_messages.specs.declared.message.Message.{Message}
 use Rattle.ice_messages.specs.declared.message.Message.TheVariants.{Request, Batch, Reply, Validate, Close}
-use Rattle.ice_messages.specs.declared.message.TheConstants.{LARGEST, HEADER_BYTES}
-use Rattle.ice_messages.specs.Parts.{Part, IsLawful}
-use Rattle.ice_messages.specs.Calls.{call, claimed}
-use Rattle.ice_messages.specs.Messages.{calls, is_count, count_of, body_by, type_of, magic, versions, compression, header, ended, filled, message_at, SpellsMessage, message_bytes, IsMessage}
-use Rattle.ice_messages.proofs.Joined.{answer as done, byte_lawful, int_lawful, exactly_lawful, nothing_lawful, both_lawful, made_lawful, made_sorted, tested_lawful, chosen_lawful, times_lawful}
-use Rattle.ice_messages.proofs.Called.{call_lawful, answer_lawful, times_length, claimed_ok, claimed_is}
+use Rattle.ice_messages.specs.declared.message.TheConstants.{HEADER_BYTES}
+use Rattle.ice_messages.specs.Calls.{call}
+use Rattle.ice_messages.specs.Messages.{calls, is_count, count_of, body_by, type_of, magic, versions, compression, header, message_at, SpellsMessage, message_bytes, IsMessage}
+use Rattle.ice_messages.proofs.Called.{call_lawful, answer_lawful}
 
 -- ---- by the type
 
@@ -41,7 +44,7 @@ versions_lawful : IsLawful versions
 versions_lawful = made_lawful _ _ _ (λ x. refl) (both_lawful _ _ (exactly_lawful _ _) (exactly_lawful _ _))
 
 compression_lawful : IsLawful compression
-compression_lawful = made_sorted _ _ _ (λ s is. (((omega arith, refl), refl), refl)) (tested_lawful _ _ _ (tested_lawful _ _ _ byte_lawful))
+compression_lawful = made_sorted _ _ _ (λ s is. (((omega arith, refl), refl), refl)) (λ s is. omega arith) (tested_lawful _ _ _ (tested_lawful _ _ _ byte_lawful))
 
 pub header_lawful : IsLawful header
 header_lawful = made_lawful _ _ _ (λ x. refl) (both_lawful _ _ magic_lawful (both_lawful _ _ versions_lawful (both_lawful _ _ (tested_lawful _ _ _ byte_lawful) (both_lawful _ _ compression_lawful int_lawful))))
@@ -80,26 +83,6 @@ header_long bytes x h =
       length-append type_is.0 type_is.1,
       length-append status_is.0 status_is.1,
     )
-
--- ---- what fills its bound
-
-ended_ok : {A : Type 0} {C : Type 0} (left : List ℕ) (place : ℕ) (x y : A) → ended left place x ≡ Ok y → (left ≡ [] → x ≡ y → C) → C
-ended_ok [] place x y e go = go refl (ok_is x y e)
-ended_ok (b ∷ bs) place x y e go = absurd cc
-
-pub filled_found : {A : Type 0} (part : Part A) → IsLawful part → (r : Rest) (y : A) → IsBytes r.bytes → filled part.read r ≡ Ok y → part.Spells r.bytes y
-filled_found {A} part law r y fits e =
-    then_ok (part.read r) (λ x. ended x.1.bytes x.1.place x.0) y e λ x x_is last.
-    ended_ok x.1.bytes x.1.place x.0 y last λ none same.
-    let f = law.found r x fits x_is in
-    let all : r.bytes ≡ f.0 = f.1.parts ∙ ap (λ (rest : List ℕ). f.0 ++ rest) none ∙ append-nil f.0 in
-    subst (λ (z : A). part.Spells r.bytes z) same (subst (λ (bytes : List ℕ). part.Spells bytes x.0) (sym all) f.2)
-
-pub filled_only : {A : Type 0} (part : Part A) → IsLawful part → (r : Rest) (y : A) → part.Spells r.bytes y → filled part.read r ≡ Ok y
-filled_only part law r y h =
-    let end : Rest = record { place = r.place + length r.bytes; bytes = [] } in
-    let took : Took r r.bytes end = record { parts = sym (append-nil r.bytes); moved = refl } in
-    rw (law.only r end r.bytes y took h) refl
 
 -- ---- a message
 
@@ -185,3 +168,12 @@ message_put m is large =
     let spelled = header_lawful.put (type_of m, pos n) (header_is (type_of m) n (types m) within) in
     let total : length (head ++ body) ≡ n = omega (arith, length-append head body, header_long head _ spelled) in
     (type_of m, head, body, refl, subst (λ (k : ℕ). header.Spells head (type_of m, pos k)) (sym total) spelled, large, (body_by_lawful (type_of m)).put m is)
+
+-- what is written of a message is not longer than what it was read from
+pub message_shortest : (bytes : List ℕ) (m : Message) → IsBytes bytes → SpellsMessage bytes m → length (message_bytes m) ≤ length bytes
+message_shortest bytes m fits h =
+    let body = (body_by_lawful h.0).shortest h.2 m (IsBytes-rest h.1 h.2 (rw (← h.3) fits)) h.6 in
+    let same = type_tells h.0 h.2 m (header_type h.1 _ h.4) h.6 in
+    let less : length ((body_by (type_of m)).put m) ≤ length h.2 = subst (λ (type : ℕ). length ((body_by type).put m) ≤ length h.2) (sym same) body in
+    let n = HEADER_BYTES + length ((body_by (type_of m)).put m) in
+    omega (arith, less, length-append (header.put (type_of m, pos n)) ((body_by (type_of m)).put m), header_put_long (type_of m) (pos n), ap length h.3, length-append h.1 h.2, header_long h.1 _ h.4)

@@ -1,60 +1,35 @@
 -- What a call and an answer are made of. (Ice manual, "Protocol Messages".)
-use Rattle.std.specs.Prelude.{ℕ, ℤ, pos, negsuc, zero, suc, ◌≡◌, ◌≤◌, List, [], ◌∷◌, ◌++◌, length, Result, Ok, nat_le, nat_lt, if◌then◌else◌}
+use Rattle.std.specs.Prelude.{ℕ, pos, zero, suc, ◌≡◌, ◌≤◌, List, [], ◌++◌, length, Result, nat_le}
 use Rattle.std.specs.Int.{w32}
 use Rattle.ice_types.specs.declared.identity.Identity.{Identity}
 use Rattle.ice_prims.specs.declared.fault.Fault.{Fault}
-use Rattle.ice_prims.specs.declared.fault.Kind.TheVariants.{Short, TooLarge, BadSize, BadFacet, BadMode, BadStatus}
-use Rattle.ice_prims.specs.Rest.{Rest, fault, ◌>>=◌, bytes_at}
+use Rattle.ice_prims.specs.declared.fault.Kind.TheVariants.{BadMode, BadStatus}
+use Rattle.ice_prims.specs.Rest.{Rest, ◌>>=◌, bytes_at}
 use Rattle.ice_prims.specs.Number.{signed_at, SpellsSigned}
+use Rattle.ice_parts.specs.declared.limits.TheConstants.{LARGEST, SMALLEST}
+use Rattle.ice_parts.specs.Parts.{Part, byte, text, both, made, tested, chosen}
+use Rattle.ice_parts.specs.Bounds.{claimed}
+use Rattle.ice_parts.specs.Identity.{identity, no_identity, facet}
 use Rattle.ice_messages.specs.declared.message.Call.{Call}
 use Rattle.ice_messages.specs.declared.message.Answer.{Answer}
 use Rattle.ice_messages.specs.declared.message.Answer.TheVariants.{Done, Raised, Missing, Unknown}
-use Rattle.ice_messages.specs.declared.message.TheConstants.{LARGEST, SMALLEST_ENCAPSULATION}
-use Rattle.ice_messages.specs.Parts.{Part, byte, size, text, both, made, tested, chosen, times}
 use Rattle.ice_messages.specs.Context.{context}
 
--- ---- identity, facet, mode
-
-abbrev pub identity : Part Identity
-identity = made (λ x. record { name = x.0; category = x.1 }) (λ i. (i.name, i.category)) (both text text)
-
--- a sequence of at most one text; none is the facet of no name
-abbrev pub facet_of : List (List ℕ) → List ℕ
-facet_of [] = []
-facet_of (name ∷ others) = name
-
-abbrev pub facet_texts : List ℕ → List (List ℕ)
-facet_texts [] = []
-facet_texts (c ∷ cs) = (c ∷ cs) ∷ []
-
-abbrev pub texts : Part (List (List ℕ))
-texts = chosen (tested (λ n. nat_le n 1) BadFacet size) (times text) length
-
-abbrev pub facet : Part (List ℕ)
-facet = made facet_of facet_texts texts
-
+-- normal, nonmutating, idempotent
 abbrev pub mode : Part ℕ
 mode = tested (λ m. nat_le m 2) BadMode byte
 
 -- ---- an encapsulation, whatever its version and content
 
--- A size that counts from this place on, where so many bytes are left.
-abbrev pub claimed : ℕ → ℕ → ℕ → ℤ → Result ℕ Fault
-claimed place left smallest (pos n) =
-    if nat_lt LARGEST n then fault place TooLarge
-    else (if nat_lt left n then fault place Short
-    else (if nat_lt n smallest then fault place BadSize else Ok n))
-claimed place left smallest (negsuc n) = fault place BadSize
-
 abbrev pub encapsulation_at : Rest → Result (List ℕ × Rest) Fault
 encapsulation_at r = do
   claim ← signed_at w32 r
-  n ← claimed r.place (length r.bytes) SMALLEST_ENCAPSULATION claim.0
+  n ← claimed r.place (length r.bytes) SMALLEST claim.0
   bytes_at n r
 
 -- its size counts all of it
 abbrev pub IsEncapsulation : List ℕ → Type 0
-IsEncapsulation bytes = (claim content : List ℕ) × (bytes ≡ claim ++ content) × SpellsSigned w32 claim (pos (length bytes)) × (SMALLEST_ENCAPSULATION ≤ length bytes) × (length bytes ≤ LARGEST)
+IsEncapsulation bytes = (claim content : List ℕ) × (bytes ≡ claim ++ content) × SpellsSigned w32 claim (pos (length bytes)) × (SMALLEST ≤ length bytes) × (length bytes ≤ LARGEST)
 
 abbrev pub encapsulation : Part (List ℕ)
 encapsulation = record { read = encapsulation_at; Spells = λ bytes x. (bytes ≡ x) × IsEncapsulation x; put = λ x. x; Is = IsEncapsulation }
@@ -80,9 +55,6 @@ body_of (Done body) = body
 body_of (Raised body) = body
 body_of (Missing status i f o) = []
 body_of (Unknown status what) = []
-
-abbrev pub no_identity : Identity
-no_identity = record { name = []; category = [] }
 
 abbrev pub missed_of : Answer → Identity × (List ℕ × List ℕ)
 missed_of (Done body) = (no_identity, ([], []))

@@ -1,4 +1,3 @@
-pub mod Parts
 pub mod Context
 pub mod Calls
 pub mod Messages

@@ -1,16 +1,19 @@
 -- The messages of protocol 1.0: a header with the type and the size, and what follows by the type. (Ice manual, "Protocol Messages".)
 use Rattle.std.specs.Prelude.{ℕ, ℤ, pos, negsuc, zero, suc, ◌≡◌, ◌≤◌, ◌+◌, ◌-◌, Bool, true, false, List, [], ◌∷◌, ◌++◌, length, Result, Ok, nat_le}
 use Rattle.ice_prims.specs.declared.fault.Fault.{Fault}
-use Rattle.ice_prims.specs.declared.fault.Kind.TheVariants.{BadSize, BadMagic, BadVersion, BadMessage, Compressed, BadStatus, LeftOver}
-use Rattle.ice_prims.specs.Rest.{Rest, fault, ◌>>=◌, bound_at}
+use Rattle.ice_prims.specs.declared.fault.Kind.TheVariants.{BadSize, BadMagic, BadVersion, BadMessage, Compressed, BadStatus}
+use Rattle.ice_prims.specs.Rest.{Rest, ◌>>=◌, bound_at}
+use Rattle.ice_parts.specs.declared.limits.TheConstants.{LARGEST}
+use Rattle.ice_parts.specs.Parts.{Part, byte, int, exactly, nothing, both, made, tested, chosen, times}
+use Rattle.ice_parts.specs.Bounds.{claimed, filled}
+use Rattle.ice_parts.specs.Identity.{no_identity}
 use Rattle.ice_messages.specs.declared.message.Call.{Call}
 use Rattle.ice_messages.specs.declared.message.Answer.{Answer}
 use Rattle.ice_messages.specs.declared.message.Answer.TheVariants.{Done}
 use Rattle.ice_messages.specs.declared.message.Message.{Message}
 use Rattle.ice_messages.specs.declared.message.Message.TheVariants.{Request, Batch, Reply, Validate, Close}
-use Rattle.ice_messages.specs.declared.message.TheConstants.{LARGEST, HEADER_BYTES}
-use Rattle.ice_messages.specs.Parts.{Part, byte, int, exactly, nothing, both, made, tested, chosen, times}
-use Rattle.ice_messages.specs.Calls.{no_identity, call, answer, claimed}
+use Rattle.ice_messages.specs.declared.message.TheConstants.{HEADER_BYTES}
+use Rattle.ice_messages.specs.Calls.{call, answer}
 
 -- ---- by the type
 
@@ -85,15 +88,6 @@ abbrev pub header : Part (ℕ × ℤ)
 header = made (λ x. (x.1.1.0, x.1.1.1.1)) (λ h. (tt, (tt, (h.0, (tt, h.1))))) (both magic (both versions (both message_type (both compression int))))
 
 -- ---- a message
-
--- the end of a bound
-abbrev pub ended : {A : Type 0} → List ℕ → ℕ → A → Result A Fault
-ended [] place x = Ok x
-ended (left ∷ others) place x = fault place LeftOver
-
--- a part that fills its bound
-abbrev pub filled : {A : Type 0} → (Rest → Result (A × Rest) Fault) → Rest → Result A Fault
-filled read r = read r >>= λ x. ended x.1.bytes x.1.place x.0
 
 -- a message that begins here, whatever follows it
 abbrev pub message_at : Rest → Result (Message × Rest) Fault

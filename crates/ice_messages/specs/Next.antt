@@ -4,12 +4,13 @@ use Rattle.ice_prims.specs.declared.fault.Fault.{Fault}
 use Rattle.ice_prims.specs.declared.fault.ReadFault.{ReadFault}
 use Rattle.ice_prims.specs.Rest.{Rest, after, whole, ◌>>=◌}
 use Rattle.ice_prims.specs.Taking.{Fails}
+use Rattle.ice_parts.specs.Bounds.{claimed}
+use Rattle.ice_parts.specs.declared.limits.TheConstants.{LARGEST}
 use Rattle.ice_messages.specs.declared.message.Message.{Message}
 use Rattle.ice_messages.specs.Streams.{next_at}
 use Rattle.ice_messages.specs.Written.{IsOrderly}
 use Rattle.ice_messages.specs.Messages.{header, message_at}
-use Rattle.ice_messages.specs.Calls.{claimed}
-use Rattle.ice_messages.specs.declared.message.TheConstants.{LARGEST, HEADER_BYTES}
+use Rattle.ice_messages.specs.declared.message.TheConstants.{HEADER_BYTES}
 
 -- the message that begins the bytes
 abbrev pub whole_next : List ℕ → Result (Option (Message × Rest)) Fault

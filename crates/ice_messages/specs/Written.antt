@@ -1,14 +1,14 @@
 -- What is asked of a message that is written, and what writing answers.
 use Rattle.std.specs.Prelude.{ℕ, ◌≡◌, ◌≤◌, ◌<◌, ◌-◌, ◌^◌, List, length, min, Result, Ok, Err}
+use Rattle.ice_parts.specs.declared.limits.TheConstants.{LARGEST}
+use Rattle.ice_parts.specs.Parts.{Each}
 use Rattle.ice_messages.specs.declared.message.Call.{Call}
 use Rattle.ice_messages.specs.declared.message.Answer.{Answer}
 use Rattle.ice_messages.specs.declared.message.Answer.TheVariants.{Done, Raised, Missing, Unknown}
 use Rattle.ice_messages.specs.declared.message.Message.{Message}
 use Rattle.ice_messages.specs.declared.message.Message.TheVariants.{Request, Batch, Reply, Validate, Close}
-use Rattle.ice_messages.specs.declared.message.TheConstants.{LARGEST}
 use Rattle.ice_messages.specs.declared.fault.WriteFault.{WriteFault}
 use Rattle.ice_messages.specs.declared.fault.WriteFault.TheVariants.{TooLong, Memory}
-use Rattle.ice_messages.specs.Parts.{Each}
 use Rattle.ice_messages.specs.Context.{AreRising}
 use Rattle.ice_messages.specs.Calls.{IsEncapsulation}
 use Rattle.ice_messages.specs.Messages.{message_bytes}

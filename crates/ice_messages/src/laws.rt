@@ -23,9 +23,13 @@ pub fn messages_apart()
     ensures long { (bytes : List ℕ) (m : Message) → SpellsMessage bytes m → 14 ≤ length bytes }
 {}
 
-/// What is written of a message, where it is not longer than a message may be, spells it.
+/// What is written of a message, where it is not longer than a message may be, spells it; and no
+/// spelling is shorter, so that what was read can be written again.
 pub fn messages_written()
-    ensures { (m : Message) → IsMessage m → length (message_bytes m) ≤ 1048576 → SpellsMessage (message_bytes m) m }
+    ensures spelled { (m : Message) → IsMessage m → length (message_bytes m) ≤ 1048576
+        → SpellsMessage (message_bytes m) m }
+    ensures shortest { (bytes : List ℕ) (m : Message) → IsBytes bytes → SpellsMessage bytes m
+        → length (message_bytes m) ≤ length bytes }
 {}
 
 /// Bytes are messages, one after the other, and then a front or a fault: in one way, and in one alone.

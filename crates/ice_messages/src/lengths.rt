@@ -3,7 +3,8 @@
 ghost use Rattle.std.specs.Prelude.{◌≡◌, ◌+◌, ◌-◌, ◌^◌, ◌≤◌, ◌<◌, ℕ, List, length, min, drop};
 ghost use Rattle.std.specs.List.{flat_map};
 ghost use Rattle.ice_prims.specs.Bytes.{size_bytes, text_bytes};
-ghost use Rattle.ice_messages.specs.Parts.{both, text};
+ghost use Rattle.ice_parts.specs.Parts.{both, text};
+ghost use Rattle.ice_parts.specs.Identity as names;
 ghost use Rattle.ice_messages.specs.Calls as form;
 ghost use Rattle.ice_messages.specs.Messages.{message_bytes};
 ghost use Rattle.ice_messages.specs.Written.{told, IsAnswer, IsOrderly};
@@ -22,7 +23,7 @@ pub fn message_length(message: &Message) -> u64
         Message::Reply { answer, .. } => answer_length(answer).saturating_add(4),
         Message::Validate | Message::Close => 0,
     };
-    body.saturating_add(u64::from(HEADER_BYTES))
+    body.saturating_add(HEADER_BYTES as u64)
 }
 
 fn calls_length(calls: &[Call]) -> u64
@@ -86,13 +87,13 @@ fn answered_length(answer: &Answer) -> u64
 }
 
 fn identity_length(identity: &Identity) -> u64
-    ensures { result ≡ told (length (form.identity.put identity.now)) }
+    ensures { result ≡ told (length (names.identity.put identity.now)) }
 {
     text_length(&identity.name).saturating_add(text_length(&identity.category))
 }
 
 fn facet_length(facet: &Name) -> u64
-    ensures { result ≡ told (length (form.facet.put facet.now)) }
+    ensures { result ≡ told (length (names.facet.put facet.now)) }
 {
     if facet.as_str().is_empty() {
         1

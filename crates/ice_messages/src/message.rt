@@ -1,15 +1,9 @@
 //! What the messages of a connection say.
 
-/// The most bytes of a message, and of an encapsulation.
-pub const LARGEST: u32 = 1_048_576;
-
-/// The least bytes of an encapsulation: its size and its version.
-pub const SMALLEST_ENCAPSULATION: u32 = 6;
+use ice_types::{Bytes, Identity, List, Name};
 
 /// How many bytes a message has at least: those of its header.
-pub const HEADER_BYTES: u32 = 14;
-
-use ice_types::{Bytes, Identity, List, Name};
+pub const HEADER_BYTES: usize = 14;
 
 /// An operation of an object, called with arguments. (Ice manual, "Request Message".)
 #[derive(Debug, Drop)]

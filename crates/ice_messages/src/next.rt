@@ -5,20 +5,21 @@ ghost use Rattle.ice_messages.specs.declared.message.TheConstants.{HEADER_BYTES}
 ghost use Rattle.ice_messages.specs.Streams.{good_header};
 ghost use Rattle.ice_messages.specs.Next.{StandsNext, IsCounted, size_counted};
 
-use crate::message::{HEADER_BYTES, LARGEST, Message};
+use crate::message::{HEADER_BYTES, Message};
 use crate::reading::{take_header, take_message};
 use crate::size::claimed_size;
+use ice_parts::LARGEST;
 use ice_prims::{Cursor, Fault, ReadFault};
 use std::alloc::Global;
 
 /// A header without fault, for those of its bytes that are not there yet.
-const GOOD_HEADER: [u8; HEADER_BYTES as usize] = [73, 99, 101, 80, 1, 0, 1, 0, 3, 0, 14, 0, 0, 0];
+const GOOD_HEADER: [u8; HEADER_BYTES] = [73, 99, 101, 80, 1, 0, 1, 0, 3, 0, 14, 0, 0, 0];
 
 /// The message that stands next, and how many bytes it has. None while it is not whole.
 pub fn next_in(alloc: Global, bytes: &[u8]) -> Result<Option<(Message, usize)>, ReadFault>
     ensures { StandsNext result bytes.now }
 {
-    if bytes.len() < HEADER_BYTES as usize {
+    if bytes.len() < HEADER_BYTES {
         take_header(&mut Cursor::new(&completed(bytes)))?;
         return Ok(None);
     }
@@ -31,7 +32,7 @@ pub fn next_in(alloc: Global, bytes: &[u8]) -> Result<Option<(Message, usize)>, 
 }
 
 /// The header that the bytes begin, where what lacks is that of a header without fault.
-fn completed(bytes: &[u8]) -> [u8; HEADER_BYTES as usize]
+fn completed(bytes: &[u8]) -> [u8; HEADER_BYTES]
     requires { length bytes.now < HEADER_BYTES }
     ensures { result ≡ bytes.now ++ drop (length bytes.now) good_header }
 {
@@ -46,13 +47,13 @@ fn is_counted(bytes: &[u8]) -> Result<bool, Fault>
     ensures { IsCounted result bytes.now }
 {
     let size = size_in_header(bytes)?;
-    Ok(size as usize <= bytes.len())
+    Ok(size <= bytes.len())
 }
 
 /// The size of the message that a whole header counts.
-fn size_in_header(bytes: &[u8]) -> Result<u32, Fault>
+fn size_in_header(bytes: &[u8]) -> Result<usize, Fault>
     ensures { size_counted bytes.now ≡ result }
 {
     let (_, claim) = take_header(&mut Cursor::new(bytes))?;
-    claimed_size(10, LARGEST as usize, HEADER_BYTES, claim)
+    claimed_size(10, LARGEST, HEADER_BYTES, claim)
 }

@@ -2,13 +2,16 @@
 
 ghost use Rattle.std.specs.Prelude.{◌≡◌, ◌<◌, ℕ, List};
 ghost use Rattle.ice_prims.specs.Number.{text_at};
-ghost use Rattle.ice_messages.specs.Calls.{identity, facet, mode, encapsulation, call, answer, answer_by, missing, claimed};
+ghost use Rattle.ice_parts.specs.Identity.{identity, facet};
+ghost use Rattle.ice_parts.specs.Bounds.{claimed};
+ghost use Rattle.ice_messages.specs.Calls.{mode, encapsulation, call, answer, answer_by, missing};
 ghost use Rattle.ice_messages.specs.Answers.{Reads};
 ghost use Rattle.ice_prims.specs.Taking.{Takes};
 
-use crate::message::{Answer, Call, SMALLEST_ENCAPSULATION};
+use crate::message::{Answer, Call};
 use crate::read_context::take_context;
 use crate::size::claimed_size;
+use ice_parts::SMALLEST;
 use ice_prims::{Cursor, Fault, Kind, ReadFault};
 use ice_types::{Bytes, Identity, List, Name};
 use std::alloc::Global;
@@ -79,8 +82,8 @@ fn take_encapsulation(alloc: Global, cursor: &mut Cursor<'_>) -> Result<Bytes, R
 {
     let mut ahead = cursor.fork();
     let claim = ahead.take_int()?;
-    let size = claimed_size(cursor.place(), cursor.left(), SMALLEST_ENCAPSULATION, claim)?;
-    let bytes = cursor.take_bytes(size as usize)?;
+    let size = claimed_size(cursor.place(), cursor.left(), SMALLEST, claim)?;
+    let bytes = cursor.take_bytes(size)?;
     Ok(Bytes::from_vec(Vec::from_slice(alloc, bytes)?))
 }
 

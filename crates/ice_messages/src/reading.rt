@@ -3,9 +3,10 @@
 ghost use Rattle.std.specs.Prelude.{IfOk, ◌≡◌, ◌<◌, ◌-◌, ◌≤◌, ℕ, ℤ, List, Ok, length};
 ghost use Rattle.ice_prims.specs.Rest.{whole};
 ghost use Rattle.ice_prims.specs.Taking.{GivesUnlessMemory, Takes};
-ghost use Rattle.ice_messages.specs.Parts.{read_times, exactly};
+ghost use Rattle.ice_parts.specs.Parts.{read_times, exactly};
+ghost use Rattle.ice_parts.specs.Bounds.{filled};
 ghost use Rattle.ice_messages.specs.Calls.{call};
-ghost use Rattle.ice_messages.specs.Messages.{header, magic, versions, message_type, compression, body_by, calls, filled, message_at, whole_message_at};
+ghost use Rattle.ice_messages.specs.Messages.{header, magic, versions, message_type, compression, body_by, calls, message_at, whole_message_at};
 ghost use Rattle.ice_messages.specs.Answers.{Reads, Sees, Fills};
 ghost use Rattle.ice_messages.specs.Written.{IsOrderly};
 
@@ -43,7 +44,7 @@ pub fn take_message(alloc: Global, cursor: &mut Cursor<'_>) -> Result<Message, R
     let size_place = cursor.fork();
     let (kind, claim) = take_header(cursor)?;
     let size = claimed_size(size_place.place() + 10, there, HEADER_BYTES, claim)?;
-    let mut bound = cursor.split((size - HEADER_BYTES) as usize)?;
+    let mut bound = cursor.split(size - HEADER_BYTES)?;
     let message = take_body(alloc, kind, &mut bound)?;
     end(&bound)?;
     Ok(message)

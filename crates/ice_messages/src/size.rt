@@ -1,24 +1,24 @@
 //! Sizes that count what they stand in.
 
 ghost use Rattle.std.specs.Prelude.{◌≡◌, ◌<◌, ◌^◌, ℕ, List, Ok, Err, Result, length};
-ghost use Rattle.ice_messages.specs.Calls.{claimed};
+ghost use Rattle.ice_parts.specs.Bounds.{claimed};
 
-use crate::message::LARGEST;
+use ice_parts::LARGEST;
 use ice_prims::{Fault, Kind};
 
-/// The size that an int claims for what begins at `place`, where `left` bytes are left and `smallest` is the least there
-/// is. `TooLarge` above 1,048,576, then `Short` above `left`, then `BadSize`.
-pub fn claimed_size(place: u64, left: usize, smallest: u32, claim: i32) -> Result<u32, Fault>
+/// The size that an int claims for what begins at `place`, where `left` bytes are left and `smallest`
+/// is the least there is. `TooLarge` above 1,048,576, then `Short` above `left`, then `BadSize`.
+pub fn claimed_size(place: u64, left: usize, smallest: usize, claim: i32) -> Result<usize, Fault>
     ensures { claimed place left smallest claim ≡ result }
 {
     let wrong = |kind| Err(Fault { place, kind });
     if claim < 0 {
         return wrong(Kind::BadSize);
     }
-    let size = claim as u32;
+    let size = claim as usize;
     if size > LARGEST {
         wrong(Kind::TooLarge)
-    } else if size as usize > left {
+    } else if size > left {
         wrong(Kind::Short)
     } else if size < smallest {
         wrong(Kind::BadSize)

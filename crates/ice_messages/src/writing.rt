@@ -2,9 +2,10 @@
 
 ghost use Rattle.std.specs.Prelude.{pos, ◌≡◌, ◌++◌, ◌≤◌, ◌<◌, ℕ, List, [], length, OnOk};
 ghost use Rattle.std.specs.List.{flat_map};
-ghost use Rattle.ice_messages.specs.declared.message.TheConstants.{LARGEST};
+ghost use Rattle.ice_parts.specs.declared.limits.TheConstants.{LARGEST};
+ghost use Rattle.ice_parts.specs.Parts.{both, int, text};
+ghost use Rattle.ice_parts.specs.Identity as names;
 ghost use Rattle.ice_messages.specs.declared.message.Answer.TheVariants.{Missing};
-ghost use Rattle.ice_messages.specs.Parts.{both, int, text};
 ghost use Rattle.ice_messages.specs.Context as entries;
 ghost use Rattle.ice_messages.specs.Calls as form;
 ghost use Rattle.ice_messages.specs.Messages.{header, body_by, type_of, calls, message_bytes};
@@ -12,7 +13,8 @@ ghost use Rattle.ice_messages.specs.Written.{IsAnswer, IsOrderly, Writes};
 
 use crate::fault::WriteFault;
 use crate::lengths::message_length;
-use crate::message::{Answer, Call, LARGEST, Message};
+use crate::message::{Answer, Call, Message};
+use ice_parts::LARGEST;
 use ice_prims::{put_byte, put_int, put_size, put_str};
 use ice_types::{Bytes, Identity, Name};
 use std::alloc::{AllocError, Global};
@@ -23,7 +25,7 @@ pub fn write_message(alloc: Global, message: &Message) -> Result<Bytes, WriteFau
     ensures { Writes result message.now }
 {
     let length = message_length(message);
-    if length > u64::from(LARGEST) {
+    if length > LARGEST as u64 {
         return Err(WriteFault::TooLong(length));
     }
     let mut out = Vec::with_capacity(alloc, length as usize)?;
@@ -186,8 +188,8 @@ fn put_missing(
 }
 
 fn put_identity(out: &mut Vec<u8>, identity: &Identity) -> Result<(), AllocError>
-    requires { length (form.identity.put identity.now) ≤ LARGEST }
-    ensures { OnOk result (out.new.items ≡ out.old.items ++ form.identity.put identity.now) }
+    requires { length (names.identity.put identity.now) ≤ LARGEST }
+    ensures { OnOk result (out.new.items ≡ out.old.items ++ names.identity.put identity.now) }
 {
     put_str(out, identity.name.as_str())?;
     put_str(out, identity.category.as_str())
@@ -195,8 +197,8 @@ fn put_identity(out: &mut Vec<u8>, identity: &Identity) -> Result<(), AllocError
 
 /// No text for the default facet, else one.
 fn put_facet(out: &mut Vec<u8>, facet: &Name) -> Result<(), AllocError>
-    requires { length (form.facet.put facet.now) ≤ LARGEST }
-    ensures { OnOk result (out.new.items ≡ out.old.items ++ form.facet.put facet.now) }
+    requires { length (names.facet.put facet.now) ≤ LARGEST }
+    ensures { OnOk result (out.new.items ≡ out.old.items ++ names.facet.put facet.now) }
 {
     if facet.as_str().is_empty() {
         return put_size(out, 0);

@@ -1,7 +1,7 @@
 use Rattle.std.proofs.lemmas.Result.{err_from_is_err_and}
-use Rattle.ice_messages.specs.Parts.{read_times}
+use Rattle.ice_parts.specs.Parts.{read_times}
+use Rattle.ice_parts.proofs.Times.{goes_on, ends}
 use Rattle.ice_messages.specs.Calls.{call}
-use Rattle.ice_messages.proofs.Times.{goes_on, ends}
 use Rattle.ice_messages.proofs.reading.take_each.Goals as goal
 
 pub returns-in_err-call : goal.returns-in_err-call

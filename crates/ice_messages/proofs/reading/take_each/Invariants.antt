@@ -1,7 +1,7 @@
 use Rattle.std.proofs.Common.{◌≡◌, ◌-◌}
-use Rattle.ice_messages.specs.Parts.{read_times}
+use Rattle.ice_parts.specs.Parts.{read_times}
+use Rattle.ice_parts.proofs.Times.{with_front}
 use Rattle.ice_messages.specs.Calls.{call}
-use Rattle.ice_messages.proofs.Times.{with_front}
 use Rattle.ice_messages.proofs.reading.take_each.Given as goal
 
 abbrev pub invariant-loop : goal.invariant-loop

@@ -1,8 +1,8 @@
 use Rattle.std.proofs.Common.{◌∙◌, sym, ap}
 use Rattle.std.proofs.lemmas.Result.{err_from_is_err_and}
 use Rattle.ice_prims.specs.Rest.{whole}
+use Rattle.ice_parts.proofs.Times.{filled_done, filled_over}
 use Rattle.ice_messages.specs.Messages.{message_at}
-use Rattle.ice_messages.proofs.Times.{filled_done, filled_over}
 use Rattle.ice_messages.proofs.reading.whole_message.Goals as goal
 
 pub returns-in_err-end : goal.returns-in_err-end

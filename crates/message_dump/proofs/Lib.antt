@@ -1,0 +1,10 @@
+pub mod Settled
+pub mod Near
+pub mod Faults
+pub mod Taking
+pub mod Tellings
+pub mod Advancing
+pub mod Decided
+pub mod OneDump
+pub mod Dumping
+pub mod Written

@@ -1,0 +1,4 @@
+pub mod Lines
+pub mod Dumps
+pub mod Sources
+pub mod Steps
