@@ -1,40 +1,39 @@
 -- What the program did, from what its parts did.
-use Rattle.std.proofs.Common.{◌≡◌, ℕ, ◌+◌, ◌<◌, List, [], ◌++◌, length, get_or, take, drop, Option, None, Some, Result, Err, Bor, refl, sym, ap, ◌∙◌, append_assoc, inl, inr}
-use Rattle.std.specs.List.{flat_map}
-use Rattle.std.specs.Io.KnownBytes.{Appends, Keeps}
-use Rattle.std.proofs.lemmas.Grind.{flat_map-append}
-use Rattle.std.proofs.lemmas.List.{take-append-drop, drop_more}
-use Rattle.ice_ports.specs.Failures.{one_more}
-use Rattle.ice_node.specs.Words.{Word, Command, check}
+use Rattle.std.proofs.Common.{◌≡◌, ℕ, List, [], Option, refl, inl, inr}
+use Rattle.ice_node.specs.Words.{Command}
 use Rattle.ice_node.specs.Outside.{Files, Failures}
-use Rattle.ice_relay.specs.Streams.{AppendsPrefix, Writes}
-use Rattle.ice_node.specs.Answers.{Answer, done, usage, no_such_name, not_built, slice_refused, input_refused, read_failed, write_failed, no_memory}
+use Rattle.ice_node.specs.Answers.{Answer, done, usage, no_such_name, not_built, slice_refused, input_refused, text_refused, read_failed, write_failed, no_memory, refused_after, read_failed_after, no_memory_after}
 use Rattle.ice_node.specs.Decided.{Decides}
 use Rattle.ice_node.specs.Causes.{Causes}
+use Rattle.ice_node.proofs.Telling.{to_be_written}
 use Rattle.ice_node.specs.Effects.{TakesInput, Takes, Outputs}
 use Rattle.ice_node.specs.declared.outcome.Outcome.{Outcome}
 use Rattle.ice_node.specs.declared.outcome.Outcome.TheVariants as outcomes
 use Rattle.ice_node.specs.Outcomes.{Prints, answer_of}
 use Rattle.ice_node.proofs.Keeping.{keeps_itself}
-use Rattle.ice_relay.proofs.KnownBytes.{Appends-none, Appends-then}
+use Rattle.ice_relay.proofs.KnownBytes.{Appends-none}
 
 -- what was decided was written, or a write of it failed
 pub printed : (asked : Option Command) (files : Option Files) (input left : Option (List ℕ)) (before after : Failures) (bytes : List ℕ) (outcome : Outcome) → Decides asked files input (done bytes) → after.shelf ≡ before.shelf → after.source ≡ before.source → TakesInput asked input left
     → Prints before.sink after.sink outcome → Causes asked files input before after (answer_of outcome bytes) × Takes asked input left (answer_of outcome bytes)
 printed asked files input left before after bytes outcome decided shelf source taken (inl p) = rw p.0 ((decided, (shelf, source, p.1)), taken)
-printed asked files input left before after bytes outcome decided shelf source taken (inr p) = rw p.0 ((decided, (shelf, source, p.1)), taken)
+printed asked files input left before after bytes outcome decided shelf source taken (inr p) = rw p.0 ((to_be_written asked files input bytes decided, (shelf, source, p.1)), taken)
 
--- `check` takes nothing of the input, whatever the answer
-pub check_takes_nothing : (file : Word) (old : Option (List ℕ)) (answer : Answer) → Takes (Some (check file)) old old answer
-check_takes_nothing file old (done bytes) = keeps_itself old
-check_takes_nothing file old usage = keeps_itself old
-check_takes_nothing file old (no_such_name word) = keeps_itself old
-check_takes_nothing file old (not_built word) = keeps_itself old
-check_takes_nothing file old (slice_refused broken) = keeps_itself old
-check_takes_nothing file old input_refused = keeps_itself old
-check_takes_nothing file old read_failed = keeps_itself old
-check_takes_nothing file old (write_failed bytes) = keeps_itself old
-check_takes_nothing file old no_memory = keeps_itself old
+-- a command that takes nothing of the input does so whatever the answer
+pub takes_nothing : (asked : Option Command) (old : Option (List ℕ)) → TakesInput asked old old → (answer : Answer) → Takes asked old old answer
+takes_nothing asked old none (done bytes) = none
+takes_nothing asked old none usage = keeps_itself old
+takes_nothing asked old none (no_such_name word) = keeps_itself old
+takes_nothing asked old none (not_built word) = keeps_itself old
+takes_nothing asked old none (slice_refused broken) = keeps_itself old
+takes_nothing asked old none (input_refused fault) = none
+takes_nothing asked old none (text_refused place) = keeps_itself old
+takes_nothing asked old none read_failed = none
+takes_nothing asked old none (write_failed bytes) = none
+takes_nothing asked old none no_memory = none
+takes_nothing asked old none (refused_after written fault) = none
+takes_nothing asked old none (read_failed_after written) = none
+takes_nothing asked old none (no_memory_after written) = none
 
 -- nothing was written of no bytes, whatever the answer
 pub outputs_nothing : (old : Option (List ℕ)) (answer : Outcome) → Outputs old old (answer_of answer [])
@@ -43,7 +42,11 @@ outputs_nothing old outcomes.Usage = keeps_itself old
 outputs_nothing old (outcomes.NoSuchName word) = keeps_itself old
 outputs_nothing old (outcomes.NotBuilt word) = keeps_itself old
 outputs_nothing old (outcomes.SliceRefused file place kind) = keeps_itself old
-outputs_nothing old outcomes.InputRefused = keeps_itself old
+outputs_nothing old (outcomes.InputRefused fault) = keeps_itself old
+outputs_nothing old (outcomes.TextRefused place) = keeps_itself old
 outputs_nothing old outcomes.ReadFailed = keeps_itself old
 outputs_nothing old outcomes.WriteFailed = ([], [], refl, Appends-none old)
 outputs_nothing old outcomes.Memory = keeps_itself old
+outputs_nothing old (outcomes.RefusedAfter fault) = Appends-none old
+outputs_nothing old outcomes.ReadFailedAfter = Appends-none old
+outputs_nothing old outcomes.MemoryAfter = Appends-none old

@@ -1,22 +1,51 @@
 -- The listed forms are apart, and so is what words ask for.
-use Rattle.std.proofs.Common.{◌≡◌, List, Option, None, Some, refl, ap}
-use Rattle.ice_node.specs.Words.{Word, Command, relay, check, help, version, Form, Asks}
+use Rattle.std.proofs.Common.{◌≡◌, true, false, List, [], ◌∷◌, Option, None, Some, refl, sym, ap, ◌∙◌, get_or, codes}
+use Rattle.std.specs.Str.{bytes_eq}
+use Rattle.std.proofs.lemmas.Slice.Eq.{bytes_eq-Decides}
+use Rattle.ice_node.specs.Words.{Word, Command, relay, check, proxy, messages, help, version, Form, Asks}
+
+-- two first words that differ
+first_word : (words : List Word) (a b : Word) (x y : List Word) → words ≡ a ∷ x → words ≡ b ∷ y → a ≡ b
+first_word words a b x y p q = ap (λ (l : List Word). get_or l 0 []) (sym p ∙ q)
+
+no_proxy : codes "check" ≡ codes "proxy" → ⊥
+no_proxy e = let same : bytes_eq (codes "check") (codes "proxy") ≡ true = (bytes_eq-Decides (codes "check") (codes "proxy")).1 e in let never : false ≡ true = same in absurd cc
 
 pub forms_apart : (words : List Word) (a b : Command) → Form words a → Form words b → a ≡ b
 forms_apart words (relay f k) (relay g l) p q = cc (p.0, q.0)
 forms_apart words (relay f k) (check g) p q = absurd (cc (p.0, q.0))
+forms_apart words (relay f k) (proxy g) p q = absurd (cc (p.0, q.0))
+forms_apart words (relay f k) messages p q = absurd (cc (p.0, q))
 forms_apart words (relay f k) help p q = absurd (cc (p.0, q))
 forms_apart words (relay f k) version p q = absurd (cc (p.0, q))
 forms_apart words (check f) (relay g l) p q = absurd (cc (p.0, q.0))
 forms_apart words (check f) (check g) p q = cc (p.0, q.0)
+forms_apart words (check f) (proxy g) p q = absurd (no_proxy (first_word words _ _ _ _ p.0 q.0))
+forms_apart words (check f) messages p q = absurd (cc (p.0, q))
 forms_apart words (check f) help p q = absurd (cc (p.0, q))
 forms_apart words (check f) version p q = absurd (cc (p.0, q))
+forms_apart words (proxy f) (relay g l) p q = absurd (cc (p.0, q.0))
+forms_apart words (proxy f) (check g) p q = absurd (no_proxy (first_word words _ _ _ _ q.0 p.0))
+forms_apart words (proxy f) (proxy g) p q = cc (p.0, q.0)
+forms_apart words (proxy f) messages p q = absurd (cc (p.0, q))
+forms_apart words (proxy f) help p q = absurd (cc (p.0, q))
+forms_apart words (proxy f) version p q = absurd (cc (p.0, q))
+forms_apart words messages (relay g l) p q = absurd (cc (p, q.0))
+forms_apart words messages (check g) p q = absurd (cc (p, q.0))
+forms_apart words messages (proxy g) p q = absurd (cc (p, q.0))
+forms_apart words messages messages p q = refl
+forms_apart words messages help p q = absurd (cc (p, q))
+forms_apart words messages version p q = absurd (cc (p, q))
 forms_apart words help (relay g l) p q = absurd (cc (p, q.0))
 forms_apart words help (check g) p q = absurd (cc (p, q.0))
+forms_apart words help (proxy g) p q = absurd (cc (p, q.0))
+forms_apart words help messages p q = absurd (cc (p, q))
 forms_apart words help help p q = refl
 forms_apart words help version p q = absurd (cc (p, q))
 forms_apart words version (relay g l) p q = absurd (cc (p, q.0))
 forms_apart words version (check g) p q = absurd (cc (p, q.0))
+forms_apart words version (proxy g) p q = absurd (cc (p, q.0))
+forms_apart words version messages p q = absurd (cc (p, q))
 forms_apart words version help p q = absurd (cc (p, q))
 forms_apart words version version p q = refl
 

@@ -1,18 +1,21 @@
 -- At most one answer is decided where the outside tells what it holds.
-use Rattle.std.proofs.Common.{◌≡◌, ℕ, List, Option, None, Some, refl, sym, ap, subst, ◌∙◌, inl, inr, ◌⊎◌}
+use Rattle.std.proofs.Common.{◌≡◌, ℕ, List, Option, None, Some, Err, refl, sym, ap, subst, ◌∙◌, inl, inr, ◌⊎◌}
 use Rattle.ice_types.specs.declared.kind.TypeRef.{TypeRef}
 use Rattle.ice_types.specs.Tables.{Tables}
+use Rattle.ice_prims.specs.declared.fault.Fault.{Fault}
+use Rattle.ice_prims.specs.Rest.{whole}
 use Rattle.ice_encoding.specs.Tree.{Tree}
-use Rattle.ice_encoding.specs.Encapsulation.{SpellsEncapsulation, encapsulation_bytes}
-use Rattle.ice_encoding.proofs.Encapsulations.{encapsulation_apart}
+use Rattle.ice_encoding.specs.Encapsulation.{SpellsEncapsulation, encapsulation_at}
+use Rattle.ice_encoding.proofs.Encapsulations.{encapsulation_only, encapsulation_apart}
 use Rattle.slice_meaning.proofs.Loads.{one_meaning, one_break, never_both}
-use Rattle.ice_node.specs.Words.{Word, Command, relay, check, help, version, Asks}
-use Rattle.ice_node.specs.Outside.{Files, Failures}
-use Rattle.ice_node.specs.Answers.{Answer, done, usage, no_such_name, not_built, slice_refused, input_refused, read_failed, write_failed, no_memory, status}
-use Rattle.ice_node.specs.Decided.{IsBuilt, WithSchema, WithType, WithBuilt, WithValue, Relays, Checks, Decides, Decided}
+use Rattle.ice_node.specs.Words.{Word, Command, relay, check, proxy, messages, help, version, Asks}
+use Rattle.ice_node.specs.Outside.{Files, Failures, Outside}
+use Rattle.ice_node.specs.Answers.{Answer, done, usage, no_such_name, not_built, slice_refused, input_refused, text_refused, read_failed, write_failed, no_memory, refused_after, read_failed_after, no_memory_after, status}
+use Rattle.ice_node.specs.Decided.{WithSchema, WithType, WithBuilt, WithValue, Relays, Checks, Decides, Decided}
 use Rattle.ice_node.specs.Causes.{Causes}
-use Rattle.ice_node.specs.Statuses.{Ends}
+use Rattle.ice_node.specs.Statuses.{Answered, IsFailure, Ends}
 use Rattle.ice_node.proofs.CommandForms.{asks_apart}
+use Rattle.ice_node.proofs.Telling.{dumps_one}
 
 -- ---- a step of two answers: where both go on, they go on alike
 
@@ -34,10 +37,17 @@ built_apart t kind word a b Next Other one (inl p) (inr q) = absurd (p.0 q.0)
 built_apart t kind word a b Next Other one (inr p) (inl q) = absurd (q.0 p.0)
 built_apart t kind word a b Next Other one (inr p) (inr q) = one p.1 q.1
 
+one_fault : (input : List ℕ) (t : Tables) (kind : TypeRef) (a b : Fault) → encapsulation_at t kind (whole input) ≡ Err a → encapsulation_at t kind (whole input) ≡ Err b → a ≡ b
+one_fault input t kind a b p q = cc (p, q)
+
+-- an input that has a fault holds no value
+no_fault : (input : List ℕ) (t : Tables) (kind : TypeRef) (a : Fault) (v : Tree) → encapsulation_at t kind (whole input) ≡ Err a → SpellsEncapsulation t kind input v → ⊥
+no_fault input t kind a v p h = let read = encapsulation_only t kind input v h in cc
+
 value_apart : (input : List ℕ) (t : Tables) (kind : TypeRef) (a b : Answer) (Next Other : Tree → Type 0) → ((v : Tree) → Next v → Other v → a ≡ b) → WithValue (Some input) t kind a Next → WithValue (Some input) t kind b Other → a ≡ b
-value_apart input t kind a b Next Other one (inl p) (inl q) = p.1 ∙ sym q.1
-value_apart input t kind a b Next Other one (inl p) (inr q) = absurd (p.0 q.0 q.1)
-value_apart input t kind a b Next Other one (inr p) (inl q) = absurd (q.0 p.0 p.1)
+value_apart input t kind a b Next Other one (inl p) (inl q) = p.2 ∙ ap input_refused (one_fault input t kind p.0 q.0 p.1 q.1) ∙ sym q.2
+value_apart input t kind a b Next Other one (inl p) (inr q) = absurd (no_fault input t kind p.0 q.0 p.1 q.1)
+value_apart input t kind a b Next Other one (inr p) (inl q) = absurd (no_fault input t kind q.0 p.0 q.1 p.1)
 value_apart input t kind a b Next Other one (inr p) (inr q) = one q.0 (subst Next (encapsulation_apart t kind input p.0 q.0 p.1 q.1) p.2) q.2
 
 -- ---- the commands
@@ -51,6 +61,8 @@ checks_apart files file a b = schema_apart files file a b _ _ (λ t x y. x ∙ s
 decides_apart : (asked : Option Command) (files : Files) (input : List ℕ) (a b : Answer) → Decides asked (Some files) (Some input) a → Decides asked (Some files) (Some input) b → a ≡ b
 decides_apart (Some (relay file word)) files input a b p q = relays_apart files input file word a b p q
 decides_apart (Some (check file)) files input a b p q = checks_apart files file a b p q
+decides_apart (Some (proxy text)) files input a b p q = p ∙ sym q
+decides_apart (Some messages) files input a b p q = dumps_one input a b p q
 decides_apart (Some help) files input a b p q = p ∙ sym q
 decides_apart (Some version) files input a b p q = p ∙ sym q
 decides_apart None files input a b p q = p ∙ sym q
@@ -60,19 +72,28 @@ answers_apart words files input a b p q =
     let same = asks_apart words p.0 q.0 p.1 q.1 in
     decides_apart q.0 files input a b (subst (λ (x : Option Command). Decides x (Some files) (Some input) a) same p.2) q.2
 
--- the answer that came is the one that is decided, unless something failed
-ends_with : (words : List Word) (files : Files) (input : List ℕ) (before after : Failures) (asked : Option Command) (result : ℕ) (came answer : Answer) → Asks words asked → Causes asked (Some files) (Some input) before after came → result ≡ status came → Decided words files input answer → Ends result answer
-ends_with words files input b n asked result (done bytes) answer asks c e d = inl (e ∙ ap status (answers_apart words files input (done bytes) answer (asked, asks, c.0) d))
-ends_with words files input b n asked result usage answer asks c e d = inl (e ∙ ap status (answers_apart words files input usage answer (asked, asks, c.0) d))
-ends_with words files input b n asked result (no_such_name word) answer asks c e d = inl (e ∙ ap status (answers_apart words files input (no_such_name word) answer (asked, asks, c.0) d))
-ends_with words files input b n asked result (not_built word) answer asks c e d = inl (e ∙ ap status (answers_apart words files input (not_built word) answer (asked, asks, c.0) d))
-ends_with words files input b n asked result (slice_refused broken) answer asks c e d = inl (e ∙ ap status (answers_apart words files input (slice_refused broken) answer (asked, asks, c.0) d))
-ends_with words files input b n asked result input_refused answer asks c e d = inl (e ∙ ap status (answers_apart words files input input_refused answer (asked, asks, c.0) d))
-ends_with words files input b n asked result read_failed answer asks c e d = inr (inl e)
-ends_with words files input b n asked result (write_failed bytes) answer asks c e d = inr (inr (inl e))
-ends_with words files input b n asked result no_memory answer asks c e d = inr (inr (inr e))
+-- ---- the answer that came
 
-pub ends_told : (words : List Word) (known : Option Files) (left : Option (List ℕ)) (before after : Failures) (asked : Option Command) (result : ℕ) (came : Answer) → Asks words asked → Causes asked known left before after came → result ≡ status came
-    → (files : Files) (input : List ℕ) (answer : Answer) → known ≡ Some files → left ≡ Some input → Decided words files input answer → Ends result answer
-ends_told words known left before after asked result came asks c e files input answer k l d =
-    ends_with words files input before after asked result came answer asks (subst (λ (x : Option (List ℕ)). Causes asked (Some files) x before after came) l (subst (λ (x : Option Files). Causes asked x left before after came) k c)) e d
+-- it is the one that is decided, unless something failed
+came_as_decided : (words : List Word) (files : Files) (input : List ℕ) (before after : Failures) (asked : Option Command) (came answer : Answer) → Asks words asked → Causes asked (Some files) (Some input) before after came → Decided words files input answer → (came ≡ answer) ⊎ IsFailure (status came)
+came_as_decided words files input b n asked (done bytes) answer asks c d = inl (answers_apart words files input (done bytes) answer (asked, asks, c.0) d)
+came_as_decided words files input b n asked usage answer asks c d = inl (answers_apart words files input usage answer (asked, asks, c.0) d)
+came_as_decided words files input b n asked (no_such_name word) answer asks c d = inl (answers_apart words files input (no_such_name word) answer (asked, asks, c.0) d)
+came_as_decided words files input b n asked (not_built word) answer asks c d = inl (answers_apart words files input (not_built word) answer (asked, asks, c.0) d)
+came_as_decided words files input b n asked (slice_refused broken) answer asks c d = inl (answers_apart words files input (slice_refused broken) answer (asked, asks, c.0) d)
+came_as_decided words files input b n asked (input_refused fault) answer asks c d = inl (answers_apart words files input (input_refused fault) answer (asked, asks, c.0) d)
+came_as_decided words files input b n asked (text_refused place) answer asks c d = inl (answers_apart words files input (text_refused place) answer (asked, asks, c.0) d)
+came_as_decided words files input b n asked read_failed answer asks c d = inr (inl refl)
+came_as_decided words files input b n asked (write_failed bytes) answer asks c d = inr (inr (inl refl))
+came_as_decided words files input b n asked no_memory answer asks c d = inr (inr (inr refl))
+came_as_decided words files input b n asked (refused_after written fault) answer asks c d = inl (answers_apart words files input (refused_after written fault) answer (asked, asks, c.0) d)
+came_as_decided words files input b n asked (read_failed_after written) answer asks c d = inr (inl refl)
+came_as_decided words files input b n asked (no_memory_after written) answer asks c d = inr (inr (inr refl))
+
+pub ends : (words : List Word) (before after : Outside) (result : ℕ) (came : Answer) → Answered words before after result came → (files : Files) (input : List ℕ) (answer : Answer) → before.files ≡ Some files → before.input ≡ Some input → Decided words files input answer → Ends words before after result answer
+ends words before after result came a files input answer k l d =
+    let told = subst (λ (x : Option (List ℕ)). Causes a.asked (Some files) x before.failures after.failures came) l (subst (λ (x : Option Files). Causes a.asked x before.input before.failures after.failures came) k a.cause) in
+    elim (came_as_decided words files input before.failures after.failures a.asked came answer a.asks told d) [
+      | inl same ↦ inl (subst (λ (x : Answer). Answered words before after result x) same a)
+      | inr failed ↦ inr (subst IsFailure (sym a.returned) failed)
+    ]

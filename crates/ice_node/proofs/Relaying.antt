@@ -1,36 +1,31 @@
 -- What was loaded and read, and what it comes to.
-use Rattle.std.proofs.Common.{◌≡◌, ℕ, ℤ, pos, ◌+◌, ◌<◌, ◌^◌, List, [], ◌∷◌, ◌++◌, length, take, Option, None, Some, Result, Ok, Err, refl, sym, ap, subst, ◌∙◌, append_assoc, arith, inl, inr}
-use Rattle.std.specs.Int.{w32, from_le_bytes, cast_signed}
-use Rattle.std.proofs.lemmas.List.{append-nil, length-append, take_at}
+use Rattle.std.proofs.Common.{◌≡◌, ℕ, ◌<◌, List, [], ◌++◌, length, Option, None, Some, Err, refl, sym, ap, subst, ◌∙◌, arith, inl, inr}
+use Rattle.std.proofs.lemmas.List.{append-nil}
 use Rattle.ice_types.specs.declared.kind.TypeRef.{TypeRef}
 use Rattle.ice_types.specs.Tables.{Tables}
 use Rattle.ice_prims.specs.declared.fault.Fault.{Fault}
 use Rattle.ice_prims.specs.declared.fault.ReadFault.{ReadFault}
 use Rattle.ice_prims.specs.declared.fault.ReadFault.TheVariants as faults
-use Rattle.ice_prims.specs.Rest.{whole, IsBytes}
-use Rattle.ice_prims.specs.Taking.{Fails}
-use Rattle.ice_prims.specs.Bytes.{signed_bytes}
+use Rattle.ice_prims.specs.Rest.{whole}
 use Rattle.ice_encoding.specs.Tree.{Tree}
-use Rattle.ice_encoding.specs.Canonical.{canonical, HasSizes}
-use Rattle.ice_encoding.specs.Encapsulation.{SpellsEncapsulation, encapsulation_at, encapsulation_bytes}
-use Rattle.ice_encoding.proofs.Plain.{plain_sizes}
-use Rattle.ice_encoding.proofs.Encapsulations.{encapsulation_found, encapsulation_only, encapsulation_canon}
+use Rattle.ice_encoding.specs.Encapsulation.{SpellsEncapsulation, encapsulation_at}
 use Rattle.ice_relay.specs.Relaying.{Canonicalizes}
 use Rattle.ice_relay.proofs.Values.{claims_length}
+use Rattle.ice_relay.proofs.Decided.{read_decides}
 use Rattle.ice_node.specs.Words.{Word, relay, check}
 use Rattle.ice_ports.specs.declared.ports.PortFault.{PortFault}
 use Rattle.ice_ports.specs.declared.ports.PortFault.TheVariants as ports
 use Rattle.ice_ports.specs.Failures.{count_after}
 use Rattle.ice_ports.specs.Files.{is_failed}
-use Rattle.ice_relay.specs.Streams.{Claims, IsSize, ReadsInput, TakesFrugally}
+use Rattle.ice_relay.specs.Streams.{ReadsInput, TakesFrugally}
 use Rattle.ice_relay.proofs.Inputs.{nothing_is_frugal}
 use Rattle.ice_node.proofs.Keeping.{keeps_itself}
 use Rattle.ice_node.specs.Outside.{Files, Failures, NoneFailed, counts}
-use Rattle.ice_node.specs.Answers.{Answer, done, usage, no_such_name, not_built, slice_refused, input_refused, read_failed, write_failed, no_memory}
-use Rattle.ice_node.specs.Decided.{IsBuilt, IsSchema, IsNamed, WithType, WithBuilt, IsValue, HasNoValue}
+use Rattle.ice_node.specs.Answers.{Answer, done, usage, no_such_name, not_built, slice_refused, input_refused, text_refused, read_failed, write_failed, no_memory, refused_after, read_failed_after, no_memory_after}
+use Rattle.ice_node.specs.Decided.{IsBuilt, IsSchema, IsNamed, WithType, WithBuilt, IsValue, IsInputFault}
 use Rattle.ice_node.specs.Causes.{Causes}
 use Rattle.ice_node.specs.Effects.{Takes}
-use Rattle.ice_node.specs.Outcomes.{GivesNoSchema, FindsSchema, FindsType, answer_of, of_port, of_read}
+use Rattle.ice_node.specs.Outcomes.{GivesNoSchema, answer_of, of_port, of_read}
 use Rattle.ice_node.specs.declared.outcome.Outcome.{Outcome}
 
 -- ---- the file
@@ -44,8 +39,12 @@ relay_unloaded files input file word before after source sink (done bytes) h = a
 relay_unloaded files input file word before after source sink usage h = absurd h
 relay_unloaded files input file word before after source sink (no_such_name name) h = absurd h
 relay_unloaded files input file word before after source sink (not_built name) h = absurd h
-relay_unloaded files input file word before after source sink input_refused h = absurd h
+relay_unloaded files input file word before after source sink (input_refused fault) h = absurd h
+relay_unloaded files input file word before after source sink (text_refused place) h = absurd h
 relay_unloaded files input file word before after source sink (write_failed bytes) h = absurd h
+relay_unloaded files input file word before after source sink (refused_after written fault) h = absurd h
+relay_unloaded files input file word before after source sink (read_failed_after written) h = absurd h
+relay_unloaded files input file word before after source sink (no_memory_after written) h = absurd h
 
 pub check_unloaded : (files : Option Files) (input : Option (List ℕ)) (file : Word) (before after source sink : ℕ) (answer : Answer) → GivesNoSchema files file before after answer → Causes (Some (check file)) files input (counts before source sink) (counts after source sink) answer
 check_unloaded files input file before after source sink (slice_refused broken) h = (inl (broken, h.0, refl), (h.1, refl, refl))
@@ -55,8 +54,12 @@ check_unloaded files input file before after source sink (done bytes) h = absurd
 check_unloaded files input file before after source sink usage h = absurd h
 check_unloaded files input file before after source sink (no_such_name name) h = absurd h
 check_unloaded files input file before after source sink (not_built name) h = absurd h
-check_unloaded files input file before after source sink input_refused h = absurd h
+check_unloaded files input file before after source sink (input_refused fault) h = absurd h
+check_unloaded files input file before after source sink (text_refused place) h = absurd h
 check_unloaded files input file before after source sink (write_failed bytes) h = absurd h
+check_unloaded files input file before after source sink (refused_after written fault) h = absurd h
+check_unloaded files input file before after source sink (read_failed_after written) h = absurd h
+check_unloaded files input file before after source sink (no_memory_after written) h = absurd h
 
 -- nothing was taken of the input by then
 pub unloaded_takes : (files : Option Files) (file word : Word) (before after : ℕ) (old : Option (List ℕ)) (answer : Answer) → GivesNoSchema files file before after answer → Takes (Some (relay file word)) old old answer
@@ -67,8 +70,12 @@ unloaded_takes files file word before after old (done bytes) h = absurd h
 unloaded_takes files file word before after old usage h = absurd h
 unloaded_takes files file word before after old (no_such_name name) h = absurd h
 unloaded_takes files file word before after old (not_built name) h = absurd h
-unloaded_takes files file word before after old input_refused h = absurd h
+unloaded_takes files file word before after old (input_refused fault) h = absurd h
+unloaded_takes files file word before after old (text_refused place) h = absurd h
 unloaded_takes files file word before after old (write_failed bytes) h = absurd h
+unloaded_takes files file word before after old (refused_after written fault) h = absurd h
+unloaded_takes files file word before after old (read_failed_after written) h = absurd h
+unloaded_takes files file word before after old (no_memory_after written) h = absurd h
 
 -- ---- the type
 
@@ -109,22 +116,15 @@ module _ (t : Tables) (kind : TypeRef) where
   value_read (Some known) None got v r h = absurd r.0
   value_read (Some known) (Some rest) got v r h = elim r.1 [
     | inl end ↦ let same : got ≡ known = sym (r.0 ∙ ap (λ (l : List ℕ). got ++ l) end ∙ append-nil got) in subst (λ (l : List ℕ). SpellsEncapsulation t kind l v) same h
-    | inr past ↦ absurd (let size = claims_length t kind got got [] v past.0 (sym (append-nil got)) past.1 h in let below : length got < length got = past.2 (length got) size in omega arith)
+    | inr decided ↦ absurd (let claimed = claims_length t kind got v decided.0 decided.1 h in let below : length got < length got = decided.2 (length got) claimed in omega arith)
   ]
 
-  pub no_value_read : (before now : Option (List ℕ)) (got : List ℕ) → ReadsInput before now got → ((v : Tree) → SpellsEncapsulation t kind got v → ⊥) → HasNoValue before t kind
-  no_value_read None now got r none = tt
-  no_value_read (Some known) None got r none = absurd r.0
-  no_value_read (Some known) (Some rest) got r none = λ v h. elim r.1 [
-    | inl end ↦ let same : known ≡ got = r.0 ∙ ap (λ (l : List ℕ). got ++ l) end ∙ append-nil got in none v (subst (λ (l : List ℕ). SpellsEncapsulation t kind l v) same h)
-    | inr past ↦
-        let size = claims_length t kind known got rest v past.0 r.0 past.1 h in
-        let below : length known < length got = past.2 (length known) size in
-        omega (arith, ap length r.0, length-append got rest)
-  ]
+  pub fault_read : (before now : Option (List ℕ)) (got : List ℕ) (fault : Fault) → ReadsInput before now got → encapsulation_at t kind (whole got) ≡ Err fault → IsInputFault before t kind fault
+  fault_read None now got fault r e = tt
+  fault_read (Some known) now got fault r e = sym (read_decides t kind known got now r) ∙ e
 
--- an input that holds no value, or for which memory ran out
+-- an input that has a fault, or for which memory ran out
 pub input_gives_none : (files : Option Files) (input now : Option (List ℕ)) (file word : Word) (t : Tables) (kind : TypeRef) (got : List ℕ) (before after : Failures) (fault : ReadFault) (outcome : Outcome) → outcome ≡ of_read fault
     → IsSchema files file t → IsNamed t word kind → IsBuilt t kind → ReadsInput input now got → Canonicalizes t kind got (Err fault) → NoneFailed before after → Causes (Some (relay file word)) files input before after (answer_of outcome [])
-input_gives_none files input now file word t kind got before after (faults.Broken fault) outcome from schema named built read none counts = rw from (inr (t, schema, inr (kind, named, inr (built, inl (no_value_read t kind input now got read none, refl)))), counts)
-input_gives_none files input now file word t kind got before after faults.Memory outcome from schema named built read none counts = rw from (tt, counts)
+input_gives_none files input now file word t kind got before after (faults.Broken fault) outcome from schema named built read refused counts = rw from (inr (t, schema, inr (kind, named, inr (built, inl (fault, fault_read t kind input now got fault read refused, refl)))), counts)
+input_gives_none files input now file word t kind got before after faults.Memory outcome from schema named built read refused counts = rw from (tt, counts)

@@ -1,6 +1,8 @@
 -- What the program answers: the table of statuses, with the line of each.
 use Rattle.std.specs.Prelude.{ℕ, List, [], ◌++◌, codes}
 use Rattle.std.specs.Fmt.{decimal}
+use Rattle.ice_prims.specs.declared.fault.Fault.{Fault}
+use Rattle.ice_prims.specs.Kinds.{kind_name}
 use Rattle.slice_meaning.specs.Printed.{LoadBreak}
 use Rattle.ice_node.specs.Words.{Word}
 
@@ -15,11 +17,18 @@ pub data Answer : Type 0 where
   not_built : Word → Answer
   -- the Slice file, or one that it includes, has this fault
   slice_refused : LoadBreak → Answer
-  input_refused : Answer
+  -- the input has this fault
+  input_refused : Fault → Answer
+  -- the word that begins here cannot stand in the text of a proxy
+  text_refused : ℕ → Answer
   read_failed : Answer
   -- a prefix of these bytes was written
   write_failed : List ℕ → Answer
   no_memory : Answer
+  -- these bytes were written, and then: the input has this fault, a read failed, memory ran out
+  refused_after : List ℕ → Fault → Answer
+  read_failed_after : List ℕ → Answer
+  no_memory_after : List ℕ → Answer
 
 abbrev pub status : Answer → ℕ
 status (done bytes) = 0
@@ -27,14 +36,26 @@ status usage = 2
 status (no_such_name word) = 2
 status (not_built word) = 2
 status (slice_refused broken) = 3
-status input_refused = 4
+status (input_refused fault) = 4
+status (text_refused place) = 4
 status read_failed = 5
 status (write_failed bytes) = 6
 status no_memory = 9
+status (refused_after written fault) = 4
+status (read_failed_after written) = 5
+status (no_memory_after written) = 9
 
 -- where a fault of a Slice text stands: FILE:PLACE: KIND
 abbrev pub fault_text : LoadBreak → List ℕ
 fault_text broken = broken.file ++ (codes ":" ++ (decimal broken.place ++ (codes ": " ++ broken.kind)))
+
+-- where a fault of an input stands: PLACE: KIND
+abbrev pub input_text : Fault → List ℕ
+input_text fault = decimal fault.place ++ (codes ": " ++ kind_name fault.kind)
+
+-- the line that says so
+abbrev pub refusal : Fault → List ℕ
+refusal fault = codes "ice: input refused at " ++ (input_text fault ++ codes "\n")
 
 -- the line on the sink of errors
 abbrev pub error_line : Answer → List ℕ
@@ -43,7 +64,11 @@ error_line usage = codes "ice: usage\n"
 error_line (no_such_name word) = codes "ice: no such name " ++ (word ++ codes "\n")
 error_line (not_built word) = codes "ice: not built " ++ (word ++ codes "\n")
 error_line (slice_refused broken) = codes "ice: " ++ (fault_text broken ++ codes "\n")
-error_line input_refused = codes "ice: input refused\n"
+error_line (input_refused fault) = refusal fault
+error_line (text_refused place) = codes "ice: text refused at " ++ (decimal place ++ codes "\n")
 error_line read_failed = codes "ice: read failed\n"
 error_line (write_failed bytes) = codes "ice: write failed\n"
 error_line no_memory = codes "ice: no memory\n"
+error_line (refused_after written fault) = refusal fault
+error_line (read_failed_after written) = codes "ice: read failed\n"
+error_line (no_memory_after written) = codes "ice: no memory\n"

@@ -1,22 +1,30 @@
 -- What each command comes to by its words, the files and the input, where the outside tells them.
 -- Each step decides only what those before it let through: the Slice file, the name of the type,
 -- whether its values are built, the input.
-use Rattle.std.specs.Prelude.{ℕ, true, ◌≡◌, ◌+◌, ◌⊎◌, List, ◌++◌, length, Option, Some, None, IfSome, codes}
+use Rattle.std.specs.Prelude.{ℕ, true, ◌≡◌, ◌+◌, ◌⊎◌, List, [], ◌∷◌, ◌++◌, length, Option, Some, None, IfSome, Result, Ok, Err, codes}
 use Rattle.std.specs.Fmt.{decimal}
 use Rattle.ice_types.specs.declared.kind.TypeRef.{TypeRef}
 use Rattle.ice_types.specs.declared.measure.Measure.{Measure}
 use Rattle.ice_types.specs.declared.schema.TheConstants.{MOST_DEPTH}
 use Rattle.ice_types.specs.Tables.{Tables}
 use Rattle.ice_types.specs.Measures.{measure}
+use Rattle.ice_prims.specs.declared.fault.Fault.{Fault}
+use Rattle.ice_prims.specs.Rest.{whole}
 use Rattle.ice_encoding.specs.Tree.{Tree}
-use Rattle.ice_encoding.specs.Encapsulation.{SpellsEncapsulation, encapsulation_bytes}
+use Rattle.ice_encoding.specs.Encapsulation.{SpellsEncapsulation, encapsulation_at, encapsulation_bytes}
+use Rattle.ice_types.specs.declared.proxy.Proxy.{Proxy}
+use Rattle.ice_parts.specs.Proxy as parts
+use Rattle.hex.specs.Hex.{encode_lower}
+use Rattle.proxy_text.specs.Grammar.{proxy_text}
+use Rattle.proxy_text.specs.Printed.{printed_proxy}
+use Rattle.message_dump.specs.Dumps.{IsDump}
 use Rattle.slice_meaning.specs.Printed.{LoadBreak}
 use Rattle.slice_meaning.specs.Loading.{Loads, LoadBreaks}
 use Rattle.ice_node.specs.declared.help.TheConstants.{HELP, VERSION}
-use Rattle.ice_node.specs.Words.{Word, Command, relay, check, help, version, Asks}
+use Rattle.ice_node.specs.Words.{Word, Command, relay, check, proxy, messages, help, version, Asks}
 use Rattle.ice_node.specs.TypeWords.{IsTypeWord}
 use Rattle.ice_node.specs.Outside.{Files}
-use Rattle.ice_node.specs.Answers.{Answer, done, usage, no_such_name, not_built, slice_refused, input_refused}
+use Rattle.ice_node.specs.Answers.{Answer, done, usage, no_such_name, not_built, slice_refused, input_refused, text_refused, refused_after}
 
 -- ---- the steps
 
@@ -45,7 +53,7 @@ WithType t word answer Next =
     (((kind : TypeRef) → IsTypeWord t word kind → ⊥) × (answer ≡ no_such_name word))
     ⊎ ((kind : TypeRef) × IsNamed t word kind × Next kind)
 
--- Values of the type are carried: it reaches no enum, class or proxy through elements, keys and members.
+-- Values of the type are carried: it reaches no class through elements, keys and members.
 abbrev pub IsBuilt : Tables → TypeRef → Type 0
 IsBuilt t kind = (m : Measure) × (measure t MOST_DEPTH kind ≡ Some m) × (m.is_built ≡ true)
 
@@ -58,14 +66,15 @@ WithBuilt t kind word answer Next =
 abbrev pub IsValue : Option (List ℕ) → Tables → TypeRef → Tree → Type 0
 IsValue input t kind v = IfSome input (λ known. SpellsEncapsulation t kind known v)
 
--- the input is no encapsulation of a value of the type, where the source tells it
-abbrev pub HasNoValue : Option (List ℕ) → Tables → TypeRef → Type 0
-HasNoValue input t kind =
-    IfSome input (λ known. (v : Tree) → SpellsEncapsulation t kind known v → ⊥)
+-- read as one, the whole input has this first fault, where the source tells it
+abbrev pub IsInputFault : Option (List ℕ) → Tables → TypeRef → Fault → Type 0
+IsInputFault input t kind fault =
+    IfSome input (λ known. encapsulation_at t kind (whole known) ≡ Err fault)
 
 -- the input is refused, or holds a value, from which it goes on
 abbrev pub WithValue : Option (List ℕ) → Tables → TypeRef → Answer → (Tree → Type 0) → Type 0
-WithValue input t kind answer Next = (HasNoValue input t kind × (answer ≡ input_refused))
+WithValue input t kind answer Next =
+    ((fault : Fault) × IsInputFault input t kind fault × (answer ≡ input_refused fault))
     ⊎ ((v : Tree) × IsValue input t kind v × Next v)
 
 -- ---- the commands
@@ -94,10 +103,30 @@ summary t = count_line (length t.seqs + length t.dicts + length t.structs + leng
 abbrev pub Checks : Option Files → Word → Answer → Type 0
 Checks files file answer = WithSchema files file answer (λ t. answer ≡ done (summary t))
 
+-- the printed text of a proxy, and its bytes in hexadecimal
+abbrev pub proxy_lines : Proxy → List ℕ
+proxy_lines p = printed_proxy p ++ 10 ∷ (encode_lower (parts.proxy.put (Some p)) ++ 10 ∷ [])
+
+-- of a proxy that was read, or of the place of the first word that cannot stand
+abbrev pub read_text : Result Proxy ℕ → Answer
+read_text (Ok p) = done (proxy_lines p)
+read_text (Err place) = text_refused place
+
+-- the lines of the messages, and where a fault follows them a refusal
+abbrev pub told : List ℕ → Option Fault → Answer
+told lines None = done lines
+told lines (Some fault) = refused_after lines fault
+
+-- `messages`: a line for each message of the input, up to its end or its first fault, where the source tells it
+abbrev pub Dumps : Option (List ℕ) → Answer → Type 0
+Dumps input answer = (lines : List ℕ) × (end : Option Fault) × IfSome input (λ known. IsDump known lines end) × (answer ≡ told lines end)
+
 -- what a command comes to, and words that are none
 abbrev pub Decides : Option Command → Option Files → Option (List ℕ) → Answer → Type 0
 Decides (Some (relay file word)) files input answer = Relays files input file word answer
 Decides (Some (check file)) files input answer = Checks files file answer
+Decides (Some (proxy text)) files input answer = answer ≡ read_text (proxy_text text)
+Decides (Some messages) files input answer = Dumps input answer
 Decides (Some help) files input answer = answer ≡ done HELP.now
 Decides (Some version) files input answer = answer ≡ done VERSION.now
 Decides None files input answer = answer ≡ usage

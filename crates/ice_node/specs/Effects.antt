@@ -2,14 +2,18 @@
 use Rattle.std.specs.Prelude.{ℕ, ◌≡◌, ◌⊎◌, List, Option, Some, None}
 use Rattle.std.specs.Io.KnownBytes.{Keeps, Appends}
 use Rattle.ice_ports.specs.Failures.{one_more}
-use Rattle.ice_node.specs.Words.{Command, relay, check, help, version}
+use Rattle.message_dump.specs.Sources.{ReadsFrugally}
+use Rattle.ice_node.specs.Words.{Command, relay, check, proxy, messages, help, version}
 use Rattle.ice_relay.specs.Streams.{TakesFrugally, AppendsPrefix}
-use Rattle.ice_node.specs.Answers.{Answer, done, usage, no_such_name, not_built, slice_refused, input_refused, read_failed, write_failed, no_memory, error_line}
+use Rattle.ice_node.specs.Answers.{Answer, done, usage, no_such_name, not_built, slice_refused, input_refused, text_refused, read_failed, write_failed, no_memory, refused_after, read_failed_after, no_memory_after, error_line}
 
--- no more of the input than the encapsulation that it claims and one byte, for `relay` alone
+-- No more of the input than is wanted: for `relay` the encapsulation that it claims and one byte; for `messages` another piece only where
+-- all messages that were whole are told.
 abbrev pub TakesInput : Option Command → Option (List ℕ) → Option (List ℕ) → Type 0
 TakesInput (Some (relay file word)) old new = TakesFrugally old new
 TakesInput (Some (check file)) old new = Keeps old new
+TakesInput (Some (proxy text)) old new = Keeps old new
+TakesInput (Some messages) old new = ReadsFrugally old new
 TakesInput (Some help) old new = Keeps old new
 TakesInput (Some version) old new = Keeps old new
 TakesInput None old new = Keeps old new
@@ -21,22 +25,30 @@ Takes asked old new usage = Keeps old new
 Takes asked old new (no_such_name word) = Keeps old new
 Takes asked old new (not_built word) = Keeps old new
 Takes asked old new (slice_refused broken) = Keeps old new
-Takes asked old new input_refused = TakesInput asked old new
+Takes asked old new (input_refused fault) = TakesInput asked old new
+Takes asked old new (text_refused place) = Keeps old new
 Takes asked old new read_failed = TakesInput asked old new
 Takes asked old new (write_failed bytes) = TakesInput asked old new
 Takes asked old new no_memory = TakesInput asked old new
+Takes asked old new (refused_after written fault) = TakesInput asked old new
+Takes asked old new (read_failed_after written) = TakesInput asked old new
+Takes asked old new (no_memory_after written) = TakesInput asked old new
 
--- what the sink got: the bytes, a prefix of them after a failed write, and nothing of a refusal
+-- what the sink got: the bytes, a prefix of them after a failed write, and of a refusal nothing, or what was written before it
 abbrev pub Outputs : Option (List ℕ) → Option (List ℕ) → Answer → Type 0
 Outputs old new (done bytes) = Appends old new bytes
 Outputs old new usage = Keeps old new
 Outputs old new (no_such_name word) = Keeps old new
 Outputs old new (not_built word) = Keeps old new
 Outputs old new (slice_refused broken) = Keeps old new
-Outputs old new input_refused = Keeps old new
+Outputs old new (input_refused fault) = Keeps old new
+Outputs old new (text_refused place) = Keeps old new
 Outputs old new read_failed = Keeps old new
 Outputs old new (write_failed bytes) = AppendsPrefix old new bytes
 Outputs old new no_memory = Keeps old new
+Outputs old new (refused_after written fault) = Appends old new written
+Outputs old new (read_failed_after written) = Appends old new written
+Outputs old new (no_memory_after written) = Appends old new written
 
 -- what the sink of errors got: the line, or a prefix of it where a write to it failed
 abbrev pub GetsLine : (old new : Option (List ℕ)) → (before after : ℕ) → Answer → Type 0

@@ -3,20 +3,22 @@ use Rattle.std.specs.Prelude.{ℕ, ◌≡◌, ◌⊎◌, List, [], Option, Some,
 use Rattle.std.specs.declared.alloc.Global.{Global}
 use Rattle.ice_types.specs.declared.kind.TypeRef.{TypeRef}
 use Rattle.ice_types.specs.Tables.{Tables}
-use Rattle.ice_encoding.specs.Tree.{Tree}
-use Rattle.ice_encoding.specs.Encapsulation.{SpellsEncapsulation, encapsulation_bytes}
 use Rattle.ice_prims.specs.declared.fault.ReadFault.{ReadFault}
 use Rattle.ice_prims.specs.declared.fault.ReadFault.TheVariants as read_faults
 use Rattle.ice_ports.specs.declared.ports.PortFault.{PortFault}
 use Rattle.ice_ports.specs.declared.ports.PortFault.TheVariants as port_faults
 use Rattle.ice_ports.specs.Failures.{one_more}
+use Rattle.proxy_words.specs.declared.fault.TextFault.{TextFault}
+use Rattle.proxy_words.specs.declared.fault.TextFault.TheVariants as text_faults
+use Rattle.message_dump.specs.declared.dump.Dump.{Dump}
+use Rattle.message_dump.specs.declared.dump.Dump.TheVariants as dumps
 use Rattle.slice_check.specs.declared.fault.LoadFault.{LoadFault}
 use Rattle.slice_check.specs.declared.fault.LoadFault.TheVariants as load_faults
 use Rattle.ice_node.specs.declared.outcome.Outcome.{Outcome}
 use Rattle.ice_node.specs.declared.outcome.Outcome.TheVariants as outcomes
 use Rattle.ice_node.specs.Words.{Word, Command}
 use Rattle.ice_node.specs.Outside.{Files, Failures, NoneFailed}
-use Rattle.ice_node.specs.Answers.{Answer, done, usage, no_such_name, not_built, slice_refused, input_refused, read_failed, write_failed, no_memory}
+use Rattle.ice_node.specs.Answers.{Answer, done, usage, no_such_name, not_built, slice_refused, input_refused, text_refused, read_failed, write_failed, no_memory, refused_after, read_failed_after, no_memory_after}
 use Rattle.ice_node.specs.Decided.{IsBuilt, IsSchema, IsFault, IsNamed, WithType, WithBuilt, Decides}
 use Rattle.ice_node.specs.Causes.{Causes}
 use Rattle.ice_node.specs.Effects.{TakesInput, Takes}
@@ -29,10 +31,14 @@ answer_of (outcomes.NoSuchName word) bytes = no_such_name word.now
 answer_of (outcomes.NotBuilt word) bytes = not_built word.now
 answer_of (outcomes.SliceRefused file place kind) bytes =
     slice_refused (record { file = file; place = place; kind = kind })
-answer_of outcomes.InputRefused bytes = input_refused
+answer_of (outcomes.InputRefused fault) bytes = input_refused fault
+answer_of (outcomes.TextRefused place) bytes = text_refused place
 answer_of outcomes.ReadFailed bytes = read_failed
 answer_of outcomes.WriteFailed bytes = write_failed bytes
 answer_of outcomes.Memory bytes = no_memory
+answer_of (outcomes.RefusedAfter fault) bytes = refused_after bytes fault
+answer_of outcomes.ReadFailedAfter bytes = read_failed_after bytes
+answer_of outcomes.MemoryAfter bytes = no_memory_after bytes
 
 -- ---- what a fault of a part comes to
 
@@ -46,8 +52,20 @@ of_load load_faults.Shelf = outcomes.ReadFailed
 of_load load_faults.Memory = outcomes.Memory
 
 abbrev pub of_read : ReadFault → Outcome
-of_read (read_faults.Broken fault) = outcomes.InputRefused
+of_read (read_faults.Broken fault) = outcomes.InputRefused fault
 of_read read_faults.Memory = outcomes.Memory
+
+abbrev pub of_text : TextFault → Outcome
+of_text (text_faults.Broken place) = outcomes.TextRefused place
+of_text text_faults.Memory = outcomes.Memory
+
+-- what telling the messages of an input comes to
+abbrev pub of_dump : Dump → Outcome
+of_dump dumps.Finished = outcomes.Done
+of_dump (dumps.Refused fault) = outcomes.RefusedAfter fault
+of_dump dumps.ReadFailed = outcomes.ReadFailedAfter
+of_dump dumps.WriteFailed = outcomes.WriteFailed
+of_dump dumps.Memory = outcomes.MemoryAfter
 
 -- the bytes were written and no write failed, or one failed
 abbrev pub Prints : (before after : ℕ) → Outcome → Type 0
@@ -67,8 +85,12 @@ GivesNoSchema files file before after (done bytes) = ⊥
 GivesNoSchema files file before after usage = ⊥
 GivesNoSchema files file before after (no_such_name word) = ⊥
 GivesNoSchema files file before after (not_built word) = ⊥
-GivesNoSchema files file before after input_refused = ⊥
+GivesNoSchema files file before after (input_refused fault) = ⊥
+GivesNoSchema files file before after (text_refused place) = ⊥
 GivesNoSchema files file before after (write_failed bytes) = ⊥
+GivesNoSchema files file before after (refused_after written fault) = ⊥
+GivesNoSchema files file before after (read_failed_after written) = ⊥
+GivesNoSchema files file before after (no_memory_after written) = ⊥
 
 -- the schema of the file, or why there is none
 abbrev pub FindsSchema : Option Files → Word → (before after : ℕ) → Result Tables Outcome → Type 0

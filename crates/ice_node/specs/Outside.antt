@@ -26,9 +26,20 @@ pub record Outside : Type 0 where
   -- those of the sink of errors
   pub error_failures : ℕ
 
--- those of the shelf, the source and the sink
+-- the counts of the shelf, the source and the sink
 abbrev pub counts : ℕ → ℕ → ℕ → Failures
 counts shelf source sink = record { shelf = shelf; source = source; sink = sink }
+
+-- what they hold, how many calls failed, and how many of the sink of errors
+abbrev pub outside : Option Files → (input output errors : Option (List ℕ)) → Failures → ℕ → Outside
+outside files input output errors failures error_failures = record {
+  files = files;
+  input = input;
+  output = output;
+  errors = errors;
+  failures = failures;
+  error_failures = error_failures;
+}
 
 -- ---- what failed between two moments: one call at most
 

@@ -18,6 +18,11 @@ pub record Answered (words : List Word) (before after : Outside) (result : ℕ) 
   pub output : Outputs before.output after.output answer
   pub line : GetsLine before.errors after.errors before.error_failures after.error_failures answer
 
--- the status is the answer's, unless a read or a write failed, or memory ran out
-abbrev pub Ends : ℕ → Answer → Type 0
-Ends result answer = (result ≡ status answer) ⊎ ((result ≡ 5) ⊎ ((result ≡ 6) ⊎ (result ≡ 9)))
+-- a read or a write failed, or memory ran out
+abbrev pub IsFailure : ℕ → Type 0
+IsFailure result = (result ≡ 5) ⊎ ((result ≡ 6) ⊎ (result ≡ 9))
+
+-- this answer came, unless one of these did
+abbrev pub Ends : List Word → (before after : Outside) → ℕ → Answer → Type 0
+Ends words before after result answer =
+    Answered words before after result answer ⊎ IsFailure result

@@ -13,6 +13,9 @@ pub data Command : Type 0 where
   relay : Word → Word → Command
   -- the Slice file
   check : Word → Command
+  -- the text of a proxy
+  proxy : Word → Command
+  messages : Command
   help : Command
   version : Command
 
@@ -25,6 +28,8 @@ abbrev pub Form : List Word → Command → Type 0
 Form words (relay file kind) =
     (words ≡ codes "relay" ∷ file ∷ kind ∷ []) × IsWord file × IsWord kind
 Form words (check file) = (words ≡ codes "check" ∷ file ∷ []) × IsWord file
+Form words (proxy text) = (words ≡ codes "proxy" ∷ text ∷ []) × IsWord text
+Form words messages = words ≡ codes "messages" ∷ []
 Form words help = words ≡ codes "--help" ∷ []
 Form words version = words ≡ codes "--version" ∷ []
 
@@ -41,6 +46,8 @@ words_of words = map string_bytes words
 abbrev pub asked_of : Option Written → Option Command
 asked_of (Some (written.Relay file kind)) = Some (relay file.now kind.now)
 asked_of (Some (written.Check file)) = Some (check file.now)
+asked_of (Some (written.Proxy text)) = Some (proxy text.now)
+asked_of (Some written.Messages) = Some messages
 asked_of (Some written.Help) = Some help
 asked_of (Some written.Version) = Some version
 asked_of None = None

@@ -8,12 +8,17 @@ usage: ice COMMAND
                    canonical encapsulation of the same value to standard output
   check FILE       reads FILE and all that it includes, and writes how much they define, as
                    ok: 2 types, 5 classes, 0 exceptions, 1 interfaces
+  proxy TEXT       writes the proxy that TEXT stands for in its one form, and then its bytes in
+                   hexadecimal, a line each
+  messages         reads messages of protocol 1.0, one after the other, from standard input, and
+                   writes a line for each as soon as it is there, as
+                   request 1 \"hello\" \"\" \"ice_ping\" 1 0 6
   --help           writes this text
   --version        writes the version
 
 FILE is the path of a Slice file. Included files are paths too, from the folder that ice runs in.
 TYPE is bool, byte, short, int, long, string, Object, Object*, a type id of FILE, as ::M::Q, or an
-interface's type id followed by *. Values of enums, classes and proxies are not built yet.
+interface's type id followed by *. Values of classes are not built yet.
 
 A command ends with one of these, and writes its line to standard error. The earlier step decides:
 the words, FILE and what it includes, TYPE, the input, the output.
@@ -22,14 +27,20 @@ the words, FILE and what it includes, TYPE, the input, the output.
   3  ice: FILE:PLACE: KIND       a Slice file is refused: its name, the fault's first byte, counted
                                  from 0, and its kind
   2  ice: no such name TYPE      no type of FILE has this name
-  2  ice: not built TYPE         the type has an enum, a class or a proxy in it
-  4  ice: input refused          the input is not one encapsulation of a value of TYPE
+  2  ice: not built TYPE         the type has a class in it
+  4  ice: input refused at PLACE: KIND
+                                 the input is not one encapsulation of a value of TYPE, or a
+                                 message is none: the first byte of the part with the first fault,
+                                 counted from 0, and its kind
+  4  ice: text refused at PLACE  TEXT is not that of a proxy: the first byte of the first word that
+                                 cannot stand, or its length where a word lacks
   5  ice: read failed            a file or standard input could not be read
   6  ice: write failed           standard output could not be written
   9  ice: no memory
   0                              done
 
-After 2 to 5 nothing was written to standard output. KIND is one of these:
+After 2 to 5 nothing was written to standard output, but by messages, which has told what came
+before. KIND of a Slice file is one of these:
 
   NoFile        no file has the included name, or that of FILE
   TooManyFiles  an included file is one more than 100
@@ -53,6 +64,28 @@ After 2 to 5 nothing was written to standard output. KIND is one of these:
   TooBig        the smallest value of a struct has more than 1,048,576 bytes, or an interface has
                 more than 1,000 bases
   Undefined     a class is declared and never defined
+
+KIND of an input is one of these:
+
+  Short         the part goes past the end of the input, or of the encapsulation or message that it
+                is in; a message that the input does not hold whole, at its first byte
+  TooLarge      the size of an encapsulation or a message is above 1,048,576
+  BadSize       a size is negative, or in five bytes and below 255; that of an encapsulation is
+                below 6, that of a message below 14
+  BadMagic      a message does not begin with IceP
+  BadVersion    the version of the encapsulation is not 1.1, or one of a message is not 1.0
+  BadMessage    the type of a message is above 4
+  Compressed    a message is compressed
+  BadStatus     the compression status of a message is above 2, or the status of a reply above 7
+  BadBool       a bool is neither 0 nor 1
+  BadText       a string is not UTF-8
+  BadEnum       an enum has no such value
+  EqualKey      the key comes a second time in its dictionary or context
+  BadIdentity   a proxy has a category and no name
+  BadFacet      a facet is more than one text
+  BadMode       the mode of a proxy is above 4, that of a call above 2
+  LeftOver      bytes are left after the last part
+  Endless       more than 1,000,000 messages
 ";
 
 /// What `--version` writes.

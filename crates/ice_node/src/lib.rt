@@ -4,8 +4,10 @@
 mod check;
 mod help;
 mod loading;
+mod messages;
 mod outcome;
 mod output;
+mod proxy;
 mod relay;
 mod top_call;
 mod type_words;

@@ -2,13 +2,16 @@
 
 ghost use Rattle.std.specs.Prelude.{◌≡◌, ◌++◌, ℕ, List, codes};
 ghost use Rattle.std.specs.List.{flat_map};
+ghost use Rattle.ice_prims.specs.Kinds.{kind_name};
 ghost use Rattle.ice_node.specs.Answers.{status, error_line};
 ghost use Rattle.ice_node.specs.Outcomes.{answer_of};
 
 use ice_ports::PortFault;
-use ice_prims::ReadFault;
+use ice_prims::{Fault, Kind, ReadFault};
 use ice_types::Name;
 use itoa::Buffer;
+use message_dump::Dump;
+use proxy_words::TextFault;
 use slice_check::LoadFault;
 use std::alloc::AllocError;
 
@@ -26,14 +29,22 @@ pub enum Outcome<'a> {
     /// The Slice file, or one that it includes, has this fault: the file by its name on the shelf,
     /// the place of the fault in its text, and the name of its kind.
     SliceRefused { file: Name, place: u32, kind: Name },
-    /// The input is no encapsulation of a value of the type.
-    InputRefused,
+    /// The input is no encapsulation of a value of the type: its first fault.
+    InputRefused(Fault),
+    /// The text is that of no proxy: the place of the first word that cannot stand.
+    TextRefused(u32),
     /// A read of a file or of the input failed.
     ReadFailed,
     /// A write of the answer failed.
     WriteFailed,
     /// Out of memory.
     Memory,
+    /// Messages of the input were told, and this fault follows them.
+    RefusedAfter(Fault),
+    /// Messages of the input were told, and then a read of it failed.
+    ReadFailedAfter,
+    /// Messages of the input were told, and then memory ran out.
+    MemoryAfter,
 }
 
 /// A line in pieces, so that it takes no memory.
@@ -48,10 +59,10 @@ impl<'a> Outcome<'a> {
             Outcome::Done => 0,
             Outcome::Usage | Outcome::NoSuchName(_) | Outcome::NotBuilt(_) => 2,
             Outcome::SliceRefused { .. } => 3,
-            Outcome::InputRefused => 4,
-            Outcome::ReadFailed => 5,
+            Outcome::InputRefused(_) | Outcome::TextRefused(_) | Outcome::RefusedAfter(_) => 4,
+            Outcome::ReadFailed | Outcome::ReadFailedAfter => 5,
             Outcome::WriteFailed => 6,
-            Outcome::Memory => 9,
+            Outcome::Memory | Outcome::MemoryAfter => 9,
         }
     }
 
@@ -77,10 +88,18 @@ impl<'a> Outcome<'a> {
                     "\n",
                 ]
             }
-            Outcome::InputRefused => one("ice: input refused\n"),
-            Outcome::ReadFailed => one("ice: read failed\n"),
+            Outcome::InputRefused(fault) | Outcome::RefusedAfter(fault) => {
+                let place = digits.format(fault.place);
+                let kind = word_of(fault.kind);
+                ["ice: input refused at ", place, ": ", kind, "\n", "", ""]
+            }
+            Outcome::TextRefused(place) => {
+                let place = digits.format(*place);
+                ["ice: text refused at ", place, "\n", "", "", "", ""]
+            }
+            Outcome::ReadFailed | Outcome::ReadFailedAfter => one("ice: read failed\n"),
             Outcome::WriteFailed => one("ice: write failed\n"),
-            Outcome::Memory => one("ice: no memory\n"),
+            Outcome::Memory | Outcome::MemoryAfter => one("ice: no memory\n"),
         }
     }
 }
@@ -97,6 +116,13 @@ fn of_word<'a>(why: &'a str, word: &'a str) -> Line<'a>
     ensures { flat_map (λ piece. piece.now) result ≡ why.now ++ (word.now ++ codes "\n") }
 {
     [why, word, "\n", "", "", "", ""]
+}
+
+/// The kind's word, for a line.
+fn word_of<'a>(kind: Kind) -> &'a str
+    ensures { result.now ≡ kind_name kind }
+{
+    kind.name()
 }
 
 impl From<PortFault> for Outcome<'_> {
@@ -136,8 +162,39 @@ impl From<ReadFault> for Outcome<'_> {
 
     fn from(fault: ReadFault) -> Self {
         match fault {
-            ReadFault::Broken(_) => Outcome::InputRefused,
+            ReadFault::Broken(fault) => Outcome::InputRefused(fault),
             ReadFault::Memory => Outcome::Memory,
+        }
+    }
+}
+
+impl From<TextFault> for Outcome<'_> {
+    ghost use Rattle.std.specs.Prelude.{◌≡◌};
+    ghost use Rattle.ice_node.specs.Outcomes.{of_text};
+
+    ghost from_gives = { λ fault outcome. outcome ≡ of_text fault };
+
+    fn from(fault: TextFault) -> Self {
+        match fault {
+            TextFault::Broken { place } => Outcome::TextRefused(place),
+            TextFault::Memory => Outcome::Memory,
+        }
+    }
+}
+
+impl From<Dump> for Outcome<'_> {
+    ghost use Rattle.std.specs.Prelude.{◌≡◌};
+    ghost use Rattle.ice_node.specs.Outcomes.{of_dump};
+
+    ghost from_gives = { λ dump outcome. outcome ≡ of_dump dump };
+
+    fn from(dump: Dump) -> Self {
+        match dump {
+            Dump::Finished => Outcome::Done,
+            Dump::Refused(fault) => Outcome::RefusedAfter(fault),
+            Dump::ReadFailed => Outcome::ReadFailedAfter,
+            Dump::WriteFailed => Outcome::WriteFailed,
+            Dump::Memory => Outcome::MemoryAfter,
         }
     }
 }

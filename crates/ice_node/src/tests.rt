@@ -133,29 +133,42 @@ const CALLS: &[Call] = &[
     ),
     (
         &["relay", "w.ice", "Object*"],
-        2,
+        4,
         "",
-        "ice: not built Object*\n",
+        "ice: input refused at 9: Short\n",
     ),
     (
         &["relay", "i.ice", "::M::I*"],
-        2,
+        4,
         "",
-        "ice: not built ::M::I*\n",
+        "ice: input refused at 9: Short\n",
     ),
     (
         &["relay", "i.ice", "::M::D"],
-        2,
+        4,
         "",
-        "ice: not built ::M::D\n",
+        "ice: input refused at 7: BadEnum\n",
     ),
     (
         &["relay", "i.ice", "::M::K"],
-        2,
+        4,
         "",
-        "ice: not built ::M::K\n",
+        "ice: input refused at 7: BadEnum\n",
     ),
-    (&["relay", "w.ice", "::M::D"], 4, "", "ice: input refused\n"),
+    (
+        &["relay", "w.ice", "::M::D"],
+        4,
+        "",
+        "ice: input refused at 8: Short\n",
+    ),
+    (
+        &["proxy", "a"],
+        0,
+        "a -t -e 1.1\n016100000000010001010000\n",
+        "",
+    ),
+    (&["proxy", ":tcp"], 4, "", "ice: text refused at 0\n"),
+    (&["messages"], 4, "", "ice: input refused at 0: BadMagic\n"),
 ];
 
 const INPUT: &[u8] = &[9, 0, 0, 0, 1, 1, 2, 7, 8];

@@ -2,7 +2,7 @@
 
 ghost use Rattle.std.specs.Prelude.{◌≡◌, List, ℕ, Option, Some};
 ghost use Rattle.ice_node.specs.Words.{Word, Command as Asked, Asks, words_of};
-ghost use Rattle.ice_node.specs.Outside.{Files, Outside, counts};
+ghost use Rattle.ice_node.specs.Outside.{Files, outside, counts};
 ghost use Rattle.ice_node.specs.Answers.{Answer};
 ghost use Rattle.ice_node.specs.Decided.{Decided};
 ghost use Rattle.ice_node.specs.Causes.{Causes};
@@ -12,8 +12,10 @@ ghost use Rattle.ice_node.specs.Outcomes.{answer_of};
 
 use crate::check::check;
 use crate::help::{HELP, VERSION};
+use crate::messages::messages;
 use crate::outcome::Outcome;
 use crate::output::{print, report};
+use crate::proxy::proxy;
 use crate::relay::relay;
 use crate::words::{Command, command_of};
 use ice_ports::{Shelf, Sink, Source};
@@ -32,29 +34,21 @@ pub fn node<H: Shelf, S: Source, K: Sink, E: Sink>(
 ) -> u8
     // There is one answer: its status is returned, it comes for its cause, no more of the input was
     // taken than it says, and the sinks got what it says.
-    ensures answered { let before : Outside = record {
-      files = H.files shelf.old;
-      input = S.left source.old;
-      output = K.taken sink.old;
-      errors = E.taken errors.old;
-      failures = counts (H.failures shelf.old) (S.failures source.old) (K.failures sink.old);
-      error_failures = E.failures errors.old;
-    } in
-        let after : Outside = record {
-          files = H.files shelf.new;
-          input = S.left source.new;
-          output = K.taken sink.new;
-          errors = E.taken errors.new;
-          failures = counts (H.failures shelf.new) (S.failures source.new) (K.failures sink.new);
-          error_failures = E.failures errors.new;
-        } in
+    ensures answered { let before = outside (H.files shelf.old) (S.left source.old) (K.taken sink.old) (E.taken errors.old)
+        (counts (H.failures shelf.old) (S.failures source.old) (K.failures sink.old)) (E.failures errors.old) in
+        let after = outside (H.files shelf.new) (S.left source.new) (K.taken sink.new) (E.taken errors.new)
+        (counts (H.failures shelf.new) (S.failures source.new) (K.failures sink.new)) (E.failures errors.new) in
         (answer : Answer) × Answered (words_of words.now) before after result answer }
 
-    // Where the outside tells what it holds, and that decides an answer, no other answer comes,
-    // unless a read or a write failed, or memory ran out.
-    ensures exactly { (files : Files) (input : List ℕ) (answer : Answer)
-        → H.files shelf.old ≡ Some files → S.left source.old ≡ Some input
-        → Decided (words_of words.now) files input answer → Ends result answer }
+    // Where the outside tells what it holds, and that decides an answer, this one came, unless a read
+    // or a write failed, or memory ran out.
+    ensures exactly { let before = outside (H.files shelf.old) (S.left source.old) (K.taken sink.old) (E.taken errors.old)
+        (counts (H.failures shelf.old) (S.failures source.old) (K.failures sink.old)) (E.failures errors.old) in
+        let after = outside (H.files shelf.new) (S.left source.new) (K.taken sink.new) (E.taken errors.new)
+        (counts (H.failures shelf.new) (S.failures source.new) (K.failures sink.new)) (E.failures errors.new) in
+        (files : Files) (input : List ℕ) (answer : Answer)
+        → before.files ≡ Some files → before.input ≡ Some input
+        → Decided (words_of words.now) files input answer → Ends (words_of words.now) before after result answer }
 {
     let outcome = run(alloc, words, shelf, source, sink);
     report(outcome, errors)
@@ -91,6 +85,11 @@ fn run<'a, H: Shelf, S: Source, K: Sink>(
             Ok(text) => print(text.as_bytes(), sink),
             Err(outcome) => outcome,
         },
+        Some(Command::Proxy { text }) => match proxy(alloc, text) {
+            Ok(lines) => print(lines.as_slice(), sink),
+            Err(outcome) => outcome,
+        },
+        Some(Command::Messages) => messages(alloc, source, sink),
         Some(Command::Help) => print(HELP.as_bytes(), sink),
         Some(Command::Version) => print(VERSION.as_bytes(), sink),
         None => Outcome::Usage,

@@ -3,8 +3,8 @@
 ghost use Rattle.std.specs.Prelude.{◌≡◌, List, [], ◌∷◌};
 ghost use Rattle.ice_node.specs.Words.{Word, Command as Asked, Form, Asks, asked_of, words_of};
 
-/// The most bytes of a word that is the file or the type of a listed form.
-const MOST_OF_A_WORD: usize = 8192;
+/// The most bytes of a word that is the file, the type or the text of a listed form.
+pub(crate) const MOST_OF_A_WORD: usize = 8192;
 
 /// What the words ask the program to do.
 #[derive(Clone, Copy, Debug, PartialEq, Eq)]
@@ -13,6 +13,10 @@ pub enum Command<'a> {
     Relay { file: &'a str, kind: &'a str },
     /// To check the Slice file and all that it includes.
     Check { file: &'a str },
+    /// To print the proxy that the text stands for, and its bytes.
+    Proxy { text: &'a str },
+    /// To tell the messages of the input.
+    Messages,
     /// To print how the program is called.
     Help,
     /// To print the program's version.
@@ -24,30 +28,34 @@ pub fn command_of(words: &[String]) -> Option<Command<'_>>
     ensures { Asks (words_of words.now) (asked_of result) }
 {
     match words {
-        [option] => option_of(option.as_str()),
-        [command, file] => check_of(command.as_str(), file.as_str()),
+        [word] => of_one_word(word.as_str()),
+        [command, word] => of_two_words(command.as_str(), word.as_str()),
         [command, file, kind] => relay_of(command.as_str(), file.as_str(), kind.as_str()),
         _ => None,
     }
 }
 
-fn option_of(word: &str) -> Option<Command<'_>>
+fn of_one_word(word: &str) -> Option<Command<'_>>
     ensures { Asks (word.now ∷ []) (asked_of result) }
 {
     match word {
+        "messages" => Some(Command::Messages),
         "--help" => Some(Command::Help),
         "--version" => Some(Command::Version),
         _ => None,
     }
 }
 
-fn check_of<'a>(word: &'a str, file: &'a str) -> Option<Command<'a>>
-    ensures { Asks (word.now ∷ file.now ∷ []) (asked_of result) }
+fn of_two_words<'a>(command: &'a str, word: &'a str) -> Option<Command<'a>>
+    ensures { Asks (command.now ∷ word.now ∷ []) (asked_of result) }
 {
-    if word == "check" && file.len() <= MOST_OF_A_WORD {
-        Some(Command::Check { file })
-    } else {
-        None
+    if word.len() > MOST_OF_A_WORD {
+        return None;
+    }
+    match command {
+        "check" => Some(Command::Check { file: word }),
+        "proxy" => Some(Command::Proxy { text: word }),
+        _ => None,
     }
 }
 

@@ -2,19 +2,19 @@
 use Rattle.std.proofs.Common.{◌≡◌, ℕ, ℤ, pos, ◌+◌, ◌-◌, ◌<◌, ◌≤◌, List, [], ◌++◌, length, take, Option, None, Some, Result, Ok, Err, OnErr, refl, sym, ap, subst, ◌∙◌, append_assoc, arith, inl, inr, ◌⊎◌}
 use Rattle.std.proofs.lemmas.List.{length-append, length-take}
 use Rattle.std.specs.Io.KnownBytes.{Consumes, Keeps, IsAtEnd}
-use Rattle.ice_relay.specs.Streams.{ReadsUpTo, TakesUpTo, Claims, IsSize, ClaimsSize, IsPastSize, ReadsInput, TakesFrugally}
+use Rattle.ice_relay.specs.Streams.{ReadsUpTo, TakesUpTo, Claims, GoesOn, ClaimsMore, IsDecided, ReadsInput, TakesFrugally}
 use Rattle.ice_relay.proofs.KnownBytes.{Consumes-none, Consumes-kept, Consumes-then}
 
 all_new : (got more : List ℕ) → got ≡ [] ++ more → more ≡ got
 all_new got more e = sym e
 
-pub first_is_enough : (before now : Option (List ℕ)) (old got : List ℕ) → old ≡ [] → ReadsUpTo 4 before now old got → ClaimsSize got None → ReadsInput before now got
+pub first_is_enough : (before now : Option (List ℕ)) (old got : List ℕ) → old ≡ [] → ReadsUpTo 4 before now old got → ClaimsMore got None → ReadsInput before now got
 first_is_enough before now old got none r claims =
     let parts : got ≡ [] ++ r.more = r.parts ∙ ap (λ (l : List ℕ). l ++ r.more) none in
     let consumed : Consumes before now got = subst (λ (l : List ℕ). Consumes before now l) (all_new got r.more parts) r.consumed in
     (consumed, enough claims r.enough, inl r.within)
   where
-    enough : (length got < 4) ⊎ ((z : ℤ) × Claims got z × ((n : ℕ) → IsSize z n → ⊥)) → (length got ≡ 4) ⊎ IsAtEnd now → IsAtEnd now ⊎ IsPastSize got
+    enough : (length got < 4) ⊎ ((z : ℤ) × Claims got z × ((n : ℕ) → GoesOn z n → ⊥)) → (length got ≡ 4) ⊎ IsAtEnd now → IsAtEnd now ⊎ IsDecided got
     enough (inl few) (inl four) = absurd (omega arith)
     enough (inl few) (inr end) = inl end
     enough (inr c) e = inr (c.0, c.1, λ n s. absurd (c.2 n s))
@@ -27,7 +27,7 @@ claims_on first got more z e c = record {
   spelled = c.spelled;
 }
 
-pub rest_is_enough : (before mid now : Option (List ℕ)) (old first got : List ℕ) (n : ℕ) → old ≡ [] → ReadsUpTo 4 before mid old first → ClaimsSize first (Some n) → ReadsUpTo (n + 1) mid now first got → ReadsInput before now got
+pub rest_is_enough : (before mid now : Option (List ℕ)) (old first got : List ℕ) (n : ℕ) → old ≡ [] → ReadsUpTo 4 before mid old first → ClaimsMore first (Some n) → ReadsUpTo (n + 1) mid now first got → ReadsInput before now got
 rest_is_enough before mid now old first got n none r claims s =
     let parts : first ≡ [] ++ r.more = r.parts ∙ ap (λ (l : List ℕ). l ++ r.more) none in
     let front : Consumes before mid first = subst (λ (l : List ℕ). Consumes before mid l) (all_new first r.more parts) r.consumed in
@@ -35,7 +35,7 @@ rest_is_enough before mid now old first got n none r claims s =
     let on = claims_on first got s.more claims.0 s.parts claims.1 in
     (consumed, enough on s.enough, inr (claims.0, n, on, claims.2, s.within))
   where
-    enough : Claims got claims.0 → (length got ≡ n + 1) ⊎ IsAtEnd now → IsAtEnd now ⊎ IsPastSize got
+    enough : Claims got claims.0 → (length got ≡ n + 1) ⊎ IsAtEnd now → IsAtEnd now ⊎ IsDecided got
     enough on (inl past) = inr (claims.0, on, λ k size. let same : pos k ≡ pos n = sym size.0 ∙ claims.2.0 in let number : k ≡ n = cc in omega arith)
     enough on (inr end) = inl end
 
@@ -47,7 +47,7 @@ reads_frugally before now got r = (got, r.0, r.2)
 pub first_is_frugal : (before now : Option (List ℕ)) (old : List ℕ) → old ≡ [] → TakesUpTo 4 before now old → TakesFrugally before now
 first_is_frugal before now old none t = (t.more, t.consumed, inl (omega (arith, t.within)))
 
-pub rest_is_frugal : (before mid now : Option (List ℕ)) (old first : List ℕ) (n : ℕ) → old ≡ [] → ReadsUpTo 4 before mid old first → ClaimsSize first (Some n) → TakesUpTo (n + 1) mid now first → TakesFrugally before now
+pub rest_is_frugal : (before mid now : Option (List ℕ)) (old first : List ℕ) (n : ℕ) → old ≡ [] → ReadsUpTo 4 before mid old first → ClaimsMore first (Some n) → TakesUpTo (n + 1) mid now first → TakesFrugally before now
 rest_is_frugal before mid now old first n none r claims t =
     let parts : first ≡ [] ++ r.more = r.parts ∙ ap (λ (l : List ℕ). l ++ r.more) none in
     let front : Consumes before mid first = subst (λ (l : List ℕ). Consumes before mid l) (all_new first r.more parts) r.consumed in

@@ -5,7 +5,7 @@ use Rattle.std.specs.Int.{w32}
 use Rattle.std.specs.Io.KnownBytes.{Appends, Consumes, IsAtEnd}
 use Rattle.ice_prims.specs.Number.{SpellsSigned}
 use Rattle.ice_ports.specs.Failures.{one_more}
-use Rattle.ice_encoding.specs.declared.encapsulation.TheConstants.{SMALLEST, LARGEST, SIZE_BYTES}
+use Rattle.ice_parts.specs.declared.limits.TheConstants.{LARGEST, SIZE_BYTES}
 
 -- ---- input
 
@@ -31,34 +31,35 @@ pub record Claims (got : List ℕ) (z : ℤ) : Type 0 where
   pub parts : got ≡ size ++ more
   pub spelled : SpellsSigned w32 size z
 
--- The size of an encapsulation. Every other number is the size of none.
-abbrev pub IsSize : ℤ → ℕ → Type 0
-IsSize z n = (z ≡ pos n) × (SMALLEST ≤ n) × (n ≤ LARGEST)
+-- So many bytes are claimed: more than the size itself has, and at most the greatest encapsulation.
+-- Every other claim is refused by the size alone, in the same way whatever follows it.
+abbrev pub GoesOn : ℤ → ℕ → Type 0
+GoesOn z n = (z ≡ pos n) × (SIZE_BYTES < n) × (n ≤ LARGEST)
 
--- what a look at no more bytes than a size has tells of the size that they claim
-abbrev pub ClaimsSize : List ℕ → Option ℕ → Type 0
-ClaimsSize got (Some n) = (z : ℤ) × Claims got z × IsSize z n × (length got ≡ SIZE_BYTES)
-ClaimsSize got None =
-    (length got < SIZE_BYTES) ⊎ ((z : ℤ) × Claims got z × ((n : ℕ) → IsSize z n → ⊥))
+-- what a look at no more bytes than a size has tells of how far the input that begins with them goes on
+abbrev pub ClaimsMore : List ℕ → Option ℕ → Type 0
+ClaimsMore got (Some n) = (z : ℤ) × Claims got z × GoesOn z n × (length got ≡ SIZE_BYTES)
+ClaimsMore got None =
+    (length got < SIZE_BYTES) ⊎ ((z : ℤ) × Claims got z × ((n : ℕ) → GoesOn z n → ⊥))
 
--- No encapsulation begins with the bytes and goes on after them: the size that they claim is none,
--- or they pass it.
-abbrev pub IsPastSize : List ℕ → Type 0
-IsPastSize got = (z : ℤ) × Claims got z × ((n : ℕ) → IsSize z n → n < length got)
+-- Whatever follows the bytes, the first fault is one of these: their size is refused by itself, or
+-- they pass the encapsulation that it claims.
+abbrev pub IsDecided : List ℕ → Type 0
+IsDecided got = (z : ℤ) × Claims got z × ((n : ℕ) → GoesOn z n → n < length got)
 
 -- at most the encapsulation that the bytes claim, and one byte more
 abbrev pub IsFrugal : List ℕ → Type 0
 IsFrugal got = (length got ≤ SIZE_BYTES)
-    ⊎ ((z : ℤ) × (n : ℕ) × Claims got z × IsSize z n × (length got ≤ n + 1))
+    ⊎ ((z : ℤ) × (n : ℕ) × Claims got z × GoesOn z n × (length got ≤ n + 1))
 
 -- that much and no more was taken
 abbrev pub TakesFrugally : Option (List ℕ) → Option (List ℕ) → Type 0
 TakesFrugally old new = (got : List ℕ) × Consumes old new got × IsFrugal got
 
--- What was read is the whole input, or enough of it to refuse it.
+-- What was read is the whole input, or has its first fault whatever follows.
 abbrev pub ReadsInput : Option (List ℕ) → Option (List ℕ) → List ℕ → Type 0
 ReadsInput old_left new_left got =
-    Consumes old_left new_left got × (IsAtEnd new_left ⊎ IsPastSize got) × IsFrugal got
+    Consumes old_left new_left got × (IsAtEnd new_left ⊎ IsDecided got) × IsFrugal got
 
 -- ---- output
 

@@ -7,12 +7,12 @@ ghost use Rattle.ice_prims.specs.Rest.{whole};
 ghost use Rattle.ice_prims.specs.Bytes.{signed_bytes};
 ghost use Rattle.ice_prims.specs.Taking.{GivesUnlessMemory};
 ghost use Rattle.ice_encoding.specs.Canonical.{canonical, HasSizes};
-ghost use Rattle.ice_encoding.specs.Encapsulation.{version_at, encapsulation_at, encapsulation_bytes};
+ghost use Rattle.ice_encoding.specs.Encapsulation.{encapsulation_at, encapsulation_bytes};
 ghost use Rattle.graph_arena.specs.View.{view};
-ghost use Rattle.ice_relay.specs.Steps.{Bounds, TakesVersion, IsEnd};
+ghost use Rattle.ice_relay.specs.Steps.{IsEnd};
 
+use encaps_optionals::open_encaps;
 use graph_arena::Value;
-use ice_encoding::{LARGEST, SIZE_BYTES, SMALLEST};
 use ice_prims::{Cursor, Fault, Kind, ReadFault, put_byte, put_int};
 use ice_types::{Schema, TypeRef};
 use ice_values::{read_value, write_value};
@@ -29,41 +29,11 @@ pub fn decode(
     ensures { GivesUnlessMemory view result (encapsulation_at schema.now kind (whole input.now)) }
 {
     let mut cursor = Cursor::new(input);
-    let size = cursor.take_int()?;
-    let size = bound_of(size, input.len())?;
-    let mut bound = cursor.split(size - SIZE_BYTES)?;
-    take_version(&mut bound)?;
-    let value = read_value(alloc, schema, kind, &mut bound)?;
-    end(&bound)?;
+    let mut content = open_encaps(&mut cursor)?;
+    let value = read_value(alloc, schema, kind, &mut content)?;
+    end(&content)?;
     end(&cursor)?;
     Ok(value)
-}
-
-/// The bytes of an encapsulation that claims this size, where so many are there.
-fn bound_of(size: i32, there: usize) -> Result<usize, Fault>
-    ensures { Bounds result size there }
-{
-    let kind = if size > LARGEST as i32 {
-        Kind::TooLarge
-    } else if size >= 0 && size as usize > there {
-        Kind::Short
-    } else if size < SMALLEST as i32 {
-        Kind::BadSize
-    } else {
-        return Ok(size as usize);
-    };
-    Err(Fault { place: 0, kind })
-}
-
-/// The two version bytes, which are one part.
-fn take_version(cursor: &mut Cursor<'_>) -> Result<(), Fault>
-    ensures { TakesVersion result cursor.new (version_at cursor.old) }
-{
-    let wrong = cursor.fault(Kind::BadVersion);
-    match cursor.take_bytes(2)? {
-        [1, 1] => Ok(()),
-        _ => Err(wrong),
-    }
 }
 
 /// The end of a bound.

@@ -1,18 +1,22 @@
 //! An encapsulation from a source.
 
-ghost use Rattle.std.specs.Prelude.{◌≡◌, ◌≤◌, length, IfOk, OnOk, OnErr, vec_len};
+ghost use Rattle.std.specs.Prelude.{◌≡◌, ◌≤◌, ℕ, List, Option, Some, length, IfOk, OnOk, OnErr, vec_len};
+ghost use Rattle.ice_types.specs.declared.kind.TypeRef.{TypeRef};
+ghost use Rattle.ice_types.specs.Tables.{Tables};
+ghost use Rattle.ice_prims.specs.Rest.{whole};
+ghost use Rattle.ice_encoding.specs.Encapsulation.{encapsulation_at};
 ghost use Rattle.ice_ports.specs.Failures.{count_after};
 ghost use Rattle.ice_ports.specs.Files.{is_failed};
-ghost use Rattle.ice_relay.specs.Streams.{ReadsUpTo, TakesUpTo, ReadsInput, TakesFrugally, ClaimsSize};
+ghost use Rattle.ice_relay.specs.Streams.{ReadsUpTo, TakesUpTo, ReadsInput, TakesFrugally, ClaimsMore};
 
-use ice_encoding::{LARGEST, SIZE_BYTES, SMALLEST};
+use ice_parts::{LARGEST, SIZE_BYTES};
 use ice_ports::{MOST_OF_A_READ, PortFault, Source};
 use ice_prims::Cursor;
 use std::alloc::Global;
 
 /// The input up to one byte after the encapsulation that it claims, or to its end. Where the size
-/// is none, no more than the size is read. What was read of a source that fails is lost; that was
-/// no more either. (Ice manual, "Encapsulations".)
+/// is refused by itself, no more than the size is read. What was read of a source that fails is
+/// lost; that was no more either. (Ice manual, "Encapsulations".)
 pub fn read_input<S: Source>(alloc: Global, source: &mut S) -> Result<Vec<u8>, PortFault>
     ensures read { IfOk result (λ got.
         ReadsInput (S.left source.old) (S.left source.new) got.items) }
@@ -21,21 +25,28 @@ pub fn read_input<S: Source>(alloc: Global, source: &mut S) -> Result<Vec<u8>, P
 {
     let mut input = Vec::new(alloc);
     read_up_to(source, &mut input, SIZE_BYTES)?;
-    let Some(size) = claimed_size(input.as_slice()) else {
+    let Some(size) = claimed_bytes(input.as_slice()) else {
         return Ok(input);
     };
     read_up_to(source, &mut input, size + 1)?;
     Ok(input)
 }
 
-/// The size of the encapsulation that begins with these bytes; None where they are fewer than a
-/// size has, or where they claim a size that no encapsulation has.
-fn claimed_size(bytes: &[u8]) -> Option<usize>
+/// What is read of an input decides it: the value that it holds, or its first fault.
+pub fn reading_decides()
+    ensures { (t : Tables) (kind : TypeRef) (input got : List ℕ) (left : Option (List ℕ))
+        → ReadsInput (Some input) left got
+        → encapsulation_at t kind (whole got) ≡ encapsulation_at t kind (whole input) }
+{}
+
+/// How many bytes these claim, with those after them; None where they are fewer than a size has,
+/// and where they claim no more than that, or more than an encapsulation has.
+fn claimed_bytes(bytes: &[u8]) -> Option<usize>
     requires { length bytes.now ≤ SIZE_BYTES }
-    ensures { ClaimsSize bytes.now result }
+    ensures { ClaimsMore bytes.now result }
 {
     match Cursor::new(bytes).take_int() {
-        Ok(size) if SMALLEST as i32 <= size && size <= LARGEST as i32 => Some(size as usize),
+        Ok(size) if size > SIZE_BYTES as i32 && size <= LARGEST as i32 => Some(size as usize),
         _ => None,
     }
 }

@@ -8,6 +8,6 @@ mod output;
 mod relay;
 
 pub use encapsulation::{decode, encode};
-pub use input::read_input;
+pub use input::{read_input, reading_decides};
 pub use output::{write_all, write_pieces};
 pub use relay::canonical_of;

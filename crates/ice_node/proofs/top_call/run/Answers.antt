@@ -1,8 +1,9 @@
 use Rattle.std.proofs.Common.{[], Some, string_bytes, refl}
-use Rattle.ice_node.specs.Words.{relay, check, help}
+use Rattle.ice_node.specs.Words.{relay, check, proxy, messages, help}
 use Rattle.ice_node.specs.declared.help.TheConstants.{HELP}
+use Rattle.ice_node.specs.Outside.{counts}
 use Rattle.ice_node.specs.Outcomes.{answer_of}
-use Rattle.ice_node.proofs.Answering.{printed, outputs_nothing, check_takes_nothing}
+use Rattle.ice_node.proofs.Answering.{printed, outputs_nothing, takes_nothing}
 use Rattle.ice_node.proofs.Keeping.{keeps_itself}
 use Rattle.ice_node.proofs.top_call.run.Goals as goal
 
@@ -35,7 +36,7 @@ pub returns-in-Err-check : goal.returns-in-Err-check
 returns-in-Err-check g c =
     let input = g.S.Source.left c.args.source.now in
     let found = c.in-Err-check.ensures input (g.S.Source.failures c.args.source.now) (g.K.Sink.failures c.args.sink.now) in
-    ([], Some (check c.in-Some-Check.file.now), (rw c.in-Some-Check.field-0-is at c.in-Some-Check.ensures), found, check_takes_nothing c.in-Some-Check.file.now input (answer_of c.in-Err-check.outcome []), outputs_nothing (g.K.Sink.taken c.args.sink.now) c.in-Err-check.outcome)
+    ([], Some (check c.in-Some-Check.file.now), (rw c.in-Some-Check.field-0-is at c.in-Some-Check.ensures), found, takes_nothing (Some (check c.in-Some-Check.file.now)) input (keeps_itself input) (answer_of c.in-Err-check.outcome []), outputs_nothing (g.K.Sink.taken c.args.sink.now) c.in-Err-check.outcome)
 
 pub returns-in-Some-Help : goal.returns-in-Some-Help
 returns-in-Some-Help g c =
@@ -45,3 +46,27 @@ returns-in-Some-Help g c =
     (record { shelf = g.H.Shelf.failures c.args.shelf.now; source = g.S.Source.failures c.args.source.now; sink = g.K.Sink.failures c.print-in-Some-Help.new.sink })
     HELP.now c.print-in-Some-Help.result refl refl refl (keeps_itself input) c.print-in-Some-Help.ensures.outcome in
     (HELP.now, Some help, (rw c.in-Some-Help.field-0-is at c.in-Some-Help.ensures), came.0, came.1, (rw c.as_bytes-in-Some-Help.ensures.value at c.print-in-Some-Help.ensures.output))
+
+pub returns-in-Ok-proxy : goal.returns-in-Ok-proxy
+returns-in-Ok-proxy g c =
+    let files = g.H.Shelf.files c.args.shelf.now in
+    let input = g.S.Source.left c.args.source.now in
+    let before = counts (g.H.Shelf.failures c.args.shelf.now) (g.S.Source.failures c.args.source.now) (g.K.Sink.failures c.args.sink.now) in
+    let after = counts (g.H.Shelf.failures c.args.shelf.now) (g.S.Source.failures c.args.source.now) (g.K.Sink.failures c.print-in-Ok-proxy.new.sink) in
+    let found = c.in-Ok-proxy.ensures files input before in
+    let asked = Some (proxy c.in-Some-Proxy.text.now) in
+    let came = printed asked files input input before after c.in-Ok-proxy.lines.items c.print-in-Ok-proxy.result found.0 refl refl (keeps_itself input) c.print-in-Ok-proxy.ensures.outcome in
+    (c.in-Ok-proxy.lines.items, asked, (rw c.in-Some-Proxy.field-0-is at c.in-Some-Proxy.ensures), came.0, came.1, (rw c.as_slice-in-Ok-proxy.ensures.value at c.print-in-Ok-proxy.ensures.output))
+
+pub returns-in-Err-proxy : goal.returns-in-Err-proxy
+returns-in-Err-proxy g c =
+    let files = g.H.Shelf.files c.args.shelf.now in
+    let input = g.S.Source.left c.args.source.now in
+    let before = counts (g.H.Shelf.failures c.args.shelf.now) (g.S.Source.failures c.args.source.now) (g.K.Sink.failures c.args.sink.now) in
+    let asked = Some (proxy c.in-Some-Proxy.text.now) in
+    ([], asked, (rw c.in-Some-Proxy.field-0-is at c.in-Some-Proxy.ensures), c.in-Err-proxy.ensures files input before, takes_nothing asked input (keeps_itself input) (answer_of c.in-Err-proxy.outcome []), outputs_nothing (g.K.Sink.taken c.args.sink.now) c.in-Err-proxy.outcome)
+
+pub returns-in-Some-Messages : goal.returns-in-Some-Messages
+returns-in-Some-Messages g c =
+    let told = c.messages.ensures in
+    (told.0, Some messages, (rw c.in-Some-Messages.field-0-is at c.in-Some-Messages.ensures), told.1 (g.H.Shelf.files c.args.shelf.now) (g.H.Shelf.failures c.args.shelf.now), told.2, told.3)

@@ -1,6 +1,6 @@
 use Rattle.std.proofs.Common.{◌≡◌, ◌≢◌, ℕ, List, [], ◌∷◌, ◌++◌, lit<, refl}
 use Rattle.std.proofs.lemmas.Str.Pattern.{strip_suffix_char}
-use Rattle.ice_node.proofs.Naming.{one_proxy, no_interface}
+use Rattle.ice_node.proofs.Naming.{one_proxy}
 use Rattle.ice_node.proofs.type_words.proxy_of_word.Goals as goal
 
 pub returns : goal.returns
