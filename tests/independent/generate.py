@@ -28,6 +28,8 @@ STRANGE = ["1a", "9", "_", "a_b", "::", "::M::A", "M::A", "//", "/*", "#", "\\in
 BLANKS = [" ", " ", " ", "  ", "\n", "\t", "\r\n", "\f", "\n    "]
 # A struct is a part of others only where it is not longer than this at the least.
 MOST_PART = 40
+# Numbers of enumerators that are written out: about those that are spelled in one byte and in five.
+ENUMERATORS = [0, 1, 2, 3, 7, 100, 253, 254, 255, 256, 65_535, 65_536, 2**31 - 2, 2**31 - 1]
 
 
 def swapped(name):
@@ -37,6 +39,11 @@ def swapped(name):
 
 def is_word(token):
     return token[0].isalnum()
+
+
+def type_tokens(word):
+    """Returns the tokens of a type, which may be that of a proxy."""
+    return [word.removesuffix("*"), "*"] if word.endswith("*") else [word]
 
 
 def text_of(tokens, chance):
@@ -58,17 +65,21 @@ def tokens_of(module, definitions):
 
 
 class SchemaMaker:
-    """Makes a text definition by definition, each a list of tokens, and keeps the kinds of what it has made."""
+    """Makes a text definition by definition, each a list of tokens, and keeps the kinds of what it has made by their words, in
+    which an interface has a `*`. A plain one has no enums and no proxies."""
 
-    def __init__(self, chance):
-        self.chance = chance
+    def __init__(self, chance, is_plain=False):
+        self.chance, self.is_plain = chance, is_plain
         self.module, self.kinds, self.definitions = chance.choice(NAMES), {}, []
 
     def tokens(self):
         return tokens_of(self.module, self.definitions)
 
+    def names(self):
+        return [it.removesuffix("*") for it in self.kinds]
+
     def name(self, others):
-        taken = {it.lower() for it in others}
+        taken = {it.removesuffix("*").lower() for it in others}
         free = [it for it in NAMES if it.lower() not in taken]
         return self.chance.choice(free) if free else f"n{len(taken)}"
 
@@ -79,9 +90,14 @@ class SchemaMaker:
             named = [it for it in named if it[1].may_be_key]
         if named and self.chance.random() < 0.6:
             return self.chance.choice(named[-3:] if self.chance.random() < 0.6 else named)
+        if not self.is_plain and not is_key and self.chance.random() < 0.1:
+            return "Object*", kinds.ANY_PROXY
         return self.chance.choice(list(kinds.BUILT_IN.items()))
 
     def add(self):
+        if not self.is_plain and self.chance.random() < 0.3:
+            self.chance.choice([self.add_enum, self.add_enum, self.add_interface])()
+            return
         sort = self.chance.choice(["struct", "struct", "sequence", "dictionary", "dictionary"])
         if sort == "struct":
             self.add_struct([self.type() for _ in range(self.chance.choice([1, 1, 2, 2, 3, 4, 6]))])
@@ -95,7 +111,7 @@ class SchemaMaker:
         tokens = []
         for word, _ in types:
             members.append(self.name(members))
-            tokens += [word, members[-1], ";"]
+            tokens += [*type_tokens(word), members[-1], ";"]
         name = self.name(self.kinds)
         self.kinds[name] = kinds.struct([kind for _, kind in types])
         self.definitions.append(["struct", name, "{", *tokens, "}", ";"])
@@ -103,12 +119,31 @@ class SchemaMaker:
     def add_sequence(self, element):
         name = self.name(self.kinds)
         self.kinds[name] = kinds.sequence(element[1])
-        self.definitions.append(["sequence", "<", element[0], ">", name, ";"])
+        self.definitions.append(["sequence", "<", *type_tokens(element[0]), ">", name, ";"])
 
     def add_dictionary(self, key, value):
         name = self.name(self.kinds)
         self.kinds[name] = kinds.dictionary(key[1], value[1])
-        self.definitions.append(["dictionary", "<", key[0], ",", value[0], ">", name, ";"])
+        self.definitions.append(["dictionary", "<", *type_tokens(key[0]), ",", *type_tokens(value[0]), ">", name, ";"])
+
+    def add_enum(self):
+        entries, numbers, tokens = [], [], []
+        for _ in range(self.chance.choice([1, 2, 2, 3, 4, 5])):
+            following = numbers[-1] + 1 if numbers else 0
+            number = following if self.chance.random() < 0.5 else self.chance.choice(ENUMERATORS)
+            if number in numbers or number > values.MOST_INT:
+                number = next(it for it in range(100) if it not in numbers)
+            numbers.append(number)
+            entries.append(self.name(entries))
+            tokens += [",", entries[-1]] + (["=", str(number)] if number != following or self.chance.random() < 0.1 else [])
+        name = self.name(self.kinds)
+        self.kinds[name] = kinds.enum(numbers)
+        self.definitions.append(["enum", name, "{", *tokens[1:], *self.chance.choice([[], [","]]), "}", ";"])
+
+    def add_interface(self):
+        name = self.name(self.kinds)
+        self.kinds[name + "*"] = kinds.proxy()
+        self.definitions.append(["interface", name, *self.chance.choice([[], ["{", "}"]]), ";"])
 
     def last(self):
         return list(self.kinds.items())[-1]
@@ -141,8 +176,8 @@ def broken_tokens(tokens, names, chance):
 
 
 def is_type(tokens, at):
-    """Says whether an element, a key, a value or the type of a member stands there."""
-    behind = tokens[at + 1 : at + 3]
+    """Says whether an element, a key, a value or the type of a member stands there, which may be a proxy's."""
+    behind = tokens[at + 1 + (tokens[at + 1 : at + 2] == ["*"]) :][:2]
     return is_word(tokens[at]) and (behind[:1] in ([">"], [","]) or (len(behind) == 2 and is_word(behind[0]) and behind[1] == ";"))
 
 
@@ -174,9 +209,10 @@ def other_definitions(module, definitions):
         yield "definitions in another order", tokens_of(module, front + back[:1] + [it] + back[1:])
         if it[0] == "struct":
             yield "no members", tokens_of(module, front + [it[:3] + it[-2:]] + back)
-            for place in range(3, len(it) - 2, 3):
-                yield "a member dropped", tokens_of(module, front + [it[:place] + it[place + 3 :]] + back)
-                yield "a member doubled", tokens_of(module, front + [it[: place + 3] + it[place:]] + back)
+            ends = [place + 1 for place, token in enumerate(it[:-2]) if token == ";"]
+            for place, end in zip([3, *ends], ends):
+                yield "a member dropped", tokens_of(module, front + [it[:place] + it[end:]] + back)
+                yield "a member doubled", tokens_of(module, front + [it[:end] + it[place:]] + back)
 
 
 def broken_bytes(text, chance):
@@ -196,6 +232,49 @@ EDGES = {
 }
 TEXTS = ["", "a", "b", "ab", "aa", "abc", "A", "Z", "\0", "a\0", "\x7f", "\x80", "é", "z", "€", "\ufffd", "\U00010000", "😀", "ß"]
 ODD_TEXTS = ["a" * 254, "a" * 255, "b" * 256, "é" * 128]
+# Of proxies, whose printed form has some of these in quotes or as escapes.
+NAME_TEXTS = ["a", "b", "c/d", "/", "-t", "a b", ":", "@", '"', "\\", "'", "\n", "\r", "\t", "\f", "\v", "\0", "\x7f", "\x80", "é", "😀", "hello"]
+HOSTS = ["", "localhost", "127.0.0.1", "::1", "a.b", "é"]
+PORTS = [0, 1, 80, 10_000, 65_535, 65_536, -1, 2**31 - 1, -(2**31)]
+TIMEOUTS = [60_000, 60_000, -1, 0, 1, -2, 2**31 - 1, -(2**31)]
+ENDPOINT_TYPES = [1, 0, 2, 3, 257, -1, 32_767, -32_768]
+VERSIONS = [(1, 0), (1, 1), (1, 1), (0, 0), (2, 1), (255, 255)]
+
+
+class ProxyMaker:
+    """Makes proxies that are not null, mostly of few bytes."""
+
+    def __init__(self, chance):
+        self.chance = chance
+
+    def text(self, texts=NAME_TEXTS):
+        count = self.chance.choice([1, 1, 1, 1, 2, 3])
+        return "".join(self.chance.choice(texts) for _ in range(count)).encode()
+
+    def some(self, chance, texts=NAME_TEXTS):
+        return self.text(texts) if self.chance.random() < chance else b""
+
+    def tcp(self):
+        host = self.some(0.8, HOSTS) if self.chance.random() < 0.8 else self.text()
+        return values.Tcp(host, self.chance.choice(PORTS), self.chance.choice(TIMEOUTS), self.chance.random() < 0.3)
+
+    def opaque(self):
+        """Returns an endpoint that is not one of TCP, but may be as one but for its type or its version."""
+        type_, version = self.chance.choice(ENDPOINT_TYPES), self.chance.choice(VERSIONS)
+        if (type_, version) == (values.TCP, values.VERSION):
+            type_ = 2
+        if self.chance.random() < 0.3:
+            return values.Opaque(type_, version, values.spelled_endpoint(self.tcp())[8:])
+        return values.Opaque(type_, version, self.chance.randbytes(self.chance.choice([0, 0, 1, 2, 5])))
+
+    def proxy(self):
+        name, category, facet = self.text(), self.some(0.3), self.some(0.3)
+        mode = self.chance.choice([0, 0, 0, *range(values.MOST_MODE + 1)])
+        protocol = (1, 0) if self.chance.random() < 0.8 else self.chance.choice(VERSIONS)
+        front = name, category, facet, mode, self.chance.random() < 0.2, protocol, self.chance.choice(VERSIONS)
+        makers = self.chance.choices([self.tcp, self.tcp, self.opaque], k=self.chance.choice([0, 0, 1, 1, 1, 2, 3]))
+        endpoints = tuple([make() for make in makers])
+        return values.Proxy(*front, endpoints, b"" if endpoints else self.some(0.5))
 
 
 class ValueMaker:
@@ -217,6 +296,10 @@ class ValueMaker:
             return int.from_bytes(self.chance.randbytes(width), "little", signed=is_signed)
         if kind.sort == "bool":
             return self.chance.random() < 0.5
+        if kind.sort == "enum":
+            return self.chance.choice(sorted(kind.numbers))
+        if kind.sort == "proxy":
+            return ProxyMaker(self.chance).proxy() if self.chance.random() < 0.6 else None
         if kind.sort == "string":
             return self.chance.choice(TEXTS if self.chance.random() < 0.98 else ODD_TEXTS).encode()
         if kind.sort == "struct":
@@ -288,8 +371,10 @@ def good_inputs(kind, chance, room):
     canonical = values.encode(value, kind)
     yield "canonical", canonical, canonical
     seen = {canonical}
-    for what, order in ("falling", falling), ("scrambled", shuffled(chance)), ("scrambled", shuffled(chance)):
-        data = values.encode(value, kind, order)
+    orders = [("falling", falling), ("scrambled", shuffled(chance)), ("scrambled", shuffled(chance))]
+    styles = [(*it, values.NO_FACET) for it in orders] + [("with empty facets", shuffled(chance), values.EMPTY_FACET)]
+    for what, order, no_facet in styles:
+        data = values.encode(value, kind, order, no_facet)
         if data not in seen:
             seen.add(data)
             yield what, data, canonical
@@ -330,6 +415,62 @@ def broken_inputs(data, chance):
                 yield what, changed
 
 
+# What stands in the place of a part of a proxy: sizes and numbers in one byte and in five, and texts that are none.
+ODD_BYTES = [b"", b"\0", b"\1", b"\2", b"\3", b"\5", b"\x7f", b"\xff", b"\1\0", b"\0\1", b"\xff\xfe\0\0\0", b"\xff\xff\0\0\0", b"\xff" * 5]
+ODD_NUMBERS = [0, 1, 5, 6, 7, -1, -(2**31), 1_048_576, 1_048_577, 2**31 - 1]
+
+
+def parts_of_proxy(it):
+    """Returns the parts of a proxy that is not null, one after the other."""
+    parts = []
+
+    def add_string(text):
+        parts.extend([values.spelled_size(len(text)), text])
+
+    add_string(it.name)
+    add_string(it.category)
+    parts.append(values.spelled_size(bool(it.facet)))
+    if it.facet:
+        add_string(it.facet)
+    parts.extend([bytes([it.mode]), bytes([it.is_secure]), bytes(it.protocol), bytes(it.encoding), values.spelled_size(len(it.endpoints))])
+    for endpoint in it.endpoints:
+        data = values.spelled_endpoint(endpoint)
+        parts.extend([data[:2], data[2:6], data[6:8]])
+        if isinstance(endpoint, values.Opaque):
+            parts.append(endpoint.data)
+        else:
+            add_string(endpoint.host)
+            parts.extend([data[-9:-5], data[-5:-1], data[-1:]])
+    if not it.endpoints:
+        add_string(it.adapter)
+    assert b"".join(parts) == values.spelled_proxy(it)
+    return parts
+
+
+def broken_proxies(it, chance):
+    """Yields a proxy's bytes with each part dropped, doubled and replaced in turn."""
+    parts = parts_of_proxy(it)
+    for at, part in enumerate(parts):
+        front, back = b"".join(parts[:at]), b"".join(parts[at + 1 :])
+        yield front + back
+        yield front + part + part + back
+        yield front + chance.choice(ODD_BYTES) + back
+        if len(part) == 4:
+            number = int.from_bytes(part, "little", signed=True)
+            for other_number in (number - 1, number + 1, chance.choice(ODD_NUMBERS)):
+                yield front + (other_number % 2**32).to_bytes(4, "little") + back
+
+
+def odd_enumerators(numbers):
+    """Yields sizes about those of the numbers of an enum, and in the long form."""
+    near = {it + by for it in numbers for by in (-1, 0, 1)} | {0, 1, 254, 255}
+    for number in sorted(near):
+        if 0 <= number <= values.MOST_INT:
+            yield values.spelled_size(number)
+        yield b"\xff" + (number % 2**32).to_bytes(4, "little")
+    yield from (b"", b"\xff", b"\xff\0\1\0")
+
+
 # Lots
 
 
@@ -339,7 +480,8 @@ def wrong_words(module, names, chance):
     return chance.sample(
         [f"::{module}", f"::{module}::", name, f"{module}::{name}", f"::{module}::{swapped(name)}", f"::{swapped(module)}::{name}"]
         + [f"::{module}::{name}x", f"::{module}::{name[:-1]}", f"::{name}", f"::{module}::{name}::{name}", f" ::{module}::{name}"]
-        + ["Int", "STRING", "float", "Object", "struct", f"sequence<{name}>", f"::{module}::int", "::int", f":{module}:{name}"],
+        + ["Int", "STRING", "float", "Object", "struct", f"sequence<{name}>", f"::{module}::int", "::int", f":{module}:{name}"]
+        + [f"::{module}::{name}*", "Object*", "Object**"],
         4,
     )
 
@@ -349,6 +491,7 @@ def trials_of(maker, chance, rooms, broken):
     text = text_of(maker.tokens(), chance)
     types = {f"::{maker.module}::{name}": kind for name, kind in maker.kinds.items()}
     word = chance.choice(list(kinds.BUILT_IN))
+    yield from part_trials(text, types, chance)
     for word, kind in [*types.items(), (word, kinds.BUILT_IN[word])]:
         inputs = []
         for room in rooms:
@@ -364,9 +507,19 @@ def trials_of(maker, chance, rooms, broken):
                 yield Trial(what, text, word, changed)
 
 
+def part_trials(text, types, chance):
+    """Yields a proxy with each of its parts broken, and enumerators about those of each enum."""
+    word = chance.choice(["Object*"] + [word for word, kind in types.items() if kind.sort == "proxy"])
+    for content in broken_proxies(ProxyMaker(chance).proxy(), chance):
+        yield Trial("a part of a proxy", text, word, values.encapsulated(content))
+    for word, kind in types.items():
+        for content in odd_enumerators(kind.numbers) if kind.sort == "enum" else ():
+            yield Trial("an enumerator", text, word, values.encapsulated(content))
+
+
 def text_trials(maker, chance):
     """Yields broken texts of a schema, each with a type and an input that fit the good text."""
-    names, module = list(maker.kinds), maker.module
+    names, module = maker.names(), maker.module
     made = [*broken_tokens(maker.tokens(), names, chance), *other_words(maker.tokens(), names, chance)]
     made += other_definitions(module, maker.definitions)
     texts = [(what, text_of(tokens, chance)) for what, tokens in made]
@@ -389,7 +542,9 @@ def usual_lot(chance):
 def keyed_lot(chance):
     """Structs as keys: of built-in types, of one of these structs, and a dictionary of each."""
     maker = SchemaMaker(chance)
-    types = list(kinds.BUILT_IN.items())
+    if chance.random() < 0.5:
+        maker.add_enum()
+    types = [*kinds.BUILT_IN.items(), *maker.kinds.items()]
     texts = [("string", kinds.BUILT_IN["string"])] * 2
     maker.add_struct(texts if chance.random() < 0.3 else [chance.choice(types) for _ in range(chance.choice([1, 2, 3]))])
     key = maker.last()
@@ -414,11 +569,14 @@ def deep_lot(chance, wanted):
         yield Trial(f"deep, {what}", text, word, data, canonical)
 
 
+LEAVES = {**kinds.BUILT_IN, "Object*": kinds.ANY_PROXY}
+
+
 def big_lot(chance, leaf, more):
     """A struct whose smallest spelling is that many bytes more than the most."""
     maker = SchemaMaker(chance)
     base = chance.choice([2, 3, 7, 16, 100])
-    parts = [(leaf, kinds.BUILT_IN[leaf])]
+    parts = [(leaf, LEAVES[leaf])]
     while parts[-1][1].smallest * base <= kinds.MOST_SMALLEST:
         maker.add_struct([parts[-1]] * base)
         parts.append(maker.last())
@@ -441,5 +599,5 @@ def lot(seed, number):
     for wanted in (99, 100, 100, 101):
         trials += deep_lot(chance, wanted)
     for more in (-1, 0, 0, 1, 1, chance.choice([2, 8, 1_000_000])):
-        trials += big_lot(chance, chance.choice(list(kinds.BUILT_IN)), more)
+        trials += big_lot(chance, chance.choice(list(LEAVES)), more)
     return trials

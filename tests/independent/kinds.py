@@ -20,6 +20,7 @@ class Kind:
     smallest: int = 1  # the bytes of its smallest spelling
     may_be_key: bool = False
     is_built: bool = True  # whether values of it are relayed yet
+    numbers: frozenset = frozenset()  # of the enumerators of an enum
 
 
 INTEGERS = {"byte": (0, 255), "short": (-(2**15), 2**15 - 1), "int": (-(2**31), 2**31 - 1), "long": (-(2**63), 2**63 - 1)}
@@ -30,7 +31,7 @@ BUILT_IN = {
     for word, smallest in {"bool": 1, "byte": 1, "short": 2, "int": 4, "long": 8, "string": 1}.items()
 }
 ANY_CLASS = Kind("class", is_built=False)
-ANY_PROXY = Kind("proxy", smallest=2, is_built=False)
+ANY_PROXY = Kind("proxy", smallest=2)
 
 
 def sequence(element):
@@ -53,8 +54,8 @@ def struct(members):
     )
 
 
-def enum():
-    return Kind("enum", may_be_key=True, is_built=False)
+def enum(numbers):
+    return Kind("enum", may_be_key=True, numbers=frozenset(numbers))
 
 
 def class_():
@@ -62,4 +63,4 @@ def class_():
 
 
 def proxy():
-    return Kind("proxy", smallest=2, is_built=False)
+    return Kind("proxy", smallest=2)

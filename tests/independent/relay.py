@@ -1,9 +1,13 @@
-"""The answers that `ice check FILE` and `ice relay FILE TYPE` have to give: status, standard output, and the line on standard
-error."""
+"""The answers that `ice check FILE`, `ice relay FILE TYPE` and `ice proxy TEXT` have to give: status, standard output, and the
+line on standard error."""
 import kinds
 import loading
 import names
+import proxies
 import values
+
+# The most bytes of a word of the command line.
+MOST_OF_A_WORD = 8_192
 
 
 def refused_slice(why):
@@ -44,5 +48,16 @@ def relay(shelf, file, word, data):
     try:
         value = values.decode(data, kind)
     except values.Fault as why:
-        return (4, b"", b"ice: input refused\n"), str(why)
+        return (4, b"", f"ice: input refused at {why.place}: {why.kind}\n".encode()), str(why)
     return (0, values.encode(value, kind), b""), ""
+
+
+def proxy(text):
+    """Returns the answer for TEXT, by its bytes, and where it is refused, why."""
+    if len(text) > MOST_OF_A_WORD or not proxies.is_utf8(text):
+        return (2, b"", b"ice: usage\n"), "no word"
+    try:
+        given = proxies.read(text)
+    except proxies.Refused as why:
+        return (4, b"", f"ice: text refused at {why.place}\n".encode()), str(why)
+    return (0, proxies.printed(given) + b"\n" + values.spelled_proxy(given).hex().encode() + b"\n", b""), ""

@@ -213,7 +213,7 @@ class Rules:
     # Enums and structs
 
     def enum(self, item):
-        kind, distinct, numbers, last = kinds.enum(), Distinct(self.faults), set(), -1
+        distinct, numbers, last = Distinct(self.faults), set(), -1
         if not item.entries:
             self.faults.add(item.word.place, "NoMembers")
         for word, value in item.entries:
@@ -225,6 +225,7 @@ class Rules:
                 break
             numbers.add(number)
             last = number
+        kind = kinds.enum(numbers)
         self.define(item.word, names.Enum(kind, {word.name: names.Enumerator(kind) for word, _ in item.entries}))
         self.enumerators[kind] = {word.name for word, _ in item.entries}
         self.counts["types"] += 1

@@ -10,6 +10,8 @@ import tempfile
 
 import Ice
 
+import made_proxies
+
 # Operations stand in a module of their own, beside that of the types.
 OPERATIONS = "PeerOperations"
 
@@ -53,6 +55,11 @@ class Peer:
 
     def remote(self, adapter, servant, identity):
         return adapter.add(servant, Ice.stringToIdentity(identity)).ice_collocationOptimized(False)
+
+    def proxy(self, proxy, name=None):
+        """Returns a proxy in Ice's own form: of the interface that has the name, if one is given."""
+        given = self.communicator.stringToProxy(made_proxies.text_for_ice(proxy))
+        return getattr(self.types, f"{name}Prx").uncheckedCast(given) if name else given
 
     def written(self, name, value):
         """Returns the encapsulation that Ice writes for a value of the type."""
