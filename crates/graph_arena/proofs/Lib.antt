@@ -5,3 +5,12 @@ pub mod Sorting
 pub mod SortedLaws
 pub mod SortedKeys
 pub mod RisingPairs
+pub mod Fitting
+pub mod Listed
+pub mod Visits
+pub mod Renaming
+pub mod Closed
+pub mod Agreeing
+pub mod Keeping
+pub mod Formed
+pub mod Taking

@@ -3,3 +3,8 @@ pub mod Comparing
 pub mod Sorted
 pub mod Sorting
 pub mod Keys
+pub mod Stored
+pub mod Seen
+pub mod Arena
+pub mod Listing
+pub mod Renumbering

@@ -1,17 +1,30 @@
-//! Values of types that are known at run time alone, and the order in which they stand as keys.
+//! Values of types that are known at run time alone, the order in which they stand as keys, and graphs of
+//! class instances that hold them.
 #![tactic(auto)]
 
 mod compare;
+mod graph;
+#[cfg(test)]
+mod graph_tests;
+mod instance;
 mod laws;
+mod listing;
+mod names;
 mod order;
 mod proxy_copy;
 mod proxy_order;
+mod renumbering;
+mod resolving;
 mod sort;
 #[cfg(test)]
 mod tests;
 mod value;
+mod visiting;
 
+pub use graph::{Graph, MOST_INSTANCES};
+pub use instance::{Instance, Members, Slice};
 pub use laws::{equal_keys_repeat, sorting_keeps_the_value};
 pub use order::{is_above, is_sorted};
+pub use resolving::{resolve, resolve_members};
 pub use sort::{in_order, keyed, put, sort_pairs};
 pub use value::Value;

@@ -71,7 +71,7 @@ members_alike of read other one (d ∷ ds) m e =
     (one d.kind first first_is, members_alike of read other one ds others others_is)
 
 module _ {R S : Type 0} (port : Port R S) (t : Tables) where
-  pub value_alike : (levels more : ℕ) → levels ≤ more → (kind : TypeRef) (m : Measure) → measure t levels kind ≡ Some m → Alike (value_at port t levels kind) (value_at port t more kind)
+  pub value_alike : (levels more : ℕ) → levels ≤ more → (kind : TypeRef) (m : Measure) → measure t levels kind ≡ Some m → Alike (value_at port.read t levels kind) (value_at port.read t more kind)
   unfolding measure
   value_alike zero more le kind m e s r = absurd cc
   value_alike (suc levels) zero le kind m e s r = absurd (omega (arith, le))
@@ -87,8 +87,8 @@ module _ {R S : Type 0} (port : Port R S) (t : Tables) where
   value_alike (suc levels) (suc more) le (kinds.Seq at) m e s r =
       found_by (slice_get t.seqs at) (λ q. sequence_of (measure t levels q.element)) m e λ q q_is parts.
       found_by (measure t levels q.element) (λ x. Some (container (suc x.depth) x.is_built)) m parts λ x x_is last.
-      let read = value_at port t levels in
-      let other = value_at port t more in
+      let read = value_at port.read t levels in
+      let other = value_at port.read t more in
       rw q_is (made_alike sequence (sized (λ n. each_at read (replicate n q.element))) (sized (λ n. each_at other (replicate n q.element)))
       (sized_alike (λ n. each_at read (replicate n q.element)) (λ n. each_at other (replicate n q.element)) (λ n. each_alike read other (replicate n q.element) (repeated read other q.element (value_alike levels more (omega (arith, le)) q.element x x_is) n))) s r)
   value_alike (suc zero) (suc more) le (kinds.Dict at) m e s r = absurd cc
@@ -96,8 +96,8 @@ module _ {R S : Type 0} (port : Port R S) (t : Tables) where
       found_by (slice_get t.dicts at) (λ d. dictionary_of (measure t levels d.key) (measure t levels d.value)) m e λ d d_is parts.
       found_by (measure t levels d.key) (λ k. measured (measure t levels d.value) (λ w. Some (container (suc (suc (max k.depth w.depth))) (k.is_built && w.is_built)))) m parts λ k k_is rest.
       found_by (measure t levels d.value) (λ w. Some (container (suc (suc (max k.depth w.depth))) (k.is_built && w.is_built))) m rest λ w w_is last.
-      let read = value_at port t (suc levels) in
-      let other = value_at port t more in
+      let read = value_at port.read t (suc levels) in
+      let other = value_at port.read t more in
       let key = value_alike (suc levels) more (omega (arith, le)) d.key k (measure_more t levels (suc levels) (omega arith) d.key k k_is) in
       let value = value_alike (suc levels) more (omega (arith, le)) d.value w (measure_more t levels (suc levels) (omega arith) d.value w w_is) in
       rw d_is (made_alike dictionary (sized (λ n. pairs_at (read d.key) (read d.value) n no_entry)) (sized (λ n. pairs_at (other d.key) (other d.value) n no_entry))
@@ -105,7 +105,7 @@ module _ {R S : Type 0} (port : Port R S) (t : Tables) where
   value_alike (suc levels) (suc more) le (kinds.Struct at) m e s r =
       found_by (slice_get t.structs at) (λ d. struct_of (measure_members (measure t levels) d.members)) m e λ d d_is parts.
       found_by (measure_members (measure t levels) d.members) (λ x. Some (structure x)) m parts λ x x_is last.
-      let read = value_at port t levels in
-      let other = value_at port t more in
+      let read = value_at port.read t levels in
+      let other = value_at port.read t more in
       rw d_is (made_alike struct (each_at read (map (λ m. m.kind) d.members)) (each_at other (map (λ m. m.kind) d.members))
       (each_alike read other (map (λ m. m.kind) d.members) (members_alike (measure t levels) read other (λ kind y is. value_alike levels more (omega (arith, le)) kind y is) d.members x x_is)) s r)

@@ -83,7 +83,7 @@ pub fn pairs_in_any_order()
 pub fn levels_suffice()
     ensures { (t : Tables) (kind : TypeRef) (m : Measure)
         → measure t MOST_DEPTH kind ≡ Some m → (levels : ℕ) → MOST_DEPTH ≤ levels
-        → (r : Rest) → value_at by_number t levels kind tt r ≡ value_at by_number t MOST_DEPTH kind tt r }
+        → (r : Rest) → value_at by_number.read t levels kind tt r ≡ value_at by_number.read t MOST_DEPTH kind tt r }
 {}
 
 /// An encapsulation is read as its value, whatever follows it, and nothing else is: so one may stand

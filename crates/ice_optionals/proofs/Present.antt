@@ -47,7 +47,7 @@ module _ {R S : Type 0} (port : Port R S) (lawful : IsLawful port) (t : Tables) 
 
   -- ---- what stands behind a tag
 
-  passed_lawful : (format : ℕ) → format ≤ 6 → Law (passed_over port t format) (PassedOver port t format)
+  passed_lawful : (format : ℕ) → format ≤ 6 → Law (passed_over port.read t format) (PassedOver port t format)
   passed_lawful format known = record {
     found = λ s r x fits e. then_ok (passed_at format r) (λ behind. Ok (None, s, behind)) x e λ behind is last.
         let f = passed_found format r behind known fits is in
@@ -55,17 +55,17 @@ module _ {R S : Type 0} (port : Port R S) (lawful : IsLawful port) (t : Tables) 
     only = λ s to r after bytes v k h. (s, sym h.2, rw (passed_only format r after bytes k h.0, h.1) refl);
   }
 
-  skipped_lawful : (reference : Bool) (format : ℕ) → eqb format FORMAT_CLASS ≡ reference → format ≤ 7 → Law (skipped_by port t reference format) (SkippedBy port t reference format)
+  skipped_lawful : (reference : Bool) (format : ℕ) → eqb format FORMAT_CLASS ≡ reference → format ≤ 7 → Law (skipped_by port.read t reference format) (SkippedBy port t reference format)
   skipped_lawful true format test known = made_lawful port.seen not_kept _ _ (record { found = lawful.found None; only = lawful.only None })
   skipped_lawful false format test known = passed_lawful format (other (eqb-false format 7 test) known)
     where
       other : (format ≡ 7 → ⊥) → format ≤ 7 → format ≤ 6
       other differs known = omega (arith, differs, known)
 
-  tagged_lawful : (place : ℕ) (kind : Option TypeRef) (format : ℕ) → format ≤ 7 → Law (tagged port t place kind format) (Tagged port t kind format)
+  tagged_lawful : (place : ℕ) (kind : Option TypeRef) (format : ℕ) → format ≤ 7 → Law (tagged port.read t place kind format) (Tagged port t kind format)
   tagged_lawful place None format known = skipped_lawful (eqb format FORMAT_CLASS) format refl known
   tagged_lawful place (Some kind) format known = tested_lawful port.seen (eqb format (optional_format t kind)) place BadFormat _ _
-      (made_lawful port.seen Some _ _ (framed_lawful port.seen (value_at port t 100 kind) (SpellsValue port t 100 kind) (value_lawful port lawful t 100 kind) (prefix_of t kind)
+      (made_lawful port.seen Some _ _ (framed_lawful port.seen (value_at port.read t 100 kind) (SpellsValue port t 100 kind) (value_lawful port lawful t 100 kind) (prefix_of t kind)
       (λ own. itself_long port t 100 kind (own_counts (counts_itself t kind) (eqb (optional_format t kind) FORMAT_VSIZE) (eqb (optional_format t kind) FORMAT_FSIZE) own))))
 
   -- ---- one after the other
@@ -74,14 +74,14 @@ module _ {R S : Type 0} (port : Port R S) (lawful : IsLawful port) (t : Tables) 
     abbrev FoundOptions : Option ℕ → R → Rest → Present × R × Rest → Type 0
     FoundOptions last s r x = (bytes : List ℕ) × Took r bytes x.2 × ((n : ℕ) × Options port t marked members n last bytes x.0 (port.seen s) (port.seen x.1))
 
-    option_found : (steps : ℕ) (last : Option ℕ) → ((last : Option ℕ) (s : R) (r : Rest) (x : Present × R × Rest) → IsBytes r.bytes → options_at port t marked members steps last s r ≡ Ok x → FoundOptions last s r x)
+    option_found : (steps : ℕ) (last : Option ℕ) → ((last : Option ℕ) (s : R) (r : Rest) (x : Present × R × Rest) → IsBytes r.bytes → options_at port.read t marked members steps last s r ≡ Ok x → FoundOptions last s r x)
         → (s : R) (r : Rest) (next : Next × Rest) (bytes : List ℕ) (x : Present × R × Rest) → IsBytes r.bytes → Took r bytes next.1 → IsNext marked last bytes next.0
-        → option_then port t marked members (options_at port t marked members steps) r.place next.0 s next.1 ≡ Ok x → FoundOptions last s r x
+        → option_then port.read t marked members (options_at port.read t marked members steps) r.place next.0 s next.1 ≡ Ok x → FoundOptions last s r x
     option_found steps last later s r (None, q) bytes x fits took is e =
         subst (λ (y : Present × R × Rest). FoundOptions last s r y) (ok_is ([], s, q) x e) (bytes, took, (0, (is, refl, refl)))
     option_found steps last later s r (Some it, q) bytes x fits took is e =
-        then_ok (tagged port t r.place (kind_tagged it.0 members) it.1 s q) (λ v. made (with_option it.0 v.0) (options_at port t marked members steps (Some it.0)) v.1 v.2) x e λ v v_is rest.
-        then_ok (options_at port t marked members steps (Some it.0) v.1 v.2) (λ y. Ok (with_option it.0 v.0 y.0, y.1, y.2)) x rest λ y y_is done.
+        then_ok (tagged port.read t r.place (kind_tagged it.0 members) it.1 s q) (λ v. made (with_option it.0 v.0) (options_at port.read t marked members steps (Some it.0)) v.1 v.2) x e λ v v_is rest.
+        then_ok (options_at port.read t marked members steps (Some it.0) v.1 v.2) (λ y. Ok (with_option it.0 v.0 y.0, y.1, y.2)) x rest λ y y_is done.
         let fits_q = (Took-fits r q bytes fits took).1 in
         let f = (tagged_lawful r.place (kind_tagged it.0 members) it.1 (tag_format bytes it is.0)).found s q v fits_q v_is in
         let g = later (Some it.0) v.1 v.2 y ((Took-fits q v.2 f.0 fits_q f.1).1) y_is in
@@ -91,22 +91,22 @@ module _ {R S : Type 0} (port : Port R S) (lawful : IsLawful port) (t : Tables) 
           (suc g.2.0, (it.0, it.1, v.0, y.0, bytes, f.0, g.0, port.seen v.1, refl, is.0, is.1, f.2, refl, g.2.1)),
         )
 
-    options_found : (steps : ℕ) (last : Option ℕ) (s : R) (r : Rest) (x : Present × R × Rest) → IsBytes r.bytes → options_at port t marked members steps last s r ≡ Ok x → FoundOptions last s r x
+    options_found : (steps : ℕ) (last : Option ℕ) (s : R) (r : Rest) (x : Present × R × Rest) → IsBytes r.bytes → options_at port.read t marked members steps last s r ≡ Ok x → FoundOptions last s r x
     options_found zero last s r x fits e = absurd cc
     options_found (suc steps) last s r x fits e =
-        then_ok (next_tag_at last marked r) (λ next. option_then port t marked members (options_at port t marked members steps) r.place next.0 s next.1) x e λ next next_is done.
+        then_ok (next_tag_at last marked r) (λ next. option_then port.read t marked members (options_at port.read t marked members steps) r.place next.0 s next.1) x e λ next next_is done.
         let f = next_found marked last r next fits next_is in
         option_found steps last (options_found steps) s r next f.0 x fits f.1 f.2 done
 
     abbrev ReadOptions : ℕ → Option ℕ → Present → R → S → Rest → Rest → Type 0
-    ReadOptions steps last v s to r after = (end : R) × (port.seen end ≡ to) × (options_at port t marked members steps last s r ≡ Ok (v, end, after))
+    ReadOptions steps last v s to r after = (end : R) × (port.seen end ≡ to) × (options_at port.read t marked members steps last s r ≡ Ok (v, end, after))
 
     option_is : (steps : ℕ) (last : Option ℕ) (number format : ℕ) (s q end : R) (r a b after : Rest) (v : Option Tree) (others all : Present) → next_tag_at last marked r ≡ Ok (Some (number, format), a)
-        → tagged port t r.place (kind_tagged number members) format s a ≡ Ok (v, q, b) → options_at port t marked members steps (Some number) q b ≡ Ok (others, end, after)
-        → all ≡ with_option number v others → options_at port t marked members (suc steps) last s r ≡ Ok (all, end, after)
+        → tagged port.read t r.place (kind_tagged number members) format s a ≡ Ok (v, q, b) → options_at port.read t marked members steps (Some number) q b ≡ Ok (others, end, after)
+        → all ≡ with_option number v others → options_at port.read t marked members (suc steps) last s r ≡ Ok (all, end, after)
     option_is steps last number format s q end r a b after v others all next value rest is = rw (next, value, rest, is) refl
 
-    end_is : (steps : ℕ) (last : Option ℕ) (s : R) (r after : Rest) → next_tag_at last marked r ≡ Ok (None, after) → options_at port t marked members (suc steps) last s r ≡ Ok ([], s, after)
+    end_is : (steps : ℕ) (last : Option ℕ) (s : R) (r after : Rest) → next_tag_at last marked r ≡ Ok (None, after) → options_at port.read t marked members (suc steps) last s r ≡ Ok ([], s, after)
     end_is steps last s r after next = rw next refl
 
     options_only : (n steps : ℕ) (last : Option ℕ) (s : R) (to : S) (r after : Rest) (bytes : List ℕ) (v : Present) → length bytes < steps → (marked ≡ false → after.bytes ≡ []) → Took r bytes after
@@ -123,14 +123,14 @@ module _ {R S : Type 0} (port : Port R S) (lawful : IsLawful port) (t : Tables) 
         let p = options_only n steps (Some number) o.0 to l.0 after b others (omega (arith, long, lt, tag_long lead (number, format) is_tag)) end l.2 (subst (λ (u : S). Options port t marked members n (Some number) b others u to) (sym o.1) rest) in
         (p.0, p.1, option_is steps last number format s o.0 p.0 r m.0 l.0 after value others v (tag_only marked last r m.0 lead (number, format) m.1 is_tag rise) o.2 p.2 is_list)
 
-    pub all_found : Found port.seen (all_options port t marked members) (AllOptions port t marked members)
+    pub all_found : Found port.seen (all_options port.read t marked members) (AllOptions port t marked members)
     all_found s r x fits e = options_found (suc (length r.bytes)) None s r x fits e
 
     pub all_only : (s : R) (to : S) (r after : Rest) (bytes : List ℕ) (v : Present) → (marked ≡ false → after.bytes ≡ []) → Took r bytes after → AllOptions port t marked members bytes v (port.seen s) to
-        → (end : R) × (port.seen end ≡ to) × (all_options port t marked members s r ≡ Ok (v, end, after))
+        → (end : R) × (port.seen end ≡ to) × (all_options port.read t marked members s r ≡ Ok (v, end, after))
     all_only s to r after bytes v end k h = options_only h.0 (suc (length r.bytes)) None s to r after bytes v (omega (arith, ap length k.parts, length-append bytes after.bytes)) end k h.1
 
-  pub marked_lawful : (members : List Member) → Law (all_options port t true members) (AllOptions port t true members)
+  pub marked_lawful : (members : List Member) → Law (all_options port.read t true members) (AllOptions port t true members)
   marked_lawful members = record {
     found = all_found true members;
     only = λ s to r after bytes v k h. all_only true members s to r after bytes v (λ e. absurd cc) k h;

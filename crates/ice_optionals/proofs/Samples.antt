@@ -39,10 +39,10 @@ abbrev some : Shape
 some = record { required = always kinds.Short ∷ []; optional = tagged 1 kinds.Int ∷ tagged 3 kinds.Text ∷ [] }
 
 abbrev content : Shape → List ℕ → Result (Members × (Unit {0}) × Rest) Fault
-content shape bytes = content_at by_number tables shape tt (whole bytes)
+content shape bytes = content_at by_number.read tables shape tt (whole bytes)
 
 abbrev slice : Shape → List ℕ → Result (Members × (Unit {0}) × Rest) Fault
-slice shape bytes = slice_members_at by_number tables true shape tt (whole bytes)
+slice shape bytes = slice_members_at by_number.read tables true shape tt (whole bytes)
 
 -- all of the bytes, and so many they were
 abbrev reads : Result (Members × (Unit {0}) × Rest) Fault → ℕ → Trees → Present → Type 0
@@ -172,6 +172,6 @@ unfolding measure is_utf8 chars encode
 a_fault_inside = refl
 
 -- without the flag nothing follows the required members
-not_flagged : slice_members_at by_number tables false some tt (whole (7 ∷ 0 ∷ 255 ∷ [])) ≡ Ok (with_optional (tree (short (pos 7)) none) [], tt, record { place = 2; bytes = 255 ∷ [] })
+not_flagged : slice_members_at by_number.read tables false some tt (whole (7 ∷ 0 ∷ 255 ∷ [])) ≡ Ok (with_optional (tree (short (pos 7)) none) [], tt, record { place = 2; bytes = 255 ∷ [] })
 unfolding measure is_utf8 chars encode
 not_flagged = refl

@@ -12,7 +12,7 @@ ghost use Rattle.ice_optionals.specs.Members.{Members, content_at, SpellsContent
 /// What is read of a content is spelled by all bytes of its bound.
 pub fn contents_found()
     ensures { (t : Tables) (shape : Shape) (r : Rest) (x : Members × (Unit {0}) × Rest) → IsBytes r.bytes
-        → content_at by_number t shape tt r ≡ Ok x
+        → content_at by_number.read t shape tt r ≡ Ok x
         → SpellsContent by_number t shape r.bytes x.0 tt tt × (x.2.bytes ≡ []) }
 {}
 
@@ -20,7 +20,7 @@ pub fn contents_found()
 /// first fault.
 pub fn contents_only()
     ensures { (t : Tables) (shape : Shape) (r : Rest) (v : Members) → SpellsContent by_number t shape r.bytes v tt tt
-        → content_at by_number t shape tt r ≡ Ok (v, tt, record { place = r.place + length r.bytes; bytes = [] }) }
+        → content_at by_number.read t shape tt r ≡ Ok (v, tt, record { place = r.place + length r.bytes; bytes = [] }) }
 {}
 
 /// Bytes spell one content at most.
@@ -32,14 +32,14 @@ pub fn contents_apart()
 /// What is read as the members of a slice is spelled by the bytes that were taken, none less and none more.
 pub fn slices_found()
     ensures { (t : Tables) (flagged : Bool) (shape : Shape)
-        → Found by_number.seen (slice_members_at by_number t flagged shape)
+        → Found by_number.seen (slice_members_at by_number.read t flagged shape)
         (SpellsSliceMembers by_number t flagged shape) }
 {}
 
 /// What is spelled as the members of a slice is read, whatever follows it.
 pub fn slices_only()
     ensures { (t : Tables) (flagged : Bool) (shape : Shape)
-        → Only by_number.seen (slice_members_at by_number t flagged shape)
+        → Only by_number.seen (slice_members_at by_number.read t flagged shape)
         (SpellsSliceMembers by_number t flagged shape) }
 {}
 

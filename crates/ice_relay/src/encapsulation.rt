@@ -15,7 +15,7 @@ use encaps_optionals::open_encaps;
 use graph_arena::Value;
 use ice_prims::{Cursor, Fault, Kind, ReadFault, put_byte, put_int};
 use ice_types::{Schema, TypeRef};
-use ice_values::{read_value, write_value};
+use ice_values::{read_plain_value, write_plain_value};
 use std::alloc::{AllocError, Global};
 
 /// The value of the type that the whole input holds in one encapsulation, or the first fault from
@@ -30,7 +30,7 @@ pub fn decode(
 {
     let mut cursor = Cursor::new(input);
     let mut content = open_encaps(&mut cursor)?;
-    let value = read_value(alloc, schema, kind, &mut content)?;
+    let value = read_plain_value(alloc, schema, kind, &mut content)?;
     end(&content)?;
     end(&cursor)?;
     Ok(value)
@@ -56,7 +56,7 @@ pub fn encode(alloc: Global, value: &Value) -> Result<Vec<u8>, AllocError>
     put_int(&mut out, 0)?;
     put_byte(&mut out, 1)?;
     put_byte(&mut out, 1)?;
-    write_value(value, &mut out)?;
+    write_plain_value(alloc, value, &mut out)?;
     let size = out.len() as i32;
     patch_size(&mut out, size);
     Ok(out)

@@ -1,5 +1,5 @@
-pub mod Loop
-pub mod Writing
+pub mod Frames
+pub mod Costs
+pub mod Keys
+pub mod Levels
 pub mod Plain
-pub mod ReadBegun
-pub mod PutPairs

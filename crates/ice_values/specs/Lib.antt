@@ -1,2 +1,10 @@
-pub mod Begun
-pub mod Reads
+pub mod Taking
+pub mod Leaves
+pub mod Kept
+pub mod Sorted
+pub mod Frames
+pub mod Rests
+pub mod Going
+pub mod Numbering
+pub mod Putting
+pub mod Cost

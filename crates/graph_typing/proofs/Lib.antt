@@ -1,0 +1,10 @@
+pub mod Carried
+pub mod Texts
+pub mod Bases
+pub mod Renamed
+pub mod TypedMembers
+pub mod Ranged
+pub mod TypedGraphs
+pub mod Fitting
+pub mod Sound
+pub mod Related

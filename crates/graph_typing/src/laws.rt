@@ -1,0 +1,26 @@
+//! What the definitions promise of graphs that are read, one law a function.
+
+ghost use Rattle.std.specs.Prelude.{◌≤◌, ◌↔◌, IsTrue, ℕ, List, length};
+ghost use Rattle.ice_types.specs.declared.declarations.Shape.{Shape};
+ghost use Rattle.ice_types.specs.Tables.{Tables};
+ghost use Rattle.ice_types.specs.Inherited.{IsA};
+ghost use Rattle.ice_types.specs.Rules.{IsSchema};
+ghost use Rattle.ice_prims.specs.Rest.{IsBytes};
+ghost use Rattle.ice_graphs.specs.Classes.{is_a};
+ghost use Rattle.ice_graphs.specs.Graph.{Graph};
+ghost use Rattle.ice_graphs.specs.Flags.{Reach};
+ghost use Rattle.ice_graphs.specs.Instances.{most_instances, SpellsNumbered};
+ghost use Rattle.ice_graphs.specs.Typed.{OfType};
+
+/// What is read is of its type, and within the limit of instances.
+pub fn graphs_typed()
+    ensures { (t : Tables) (reach : Reach) (shape : Shape) (bytes : List ℕ) (g : Graph)
+        → IsSchema t → IsBytes bytes → SpellsNumbered t reach shape bytes g
+        → OfType t shape g × (length g.instances ≤ most_instances) }
+{}
+
+/// Whether an instance of a class may stand where a base is declared: exactly where the class is the base,
+/// or a chain of bases leads there.
+pub fn classes_related()
+    ensures { (t : Tables) (class base : ℕ) → IsSchema t → IsTrue (is_a t class base) ↔ IsA t.classes class base }
+{}

@@ -1,0 +1,10 @@
+pub mod Joining
+pub mod Ending
+pub mod Sizes
+pub mod References
+pub mod Slices
+pub mod Graphs
+pub mod Exceptions
+pub mod Reopening
+pub mod Samples
+mod RaisedSamples

@@ -1,0 +1,16 @@
+pub mod Classes
+pub mod Graph
+pub mod Names
+pub mod Joining
+pub mod References
+pub mod Flags
+pub mod TypeIds
+pub mod Slices
+pub mod Instances
+pub mod Exceptions
+pub mod Visiting
+pub mod Same
+pub mod Typed
+pub mod Members
+pub mod Canonical
+pub mod Reopening

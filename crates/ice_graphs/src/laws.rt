@@ -1,0 +1,67 @@
+//! What the definitions promise of each other, one law a function.
+
+ghost use Rattle.std.specs.Prelude.{◌≡◌, ℕ, Bool, List, Ok};
+ghost use Rattle.ice_types.specs.Tables.{Tables};
+ghost use Rattle.ice_types.specs.declared.declarations.Shape.{Shape};
+ghost use Rattle.ice_prims.specs.Rest.{IsBytes, whole};
+ghost use Rattle.ice_encoding.specs.Port.{IsLawful};
+ghost use Rattle.ice_graphs.specs.Graph.{Slice, Graph};
+ghost use Rattle.ice_graphs.specs.Flags.{Reach};
+ghost use Rattle.ice_graphs.specs.Slices.{kept_bytes};
+ghost use Rattle.ice_graphs.specs.Instances.{references, SpellsNumbered, numbered_at};
+ghost use Rattle.ice_graphs.specs.Exceptions.{Raised, SpellsException, exception_at};
+ghost use Rattle.ice_graphs.specs.Reopening.{Reopens, reopened};
+
+/// Where a reference stands, what is read is spelled by the bytes that were taken, and what is spelled
+/// is read: with all instances that begin in it.
+pub fn references_lawful()
+    ensures { (t : Tables) (reach : Reach) → IsLawful (references t reach) }
+{}
+
+/// A graph is read from an input exactly where the whole input is an encapsulation of it; so every
+/// other input has a first fault.
+pub fn graphs_found()
+    ensures { (t : Tables) (reach : Reach) (shape : Shape) (bytes : List ℕ) (g : Graph)
+        → IsBytes bytes → numbered_at t reach shape (whole bytes) ≡ Ok g → SpellsNumbered t reach shape bytes g }
+{}
+
+/// The other half: an encapsulation of a graph is read as it.
+pub fn graphs_only()
+    ensures { (t : Tables) (reach : Reach) (shape : Shape) (bytes : List ℕ) (g : Graph)
+        → SpellsNumbered t reach shape bytes g → numbered_at t reach shape (whole bytes) ≡ Ok g }
+{}
+
+/// An encapsulation holds one numbered graph.
+pub fn graphs_apart()
+    ensures { (t : Tables) (reach : Reach) (shape : Shape) (bytes : List ℕ) (g h : Graph)
+        → SpellsNumbered t reach shape bytes g → SpellsNumbered t reach shape bytes h → g ≡ h }
+{}
+
+/// A user exception is read from an input exactly where the whole input is an encapsulation of it; so
+/// every other input has a first fault.
+pub fn exceptions_found()
+    ensures { (t : Tables) (reach : Reach) (bytes : List ℕ) (x : Raised)
+        → IsBytes bytes → exception_at t reach (whole bytes) ≡ Ok x → SpellsException t reach bytes x }
+{}
+
+/// The other half: an encapsulation of an exception is read as it.
+pub fn exceptions_only()
+    ensures { (t : Tables) (reach : Reach) (bytes : List ℕ) (x : Raised)
+        → SpellsException t reach bytes x → exception_at t reach (whole bytes) ≡ Ok x }
+{}
+
+/// An encapsulation holds one exception.
+pub fn exceptions_apart()
+    ensures { (t : Tables) (reach : Reach) (bytes : List ℕ) (x y : Raised)
+        → SpellsException t reach bytes x → SpellsException t reach bytes y → x ≡ y }
+{}
+
+/// A kept slice is one of a class exactly where its bytes are members of the class, with places in its
+/// table.
+pub fn slices_reopened()
+    ensures found { (t : Tables) (class : ℕ) (bytes : List ℕ) (optionals : Bool) (table : List ℕ) (s : Slice)
+        → IsBytes (kept_bytes optionals bytes) → reopened t class bytes optionals table ≡ Ok s
+        → Reopens t class bytes optionals table s }
+    ensures only { (t : Tables) (class : ℕ) (bytes : List ℕ) (optionals : Bool) (table : List ℕ) (s : Slice)
+        → Reopens t class bytes optionals table s → reopened t class bytes optionals table ≡ Ok s }
+{}

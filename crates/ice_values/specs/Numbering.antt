@@ -1,0 +1,13 @@
+-- References as numbers.
+use Rattle.std.specs.Prelude.{ℕ, Option, None, Ok}
+use Rattle.ice_prims.specs.Bytes.{size_bytes}
+use Rattle.ice_prims.specs.Number.{size_at}
+use Rattle.ice_prims.specs.Rest.{◌>>=◌}
+use Rattle.ice_encoding.specs.Port.{Reader, number_of, size_of}
+use Rattle.ice_encoding.specs.Pausing.{Met, known, Put}
+
+abbrev pub number_taken : Option ℕ → Reader (Unit {0}) Met
+number_taken at s r = size_at r >>= λ n. Ok (known (number_of n.0), s, n.1)
+
+abbrev pub number_put : Option ℕ → Unit {0} → Put (Unit {0})
+number_put n s = record { bytes = size_bytes (size_of n); begun = None; after = s }

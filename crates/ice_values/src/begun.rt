@@ -1,0 +1,86 @@
+//! A value with parts, before the first of them.
+
+ghost use Rattle.std.specs.Prelude.{◌<◌, ◌^◌, suc, IfOk};
+ghost use Rattle.ice_values.specs.Cost.{wants, weight};
+ghost use Rattle.ice_values.specs.Frames.{opened};
+ghost use Rattle.ice_values.specs.Leaves.{Reads};
+ghost use Rattle.ice_values.specs.Rests.{starts_at};
+
+use crate::frame::{Each, Frame, Pairs, Part, Parts, Sort};
+use crate::left::Left;
+use crate::sorted::SortedPairs;
+use ice_prims::{Cursor, Kind, ReadFault};
+use ice_types::{List, Schema, TypeRef};
+use std::alloc::Global;
+
+/// A value of the type, whose parts nest at most so deep: its size is read, where it has one. A type
+/// without parts is a fault.
+pub(crate) fn begun(
+    alloc: Global,
+    schema: &Schema,
+    levels: u32,
+    kind: TypeRef,
+    cursor: &mut Cursor<'_>,
+) -> Result<Frame, ReadFault>
+    ensures starts { Reads opened result cursor.new (starts_at schema.now levels kind cursor.old) }
+    ensures less { IfOk result (λ f. wants schema.now f < weight schema.now (suc levels)) }
+{
+    let nowhere = cursor.fault(Kind::LeftOver);
+    match kind {
+        TypeRef::Seq(at) => {
+            let decl = schema.seqs().get(at as usize).ok_or(nowhere)?;
+            let count = cursor.take_size()?;
+            is_within(count);
+            Ok(Frame {
+                levels,
+                parts: Parts::Each(Each {
+                    sort: Sort::Seq,
+                    left: Left::Items(decl.element, count),
+                    done: List::new(alloc),
+                }),
+            })
+        }
+        TypeRef::Dict(at) => {
+            let decl = schema.dicts().get(at as usize).ok_or(nowhere)?;
+            let count = cursor.take_size()?;
+            is_within(count);
+            Ok(Frame {
+                levels,
+                parts: Parts::Pairs(Pairs {
+                    key: decl.key,
+                    value: decl.value,
+                    left: count,
+                    part: Part::Next,
+                    done: SortedPairs::new(alloc),
+                }),
+            })
+        }
+        TypeRef::Struct(at) => {
+            let _decl = schema.structs().get(at as usize).ok_or(nowhere)?;
+            Ok(Frame {
+                levels,
+                parts: Parts::Each(Each {
+                    sort: Sort::Members,
+                    left: Left::Members(at, 0),
+                    done: List::new(alloc),
+                }),
+            })
+        }
+        TypeRef::Bool
+        | TypeRef::Byte
+        | TypeRef::Short
+        | TypeRef::Int
+        | TypeRef::Long
+        | TypeRef::Text
+        | TypeRef::Enum(_)
+        | TypeRef::Proxy(_)
+        | TypeRef::Class(_) => Err(ReadFault::Broken(nowhere)),
+    }
+}
+
+/// A number of the type is below the type's end.
+fn is_within(count: u32)
+    ensures { count < 2 ^ 32 }
+{
+    let _ = count;
+}

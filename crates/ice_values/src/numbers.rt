@@ -1,0 +1,56 @@
+//! References as numbers.
+
+ghost use Rattle.std.specs.Prelude.{◌≡◌};
+ghost use Rattle.ice_encoding.specs.Port.{number_of};
+ghost use Rattle.ice_values.specs.Numbering.{number_taken, number_put};
+
+use crate::port::{Met, RefPort};
+use crate::put_port::PutPort;
+use ice_prims::{Cursor, ReadFault, put_size};
+use std::alloc::AllocError;
+use std::marker::Model;
+
+/// Each reference is its number: 0 for null, else one more than the number. No instance begins.
+#[derive(Debug, Drop)]
+pub struct Numbers;
+
+impl Model for Numbers {
+    ghost Value = { Unit {0} };
+
+    ghost view = { λ n. tt };
+}
+
+impl RefPort for Numbers {
+    ghost take = { number_taken };
+
+    ghost room = { λ s. 0 };
+
+    fn take_ref(
+        &mut self,
+        _declared: Option<u32>,
+        cursor: &mut Cursor<'_>,
+    ) -> Result<Met, ReadFault> {
+        Ok(Met::Known(number_of(cursor.take_size()?)))
+    }
+}
+
+impl PutPort for Numbers {
+    ghost put = { number_put };
+
+    ghost room = { λ s. 0 };
+
+    fn put_ref(&mut self, out: &mut Vec<u8>, name: Option<u32>) -> Result<Option<u32>, AllocError> {
+        match name {
+            Some(number) => put_size(out, number + 1)?,
+            None => put_size(out, 0)?,
+        }
+        Ok(None)
+    }
+}
+
+/// The reference that a size stands for: 0 is null, any other one more than the number.
+fn number_of(size: u32) -> Option<u32>
+    ensures { result ≡ number_of size }
+{
+    if size == 0 { None } else { Some(size - 1) }
+}
