@@ -1,0 +1,5 @@
+pub mod Joined
+pub mod RequiredParts
+pub mod OptionParts
+pub mod Stages
+pub mod WritingSteps
