@@ -1,0 +1,156 @@
+-- How what is still read of an instance changes with a step.
+use Rattle.std.proofs.Common.{ℕ, zero, suc, ◌≡◌, ◌-◌, ◌<◌, List, [], ◌∷◌, ◌++◌, Option, None, Some, Result, Ok, Err, refl, sym, ap, ◌∙◌, arith}
+use Rattle.std.proofs.lemmas.List.{append_assoc}
+use Rattle.ice_types.specs.Tables.{Tables}
+use Rattle.ice_prims.specs.declared.fault.Fault.{Fault}
+use Rattle.ice_prims.specs.declared.fault.Kind.TheVariants.{BadReference}
+use Rattle.ice_prims.specs.declared.fault.ReadFault.{ReadFault}
+use Rattle.ice_prims.specs.Rest.{Rest, fault, ◌>>=◌}
+use Rattle.ice_prims.specs.Taking.{Fails}
+use Rattle.ice_encoding.specs.Port.{Reader}
+use Rattle.ice_encoding.specs.Pausing.{Inside, known, begins, met}
+use Rattle.ice_encoding.specs.Reading.{made}
+use Rattle.ice_graphs.specs.Graph.{Slice}
+use Rattle.ice_graphs.specs.Flags.{Before, sized_known}
+use Rattle.ice_graphs.specs.Instances.{most_instances}
+use Rattle.ice_graphs.specs.References.{State, inline_at, entries_at, not_null, resolved, with_met}
+use Rattle.ice_graphs.specs.Slices.{by_table, one_more, slices_at}
+use Rattle.graph_arena.specs.Seen.{view_slices}
+use Rattle.instance_reading.specs.declared.slice.Before as code
+use Rattle.instance_reading.specs.Slices.{Open, BeginsSlice, view_before, opened, with_entries, left_table, left_bases, left_open}
+use Rattle.instance_reading.specs.declared.slice.OpenSlice.{OpenSlice}
+use Rattle.instance_reading.specs.declared.unfinished.Stage.TheVariants as stages
+use Rattle.instance_reading.specs.declared.unfinished.Unfinished.{Unfinished}
+use Rattle.instance_reading.specs.Unfinished.{behind, refer_by, left_by, left_slices, Keeps}
+use Rattle.instance_reading.proofs.Heads.{fails_then}
+use Rattle.instance_reading.proofs.Places.{fault_along}
+
+-- ---- a slice begins
+
+module _ (refer : Option ℕ → Reader (State ℕ) (Option ℕ)) (t : Tables) where
+  slice_begins : (steps : ℕ) (before : Before) (slice : OpenSlice) (s s' : State ℕ) (r after : Rest) → (steps ≡ 0 → ⊥) → BeginsSlice t before (Ok slice) s r s' after
+      → slices_at refer t sized_known steps before s r ≡ left_open refer t (steps - 1) (opened slice) s' after
+  slice_begins zero before slice s s' r after some h = absurd (some refl)
+  slice_begins (suc steps) before slice s s' r after some h =
+      let e : steps ≡ suc steps - 1 = omega arith in
+      h refer steps ∙ ap (λ (n : ℕ). left_open refer t n (opened slice) s' after) e
+
+  slice_fails : (steps : ℕ) (before : Before) (e : ReadFault) (s s' : State ℕ) (r after : Rest) → (steps ≡ 0 → ⊥) → BeginsSlice t before (Err e) s r s' after → Fails e (slices_at refer t sized_known steps before s r)
+  slice_fails zero before e s s' r after some h = absurd (some refl)
+  slice_fails (suc steps) before e s s' r after some h = h refer steps
+
+-- ---- an entry of the table
+
+abbrev pub with_entry : Open → ℕ → Open
+with_entry o n = record { class = o.class; base = o.base; content = o.content; uses = o.uses; table = o.table ++ n ∷ []; left = o.left - 1 }
+
+module _ (refer : Option ℕ → Reader (State ℕ) (Option ℕ)) (t : Tables) where
+  abbrev entry_first : ℕ → List ℕ × State ℕ × Rest → Result (List ℕ × State ℕ × Rest) Fault
+  entry_first n y = Ok (n ∷ y.0, y.1, y.2)
+
+  abbrev by_names : Open → State ℕ → Rest → List ℕ → Result (Slice × State ℕ × Rest) Fault
+  by_names o s r table = Ok (by_table o.class o.content table, with_met (resolved table o.uses) s, r)
+
+  more : (o kept : Open) (n : ℕ) → kept ≡ with_entry o n → (read : Result (List ℕ × State ℕ × Rest) Fault) → (read >>= entry_first n >>= with_entries refer t o) ≡ (read >>= with_entries refer t kept)
+  more o kept n is (Err e) = refl
+  more o kept n is (Ok y) = ap (by_names o y.1 y.2) (sym (append_assoc o.table (n ∷ []) y.0)) ∙ ap (λ (k : Open). with_entries refer t k y) (sym is)
+
+  left_is : (o kept : Open) (left n : ℕ) → o.left ≡ suc left → kept ≡ with_entry o n → kept.left ≡ left
+  left_is o kept left n some is = ap (λ (k : Open). k.left) is ∙ omega (arith, some)
+
+  -- the name that a reference has, and what is read behind it
+  abbrev entry_then : Open → ℕ → ℕ → Option ℕ × State ℕ × Rest → Result (Slice × State ℕ × Rest) Fault
+  entry_then o place left x = not_null place x.0 (λ name. entries_at refer left x.1 x.2 >>= entry_first name) >>= with_entries refer t o
+
+  first_entry : (o : Open) (place left : ℕ) (read : Result (Option ℕ × State ℕ × Rest) Fault)
+      → ((read >>= λ x. not_null place x.0 (λ name. entries_at refer left x.1 x.2 >>= entry_first name)) >>= with_entries refer t o) ≡ (read >>= entry_then o place left)
+  first_entry o place left (Ok x) = refl
+  first_entry o place left (Err e) = refl
+
+  table_is : (o : Open) (left : ℕ) (s : State ℕ) (r : Rest) → o.left ≡ suc left → left_table refer t o s r ≡ (refer None s r >>= entry_then o r.place left)
+  table_is o left s r some = ap (λ (n : ℕ). entries_at refer n s r >>= with_entries refer t o) some ∙ first_entry o r.place left (refer None s r)
+
+  -- one that is known
+  entry_known : (o kept : Open) (left n : ℕ) (s s' : State ℕ) (r after : Rest) → o.left ≡ suc left → kept ≡ with_entry o n → refer None s r ≡ Ok (Some n, s', after) → left_table refer t o s r ≡ left_table refer t kept s' after
+  entry_known o kept left n s s' r after some is e =
+      table_is o left s r some ∙ ap (λ (x : Result (Option ℕ × State ℕ × Rest) Fault). x >>= entry_then o r.place left) e
+      ∙ more o kept n is (entries_at refer left s' after) ∙ ap (λ (k : ℕ). entries_at refer k s' after >>= with_entries refer t kept) (sym (left_is o kept left n some is))
+
+  -- null
+  entry_null : (o : Open) (left : ℕ) (s s' : State ℕ) (r after : Rest) → o.left ≡ suc left → refer None s r ≡ Ok (None, s', after) → left_table refer t o s r ≡ fault r.place BadReference
+  entry_null o left s s' r after some e = table_is o left s r some ∙ ap (λ (x : Result (Option ℕ × State ℕ × Rest) Fault). x >>= entry_then o r.place left) e
+
+  entry_fails : (o : Open) (left : ℕ) (e : ReadFault) (s : State ℕ) (r : Rest) → o.left ≡ suc left → Fails e (refer None s r) → Fails e (left_table refer t o s r)
+  entry_fails o left e s r some h = fault_along e _ _ (sym (table_is o left s r some)) (fails_then e (refer None s r) (entry_then o r.place left) h)
+
+  -- one at which an instance begins
+  entry_begins : (inside : Inside (State ℕ)) (o kept : Open) (left n : ℕ) (s s' : State ℕ) (r after : Rest) → o.left ≡ suc left → kept ≡ with_entry o n → refer None s r ≡ (inside n s' after >>= λ x. Ok (Some n, x.0, x.1))
+      → left_table refer t o s r ≡ (inside n s' after >>= λ x. left_table refer t kept x.0 x.1)
+  entry_begins inside o kept left n s s' r after some is e =
+      table_is o left s r some ∙ ap (λ (x : Result (Option ℕ × State ℕ × Rest) Fault). x >>= entry_then o r.place left) e ∙ behind_it (inside n s' after)
+    where
+      behind_it : (read : Result (State ℕ × Rest) Fault) → (read >>= (λ x. Ok (Some n, x.0, x.1)) >>= entry_then o r.place left) ≡ (read >>= λ x. left_table refer t kept x.0 x.1)
+      behind_it (Ok x) = more o kept n is (entries_at refer left x.0 x.1) ∙ ap (λ (k : ℕ). entries_at refer k x.0 x.1 >>= with_entries refer t kept) (sym (left_is o kept left n some is))
+      behind_it (Err e) = refl
+
+-- ---- in an instance
+
+module _ (inside : Inside (State ℕ)) (t : Tables) where
+  abbrev refer : Option ℕ → Reader (State ℕ) (Option ℕ)
+  refer = refer_by inside
+
+  -- the slices of the bases, and all slices
+  abbrev carried : ℕ → Option ℕ → List Slice → Result (Slice × State ℕ × Rest) Fault → Result (List Slice × State ℕ × Rest) Fault
+  carried steps base had read = (read >>= λ x. made (one_more x.0) (left_bases refer t steps base) x.1 x.2) >>= λ y. Ok (behind had y.0, y.1, y.2)
+
+  carried_behind : {A : Type 0} (steps : ℕ) (base : Option ℕ) (had : List Slice) (read : Result A Fault) (next : A → Result (Slice × State ℕ × Rest) Fault) → carried steps base had (read >>= next) ≡ (read >>= λ x. carried steps base had (next x))
+  carried_behind steps base had (Ok x) next = refl
+  carried_behind steps base had (Err e) next = refl
+
+  met_known : (n : Option ℕ) (s s' : State ℕ) (r after : Rest) → inline_at most_instances None s r ≡ Ok (known n, s', after) → refer None s r ≡ Ok (n, s', after)
+  met_known n s s' r after e = rw e refl
+
+  met_begins : (n : ℕ) (s s' : State ℕ) (r after : Rest) → inline_at most_instances None s r ≡ Ok (begins n, s', after) → refer None s r ≡ (inside n s' after >>= λ x. Ok (Some n, x.0, x.1))
+  met_begins n s s' r after e = rw e refl
+
+  -- a slice begins
+  pub begins_next : (u : Unfinished) (before : code.Before) (slice : OpenSlice) (s s' : State ℕ) (r after : Rest) → (u.steps ≡ 0 → ⊥) → BeginsSlice t (view_before before) (Ok slice) s r s' after
+      → left_by refer t u (stages.Next before) s r ≡ left_slices refer t (record { name = u.name; steps = u.steps - 1; slices = u.slices; stage = stages.Open slice }) s' after
+  begins_next u before slice s s' r after some h = ap (λ (read : Result (List Slice × State ℕ × Rest) Fault). read >>= λ y. Ok (behind (view_slices u.slices) y.0, y.1, y.2)) (slice_begins refer t u.steps (view_before before) slice s s' r after some h)
+
+  pub fails_next : (u : Unfinished) (before : code.Before) (e : ReadFault) (s s' : State ℕ) (r after : Rest) → (u.steps ≡ 0 → ⊥) → BeginsSlice t (view_before before) (Err e) s r s' after → Fails e (left_by refer t u (stages.Next before) s r)
+  fails_next u before e s s' r after some h = fails_then e (slices_at refer t sized_known u.steps (view_before before) s r) (λ y. Ok (behind (view_slices u.slices) y.0, y.1, y.2)) (slice_fails refer t u.steps (view_before before) e s s' r after some h)
+
+  -- an entry is read
+  some_left : (n : ℕ) → 0 < n → (left : ℕ) × (n ≡ suc left)
+  some_left zero lt = absurd (omega (arith, lt))
+  some_left (suc n) lt = (n, refl)
+
+  module _ (old new : Unfinished) (slice : OpenSlice) (n : ℕ) (s s' : State ℕ) (r after : Rest) (some : 0 < slice.left) where
+    pub keeps_known : Keeps old new (opened slice) n → inline_at most_instances None s r ≡ Ok (known (Some n), s', after) → left_by refer t old (stages.Open slice) s r ≡ left_slices refer t new s' after
+    keeps_known (kept, new_is, is) e =
+        let left = some_left slice.left some in
+        ap (carried old.steps slice.base (view_slices old.slices)) (entry_known refer t (opened slice) (opened kept) left.0 n s s' r after left.1 is (met_known (Some n) s s' r after e))
+        ∙ ap (λ (b : Option ℕ). carried old.steps b (view_slices old.slices) (left_table refer t (opened kept) s' after)) (sym (ap (λ (o : Open). o.base) is))
+        ∙ ap (λ (u : Unfinished). left_slices refer t u s' after) (sym new_is)
+
+    pub keeps_begins : Keeps old new (opened slice) n → inline_at most_instances None s r ≡ Ok (begins n, s', after) → left_by refer t old (stages.Open slice) s r ≡ (inside n s' after >>= λ x. left_slices refer t new x.0 x.1)
+    keeps_begins (kept, new_is, is) e =
+        let left = some_left slice.left some in
+        ap (carried old.steps slice.base (view_slices old.slices)) (entry_begins refer t inside (opened slice) (opened kept) left.0 n s s' r after left.1 is (met_begins n s s' r after e))
+        ∙ carried_behind old.steps slice.base (view_slices old.slices) (inside n s' after) (λ x. left_table refer t (opened kept) x.0 x.1)
+        ∙ ap (λ (b : Option ℕ). inside n s' after >>= λ x. carried old.steps b (view_slices old.slices) (left_table refer t (opened kept) x.0 x.1)) (sym (ap (λ (o : Open). o.base) is))
+        ∙ ap (λ (u : Unfinished). inside n s' after >>= λ x. left_slices refer t u x.0 x.1) (sym new_is)
+
+  module _ (old : Unfinished) (slice : OpenSlice) (s s' : State ℕ) (r after : Rest) (some : 0 < slice.left) where
+    pub null_entry : inline_at most_instances None s r ≡ Ok (known None, s', after) → left_by refer t old (stages.Open slice) s r ≡ fault r.place BadReference
+    null_entry e =
+        let left = some_left slice.left some in
+        ap (carried old.steps slice.base (view_slices old.slices)) (entry_null refer t (opened slice) left.0 s s' r after left.1 (met_known None s s' r after e))
+
+    pub entry_refused : (e : ReadFault) → Fails e (inline_at most_instances None s r) → Fails e (left_by refer t old (stages.Open slice) s r)
+    entry_refused e h =
+        let left = some_left slice.left some in
+        fails_then e (left_open refer t old.steps (opened slice) s r) (λ y. Ok (behind (view_slices old.slices) y.0, y.1, y.2))
+        (fails_then e (left_table refer t (opened slice) s r) (λ x. made (one_more x.0) (left_bases refer t old.steps slice.base) x.1 x.2)
+        (entry_fails refer t (opened slice) left.0 e s r left.1 (fails_then e (inline_at most_instances None s r) (λ x. met inside x.0 x.1 x.2) h)))

@@ -1,0 +1,4 @@
+pub mod Seen
+pub mod Slices
+pub mod Unfinished
+pub mod Stacked

@@ -1,0 +1,136 @@
+-- A slice whose table is being read, and what the calls that begin one answer.
+use Rattle.std.specs.Prelude.{ℕ, suc, ◌≡◌, Bool, true, false, List, [], ◌∷◌, ◌++◌, Option, None, Some, Result, Ok, Err, slice_get}
+use Rattle.std.specs.Borrow.{Bor}
+use Rattle.ice_types.specs.Tables.{Tables}
+use Rattle.ice_prims.specs.declared.fault.Fault.{Fault}
+use Rattle.ice_prims.specs.declared.fault.Kind.TheVariants.{UnknownClass, WrongBase, BadLast, BadReference, BadTypeId, LeftOver}
+use Rattle.ice_prims.specs.declared.fault.ReadFault.{ReadFault}
+use Rattle.ice_prims.specs.declared.fault.ReadFault.TheVariants as faults
+use Rattle.ice_prims.specs.Rest.{Rest, fault, ◌>>=◌}
+use Rattle.ice_prims.specs.Taking.{Fails}
+use Rattle.ice_encoding.specs.Port.{Reader}
+use Rattle.ice_encoding.specs.Reading.{made}
+use Rattle.ice_optionals.specs.Steps.{followed, given, tested}
+use Rattle.ice_optionals.specs.Prefixes.{prefixed}
+use Rattle.ice_optionals.specs.Members.{slice_members_at}
+use Rattle.ice_optionals.specs.Members as defs
+use Rattle.ice_graphs.specs.Classes.{own_members}
+use Rattle.ice_graphs.specs.Graph as graphs
+use Rattle.ice_graphs.specs.Flags.{Flags, flags_of, sized_known, first, derived, may_stand, flags_at}
+use Rattle.ice_graphs.specs.Flags as flags
+use Rattle.ice_graphs.specs.TypeIds.{id_at, id_indexed, is_base, can_be_read, ends_well, before_next}
+use Rattle.ice_graphs.specs.References.{State, entry_at, entries_at, table_at, within, resolved, with_met}
+use Rattle.ice_graphs.specs.References as refs
+use Rattle.ice_graphs.specs.Slices.{slice_size, by_table, one_more, body_at, next_slices, slices_at}
+use Rattle.graph_arena.specs.Seen.{view_content}
+use Rattle.instance_reading.specs.Seen.{view_references}
+use Rattle.instance_reading.specs.declared.slice.Before.{Before}
+use Rattle.instance_reading.specs.declared.slice.Before.TheVariants as befores
+use Rattle.instance_reading.specs.declared.slice.SizedMembers.{SizedMembers}
+use Rattle.instance_reading.specs.declared.slice.OpenSlice.{OpenSlice}
+
+-- each slice has a size
+abbrev pub view_before : Before → flags.Before
+view_before befores.First = first
+view_before (befores.Derived base) = derived true base
+
+-- ---- what is still read
+
+-- a slice whose table is being read, without where it lies in memory
+pub record Open : Type 0 where
+  pub class : ℕ
+  pub base : Option ℕ
+  pub content : defs.Members
+  pub uses : List (refs.Reference ℕ)
+  pub table : List ℕ
+  pub left : ℕ
+
+abbrev pub opened : OpenSlice → Open
+opened o = record { class = o.class; base = o.base; content = view_content o.members; uses = view_references o.uses.items; table = o.table.items; left = o.left }
+
+module _ (refer : Option ℕ → Reader (State ℕ) (Option ℕ)) (t : Tables) where
+  -- the slice, when these further entries of its table are read
+  abbrev pub with_entries : Open → List ℕ × State ℕ × Rest → Result (graphs.Slice × State ℕ × Rest) Fault
+  with_entries o x = let table = o.table ++ x.0 in Ok (by_table o.class o.content table, with_met (resolved table o.uses) x.1, x.2)
+
+  -- the entries that are left, and the slice
+  abbrev pub left_table : Open → Reader (State ℕ) graphs.Slice
+  left_table o s r = entries_at refer o.left s r >>= with_entries o
+
+  -- the slices of the bases
+  abbrev pub left_bases : ℕ → Option ℕ → Reader (State ℕ) (List graphs.Slice)
+  left_bases steps None = given []
+  left_bases steps (Some base) = slices_at refer t sized_known steps (derived true base)
+
+  abbrev pub left_open : ℕ → Open → Reader (State ℕ) (List graphs.Slice)
+  left_open steps o = followed (left_table o) (λ slice. made (one_more slice) (left_bases steps o.base))
+
+  -- what is read behind the tests of a class
+  abbrev pub behind_tests : ℕ → Flags → ℕ → List ℕ → Reader (State ℕ) (List graphs.Slice)
+  behind_tests steps f class id = followed (body_at refer t f id f.has_size (Some class)) (λ slice. made (one_more slice) (next_slices refer t (slices_at refer t sized_known steps) f.is_last (before_next t (Some class) f)))
+
+-- ---- what calls answer
+
+-- flags that may stand, a size among them
+abbrev pub SeesFlags : flags.Before → Result ℕ Fault → Rest → Rest → Type 0
+SeesFlags before (Ok b) r r' = (flags_at (may_stand sized_known before) r ≡ Ok (flags_of b, r')) × ((flags_of b).has_size ≡ true)
+SeesFlags before (Err e) r r' = flags_at (may_stand sized_known before) r ≡ Err e
+
+abbrev pub ReadsId : ℕ → ℕ → Result (Bor (List ℕ)) ReadFault → State ℕ → Rest → State ℕ → Rest → Type 0
+ReadsId place b (Ok id) s r s' r' = id_at place (flags_of b).id s r ≡ Ok (id.now, s', r')
+ReadsId place b (Err e) s r s' r' = Fails e (id_at place (flags_of b).id s r)
+
+abbrev pub FindsId : Fault → ℕ → List (List ℕ) → Result (Bor (List ℕ)) ReadFault → Type 0
+FindsId unknown index ids (Ok id) = (i : ℕ) × (index ≡ suc i) × (slice_get ids i ≡ Some id.now)
+FindsId unknown index ids (Err e) = (e ≡ faults.Broken unknown) × ((s : State ℕ) (r : Rest) → s.ids ≡ ids → id_indexed unknown.place index s r ≡ fault unknown.place BadTypeId)
+
+-- the class passes the tests behind a type id, or the first that fails is the fault
+abbrev pub Tests : Tables → flags.Before → Flags → ℕ → ℕ → Option ℕ → Result ℕ Fault → Type 0
+Tests t before f flags_place id_place class (Ok c) = (class ≡ Some c) × (is_base before class ≡ true) × (can_be_read sized_known class f ≡ true) × (ends_well t class f ≡ true)
+Tests t before f flags_place id_place class (Err e) = (read : Reader (State ℕ) (List graphs.Slice)) (s : State ℕ) (r : Rest)
+    → tested (is_base before class) id_place WrongBase (tested (can_be_read sized_known class f) id_place UnknownClass (tested (ends_well t class f) flags_place BadLast read)) s r ≡ Err e
+
+-- the members of a class in a slice, with places as references; what was met is of no use without a table
+abbrev pub uses_in : Bool → List (refs.Reference ℕ) → List (refs.Reference ℕ) → Type 0
+uses_in true uses met = uses ≡ met
+uses_in false uses met = uses ≡ []
+
+abbrev pub ReadsUses : Bool → Result SizedMembers ReadFault → Result (defs.Members × List (refs.Reference ℕ) × Rest) Fault → Rest → Type 0
+ReadsUses tabled (Ok x) read r' = (met : List (refs.Reference ℕ)) × (read ≡ Ok (view_content x.members, met, r')) × uses_in tabled (view_references x.uses.items) met
+ReadsUses tabled (Err e) read r' = Fails e read
+
+abbrev pub ReadsPlaces : Tables → ℕ → Bool → Bool → Result SizedMembers ReadFault → Rest → Rest → Type 0
+ReadsPlaces t class tabled flagged result r r' = ReadsUses tabled result (slice_members_at (entry_at tabled) t flagged (own_members t class) [] r) r'
+
+-- nothing is left, or the first byte that is left is one too many
+abbrev pub Ends : {X : Type 0} → Result X Fault → Rest → Type 0
+Ends (Ok x) r = r.bytes ≡ []
+Ends (Err e) r = (byte : ℕ) × (bytes : List ℕ) × (r.bytes ≡ byte ∷ bytes) × (e ≡ record { place = r.place; kind = LeftOver })
+
+-- the size of a slice, and its members with places as references
+abbrev pub ReadsSized : Tables → ℕ → Bool → Bool → Result SizedMembers ReadFault → Rest → Rest → Type 0
+ReadsSized t class tabled flagged result r r' = ReadsUses tabled result (prefixed slice_size (slice_members_at (entry_at tabled) t flagged (own_members t class)) [] r) r'
+
+-- whether each place is within a table, or which reference is the first that is not
+abbrev pub FindsOutside : ℕ → List (refs.Reference ℕ) → Option ℕ → Type 0
+FindsOutside limit uses None = (next : Result (List ℕ × State ℕ × Rest) Fault) → within limit uses next ≡ next
+FindsOutside limit uses (Some place) = (next : Result (List ℕ × State ℕ × Rest) Fault) → within limit uses next ≡ fault place BadReference
+
+-- how many entries the table of a slice has; each place that was met is among them
+abbrev pub SeesTable : Bool → List (refs.Reference ℕ) → Result ℕ Fault → Rest → Rest → Type 0
+SeesTable tabled uses (Ok n) r r' = (refer : Option ℕ → Reader (State ℕ) (Option ℕ)) (s : State ℕ) → uses_in tabled uses uses
+    → table_at refer tabled uses s r ≡ (entries_at refer n s r' >>= λ x. Ok (x.0, with_met (resolved x.0 uses) x.1, x.2))
+SeesTable tabled uses (Err e) r r' = (refer : Option ℕ → Reader (State ℕ) (Option ℕ)) (s : State ℕ) → table_at refer tabled uses s r ≡ Err e
+
+-- the same behind the type id of a class that passed the tests
+abbrev pub OpensSlice : Tables → Flags → ℕ → Result OpenSlice ReadFault → Rest → Rest → Type 0
+OpensSlice t f class (Ok o) r r' = (refer : Option ℕ → Reader (State ℕ) (Option ℕ)) (steps : ℕ) (id : List ℕ) (s : State ℕ) → f.has_size ≡ true → ends_well t (Some class) f ≡ true
+    → behind_tests refer t steps f class id s r ≡ left_open refer t steps (opened o) s r'
+OpensSlice t f class (Err e) r r' = (refer : Option ℕ → Reader (State ℕ) (Option ℕ)) (steps : ℕ) (id : List ℕ) (s : State ℕ) → f.has_size ≡ true → ends_well t (Some class) f ≡ true
+    → Fails e (behind_tests refer t steps f class id s r)
+
+-- a slice has begun, up to the entries of its table
+abbrev pub BeginsSlice : Tables → flags.Before → Result OpenSlice ReadFault → State ℕ → Rest → State ℕ → Rest → Type 0
+BeginsSlice t before (Ok o) s r s' r' = (refer : Option ℕ → Reader (State ℕ) (Option ℕ)) (steps : ℕ)
+    → slices_at refer t sized_known (suc steps) before s r ≡ left_open refer t steps (opened o) s' r'
+BeginsSlice t before (Err e) s r s' r' = (refer : Option ℕ → Reader (State ℕ) (Option ℕ)) (steps : ℕ) → Fails e (slices_at refer t sized_known (suc steps) before s r)

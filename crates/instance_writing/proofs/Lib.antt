@@ -1,0 +1,6 @@
+pub mod Tables
+pub mod Ids
+pub mod Placed
+pub mod Fronts
+pub mod Steps
+pub mod Stacks

@@ -1,0 +1,132 @@
+-- How what is still written of instances in one another changes where one begins or ends.
+use Rattle.std.proofs.Common.{◌≡◌, ℕ, zero, suc, ◌+◌, ◌-◌, ◌≤◌, Bool, true, false, nat_lt, List, [], ◌∷◌, ◌++◌, length, Option, Some, None, refl, sym, ap, ◌∙◌, subst, arith, length-append}
+use Rattle.ice_types.specs.declared.declarations.Member.{Member}
+use Rattle.ice_types.specs.Tables.{Tables}
+use Rattle.ice_prims.specs.Bytes.{size_bytes, Grows}
+use Rattle.ice_encoding.specs.Writing.{Piece, ◌>>◌, written_each}
+use Rattle.ice_encoding.specs.Pausing.{Put, written_begun, written_in_place}
+use Rattle.ice_optionals.specs.Members.{Members, shape_of}
+use Rattle.ice_graphs.specs.Graph.{Graph}
+use Rattle.ice_graphs.specs.Instances.{slices_of}
+use Rattle.ice_graphs.specs.Visiting.{most}
+use Rattle.ice_graphs.specs.Members.{written_content}
+use Rattle.ice_graphs.specs.Canonical.{Pen, sliced, blank, bytes_of, put_inline, written_instance}
+use Rattle.ice_graphs.specs.Names.{instance_names}
+use Rattle.graph_arena.specs.Arena.{AreBelow}
+use Rattle.ice_values.specs.Putting.{InsideWritten, Written, onto}
+use Rattle.ice_members.proofs.WritingSteps.{options-of-tagged, all-left, stands-grown, grows-longer}
+use Rattle.ice_members.specs.declared.ending.Ending.TheVariants.{Bound}
+use Rattle.ice_members.specs.WritingMembers.{Remaining, all_of, members_left, RemainingFits}
+use Rattle.instance_writing.specs.declared.unfinished.Unfinished.{Unfinished}
+use Rattle.instance_writing.specs.Pens.{put_counted, begun_put, beginning_put}
+use Rattle.instance_writing.specs.Remains.{Left, left, all_slices, instance_left, inside_at, stack_left, LeftFits, AllFit, with_options}
+use Rattle.instance_writing.specs.Writable.{GraphCanBeWritten}
+
+most-more : most ≡ suc (most - 1)
+unfolding most
+most-more = refl
+
+-- ---- counted with its reference, or where it is written
+
+abbrev of_put : InsideWritten Pen → Put Pen → List ℕ × Pen
+of_put inside p = let b = written_begun inside p.begun p.after in (p.bytes ++ b.0, b.1)
+
+module _ (t : Tables) (g : Graph) where
+  inline : ℕ → InsideWritten Pen
+  inline depth = written_instance t sliced g depth
+
+  begins-same : (depth n : ℕ) (p : Pen) → of_put (written_instance t sliced g depth) (record { bytes = size_bytes 1; begun = Some n; after = p }) ≡ of_put (inside_at t g depth) (beginning_put n p)
+  begins-same zero n p = refl
+  begins-same (suc depth) n p = refl
+
+  same-by : (depth n : ℕ) (p : Pen) (b : Bool) → of_put (written_instance t sliced g depth) (elim b [ true ↦ record { bytes = size_bytes (suc (suc n)); begun = None; after = p } | false ↦ record { bytes = size_bytes 1; begun = Some n; after = p } ])
+      ≡ of_put (inside_at t g depth) (elim b [ true ↦ begun_put n p | false ↦ beginning_put n p ])
+  same-by depth n p true = refl
+  same-by depth n p false = begins-same depth n p
+
+  same-at : (depth : ℕ) (name : Option ℕ) (p : Pen) → written_in_place put_inline (written_instance t sliced g depth) name p ≡ written_in_place put_counted (inside_at t g depth) name p
+  same-at depth None p = refl
+  same-at depth (Some n) p = same-by depth n p (nat_lt n p.begun)
+
+  pub same-refer : (depth : ℕ) → written_in_place put_inline (written_instance t sliced g depth) ≡ written_in_place put_counted (inside_at t g depth)
+  same-refer depth = λ i name p. same-at depth name p i
+
+  -- an instance that begins is all its slices, in which one fewer may begin
+  inside-more : (depth n : ℕ) (w : Written Pen) → onto (inside_at t g (suc depth) n) w ≡ onto (instance_left t (written_in_place put_counted (inside_at t g depth)) (all_slices (slices_of g.instances n))) w
+  inside-more depth n w = ap (λ (r : Option ℕ → Piece Pen). onto (instance_left t r (all_slices (slices_of g.instances n))) w) (same-refer depth)
+
+  -- ---- the stack
+
+  stack-push : (depth : ℕ) (us : List Unfinished) (u : Unfinished) (w : Written Pen) → stack_left t g depth (us ++ u ∷ []) w ≡ stack_left t g depth us (onto (instance_left t (written_in_place put_counted (inside_at t g (depth - length us))) (left u)) w)
+  stack-push depth [] u w = let e : depth ≡ depth - 0 = omega arith in ap (λ (d : ℕ). onto (instance_left t (written_in_place put_counted (inside_at t g d)) (left u)) w) e
+  stack-push depth (v ∷ us) u w =
+      let e : depth - 1 - length us ≡ depth - suc (length us) = omega arith in
+      ap (onto (instance_left t (written_in_place put_counted (inside_at t g depth)) (left v)))
+      (stack-push (depth - 1) us u w ∙ ap (λ (d : ℕ). stack_left t g (depth - 1) us (onto (instance_left t (written_in_place put_counted (inside_at t g d)) (left u)) w)) e)
+
+  -- the innermost instance is written whole
+  pub instance-ends : (depth : ℕ) (us : List Unfinished) (old : Unfinished) (w w' : Written Pen) → ((inside : InsideWritten Pen) → onto (instance_left t (written_in_place put_counted inside) (left old)) w ≡ w')
+      → stack_left t g depth (us ++ old ∷ []) w ≡ stack_left t g depth us w'
+  instance-ends depth us old w w' wrote = stack-push depth us old w ∙ ap (stack_left t g depth us) (wrote (inside_at t g (depth - length us)))
+
+  -- one begins in it
+  pub instance-begins : (depth : ℕ) (us mid all : List Unfinished) (old now next : Unfinished) (n : ℕ) (w w' : Written Pen) → length us + 1 ≤ depth → mid ≡ us ++ now ∷ [] → all ≡ mid ++ next ∷ [] → left next ≡ all_slices (slices_of g.instances n)
+      → ((inside : InsideWritten Pen) → onto (instance_left t (written_in_place put_counted inside) (left old)) w ≡ onto (instance_left t (written_in_place put_counted inside) (left now)) (onto (inside n) w'))
+      → stack_left t g depth (us ++ old ∷ []) w ≡ stack_left t g depth all w'
+  instance-begins depth us mid all old now next n w w' room mid_is all_is fresh wrote =
+      let d = depth - length mid in
+      let e : depth - length us ≡ suc d = rw mid_is (omega (arith, length-append us (now ∷ []), room)) in
+      stack-push depth us old w
+      ∙ ap (stack_left t g depth us) (wrote (inside_at t g (depth - length us)))
+      ∙ sym (stack-push depth us now (onto (inside_at t g (depth - length us) n) w'))
+      ∙ ap (λ (l : List Unfinished). stack_left t g depth l (onto (inside_at t g (depth - length us) n) w')) (sym mid_is)
+      ∙ ap (λ (k : ℕ). stack_left t g depth mid (onto (inside_at t g k n) w')) e
+      ∙ ap (stack_left t g depth mid) (inside-more d n w')
+      ∙ ap (λ (l : Left). stack_left t g depth mid (onto (instance_left t (written_in_place put_counted (inside_at t g d)) l) w')) (sym fresh)
+      ∙ sym (stack-push depth mid next w')
+      ∙ ap (λ (l : List Unfinished). stack_left t g depth l w') (sym all_is)
+
+  -- one that is alone
+  pub one-begins : (all : List Unfinished) (u : Unfinished) (n : ℕ) (w : Written Pen) → all ≡ u ∷ [] → left u ≡ all_slices (slices_of g.instances n) → onto (inside_at t g most n) w ≡ stack_left t g (most - 1) all w
+  one-begins all u n w is fresh =
+      ap (λ (k : ℕ). onto (inside_at t g k n) w) most-more ∙ inside-more (most - 1) n w
+      ∙ ap (λ (l : Left). onto (instance_left t (written_in_place put_counted (inside_at t g (most - 1))) l) w) (sym fresh)
+      ∙ ap (λ (l : List Unfinished). stack_left t g (most - 1) l w) (sym is)
+
+-- ---- what fits
+
+module _ (t : Tables) (count : ℕ) where
+  pub fits-push : (us : List Unfinished) (u : Unfinished) → AllFit t count us → LeftFits t count (left u) → AllFit t count (us ++ u ∷ [])
+  fits-push [] u all fit = (fit, tt)
+  fits-push (v ∷ us) u all fit = (all.0, fits-push us u all.1 fit)
+
+  pub fits-pop : (us : List Unfinished) (u : Unfinished) → AllFit t count (us ++ u ∷ []) → AllFit t count us × LeftFits t count (left u)
+  fits-pop [] u all = (tt, all.0)
+  fits-pop (v ∷ us) u all = let rest = fits-pop us u all.1 in ((all.0, rest.0), rest.1)
+
+-- ---- the whole content
+
+pub content-written : (t : Tables) (g : Graph) (optional : List Member) → (written_content (written_in_place put_counted (inside_at t g most)) t (shape_of optional) g.roots blank).0 ≡ bytes_of t (with_options optional) sliced g
+content-written t g optional =
+    ap (λ (r : Option ℕ → Piece Pen). (written_content r t (shape_of optional) g.roots blank).0) (sym (same-refer t g most))
+    ∙ ap (λ (p : Piece Pen). ((written_each (written_in_place put_inline (written_instance t sliced g most)) g.roots.required >> p) blank).0) (sym (options-of-tagged (written_in_place put_inline (written_instance t sliced g most)) t optional [] g.roots.optional))
+
+pub onto-grows : (piece : Piece Pen) (w w' : Written Pen) → w' ≡ onto piece w → Grows w.1 w'.1
+onto-grows piece w w' is = ((piece w.0).0, ap (λ (x : Written Pen). x.1) is)
+
+pub fresh-fits : (t : Tables) (g : Graph) (l : Left) (n : ℕ) → l ≡ all_slices (slices_of g.instances n) → AreBelow (length g.instances) (instance_names (slices_of g.instances n)) → GraphCanBeWritten t g → LeftFits t (length g.instances) l
+fresh-fits t g l n is below can = subst (LeftFits t (length g.instances)) (sym is) (record { entries = tt; names = below; slices = can.instances n })
+
+pub content-begun : (t : Tables) (g : Graph) (optional : List Member) (r : Remaining) (c : Members) (p : Pen) (out : List ℕ) → r ≡ all_of Bound c → c ≡ g.roots → p ≡ blank
+    → onto (written_content (written_in_place put_counted (inside_at t g most)) t (shape_of optional) g.roots) (blank, out) ≡ members_left put_counted (inside_at t g most) t optional r (p, out)
+content-begun t g optional r c p out is roots nothing =
+    sym (all-left put_counted (inside_at t g most) t optional Bound g.roots (blank, out))
+    ∙ ap (λ (x : Remaining). members_left put_counted (inside_at t g most) t optional x (blank, out)) (sym (is ∙ ap (all_of Bound) roots))
+    ∙ ap (λ (q : Pen). members_left put_counted (inside_at t g most) t optional r (q, out)) (sym nothing)
+
+pub content-fits : (t : Tables) (g : Graph) (r : Remaining) (c : Members) (out : List ℕ) → r ≡ all_of Bound c → c ≡ g.roots → GraphCanBeWritten t g → RemainingFits r out
+content-fits t g r c out is roots can = subst (λ (x : Remaining). RemainingFits x out) (sym (is ∙ ap (all_of Bound) roots)) ((can.roots.0, tt), can.roots.1, tt)
+
+-- what is left can still be written behind an instance
+pub remains-fit : (piece : Piece Pen) (r : Remaining) (p p' : Pen) (out out' : List ℕ) → (p', out') ≡ onto piece (p, out) → RemainingFits r out → RemainingFits r out'
+remains-fit piece r p p' out out' wrote fits = (fits.0, fits.1, stands-grown r.place out out' fits.2 (grows-longer out out' (onto-grows piece (p, out) (p', out') wrote)))

@@ -1,0 +1,4 @@
+pub mod Tabling
+pub mod Pens
+pub mod Writable
+pub mod Remains

@@ -1,0 +1,22 @@
+-- Which graphs can be written. (Ice manual, "Data Encoding".)
+use Rattle.std.specs.Prelude.{ℕ, List, [], ◌∷◌}
+use Rattle.ice_types.specs.Tables.{Tables}
+use Rattle.ice_graphs.specs.Classes.{own_members}
+use Rattle.ice_graphs.specs.Graph.{Slice, known, kept, Graph}
+use Rattle.ice_graphs.specs.Instances.{slices_of}
+use Rattle.ice_members.specs.WritingMembers.{ContentCanBeWritten}
+use Rattle.instance_writing.specs.Tabling.{HasPlaces}
+
+-- sizes and tags are at most the greatest int, no key has a reference, and each tag is that of a member of the class
+abbrev pub SliceCanBeWritten : Tables → Slice → Type 0
+SliceCanBeWritten t (known class c) = ContentCanBeWritten c × HasPlaces (own_members t class).optional c
+SliceCanBeWritten t (kept id bytes optionals table) = Unit {0}
+
+abbrev pub SlicesCanBeWritten : Tables → List Slice → Type 0
+SlicesCanBeWritten t [] = Unit {0}
+SlicesCanBeWritten t (s ∷ ss) = SliceCanBeWritten t s × SlicesCanBeWritten t ss
+
+-- the roots, whose references are put in place, and each instance
+pub record GraphCanBeWritten (t : Tables) (g : Graph) : Type 0 where
+  pub roots : ContentCanBeWritten g.roots
+  pub instances : (n : ℕ) → SlicesCanBeWritten t (slices_of g.instances n)

@@ -1,0 +1,120 @@
+//! A graph in bytes, over an explicit stack of instances that have begun.
+
+ghost use Rattle.std.specs.Prelude.{◌≡◌, ◌+◌, ◌-◌, ◌++◌, ◌<◌, ◌≤◌, [], ◌∷◌, length, OnOk, IfOk};
+ghost use Rattle.ice_graphs.specs.Names.{instance_names};
+ghost use Rattle.ice_graphs.specs.Instances.{slices_of};
+ghost use Rattle.ice_graphs.specs.Visiting.{most};
+ghost use Rattle.ice_graphs.specs.Canonical.{bytes_of, sliced};
+ghost use Rattle.graph_arena.specs.Arena.{AreBelow};
+ghost use Rattle.graph_arena.specs.Seen.{view_slices};
+ghost use Rattle.ice_values.specs.Putting.{onto};
+ghost use Rattle.instance_writing.specs.Tabling.{no_names};
+ghost use Rattle.instance_writing.specs.Remains.{AllFit, LeftFits, inside_at, left, stack_left, steps_left, with_options};
+ghost use Rattle.instance_writing.specs.Writable.{GraphCanBeWritten};
+
+use crate::pen::Pen;
+use crate::slice::Desk;
+use crate::unfinished::Unfinished;
+use graph_arena::{Graph, Slice};
+use ice_members::{Ending, MembersWriter};
+use ice_types::{List, Member, Schema};
+use ice_values::WritePaused;
+use std::alloc::{AllocError, Global};
+
+/// Puts the canonical bytes, in sliced format, of a graph whose instances are named by the order of their
+/// first visits at the end of the output. Of the shape of its roots the optional members are told. Out of
+/// memory may leave a part of them there; so may a slice or an optional value of more bytes than the
+/// greatest int, which is answered as that is.
+/// (Ice manual, "Data Encoding for Class and Exception Types".)
+pub fn write_numbered(
+    alloc: Global,
+    schema: &Schema,
+    optional: &[Member],
+    graph: &Graph,
+    out: &mut Vec<u8>,
+) -> Result<(), AllocError>
+    requires { GraphCanBeWritten schema.now graph.now }
+    ensures { OnOk result (out.new.items ≡ out.old.items ++ bytes_of schema.now (with_options optional.now) sliced graph.now) }
+{
+    let mut pen = Pen::new(alloc);
+    let mut desk = Desk::new(alloc, graph.len())?;
+    let mut roots = MembersWriter::new(alloc, graph.roots(), Ending::Bound)?;
+    loop {
+        match roots.go(alloc, schema, optional, out, &mut pen)? {
+            WritePaused::Done => return Ok(()),
+            WritePaused::Begins(name) => {
+                put_instance(alloc, schema, graph, name, &mut pen, &mut desk, out)?;
+            }
+        }
+    }
+}
+
+/// Puts an instance that has just begun, with all that begin in it.
+fn put_instance<'a>(
+    alloc: Global,
+    schema: &'a Schema,
+    graph: &'a Graph,
+    name: u32,
+    pen: &mut Pen<'a>,
+    desk: &mut Desk,
+    out: &mut Vec<u8>,
+) -> Result<(), AllocError>
+    requires fits { GraphCanBeWritten schema.now graph.now }
+    requires few { length graph.now.instances ≤ most }
+    requires desk { desk.old.table ≡ no_names (length graph.now.instances) }
+    requires begun { 0 < pen.old.begun }
+    ensures writes { OnOk result ((pen.new, out.new.items) ≡ onto (inside_at schema.now graph.now most name) (pen.old, out.old.items)) }
+    ensures desk { OnOk result (desk.new.table ≡ desk.old.table) }
+    ensures begun { OnOk result (pen.old.begun ≤ pen.new.begun) }
+{
+    let mut stack = List::new(alloc);
+    stack.push(Unfinished::new(alloc, slices_of(graph, name)))?;
+    while let Some(top) = stack.pop() {
+        put_more(alloc, schema, graph, top, &mut stack, pen, desk, out)?;
+    }
+    Ok(())
+}
+
+/// Writes on in the innermost instance, up to its end or to the begin of the next one.
+fn put_more<'a>(
+    alloc: Global,
+    schema: &'a Schema,
+    graph: &'a Graph,
+    mut top: Unfinished<'a>,
+    stack: &mut List<Unfinished<'a>>,
+    pen: &mut Pen<'a>,
+    desk: &mut Desk,
+    out: &mut Vec<u8>,
+) -> Result<(), AllocError>
+    requires can { GraphCanBeWritten schema.now graph.now }
+    requires few { length graph.now.instances ≤ most }
+    requires desk { desk.old.table ≡ no_names (length graph.now.instances) }
+    requires fits { AllFit schema.now (length graph.now.instances) (stack.old ++ top ∷ []) }
+    requires begun { length stack.old + 1 ≤ pen.old.begun }
+    ensures writes { OnOk result (stack_left schema.now graph.now (most - 1) (stack.old ++ top.entry ∷ []) (pen.old, out.old.items) ≡ stack_left schema.now graph.now (most - 1) stack.new (pen.new, out.new.items)) }
+    ensures fits { OnOk result (AllFit schema.now (length graph.now.instances) stack.new) }
+    ensures desk { OnOk result (desk.new.table ≡ desk.old.table) }
+    ensures begun { OnOk result ((length stack.new ≤ pen.new.begun) × (pen.old.begun ≤ pen.new.begun)) }
+    ensures less { OnOk result (steps_left (length graph.now.instances) pen.new.begun (length stack.new) < steps_left (length graph.now.instances) pen.old.begun (length stack.old + 1)) }
+{
+    match top.go(alloc, schema, pen, desk, out)? {
+        WritePaused::Done => Ok(()),
+        WritePaused::Begins(name) => {
+            stack.push(top)?;
+            stack.push(Unfinished::new(alloc, slices_of(graph, name)))?;
+            Ok(())
+        }
+    }
+}
+
+/// The slices of the instance of this name, none where there is no such instance.
+fn slices_of(graph: &Graph, name: u32) -> &[Slice]
+    ensures slices { view_slices result.now ≡ slices_of graph.now.instances name }
+    ensures names { AreBelow (length graph.now.instances) (instance_names (slices_of graph.now.instances name)) }
+{
+    if name < graph.len() {
+        graph.instance(name).slices.as_slice()
+    } else {
+        &[]
+    }
+}
