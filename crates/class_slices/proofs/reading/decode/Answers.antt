@@ -1,0 +1,17 @@
+use Rattle.std.proofs.Common.{arith, sym, subst}
+use Rattle.ice_graphs.specs.Flags.{sized_known}
+use Rattle.ice_graphs.specs.Graph.{Graph}
+use Rattle.ice_graphs.specs.Typed.{OfType}
+use Rattle.ice_members.specs.Shapes.{shape_seen}
+use Rattle.instance_reading.specs.Stacked.{view_graph}
+use Rattle.class_slices.proofs.Sound.{steps-typed}
+use Rattle.class_slices.proofs.reading.decode.Goals as goal
+
+pub of-requires : goal.of-requires
+of-requires c = (steps-typed c.args.schema.now sized_known (shape_seen c.args.fields) c.args.input.now c.new-cursor.result c.in_ok-inside.inside c.open_encaps.new.cursor c.read_content.new.cursor
+    (view_graph c.in_ok-content.content) c.rules.ensures (λ i. omega (arith, c.type_inv.input i)) c.new-cursor.ensures c.in_ok-inside.ensures c.in_ok-content.ensures c.in_ok-end.ensures c.in_ok-end-2.ensures).1
+
+pub returns-clause-typed : goal.returns-clause-typed
+returns-clause-typed c = subst (λ (g : Graph). OfType c.args.schema.now (shape_seen c.args.fields) g) (sym c.of.ensures)
+    (steps-typed c.args.schema.now sized_known (shape_seen c.args.fields) c.args.input.now c.new-cursor.result c.in_ok-inside.inside c.open_encaps.new.cursor c.read_content.new.cursor
+    (view_graph c.in_ok-content.content) c.rules.ensures (λ i. omega (arith, c.type_inv.input i)) c.new-cursor.ensures c.in_ok-inside.ensures c.in_ok-content.ensures c.in_ok-end.ensures c.in_ok-end-2.ensures).0
