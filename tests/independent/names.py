@@ -63,7 +63,7 @@ class Names:
     """All that is declared so far, and the modules that are open, the outermost first."""
 
     def __init__(self):
-        self.open = [Module()]
+        self.open, self.path = [Module()], []  # the names of the open modules but the outermost
 
     def innermost(self):
         return self.open[-1]
@@ -85,9 +85,15 @@ class Names:
         if self.here(name) is None:
             self.declare(name, Module())
         self.open.append(self.here(name))
+        self.path.append(name)
 
     def leave(self):
         self.open.pop()
+        self.path.pop()
+
+    def type_id(self, name):
+        """Returns the type id of what is declared in the innermost scope."""
+        return "".join(f"::{it}" for it in [*self.path, name])
 
     def found(self, path):
         """Returns what a path stands for, or None."""

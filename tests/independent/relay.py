@@ -1,5 +1,6 @@
 """The answers that `ice check FILE`, `ice relay FILE TYPE` and `ice proxy TEXT` have to give: status, standard output, and the
 line on standard error."""
+import graphs
 import kinds
 import loading
 import names
@@ -34,8 +35,9 @@ def kind_of(schema, word):
     return found.kind if isinstance(found, sorts) else None
 
 
-def relay(shelf, file, word, data):
-    """Returns the answer for the shelf, for FILE, for TYPE and for the input, and where one is refused, why."""
+def relay(shelf, file, word, data, classes=False):
+    """Returns the answer for the shelf, for FILE, for TYPE and for the input, and where one is refused, why. Without `classes` it is
+    that of a program that carries no instances, and has no optional members behind a value."""
     try:
         schema = loading.load(shelf, file)
     except loading.Refused as why:
@@ -43,7 +45,20 @@ def relay(shelf, file, word, data):
     kind = kind_of(schema, word)
     if kind is None:
         return (2, b"", b"ice: no such name " + word.encode() + b"\n"), "no such name"
-    if not kind.is_built:
+    if not classes:
+        return relay_value(kind, word, data)
+    try:
+        graph = graphs.decode(data, kind, [it.kind.class_ for it in schema.rules.classes])
+    except values.Fault as why:
+        return (4, b"", f"ice: input refused at {why.place}: {why.kind}\n".encode()), str(why)
+    written = graphs.encode(graph, kind)
+    if len(written) > values.MOST_BYTES:
+        return (4, b"", f"ice: answer too long: {len(written)}\n".encode()), "too long"
+    return (0, written, b""), ""
+
+
+def relay_value(kind, word, data):
+    if kind.has_classes:
         return (2, b"", b"ice: not built " + word.encode() + b"\n"), "not built"
     try:
         value = values.decode(data, kind)

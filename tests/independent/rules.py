@@ -231,7 +231,7 @@ class Rules:
         self.counts["types"] += 1
 
     def fields(self, fields):
-        """Looks at the members of a definition, and returns the kinds of those whose types have no fault."""
+        """Looks at the members of a definition, and returns the tag, or None, and the kind of those whose types have no fault."""
         distinct, tags, found = Distinct(self.faults), Tags(self), []
         for it in fields:
             if it.tag:
@@ -240,13 +240,13 @@ class Rules:
             distinct.take(it.word)
             if kind and it.value:
                 self.value(it.value, kind)
-            found += [kind] if kind else []
+            found += [(self.tag(it.tag) if it.tag else None, kind)] if kind else []
         return found
 
     def struct(self, item):
         if not item.fields:
             self.faults.add(item.word.place, "NoMembers")
-        self.define_type(item.word, kinds.struct(self.fields(item.fields)))
+        self.define_type(item.word, kinds.struct([kind for _, kind in self.fields(item.fields)]))
 
     # Classes, exceptions and interfaces
 
@@ -254,11 +254,14 @@ class Rules:
         declared = self.claim_again(item.word, names.Class, item.fields is not None)
         if item.fields is None:
             return
-        if item.base:
-            base = self.found(item.base, names.Class)
-            if base and not base.is_defined:
-                self.faults.add(item.base.place, "BadBase")
-        self.fields(item.fields)
+        base = self.found(item.base, names.Class) if item.base else None
+        if base and not base.is_defined:
+            self.faults.add(item.base.place, "BadBase")
+        members = self.fields(item.fields)
+        row = declared.kind.class_
+        row.type_id, row.base = self.names.type_id(item.word.name).encode(), base and base.kind.class_
+        row.required = [kind for tag, kind in members if tag is None]
+        row.optional = dict(sorted([it for it in members if it[0] is not None], key=lambda it: it[0]))
         declared.is_defined = True
 
     def exception(self, item):

@@ -1,4 +1,4 @@
-"""Reads one encapsulation of a type, or finds its first fault, and writes the canonical encapsulation of a value.
+"""Reads a value of a type that reaches no class, or finds its first fault, and writes the canonical encapsulation of a value.
 
 A value is False or True, an int, the number of an enumerator, the bytes of a string, a list of elements, a tuple of a struct's
 members, a list of the key and value pairs of a dictionary, in rising order of the keys, or a `Proxy`, None where it is null.

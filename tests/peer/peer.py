@@ -25,10 +25,11 @@ class Bytes(Ice.Blobject):
 
 
 class Peer:
-    """Real Ice with the types of one Slice text. A process has one of them, since Ice keeps what it loads."""
+    """Real Ice with the types of one Slice text. A process has one of them, since Ice keeps what it loads. `options` are further
+    ones of Ice."""
 
-    def __init__(self, text, module, names):
-        self.names = list(names)
+    def __init__(self, text, module, names, *options):
+        self.names, self.instances = list(names), []
         with tempfile.TemporaryDirectory(prefix="ice-peer-") as folder:
             with open(f"{folder}/types.ice", "wb") as file:
                 file.write(text)
@@ -38,7 +39,7 @@ class Peer:
             Ice.loadSlice("", ["-I" + folder, "--all", f"{folder}/operations.ice"])
         self.types = importlib.import_module(module)
         operations = importlib.import_module(OPERATIONS)
-        self.communicator = Ice.initialize(["--Ice.MessageSizeMax=0"])
+        self.communicator = Ice.initialize(["--Ice.MessageSizeMax=0", *options])
         adapter = self.communicator.createObjectAdapterWithEndpoints("peer", "tcp -h 127.0.0.1")
         self.bytes, self.values = Bytes(), self.servant(operations.Values)
         self.writer = operations.ValuesPrx.uncheckedCast(self.remote(adapter, self.bytes, "bytes"))

@@ -1,0 +1,356 @@
+"""Makes Slice texts with classes and graphs of their instances from a seed, and inputs that spell these in varied ways, or that are
+broken in a part or a byte.
+"""
+import collections
+import random
+
+import generate
+import graphs
+import kinds
+import values
+from generate import ODD_BYTES, ODD_NUMBERS, Trial
+from graphs import Known, Ref
+
+TAGS = [0, 0, 1, 1, 2, 3, 7, 28, 29, 30, 31, 254, 255, 256, 2**31 - 1]
+ANY = [("Object", kinds.ANY_CLASS), ("Value", kinds.ANY_CLASS)]
+
+
+class ClassMaker(generate.SchemaMaker):
+    """Makes texts in which classes are declared first, so that all may speak of all."""
+
+    def __init__(self, chance, is_plain=False):
+        super().__init__(chance, is_plain)
+        self.rows, self.defined = {}, []  # the rows by their names, and those of the names that are defined
+
+    def type(self, is_key=False):
+        if is_key or not self.rows or self.chance.random() < 0.45:
+            return super().type(is_key)
+        if self.chance.random() < 0.2:
+            return self.chance.choice(ANY)
+        name = self.chance.choice(list(self.rows))
+        return name, self.kinds[name]
+
+    def declare(self):
+        name = self.name(self.kinds)
+        self.kinds[name] = kinds.class_()
+        self.rows[name] = self.kinds[name].class_
+        self.definitions.append(["class", name, ";"])
+
+    def tag(self, others):
+        return self.chance.choice([it for it in TAGS if it not in others])
+
+    def define(self, name):
+        row, base = self.rows[name], None
+        if self.defined and self.chance.random() < 0.6:
+            base = self.chance.choice(self.defined[-3:])
+        tokens, members, optional = [], self.inherited(base), {}
+        for _ in range(self.chance.choice([0, 1, 1, 2, 2, 3, 4])):
+            word, kind = self.type()
+            members.append(self.name(members))
+            if self.chance.random() < 0.4:
+                tag = self.tag(optional)
+                optional[tag] = kind
+                tokens += ["optional", "(", str(tag), ")"]
+            else:
+                row.required.append(kind)
+            tokens += [*generate.type_tokens(word), members[-1], ";"]
+        row.type_id, row.base = f"::{self.module}::{name}".encode(), self.rows[base] if base else None
+        row.optional = dict(sorted(optional.items()))
+        self.defined.append(name)
+        self.definitions.append(["class", name, *(["extends", base] if base else []), "{", *tokens, "}", ";"])
+
+    def inherited(self, base):
+        """Returns the names that the members of a class derived from that one may not have: here all are free."""
+        return []
+
+    def types(self):
+        """Returns the types that reach a class, by their words."""
+        named = {f"::{self.module}::{name}": kind for name, kind in self.kinds.items() if kind.has_classes}
+        return {**named, "Object": kinds.ANY_CLASS}
+
+
+def schema(chance, maker):
+    for _ in range(chance.choice([1, 2, 3, 4, 5])):
+        maker.declare()
+    names = list(maker.rows)
+    chance.shuffle(names)
+    for name in names:
+        for _ in range(chance.choice([0, 0, 1, 1, 2])):
+            maker.add()
+        maker.define(name)
+    for _ in range(chance.choice([0, 1, 1, 2])):
+        maker.add()
+    return maker
+
+
+class GraphMaker(generate.ValueMaker):
+    """Makes graphs of at most so many instances. References go to one that is there already, at a rate, or to a new one, which is
+    filled later; at another rate they go to any."""
+
+    def __init__(self, chance, rows, most, wrong=0.0):
+        super().__init__(chance, 6)
+        self.rows, self.most, self.wrong = rows, most, wrong
+        self.sharing, self.is_deep = chance.choice([0.05, 0.3, 0.6, 0.9]), chance.random() < 0.5
+        self.made, self.instances, self.waiting = [], [], collections.deque()
+
+    def value(self, kind):
+        return self.ref(kind.class_) if kind.sort == "class" else super().value(kind)
+
+    def ref(self, declared):
+        if self.chance.random() < 0.12:
+            return None
+        if self.chance.random() < self.wrong:
+            declared = None
+        there = [at for at, row in enumerate(self.made) if declared is None or row.is_a(declared)]
+        if there and (len(self.made) >= self.most or self.chance.random() < self.sharing):
+            return Ref(self.chance.choice(there))
+        fitting = [it for it in self.rows if declared is None or it.is_a(declared)]
+        if not fitting or len(self.made) >= self.most:
+            return None
+        return self.begun(self.chance.choice(fitting))
+
+    def begun(self, row):
+        self.made.append(row)
+        self.instances.append([])
+        self.waiting.append(len(self.made) - 1)
+        return Ref(len(self.made) - 1)
+
+    def fill(self):
+        while self.waiting:
+            number = self.waiting.pop() if self.is_deep else self.waiting.popleft()
+            row, self.room = self.made[number], 6
+            while row:
+                self.instances[number].append(Known(row, [self.value(it) for it in row.required], self.options(row)))
+                row = row.base
+
+    def options(self, row):
+        rate = self.chance.choice([0, 0.5, 1])
+        return [(tag, self.value(kind)) for tag, kind in row.optional.items() if self.chance.random() < rate]
+
+    def graph(self, kind):
+        """Returns a graph, of which some instances may be reached by nothing."""
+        root = self.value(kind)
+        self.fill()
+        for _ in range(self.chance.choice([0, 0, 1, 2])):
+            self.begun(self.chance.choice(self.rows))
+        self.fill()
+        return graphs.Graph(root, self.instances)
+
+
+# What is spelled otherwise
+
+
+class Style:
+    """How often what may stand otherwise does."""
+
+    def __init__(self, chance):
+        self.tables, self.ids, self.tags, self.order = [chance.choice([0, 0.2, 0.6]) for _ in range(4)]
+
+
+class VariedWriter(graphs.Writer):
+    """Writes a graph in any way that is read as that graph: dictionaries in any order, type ids as strings again, members of
+    unknown tags, tables in any order with entries that come twice or that nothing uses. With `at` the part of that number is
+    changed, and what counts it fits."""
+
+    def __init__(self, graph, seed, at=None, changed=None):
+        super().__init__(graph)
+        self.chance, self.at, self.changed = random.Random(seed), at, changed
+        self.style, self.parts, self.ids = Style(self.chance), [], []
+
+    def is_so(self, rate):
+        return self.chance.random() < rate
+
+    def put(self, data, what):
+        self.parts.append((what, data))
+        super().put(self.changed if len(self.parts) - 1 == self.at else data, what)
+
+    def ordered(self, pairs):
+        return generate.shuffled(self.chance)(pairs) if self.is_so(self.style.order) else super().ordered(pairs)
+
+    def plain(self, value, kind):
+        order = generate.shuffled(self.chance) if self.is_so(self.style.order) else sorted
+        return values.spelled(value, kind, order, values.EMPTY_FACET if self.is_so(self.style.order) else values.NO_FACET)
+
+    def type_id(self, it):
+        there = [at for at, other in enumerate(self.ids, 1) if other == it]
+        if there and not self.is_so(self.style.ids):
+            return graphs.AS_INDEX, values.spelled_size(self.chance.choice(there))
+        self.ids.append(it)
+        return graphs.AS_TEXT, values.spelled_string(it)
+
+    def table(self, used):
+        table = super().table(used)
+        if self.is_so(self.style.tables):
+            self.chance.shuffle(table)
+        while self.graph.instances and self.is_so(self.style.tables):
+            other = self.chance.choice(table) if table and self.is_so(0.5) else self.chance.randrange(len(self.graph.instances))
+            table.insert(self.chance.randrange(len(table) + 1), other)
+        return table
+
+    def has_table(self, it, table):
+        return bool(table) or self.is_so(self.style.tables)
+
+    def has_optional(self, it):
+        return bool(it.optional) or self.is_so(self.style.tags)
+
+    def places(self, table):
+        self.entries, at = table, collections.defaultdict(list)
+        for place, number in enumerate(table, 1):
+            at[number].append(place)
+
+        def place(ref):
+            self.put_size(self.chance.choice(at[ref.number]) if ref else 0, "place")
+            return
+            yield
+
+        return place
+
+    def options(self, optional, row, refer):
+        yield from self.mixed(optional, row.optional, refer, [Ref(it) for it in self.entries])
+        self.put(bytes([graphs.END_MARKER]), "end")
+
+    def content(self, value, kind):
+        yield from super().content(value, kind)
+        if self.is_so(self.style.tags):
+            yield from self.mixed([], {}, self.inline, [Ref(it) for it in range(len(self.graph.instances))])
+
+    def mixed(self, optional, known, refer, refs):
+        """Writes members with others of unknown tags among them, which may refer to these."""
+        tags = {tag: it for tag, it in optional}
+        while self.is_so(self.style.tags):
+            tag = self.chance.choice(TAGS)
+            if tag not in known:
+                tags.setdefault(tag, None)
+        present = {tag for tag, _ in optional}
+        for tag in sorted(tags):
+            if tag in present:
+                yield from self.option(tag, tags[tag], known[tag], refer)
+                continue
+            format_ = self.chance.randrange(8)
+            self.put(graphs.spelled_tag(tag, format_), "tag")
+            if format_ == kinds.CLASS:
+                yield from refer(self.chance.choice([None, *refs]))
+            else:
+                self.put(self.unknown(format_), "value")
+
+    def unknown(self, format_):
+        if format_ in graphs.FIXED_FORMATS:
+            return self.chance.randbytes(graphs.FIXED_FORMATS[format_])
+        if format_ == kinds.SIZE:
+            return values.spelled_size(self.chance.choice([0, 1, 254, 255, 2**31 - 1]))
+        data = self.chance.randbytes(self.chance.choice([0, 1, 2, 5, 5, 260]))
+        return (values.spelled_size(len(data)) if format_ == kinds.VSIZE else values.spelled_number(len(data), "int")) + data
+
+
+# What is broken
+
+
+def number_in(data):
+    return data[0] if data[0] < 255 else int.from_bytes(data[1:], "little")
+
+
+def size_of_any(number):
+    """Returns a size, in the long form where it is none."""
+    return bytes([number]) if 0 <= number < 255 else b"\xff" + (number % 2**32).to_bytes(4, "little")
+
+
+def other_sizes(data, chance):
+    number = number_in(data)
+    yield from (size_of_any(number + by) for by in (-1, 1, 2))
+    yield from (size_of_any(it) for it in (0, 1, 2, 3, 255))
+    yield b"\xff" + number.to_bytes(4, "little")
+
+
+def other_ints(data, chance):
+    number = int.from_bytes(data, "little", signed=True)
+    for it in (number - 1, number + 1, number - 4, 0, 3, 4, *ODD_NUMBERS):
+        yield (it % 2**32).to_bytes(4, "little")
+
+
+def other_flags(data, chance):
+    yield from (bytes([data[0] ^ 1 << bit]) for bit in range(8))
+    yield bytes([data[0] ^ 3])
+    yield bytes([chance.randrange(256)])
+
+
+def other_ids(data, chance):
+    text = data[data[0] < 255 or 5 :]
+    for it in (text[:-1], text + b"x", text[:-1] + b"\xff", text.swapcase(), b"", b"::x"):
+        yield values.spelled_string(it)
+    yield size_of_any(len(text) + 1) + text
+
+
+def other_tags(data, chance):
+    leading, rest = data[0], data[1:]
+    yield from (bytes([it % 256]) + rest for it in (leading + 1, leading - 1, leading + 8, leading - 8, leading ^ 7, 248 + chance.randrange(8)))
+    if not rest:
+        yield bytes([0xF0 | leading & 7, leading >> 3])
+    for it in (29, 30, 31, 255):
+        yield bytes([0xF0 | leading & 7]) + values.spelled_size(it)
+
+
+OTHERS = {"flags": other_flags, "type id": other_ids, "tag": other_tags, "slice size": other_ints, "int prefix": other_ints}
+OTHERS |= {it: other_sizes for it in ("size", "reference", "place", "index", "table size", "prefix")}
+
+
+def changes(what, data, chance):
+    """Yields what may stand in the place of a part."""
+    if what in OTHERS:
+        yield from OTHERS[what](data, chance)
+    yield b""
+    yield data + data
+    yield chance.choice(ODD_BYTES)
+    if data:
+        at = chance.randrange(len(data))
+        yield data[:at] + bytes([generate.other(data[at], chance)]) + data[at + 1 :]
+
+
+def broken_graphs(graph, kind, chance, count):
+    """Yields so many inputs of a graph, each with a part changed, of all sorts about as often."""
+    seed = chance.random()
+    writer = VariedWriter(graph, seed)
+    graphs.encode(graph, kind, writer)
+    sorts = sorted({what for what, _ in writer.parts})
+    for _ in range(count):
+        sort = chance.choice(sorts)
+        at = chance.choice([at for at, it in enumerate(writer.parts) if it[0] == sort])
+        what, data = writer.parts[at]
+        changed = chance.choice([it for it in changes(what, data, chance) if it != data])
+        yield what, graphs.encode(graph, kind, VariedWriter(graph, seed, at, changed))
+
+
+def spelled_graphs(graph, kind, chance, count):
+    """Yields the canonical input of a graph, and so many others."""
+    yield "canonical", graphs.encode(graph, kind)
+    for _ in range(count):
+        yield "spelled otherwise", graphs.encode(graph, kind, VariedWriter(graph, chance.random()))
+
+
+# Lots
+
+
+def lot(seed, number, types=6, most=(3, 9, 25)):
+    """Returns the trials of one schema."""
+    chance = random.Random(f"classes {seed} {number}")
+    maker = schema(chance, ClassMaker(chance))
+    text, rows = generate.text_of(maker.tokens(), chance), list(maker.rows.values())
+    named = list(maker.types().items())
+    trials = []
+    for word, kind in chance.sample(named, min(types, len(named))):
+        short = []
+        for count in (*most, chance.choice([60, 300])):
+            graph = GraphMaker(chance, rows, count).graph(kind)
+            canonical = graphs.encode(graph, kind)
+            for what, data in spelled_graphs(graph, kind, chance, 4):
+                trials.append(Trial(f"classes, {what}", text, word, data, canonical))
+                short += [data] if len(data) <= 80 else []
+            for what, data in broken_graphs(graph, kind, chance, 20):
+                trials.append(Trial(f"classes, another {what}", text, word, data))
+        for _ in range(3):
+            graph = GraphMaker(chance, rows, chance.choice([3, 6, 12]), 0.3).graph(kind)
+            trials.append(Trial("classes, of any class", text, word, graphs.encode(graph, kind, VariedWriter(graph, chance.random()))))
+        if short:
+            broken = list(generate.broken_inputs(chance.choice(short), chance))
+            for what, data in chance.sample(broken, min(25, len(broken))):
+                trials.append(Trial(f"classes, {what}", text, word, data))
+    return trials
