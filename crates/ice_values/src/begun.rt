@@ -56,13 +56,15 @@ pub(crate) fn begun(
             })
         }
         TypeRef::Struct(at) => {
-            let _decl = schema.structs().get(at as usize).ok_or(nowhere)?;
+            let decl = schema.structs().get(at as usize).ok_or(nowhere)?;
+            // The schema says how many, and not the input.
+            let members = Vec::with_capacity(alloc, decl.members.len())?;
             Ok(Frame {
                 levels,
                 parts: Parts::Each(Each {
                     sort: Sort::Members,
                     left: Left::Members(at, 0),
-                    done: List::new(alloc),
+                    done: List::from_vec(members),
                 }),
             })
         }
