@@ -3,9 +3,13 @@
 #![tactic(auto)]
 
 mod encode_fault;
+mod encoding;
 mod reading;
+mod write_fault;
 mod writing;
 
 pub use encode_fault::EncodeFault;
+pub use encoding::encode;
 pub use reading::decode;
-pub use writing::encode;
+pub use write_fault::WriteFault;
+pub use writing::encode_typed;

@@ -4,9 +4,9 @@ ghost use Rattle.std.specs.Prelude.{◌≡◌, ◌++◌, ◌≤◌, drop, vec_le
 ghost use Rattle.std.specs.Int.{w32, to_le_bytes};
 ghost use Rattle.ice_graphs.specs.Typed.{OfType};
 ghost use Rattle.ice_members.specs.Shapes.{shape_seen};
-ghost use Rattle.class_slices.specs.Encoding.{Encodes};
+ghost use Rattle.class_slices.specs.Encoding.{Writes};
 
-use crate::encode_fault::EncodeFault;
+use crate::write_fault::WriteFault;
 use graph_arena::Graph;
 use ice_members::Fields;
 use ice_prims::{put_byte, put_int};
@@ -14,19 +14,19 @@ use ice_types::Schema;
 use instance_writing::write_numbered;
 use std::alloc::Global;
 
-/// The canonical encapsulation of the graph in sliced format, where it is not longer than the limit. The
+/// The canonical encapsulation of a graph of the type, in sliced format, where it is not longer than the limit. The
 /// instances that the roots lead to are named by the order of their first visits; the others are left
 /// out. An encapsulation that is longer is refused with its length.
 /// (Ice manual, "Data Encoding for Class and Exception Types".)
-pub fn encode(
+pub fn encode_typed(
     alloc: Global,
     schema: &Schema,
     fields: Fields<'_>,
     graph: Graph,
     limit: u32,
-) -> Result<Vec<u8>, EncodeFault>
+) -> Result<Vec<u8>, WriteFault>
     requires typed { OfType schema.now (shape_seen fields) graph }
-    ensures { Encodes schema.now (shape_seen fields.entry) graph limit result }
+    ensures { Writes schema.now (shape_seen fields.entry) graph limit result }
 {
     // Its contract says what every graph keeps.
     graph.len();
@@ -38,7 +38,7 @@ pub fn encode(
     write_numbered(alloc, schema, fields.optional, &numbered, &mut out)?;
     let length = out.len() as u64;
     if length > limit as u64 {
-        return Err(EncodeFault::TooLong(length));
+        return Err(WriteFault::TooLong(length));
     }
     patch_size(&mut out, length as u32);
     Ok(out)

@@ -5,7 +5,7 @@ use Rattle.ice_members.specs.Shapes.{shape_seen}
 use Rattle.instance_writing.specs.Writable.{GraphCanBeWritten}
 use Rattle.class_slices.proofs.Encoded.{unsized, written-is, length-is, patched-is}
 use Rattle.class_slices.proofs.Writable.{form-writable}
-use Rattle.class_slices.proofs.writing.encode.Goals as goal
+use Rattle.class_slices.proofs.writing.encode_typed.Goals as goal
 
 pub write_numbered-requires : goal.write_numbered-requires
 write_numbered-requires c =

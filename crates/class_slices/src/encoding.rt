@@ -1,0 +1,30 @@
+//! The encapsulation of any graph, or why there is none.
+
+ghost use Rattle.ice_members.specs.Shapes.{shape_seen};
+ghost use Rattle.class_slices.specs.Encoding.{Encodes};
+
+use crate::encode_fault::EncodeFault;
+use crate::writing::encode_typed;
+use graph_arena::Graph;
+use ice_members::Fields;
+use ice_types::Schema;
+use std::alloc::Global;
+use value_checks::first_ill_typed;
+
+/// The canonical encapsulation of the graph in sliced format, where the graph is of the type and the
+/// encapsulation is not longer than the limit; else the first part that is not of its type, or the length.
+/// (Ice manual, "Data Encoding for Class and Exception Types".)
+pub fn encode(
+    alloc: Global,
+    schema: &Schema,
+    fields: Fields<'_>,
+    graph: Graph,
+    limit: u32,
+) -> Result<Vec<u8>, EncodeFault>
+    ensures { Encodes schema.now (shape_seen fields.entry) graph limit result }
+{
+    if let Some(at) = first_ill_typed(alloc, schema, fields, &graph)? {
+        return Err(EncodeFault::IllTyped(at));
+    }
+    Ok(encode_typed(alloc, schema, fields, graph, limit)?)
+}

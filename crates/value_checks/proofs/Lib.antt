@@ -1,0 +1,7 @@
+pub mod FirstIll
+pub mod Formed
+pub mod Membered
+pub mod Places
+pub mod Walked
+pub mod ZeroTyped
+pub mod Zeroed

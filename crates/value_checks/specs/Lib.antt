@@ -1,0 +1,4 @@
+pub mod First
+pub mod Forms
+pub mod References
+pub mod Zeros

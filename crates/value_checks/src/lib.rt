@@ -1,0 +1,19 @@
+//! Whether a value is of a type, which part of a graph of class instances is the first that is not, and
+//! the value of a type that is all zeros.
+#![tactic(auto)]
+
+mod first;
+mod instances;
+mod laws;
+mod members;
+mod proxies;
+mod references;
+#[cfg(test)]
+mod tests;
+mod values;
+mod zeros;
+
+pub use first::first_ill_typed;
+pub use laws::zeros_have_types;
+pub use values::fits;
+pub use zeros::zero;

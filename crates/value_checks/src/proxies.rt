@@ -1,0 +1,147 @@
+//! Whether a proxy is one that bytes can spell. (Ice manual, "Data Encoding for Proxies".)
+
+ghost use Rattle.std.specs.Prelude.{◌≡◌, ◌≤◌, ◌<◌, ◌^◌, ◌↔◌, IsTrue, Some, length};
+ghost use Rattle.ice_prims.specs.Bytes.{size_bytes};
+ghost use Rattle.ice_prims.specs.Laws.{IsTextSize};
+ghost use Rattle.ice_types.specs.declared.proxy.Endpoint.TheVariants.{Opaque, Tcp};
+ghost use Rattle.ice_parts.specs.Parts.{Each};
+ghost use Rattle.ice_parts.specs.Parts as parts;
+ghost use Rattle.ice_parts.specs.Identity as names;
+ghost use Rattle.ice_parts.specs.Endpoint as served;
+ghost use Rattle.ice_parts.specs.Proxy as form;
+
+use ice_parts::{LARGEST, SIZE_BYTES};
+use ice_types::{Endpoint, Identity, Name, Proxy};
+
+/// Whether a size can count so many.
+pub(crate) fn is_size(count: usize) -> bool
+    ensures { IsTrue result ↔ (count < 2 ^ 31) }
+{
+    count < 1 << 31
+}
+
+/// Whether a size can count the bytes of the text.
+pub(crate) fn is_text(text: &Name) -> bool
+    ensures { IsTrue result ↔ IsTextSize text.now }
+{
+    is_size(text.as_str().len())
+}
+
+/// Whether it is a proxy that bytes can spell: it has a name, one of the five modes, and an adapter only
+/// where it has no endpoints, and no size in it is too great.
+pub(crate) fn is_proxy(proxy: &Proxy) -> bool
+    ensures { IsTrue result ↔ form.proxy.Is (Some proxy.now) }
+{
+    !proxy.identity.name.as_str().is_empty() && is_identity(&proxy.identity) && has_details(proxy)
+}
+
+fn is_identity(identity: &Identity) -> bool
+    ensures { IsTrue result ↔ names.identity.Is identity.now }
+{
+    is_text(&identity.name) && is_text(&identity.category)
+}
+
+/// Whether what follows the identity is so.
+fn has_details(proxy: &Proxy) -> bool
+    ensures { IsTrue result ↔ form.details.Is (form.details_of (Some proxy.now)) }
+{
+    is_facet(&proxy.facet)
+        && is_mode(proxy.mode)
+        && is_version(proxy.protocol)
+        && is_version(proxy.encoding)
+        && is_location(proxy.endpoints.as_slice(), &proxy.adapter)
+}
+
+/// Whether it is one of the five modes.
+fn is_mode(mode: u8) -> bool
+    ensures { IsTrue result ↔ form.mode.Is mode }
+{
+    mode <= 4
+}
+
+/// Each pair of bytes is a version.
+fn is_version(version: (u8, u8)) -> bool
+    ensures { IsTrue result ↔ parts.version.Is version }
+{
+    let _ = version;
+    true
+}
+
+fn is_facet(facet: &Name) -> bool
+    ensures { IsTrue result ↔ names.facet.Is facet.now }
+{
+    is_text(facet)
+}
+
+/// Endpoints, or an adapter where there is none.
+fn is_location(endpoints: &[Endpoint], adapter: &Name) -> bool
+    ensures { IsTrue result ↔ form.location.Is (endpoints.now, adapter.now) }
+{
+    if endpoints.is_empty() {
+        is_text(adapter)
+    } else {
+        is_size(endpoints.len()) && are_endpoints(endpoints) && adapter.as_str().is_empty()
+    }
+}
+
+fn are_endpoints(endpoints: &[Endpoint]) -> bool
+    ensures { IsTrue result ↔ Each served.endpoint.Is endpoints.now }
+{
+    for endpoint in endpoints {
+        if !is_endpoint(endpoint) {
+            return false;
+        }
+    }
+    true
+}
+
+/// Whether its encapsulation is within the limit, and it is not TCP as the bytes of another transport.
+fn is_endpoint(endpoint: &Endpoint) -> bool
+    ensures { IsTrue result ↔ served.endpoint.Is endpoint.now }
+{
+    match endpoint {
+        Endpoint::Tcp {
+            host,
+            port,
+            timeout,
+            compress,
+        } => is_tcp(host, *port, *timeout, *compress),
+        Endpoint::Opaque {
+            kind,
+            major,
+            minor,
+            bytes,
+        } => is_opaque(*kind, *major, *minor, bytes.as_slice()),
+    }
+}
+
+/// The size of its encapsulation, its version, and the parts of TCP.
+fn is_tcp(host: &Name, port: i32, timeout: i32, compress: bool) -> bool
+    ensures { IsTrue result ↔ served.endpoint.Is (Tcp host.now port timeout compress) }
+{
+    let _ = (port, timeout, compress);
+    let length = host.as_str().len();
+    length <= LARGEST && SIZE_BYTES + 2 + size_length(length) + length + 9 <= LARGEST
+}
+
+/// Another transport, whose bytes are kept as they are.
+fn is_opaque(kind: i16, major: u8, minor: u8, bytes: &[u8]) -> bool
+    ensures { IsTrue result ↔ served.endpoint.Is (Opaque kind major minor bytes.now) }
+{
+    !means_tcp(kind, major, minor) && bytes.len() <= LARGEST - SIZE_BYTES - 2
+}
+
+/// TCP is of type 1 in version 1.1.
+fn means_tcp(kind: i16, major: u8, minor: u8) -> bool
+    ensures { result ≡ served.is_tcp kind (major, minor) }
+{
+    kind == 1 && major == 1 && minor == 1
+}
+
+/// How many bytes a size has.
+fn size_length(size: usize) -> usize
+    ensures exact { result ≡ length (size_bytes size) }
+    ensures few { result ≤ 5 }
+{
+    if size < 255 { 1 } else { 5 }
+}
