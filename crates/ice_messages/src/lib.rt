@@ -10,7 +10,6 @@ mod next;
 mod read_call;
 mod read_context;
 mod reading;
-mod size;
 mod writing;
 
 pub use fault::{FeedFault, WriteFault};

@@ -10,7 +10,7 @@ ghost use Rattle.ice_prims.specs.Taking.{Takes};
 
 use crate::message::{Answer, Call};
 use crate::read_context::take_context;
-use crate::size::claimed_size;
+use encaps_optionals::claimed_size;
 use ice_parts::SMALLEST;
 use ice_prims::{Cursor, Fault, Kind, ReadFault};
 use ice_types::{Bytes, Identity, List, Name};

@@ -12,7 +12,7 @@ ghost use Rattle.ice_messages.specs.Written.{IsOrderly};
 
 use crate::message::{Call, HEADER_BYTES, Message};
 use crate::read_call::{take_answer, take_call};
-use crate::size::claimed_size;
+use encaps_optionals::claimed_size;
 use ice_prims::{Cursor, Fault, Kind, ReadFault};
 use ice_types::List;
 use std::alloc::Global;

@@ -7,4 +7,3 @@ pub mod Advancing
 pub mod Decided
 pub mod OneDump
 pub mod Dumping
-pub mod Written

@@ -2,7 +2,7 @@
 use Rattle.std.specs.Prelude.{ℕ, ◌≡◌, ◌≤◌, ◌<◌, ◌⊎◌, Bool, true, false, List, [], ◌++◌, length, Option, None, Some, Result, Ok, Err}
 use Rattle.std.specs.Io.KnownBytes.{Appends, Consumes, IsAtEnd}
 use Rattle.ice_ports.specs.declared.ports.TheConstants.{MOST_OF_A_READ}
-use Rattle.ice_ports.specs.Failures.{one_more}
+use Rattle.sink_writes.specs.Writing.{AppendsPrefix}
 use Rattle.ice_messages.specs.Streams.{next_at}
 use Rattle.message_dump.specs.declared.dump.Dump.{Dump}
 use Rattle.message_dump.specs.declared.dump.Dump.TheVariants.{Finished, Refused, ReadFailed, WriteFailed, Memory}
@@ -48,15 +48,6 @@ pub record ReadsFrugally (old new : Option (List ℕ)) : Type 0 where
   pub told : TellsAll before lines
 
 -- ---- what the sink gets
-
--- a prefix of the bytes was taken
-abbrev pub AppendsPrefix : Option (List ℕ) → Option (List ℕ) → List ℕ → Type 0
-AppendsPrefix old new bytes = (prefix rest : List ℕ) × (bytes ≡ prefix ++ rest) × Appends old new prefix
-
--- The sink got the bytes, and no write failed; or it got a prefix of them, and then one failed.
-abbrev pub Writes : {X E : Type 0} → (old new : Option (List ℕ)) → (before after : ℕ) → Result X E → List ℕ → Type 0
-Writes old new before after (Ok x) bytes = Appends old new bytes × (after ≡ before)
-Writes old new before after (Err e) bytes = AppendsPrefix old new bytes × (after ≡ one_more before)
 
 -- all lines, or where the sink failed a prefix of them
 abbrev pub GetsLines : Dump → Option (List ℕ) → Option (List ℕ) → List ℕ → Type 0

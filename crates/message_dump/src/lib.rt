@@ -4,7 +4,6 @@
 mod dump;
 mod laws;
 mod lines;
-mod output;
 mod telling;
 
 pub use dump::{Dump, MOST_MESSAGES, dump_messages};
