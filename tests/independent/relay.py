@@ -27,7 +27,7 @@ def check(shelf, file):
 
 def kind_of(schema, word):
     """Returns the type that a word of the command line names, or None."""
-    built_in = {**kinds.BUILT_IN, "Object": kinds.ANY_CLASS, "Object*": kinds.ANY_PROXY}
+    built_in = {**kinds.BUILT_IN, "Object": kinds.ANY_CLASS, "Value": kinds.ANY_CLASS, "Object*": kinds.ANY_PROXY}
     if word in built_in:
         return built_in[word]
     found = schema.named(word.removesuffix("*"))
@@ -35,9 +35,8 @@ def kind_of(schema, word):
     return found.kind if isinstance(found, sorts) else None
 
 
-def relay(shelf, file, word, data, classes=False):
-    """Returns the answer for the shelf, for FILE, for TYPE and for the input, and where one is refused, why. Without `classes` it is
-    that of a program that carries no instances, and has no optional members behind a value."""
+def relay(shelf, file, word, data):
+    """Returns the answer for the shelf, for FILE, for TYPE and for the input, and where one is refused, why."""
     try:
         schema = loading.load(shelf, file)
     except loading.Refused as why:
@@ -45,8 +44,6 @@ def relay(shelf, file, word, data, classes=False):
     kind = kind_of(schema, word)
     if kind is None:
         return (2, b"", b"ice: no such name " + word.encode() + b"\n"), "no such name"
-    if not classes:
-        return relay_value(kind, word, data)
     try:
         graph = graphs.decode(data, kind, [it.kind.class_ for it in schema.rules.classes])
     except values.Fault as why:
@@ -55,16 +52,6 @@ def relay(shelf, file, word, data, classes=False):
     if len(written) > values.MOST_BYTES:
         return (4, b"", f"ice: answer too long: {len(written)}\n".encode()), "too long"
     return (0, written, b""), ""
-
-
-def relay_value(kind, word, data):
-    if kind.has_classes:
-        return (2, b"", b"ice: not built " + word.encode() + b"\n"), "not built"
-    try:
-        value = values.decode(data, kind)
-    except values.Fault as why:
-        return (4, b"", f"ice: input refused at {why.place}: {why.kind}\n".encode()), str(why)
-    return (0, values.encode(value, kind), b""), ""
 
 
 def proxy(text):

@@ -202,20 +202,6 @@ class Cursor:
         return tuple([self.value(it) for it in kind.parts])
 
 
-def decode(data, kind):
-    """Returns the value that an input is the encapsulation of, or raises its first `Fault`."""
-    input_ = Cursor(data, 0, len(data))
-    inside = input_.encapsulation()
-    first = inside.at
-    if inside.version() != VERSION:
-        raise Fault(first, "BadVersion")
-    value = inside.value(kind)
-    # What is left inside the encapsulation comes before what follows it.
-    inside.left_over()
-    input_.left_over()
-    return value
-
-
 def spelled_size(number):
     assert 0 <= number <= MOST_INT
     return bytes([number]) if number < 255 else b"\xff" + number.to_bytes(4, "little")

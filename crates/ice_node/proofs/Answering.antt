@@ -2,7 +2,7 @@
 use Rattle.std.proofs.Common.{◌≡◌, ℕ, List, [], Option, refl, inl, inr}
 use Rattle.ice_node.specs.Words.{Command}
 use Rattle.ice_node.specs.Outside.{Files, Failures}
-use Rattle.ice_node.specs.Answers.{Answer, done, usage, no_such_name, not_built, slice_refused, input_refused, text_refused, read_failed, write_failed, no_memory, refused_after, read_failed_after, no_memory_after}
+use Rattle.ice_node.specs.Answers.{Answer, done, usage, no_such_name, slice_refused, input_refused, too_long, text_refused, read_failed, write_failed, no_memory, refused_after, read_failed_after, no_memory_after}
 use Rattle.ice_node.specs.Decided.{Decides}
 use Rattle.ice_node.specs.Causes.{Causes}
 use Rattle.ice_node.proofs.Telling.{to_be_written}
@@ -11,7 +11,7 @@ use Rattle.ice_node.specs.declared.outcome.Outcome.{Outcome}
 use Rattle.ice_node.specs.declared.outcome.Outcome.TheVariants as outcomes
 use Rattle.ice_node.specs.Outcomes.{Prints, answer_of}
 use Rattle.ice_node.proofs.Keeping.{keeps_itself}
-use Rattle.ice_relay.proofs.KnownBytes.{Appends-none}
+use Rattle.std.proofs.KnownBytes.{Appends-nil}
 
 -- what was decided was written, or a write of it failed
 pub printed : (asked : Option Command) (files : Option Files) (input left : Option (List ℕ)) (before after : Failures) (bytes : List ℕ) (outcome : Outcome) → Decides asked files input (done bytes) → after.shelf ≡ before.shelf → after.source ≡ before.source → TakesInput asked input left
@@ -24,9 +24,9 @@ pub takes_nothing : (asked : Option Command) (old : Option (List ℕ)) → Takes
 takes_nothing asked old none (done bytes) = none
 takes_nothing asked old none usage = keeps_itself old
 takes_nothing asked old none (no_such_name word) = keeps_itself old
-takes_nothing asked old none (not_built word) = keeps_itself old
 takes_nothing asked old none (slice_refused broken) = keeps_itself old
 takes_nothing asked old none (input_refused fault) = none
+takes_nothing asked old none (too_long length) = none
 takes_nothing asked old none (text_refused place) = keeps_itself old
 takes_nothing asked old none read_failed = none
 takes_nothing asked old none (write_failed bytes) = none
@@ -37,16 +37,16 @@ takes_nothing asked old none (no_memory_after written) = none
 
 -- nothing was written of no bytes, whatever the answer
 pub outputs_nothing : (old : Option (List ℕ)) (answer : Outcome) → Outputs old old (answer_of answer [])
-outputs_nothing old outcomes.Done = Appends-none old
+outputs_nothing old outcomes.Done = Appends-nil old
 outputs_nothing old outcomes.Usage = keeps_itself old
 outputs_nothing old (outcomes.NoSuchName word) = keeps_itself old
-outputs_nothing old (outcomes.NotBuilt word) = keeps_itself old
 outputs_nothing old (outcomes.SliceRefused file place kind) = keeps_itself old
 outputs_nothing old (outcomes.InputRefused fault) = keeps_itself old
+outputs_nothing old (outcomes.TooLong length) = keeps_itself old
 outputs_nothing old (outcomes.TextRefused place) = keeps_itself old
 outputs_nothing old outcomes.ReadFailed = keeps_itself old
-outputs_nothing old outcomes.WriteFailed = ([], [], refl, Appends-none old)
+outputs_nothing old outcomes.WriteFailed = ([], [], refl, Appends-nil old)
 outputs_nothing old outcomes.Memory = keeps_itself old
-outputs_nothing old (outcomes.RefusedAfter fault) = Appends-none old
-outputs_nothing old outcomes.ReadFailedAfter = Appends-none old
-outputs_nothing old outcomes.MemoryAfter = Appends-none old
+outputs_nothing old (outcomes.RefusedAfter fault) = Appends-nil old
+outputs_nothing old outcomes.ReadFailedAfter = Appends-nil old
+outputs_nothing old outcomes.MemoryAfter = Appends-nil old

@@ -13,22 +13,18 @@ module _ (t : Tables) (word : Word) where
   abbrev pub Only : (TypeRef → Type 0) → Option TypeRef → Type 0
   Only Is result = IfSome result (λ kind. (other : TypeRef) → Is other → other ≡ kind)
 
-  pub value_names_none : word ≡ codes "Value" → (kind : TypeRef) → IsTypeWord t word kind → ⊥
-  value_names_none is kind (inl h) = h.1 is
-  value_names_none is kind (inr h) = h.0 (kinds.Class None) (inr is)
-
   pub type_only : (kind : TypeRef) → Names t word kind → ((other : TypeRef) → Names t word other → other ≡ kind) → (other : TypeRef) → IsTypeWord t word other → other ≡ kind
-  type_only kind named only other (inl h) = only other h.0
+  type_only kind named only other (inl h) = only other h
   type_only kind named only other (inr h) = absurd (h.0 kind named)
 
   -- where no type has the word for its own
   pub as_proxy : (result : Option TypeRef) → ((other : TypeRef) → Names t word other → ⊥) → FindsKind (IsProxyWord t word) result → FindsKind (IsTypeWord t word) result
-  as_proxy None none h = λ kind w. elim w [ inl named ↦ none kind named.0 | inr proxy ↦ h kind proxy.1 ]
+  as_proxy None none h = λ kind w. elim w [ inl named ↦ none kind named | inr proxy ↦ h kind proxy.1 ]
   as_proxy (Some kind) none h = inr (none, h)
 
   pub as_only_proxy : (result : Option TypeRef) → ((other : TypeRef) → Names t word other → ⊥) → Only (IsProxyWord t word) result → Only (IsTypeWord t word) result
   as_only_proxy None none h = tt
-  as_only_proxy (Some kind) none h = λ other w. elim w [ inl named ↦ absurd (none other named.0) | inr proxy ↦ h other proxy.1 ]
+  as_only_proxy (Some kind) none h = λ other w. elim w [ inl named ↦ absurd (none other named) | inr proxy ↦ h other proxy.1 ]
 
 -- the id of an interface stands at one place, and the word has one id before its `*`
 pub one_front : (a b : List ℕ) (c : ℕ) → a ++ (c ∷ []) ≡ b ++ (c ∷ []) → a ≡ b

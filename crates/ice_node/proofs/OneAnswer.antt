@@ -1,17 +1,17 @@
 -- At most one answer is decided where the outside tells what it holds.
-use Rattle.std.proofs.Common.{◌≡◌, ℕ, List, Option, None, Some, Err, refl, sym, ap, subst, ◌∙◌, inl, inr, ◌⊎◌}
+use Rattle.std.proofs.Common.{◌≡◌, ℕ, List, Option, None, Some, Err, refl, sym, ap, subst, ◌∙◌, inl, inr, ◌⊎◌, arith, Ok}
 use Rattle.ice_types.specs.declared.kind.TypeRef.{TypeRef}
 use Rattle.ice_types.specs.Tables.{Tables}
 use Rattle.ice_prims.specs.declared.fault.Fault.{Fault}
-use Rattle.ice_prims.specs.Rest.{whole}
-use Rattle.ice_encoding.specs.Tree.{Tree}
-use Rattle.ice_encoding.specs.Encapsulation.{SpellsEncapsulation, encapsulation_at}
-use Rattle.ice_encoding.proofs.Encapsulations.{encapsulation_only, encapsulation_apart}
+use Rattle.ice_graphs.specs.Graph.{Graph}
+use Rattle.ice_graphs.specs.Flags.{sized_known}
+use Rattle.ice_graphs.proofs.Graphs.{numbered_only, numbered_apart}
+use Rattle.ice_relay.specs.Relaying.{one_value, Holds, held, canonical_bytes}
 use Rattle.slice_meaning.proofs.Loads.{one_meaning, one_break, never_both}
 use Rattle.ice_node.specs.Words.{Word, Command, relay, check, proxy, messages, help, version, Asks}
 use Rattle.ice_node.specs.Outside.{Files, Failures, Outside}
-use Rattle.ice_node.specs.Answers.{Answer, done, usage, no_such_name, not_built, slice_refused, input_refused, text_refused, read_failed, write_failed, no_memory, refused_after, read_failed_after, no_memory_after, status}
-use Rattle.ice_node.specs.Decided.{WithSchema, WithType, WithBuilt, WithValue, Relays, Checks, Decides, Decided}
+use Rattle.ice_node.specs.Answers.{Answer, done, usage, no_such_name, slice_refused, input_refused, too_long, text_refused, read_failed, write_failed, no_memory, refused_after, read_failed_after, no_memory_after, status}
+use Rattle.ice_node.specs.Decided.{WithSchema, WithType, WithGraph, WithinLimit, Relays, Checks, Decides, Decided}
 use Rattle.ice_node.specs.Causes.{Causes}
 use Rattle.ice_node.specs.Statuses.{Answered, IsFailure, Ends}
 use Rattle.ice_node.proofs.CommandForms.{asks_apart}
@@ -31,29 +31,33 @@ type_apart t word a b Next Other one (inl p) (inr q) = absurd (p.0 q.0 q.1.0)
 type_apart t word a b Next Other one (inr p) (inl q) = absurd (q.0 p.0 p.1.0)
 type_apart t word a b Next Other one (inr p) (inr q) = one q.0 (subst Next (q.1.1 p.0 p.1.0) p.2) q.2
 
-built_apart : (t : Tables) (kind : TypeRef) (word : Word) (a b : Answer) (Next Other : Type 0) → (Next → Other → a ≡ b) → WithBuilt t kind word a Next → WithBuilt t kind word b Other → a ≡ b
-built_apart t kind word a b Next Other one (inl p) (inl q) = p.1 ∙ sym q.1
-built_apart t kind word a b Next Other one (inl p) (inr q) = absurd (p.0 q.0)
-built_apart t kind word a b Next Other one (inr p) (inl q) = absurd (q.0 p.0)
-built_apart t kind word a b Next Other one (inr p) (inr q) = one p.1 q.1
-
-one_fault : (input : List ℕ) (t : Tables) (kind : TypeRef) (a b : Fault) → encapsulation_at t kind (whole input) ≡ Err a → encapsulation_at t kind (whole input) ≡ Err b → a ≡ b
+one_fault : (input : List ℕ) (t : Tables) (kind : TypeRef) (a b : Fault) → held t kind input ≡ Err a → held t kind input ≡ Err b → a ≡ b
 one_fault input t kind a b p q = cc (p, q)
 
--- an input that has a fault holds no value
-no_fault : (input : List ℕ) (t : Tables) (kind : TypeRef) (a : Fault) (v : Tree) → encapsulation_at t kind (whole input) ≡ Err a → SpellsEncapsulation t kind input v → ⊥
-no_fault input t kind a v p h = let read = encapsulation_only t kind input v h in cc
+-- an input that has a fault holds no graph
+no_fault : (input : List ℕ) (t : Tables) (kind : TypeRef) (a : Fault) (g : Graph) → held t kind input ≡ Err a → Holds t kind input g → ⊥
+no_fault input t kind a g p h = never (sym p ∙ numbered_only t sized_known (one_value kind) input g h)
+  where
+    never : {X E : Type 0} {x : X} {e : E} → Err e ≡ Ok x → ⊥
+    never e = cc
 
-value_apart : (input : List ℕ) (t : Tables) (kind : TypeRef) (a b : Answer) (Next Other : Tree → Type 0) → ((v : Tree) → Next v → Other v → a ≡ b) → WithValue (Some input) t kind a Next → WithValue (Some input) t kind b Other → a ≡ b
-value_apart input t kind a b Next Other one (inl p) (inl q) = p.2 ∙ ap input_refused (one_fault input t kind p.0 q.0 p.1 q.1) ∙ sym q.2
-value_apart input t kind a b Next Other one (inl p) (inr q) = absurd (no_fault input t kind p.0 q.0 p.1 q.1)
-value_apart input t kind a b Next Other one (inr p) (inl q) = absurd (no_fault input t kind q.0 p.0 q.1 p.1)
-value_apart input t kind a b Next Other one (inr p) (inr q) = one q.0 (subst Next (encapsulation_apart t kind input p.0 q.0 p.1 q.1) p.2) q.2
+graph_apart : (input : List ℕ) (t : Tables) (kind : TypeRef) (a b : Answer) (Next Other : Graph → Type 0) → ((g : Graph) → Next g → Other g → a ≡ b) → WithGraph (Some input) t kind a Next → WithGraph (Some input) t kind b Other → a ≡ b
+graph_apart input t kind a b Next Other one (inl p) (inl q) = p.2 ∙ ap input_refused (one_fault input t kind p.0 q.0 p.1 q.1) ∙ sym q.2
+graph_apart input t kind a b Next Other one (inl p) (inr q) = absurd (no_fault input t kind p.0 q.0 p.1 q.1)
+graph_apart input t kind a b Next Other one (inr p) (inl q) = absurd (no_fault input t kind q.0 p.0 q.1 p.1)
+graph_apart input t kind a b Next Other one (inr p) (inr q) = one q.0 (subst Next (numbered_apart t sized_known (one_value kind) input p.0 q.0 p.1 q.1) p.2) q.2
+
+-- bytes are within the limit or above it
+length_apart : (bytes : List ℕ) (a b : Answer) → WithinLimit bytes a → WithinLimit bytes b → a ≡ b
+length_apart bytes a b (inl p) (inl q) = p.1 ∙ sym q.1
+length_apart bytes a b (inl p) (inr q) = absurd (omega (arith, p.0, q.0))
+length_apart bytes a b (inr p) (inl q) = absurd (omega (arith, p.0, q.0))
+length_apart bytes a b (inr p) (inr q) = p.1 ∙ sym q.1
 
 -- ---- the commands
 
 relays_apart : (files : Files) (input : List ℕ) (file word : Word) (a b : Answer) → Relays (Some files) (Some input) file word a → Relays (Some files) (Some input) file word b → a ≡ b
-relays_apart files input file word a b = schema_apart files file a b _ _ (λ t. type_apart t word a b _ _ (λ kind. built_apart t kind word a b _ _ (value_apart input t kind a b _ _ (λ v x y. x ∙ sym y))))
+relays_apart files input file word a b = schema_apart files file a b _ _ (λ t. type_apart t word a b _ _ (λ kind. graph_apart input t kind a b _ _ (λ g. length_apart (canonical_bytes t kind g) a b)))
 
 checks_apart : (files : Files) (file : Word) (a b : Answer) → Checks (Some files) file a → Checks (Some files) file b → a ≡ b
 checks_apart files file a b = schema_apart files file a b _ _ (λ t x y. x ∙ sym y)
@@ -79,9 +83,9 @@ came_as_decided : (words : List Word) (files : Files) (input : List ℕ) (before
 came_as_decided words files input b n asked (done bytes) answer asks c d = inl (answers_apart words files input (done bytes) answer (asked, asks, c.0) d)
 came_as_decided words files input b n asked usage answer asks c d = inl (answers_apart words files input usage answer (asked, asks, c.0) d)
 came_as_decided words files input b n asked (no_such_name word) answer asks c d = inl (answers_apart words files input (no_such_name word) answer (asked, asks, c.0) d)
-came_as_decided words files input b n asked (not_built word) answer asks c d = inl (answers_apart words files input (not_built word) answer (asked, asks, c.0) d)
 came_as_decided words files input b n asked (slice_refused broken) answer asks c d = inl (answers_apart words files input (slice_refused broken) answer (asked, asks, c.0) d)
 came_as_decided words files input b n asked (input_refused fault) answer asks c d = inl (answers_apart words files input (input_refused fault) answer (asked, asks, c.0) d)
+came_as_decided words files input b n asked (too_long length) answer asks c d = inl (answers_apart words files input (too_long length) answer (asked, asks, c.0) d)
 came_as_decided words files input b n asked (text_refused place) answer asks c d = inl (answers_apart words files input (text_refused place) answer (asked, asks, c.0) d)
 came_as_decided words files input b n asked read_failed answer asks c d = inr (inl refl)
 came_as_decided words files input b n asked (write_failed bytes) answer asks c d = inr (inr (inl refl))

@@ -13,12 +13,12 @@ pub data Answer : Type 0 where
   usage : Answer
   -- the word names no type
   no_such_name : Word → Answer
-  -- the word names a type that has values which the node does not carry
-  not_built : Word → Answer
   -- the Slice file, or one that it includes, has this fault
   slice_refused : LoadBreak → Answer
   -- the input has this fault
   input_refused : Fault → Answer
+  -- the bytes to be written are so many, which is more than the limit
+  too_long : ℕ → Answer
   -- the word that begins here cannot stand in the text of a proxy
   text_refused : ℕ → Answer
   read_failed : Answer
@@ -34,9 +34,9 @@ abbrev pub status : Answer → ℕ
 status (done bytes) = 0
 status usage = 2
 status (no_such_name word) = 2
-status (not_built word) = 2
 status (slice_refused broken) = 3
 status (input_refused fault) = 4
+status (too_long length) = 4
 status (text_refused place) = 4
 status read_failed = 5
 status (write_failed bytes) = 6
@@ -62,9 +62,9 @@ abbrev pub error_line : Answer → List ℕ
 error_line (done bytes) = []
 error_line usage = codes "ice: usage\n"
 error_line (no_such_name word) = codes "ice: no such name " ++ (word ++ codes "\n")
-error_line (not_built word) = codes "ice: not built " ++ (word ++ codes "\n")
 error_line (slice_refused broken) = codes "ice: " ++ (fault_text broken ++ codes "\n")
 error_line (input_refused fault) = refusal fault
+error_line (too_long length) = codes "ice: answer too long: " ++ (decimal length ++ codes "\n")
 error_line (text_refused place) = codes "ice: text refused at " ++ (decimal place ++ codes "\n")
 error_line read_failed = codes "ice: read failed\n"
 error_line (write_failed bytes) = codes "ice: write failed\n"

@@ -5,14 +5,13 @@ use Rattle.ice_types.specs.Tables.{Tables}
 use Rattle.message_dump.specs.Sources.{TellsSome}
 use Rattle.ice_node.specs.Words.{Word, Command, relay, check, proxy, messages, help, version}
 use Rattle.ice_node.specs.Outside.{Files, Failures, NoneFailed, ShelfFailed, SourceFailed, SinkFailed}
-use Rattle.ice_node.specs.Answers.{Answer, done, usage, no_such_name, not_built, slice_refused, input_refused, text_refused, read_failed, write_failed, no_memory, refused_after, read_failed_after, no_memory_after}
-use Rattle.ice_node.specs.Decided.{IsBuilt, IsSchema, IsNamed, Decides}
+use Rattle.ice_node.specs.Answers.{Answer, done, usage, no_such_name, slice_refused, input_refused, too_long, text_refused, read_failed, write_failed, no_memory, refused_after, read_failed_after, no_memory_after}
+use Rattle.ice_node.specs.Decided.{IsSchema, IsNamed, Decides}
 
--- FILE means a schema in which the word names a type whose values are built: only then is the
--- input read
+-- FILE means a schema in which the word names a type: only then is the input read
 abbrev pub WantsValue : Option Files → Word → Word → Type 0
 WantsValue files file word = (t : Tables) × (kind : TypeRef)
-    × IsSchema files file t × IsNamed t word kind × IsBuilt t kind
+    × IsSchema files file t × IsNamed t word kind
 
 -- A read failed: of FILE or a file that it includes; or of the input, where it is wanted.
 abbrev pub ReadFails : Option Command → Option Files → Failures → Failures → Type 0
@@ -68,12 +67,12 @@ Causes asked files input before after usage =
     Decides asked files input usage × NoneFailed before after
 Causes asked files input before after (no_such_name word) =
     Decides asked files input (no_such_name word) × NoneFailed before after
-Causes asked files input before after (not_built word) =
-    Decides asked files input (not_built word) × NoneFailed before after
 Causes asked files input before after (slice_refused broken) =
     Decides asked files input (slice_refused broken) × NoneFailed before after
 Causes asked files input before after (input_refused fault) =
     Decides asked files input (input_refused fault) × NoneFailed before after
+Causes asked files input before after (too_long length) =
+    Decides asked files input (too_long length) × NoneFailed before after
 Causes asked files input before after (text_refused place) =
     Decides asked files input (text_refused place) × NoneFailed before after
 Causes asked files input before after read_failed =

@@ -1,17 +1,14 @@
 -- What each command comes to by its words, the files and the input, where the outside tells them.
 -- Each step decides only what those before it let through: the Slice file, the name of the type,
--- whether its values are built, the input.
-use Rattle.std.specs.Prelude.{ℕ, true, ◌≡◌, ◌+◌, ◌⊎◌, List, [], ◌∷◌, ◌++◌, length, Option, Some, None, IfSome, Result, Ok, Err, codes}
+-- the input, the length of what is to be written.
+use Rattle.std.specs.Prelude.{ℕ, ◌≡◌, ◌+◌, ◌<◌, ◌≤◌, ◌⊎◌, List, [], ◌∷◌, ◌++◌, length, Option, Some, None, IfSome, Result, Ok, Err, codes}
 use Rattle.std.specs.Fmt.{decimal}
 use Rattle.ice_types.specs.declared.kind.TypeRef.{TypeRef}
-use Rattle.ice_types.specs.declared.measure.Measure.{Measure}
-use Rattle.ice_types.specs.declared.schema.TheConstants.{MOST_DEPTH}
 use Rattle.ice_types.specs.Tables.{Tables}
-use Rattle.ice_types.specs.Measures.{measure}
 use Rattle.ice_prims.specs.declared.fault.Fault.{Fault}
-use Rattle.ice_prims.specs.Rest.{whole}
-use Rattle.ice_encoding.specs.Tree.{Tree}
-use Rattle.ice_encoding.specs.Encapsulation.{SpellsEncapsulation, encapsulation_at, encapsulation_bytes}
+use Rattle.ice_parts.specs.declared.limits.TheConstants.{LARGEST}
+use Rattle.ice_graphs.specs.Graph.{Graph}
+use Rattle.ice_relay.specs.Relaying.{Holds, held, canonical_bytes}
 use Rattle.ice_types.specs.declared.proxy.Proxy.{Proxy}
 use Rattle.ice_parts.specs.Proxy as parts
 use Rattle.hex.specs.Hex.{encode_lower}
@@ -24,7 +21,7 @@ use Rattle.ice_node.specs.declared.help.TheConstants.{HELP, VERSION}
 use Rattle.ice_node.specs.Words.{Word, Command, relay, check, proxy, messages, help, version, Asks}
 use Rattle.ice_node.specs.TypeWords.{IsTypeWord}
 use Rattle.ice_node.specs.Outside.{Files}
-use Rattle.ice_node.specs.Answers.{Answer, done, usage, no_such_name, not_built, slice_refused, input_refused, text_refused, refused_after}
+use Rattle.ice_node.specs.Answers.{Answer, done, usage, no_such_name, slice_refused, input_refused, too_long, text_refused, refused_after}
 
 -- ---- the steps
 
@@ -53,40 +50,34 @@ WithType t word answer Next =
     (((kind : TypeRef) → IsTypeWord t word kind → ⊥) × (answer ≡ no_such_name word))
     ⊎ ((kind : TypeRef) × IsNamed t word kind × Next kind)
 
--- Values of the type are carried: it reaches no class through elements, keys and members.
-abbrev pub IsBuilt : Tables → TypeRef → Type 0
-IsBuilt t kind = (m : Measure) × (measure t MOST_DEPTH kind ≡ Some m) × (m.is_built ≡ true)
-
--- the type that the word names has values that are not carried yet, or it goes on
-abbrev pub WithBuilt : Tables → TypeRef → Word → Answer → Type 0 → Type 0
-WithBuilt t kind word answer Next =
-    ((IsBuilt t kind → ⊥) × (answer ≡ not_built word)) ⊎ (IsBuilt t kind × Next)
-
--- the input is one encapsulation of this value alone, where the source tells it
-abbrev pub IsValue : Option (List ℕ) → Tables → TypeRef → Tree → Type 0
-IsValue input t kind v = IfSome input (λ known. SpellsEncapsulation t kind known v)
+-- the input is one encapsulation of a value of the type, of this graph, where the source tells it
+abbrev pub IsHeld : Option (List ℕ) → Tables → TypeRef → Graph → Type 0
+IsHeld input t kind g = IfSome input (λ known. Holds t kind known g)
 
 -- read as one, the whole input has this first fault, where the source tells it
 abbrev pub IsInputFault : Option (List ℕ) → Tables → TypeRef → Fault → Type 0
-IsInputFault input t kind fault =
-    IfSome input (λ known. encapsulation_at t kind (whole known) ≡ Err fault)
+IsInputFault input t kind fault = IfSome input (λ known. held t kind known ≡ Err fault)
 
--- the input is refused, or holds a value, from which it goes on
-abbrev pub WithValue : Option (List ℕ) → Tables → TypeRef → Answer → (Tree → Type 0) → Type 0
-WithValue input t kind answer Next =
+-- the input is refused, or holds a graph, from which it goes on
+abbrev pub WithGraph : Option (List ℕ) → Tables → TypeRef → Answer → (Graph → Type 0) → Type 0
+WithGraph input t kind answer Next =
     ((fault : Fault) × IsInputFault input t kind fault × (answer ≡ input_refused fault))
-    ⊎ ((v : Tree) × IsValue input t kind v × Next v)
+    ⊎ ((g : Graph) × IsHeld input t kind g × Next g)
+
+-- the encapsulation is written, or refused with its length, where that is above the limit
+abbrev pub WithinLimit : List ℕ → Answer → Type 0
+WithinLimit bytes answer = ((length bytes ≤ LARGEST) × (answer ≡ done bytes))
+    ⊎ ((LARGEST < length bytes) × (answer ≡ too_long (length bytes)))
 
 -- ---- the commands
 
--- `relay FILE TYPE`: the canonical encapsulation of the value
+-- `relay FILE TYPE`: the canonical encapsulation of the graph
 abbrev pub Relays : Option Files → Option (List ℕ) → Word → Word → Answer → Type 0
 Relays files input file word answer =
     WithSchema files file answer (λ t.
     WithType t word answer (λ kind.
-    WithBuilt t kind word answer (
-    WithValue input t kind answer (λ v.
-    answer ≡ done (encapsulation_bytes v)))))
+    WithGraph input t kind answer (λ g.
+    WithinLimit (canonical_bytes t kind g) answer)))
 
 -- what `check` says of so many definitions
 abbrev pub count_line : (types classes exceptions interfaces : ℕ) → List ℕ

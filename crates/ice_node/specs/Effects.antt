@@ -4,8 +4,9 @@ use Rattle.std.specs.Io.KnownBytes.{Keeps, Appends}
 use Rattle.ice_ports.specs.Failures.{one_more}
 use Rattle.message_dump.specs.Sources.{ReadsFrugally}
 use Rattle.ice_node.specs.Words.{Command, relay, check, proxy, messages, help, version}
-use Rattle.ice_relay.specs.Streams.{TakesFrugally, AppendsPrefix}
-use Rattle.ice_node.specs.Answers.{Answer, done, usage, no_such_name, not_built, slice_refused, input_refused, text_refused, read_failed, write_failed, no_memory, refused_after, read_failed_after, no_memory_after, error_line}
+use Rattle.sink_writes.specs.Writing.{AppendsPrefix}
+use Rattle.ice_relay.specs.Streams.{TakesFrugally}
+use Rattle.ice_node.specs.Answers.{Answer, done, usage, no_such_name, slice_refused, input_refused, too_long, text_refused, read_failed, write_failed, no_memory, refused_after, read_failed_after, no_memory_after, error_line}
 
 -- No more of the input than is wanted: for `relay` the encapsulation that it claims and one byte; for `messages` another piece only where
 -- all messages that were whole are told.
@@ -23,9 +24,9 @@ abbrev pub Takes : Option Command → Option (List ℕ) → Option (List ℕ) �
 Takes asked old new (done bytes) = TakesInput asked old new
 Takes asked old new usage = Keeps old new
 Takes asked old new (no_such_name word) = Keeps old new
-Takes asked old new (not_built word) = Keeps old new
 Takes asked old new (slice_refused broken) = Keeps old new
 Takes asked old new (input_refused fault) = TakesInput asked old new
+Takes asked old new (too_long length) = TakesInput asked old new
 Takes asked old new (text_refused place) = Keeps old new
 Takes asked old new read_failed = TakesInput asked old new
 Takes asked old new (write_failed bytes) = TakesInput asked old new
@@ -39,9 +40,9 @@ abbrev pub Outputs : Option (List ℕ) → Option (List ℕ) → Answer → Type
 Outputs old new (done bytes) = Appends old new bytes
 Outputs old new usage = Keeps old new
 Outputs old new (no_such_name word) = Keeps old new
-Outputs old new (not_built word) = Keeps old new
 Outputs old new (slice_refused broken) = Keeps old new
 Outputs old new (input_refused fault) = Keeps old new
+Outputs old new (too_long length) = Keeps old new
 Outputs old new (text_refused place) = Keeps old new
 Outputs old new read_failed = Keeps old new
 Outputs old new (write_failed bytes) = AppendsPrefix old new bytes

@@ -3,8 +3,8 @@ use Rattle.std.specs.Prelude.{ℕ, ◌≡◌, ◌⊎◌, List, [], Option, Some,
 use Rattle.std.specs.declared.alloc.Global.{Global}
 use Rattle.ice_types.specs.declared.kind.TypeRef.{TypeRef}
 use Rattle.ice_types.specs.Tables.{Tables}
-use Rattle.ice_prims.specs.declared.fault.ReadFault.{ReadFault}
-use Rattle.ice_prims.specs.declared.fault.ReadFault.TheVariants as read_faults
+use Rattle.ice_relay.specs.declared.fault.RelayFault.{RelayFault}
+use Rattle.ice_relay.specs.declared.fault.RelayFault.TheVariants as relay_faults
 use Rattle.ice_ports.specs.declared.ports.PortFault.{PortFault}
 use Rattle.ice_ports.specs.declared.ports.PortFault.TheVariants as port_faults
 use Rattle.ice_ports.specs.Failures.{one_more}
@@ -18,8 +18,8 @@ use Rattle.ice_node.specs.declared.outcome.Outcome.{Outcome}
 use Rattle.ice_node.specs.declared.outcome.Outcome.TheVariants as outcomes
 use Rattle.ice_node.specs.Words.{Word, Command}
 use Rattle.ice_node.specs.Outside.{Files, Failures, NoneFailed}
-use Rattle.ice_node.specs.Answers.{Answer, done, usage, no_such_name, not_built, slice_refused, input_refused, text_refused, read_failed, write_failed, no_memory, refused_after, read_failed_after, no_memory_after}
-use Rattle.ice_node.specs.Decided.{IsBuilt, IsSchema, IsFault, IsNamed, WithType, WithBuilt, Decides}
+use Rattle.ice_node.specs.Answers.{Answer, done, usage, no_such_name, slice_refused, input_refused, too_long, text_refused, read_failed, write_failed, no_memory, refused_after, read_failed_after, no_memory_after}
+use Rattle.ice_node.specs.Decided.{IsSchema, IsFault, IsNamed, WithType, Decides}
 use Rattle.ice_node.specs.Causes.{Causes}
 use Rattle.ice_node.specs.Effects.{TakesInput, Takes}
 
@@ -28,10 +28,10 @@ abbrev pub answer_of : Outcome → List ℕ → Answer
 answer_of outcomes.Done bytes = done bytes
 answer_of outcomes.Usage bytes = usage
 answer_of (outcomes.NoSuchName word) bytes = no_such_name word.now
-answer_of (outcomes.NotBuilt word) bytes = not_built word.now
 answer_of (outcomes.SliceRefused file place kind) bytes =
     slice_refused (record { file = file; place = place; kind = kind })
 answer_of (outcomes.InputRefused fault) bytes = input_refused fault
+answer_of (outcomes.TooLong length) bytes = too_long length
 answer_of (outcomes.TextRefused place) bytes = text_refused place
 answer_of outcomes.ReadFailed bytes = read_failed
 answer_of outcomes.WriteFailed bytes = write_failed bytes
@@ -51,9 +51,10 @@ of_load (load_faults.Text file place kind) = outcomes.SliceRefused file place ki
 of_load load_faults.Shelf = outcomes.ReadFailed
 of_load load_faults.Memory = outcomes.Memory
 
-abbrev pub of_read : ReadFault → Outcome
-of_read (read_faults.Broken fault) = outcomes.InputRefused fault
-of_read read_faults.Memory = outcomes.Memory
+abbrev pub of_relay : RelayFault → Outcome
+of_relay (relay_faults.Broken fault) = outcomes.InputRefused fault
+of_relay (relay_faults.TooLong length) = outcomes.TooLong length
+of_relay relay_faults.Memory = outcomes.Memory
 
 abbrev pub of_text : TextFault → Outcome
 of_text (text_faults.Broken place) = outcomes.TextRefused place
@@ -84,8 +85,8 @@ GivesNoSchema files file before after no_memory = after ≡ before
 GivesNoSchema files file before after (done bytes) = ⊥
 GivesNoSchema files file before after usage = ⊥
 GivesNoSchema files file before after (no_such_name word) = ⊥
-GivesNoSchema files file before after (not_built word) = ⊥
 GivesNoSchema files file before after (input_refused fault) = ⊥
+GivesNoSchema files file before after (too_long length) = ⊥
 GivesNoSchema files file before after (text_refused place) = ⊥
 GivesNoSchema files file before after (write_failed bytes) = ⊥
 GivesNoSchema files file before after (refused_after written fault) = ⊥
@@ -98,12 +99,10 @@ FindsSchema files file before after (Ok t) = IsSchema files file t × (after ≡
 FindsSchema files file before after (Err outcome) =
     GivesNoSchema files file before after (answer_of outcome [])
 
--- The type that the word names, whose values are built, or why there is none.
+-- the type that the word names, or that there is none
 abbrev pub FindsType : Tables → Word → Result TypeRef Outcome → Type 0
-FindsType t word (Ok kind) = IsNamed t word kind × IsBuilt t kind
-FindsType t word (Err outcome) =
-    WithType t word (answer_of outcome []) (λ kind.
-    WithBuilt t kind word (answer_of outcome []) ⊥)
+FindsType t word (Ok kind) = IsNamed t word kind
+FindsType t word (Err outcome) = WithType t word (answer_of outcome []) (λ kind. ⊥)
 
 -- the bytes that the command is to write, or why there are none
 abbrev pub FindsBytes : Command → Option Files → Option (List ℕ) → (before after : Failures)

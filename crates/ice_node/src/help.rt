@@ -17,8 +17,8 @@ usage: ice COMMAND
   --version        writes the version
 
 FILE is the path of a Slice file. Included files are paths too, from the folder that ice runs in.
-TYPE is bool, byte, short, int, long, string, Object, Object*, a type id of FILE, as ::M::Q, or an
-interface's type id followed by *. Values of classes are not built yet.
+TYPE is bool, byte, short, int, long, string, Object or Value, Object*, a type id of FILE, as
+::M::Q, or an interface's type id followed by *.
 
 A command ends with one of these, and writes its line to standard error. The earlier step decides:
 the words, FILE and what it includes, TYPE, the input, the output.
@@ -27,11 +27,12 @@ the words, FILE and what it includes, TYPE, the input, the output.
   3  ice: FILE:PLACE: KIND       a Slice file is refused: its name, the fault's first byte, counted
                                  from 0, and its kind
   2  ice: no such name TYPE      no type of FILE has this name
-  2  ice: not built TYPE         the type has a class in it
   4  ice: input refused at PLACE: KIND
                                  the input is not one encapsulation of a value of TYPE, or a
                                  message is none: the first byte of the part with the first fault,
                                  counted from 0, and its kind
+  4  ice: answer too long: LENGTH
+                                 the canonical encapsulation has LENGTH bytes, more than 1,048,576
   4  ice: text refused at PLACE  TEXT is not that of a proxy: the first byte of the first word that
                                  cannot stand, or its length where a word lacks
   5  ice: read failed            a file or standard input could not be read
@@ -67,11 +68,12 @@ before. KIND of a Slice file is one of these:
 
 KIND of an input is one of these:
 
-  Short         the part goes past the end of the input, or of the encapsulation or message that it
-                is in; a message that the input does not hold whole, at its first byte
+  Short         the part goes past the end of the input, or of the encapsulation, slice, optional
+                member or message that it is in; a message that the input does not hold whole, at
+                its first byte
   TooLarge      the size of an encapsulation or a message is above 1,048,576
   BadSize       a size is negative, or in five bytes and below 255; that of an encapsulation is
-                below 6, that of a message below 14
+                below 6, that of a slice below 4, that of a message below 14
   BadMagic      a message does not begin with IceP
   BadVersion    the version of the encapsulation is not 1.1, or one of a message is not 1.0
   BadMessage    the type of a message is above 4
@@ -81,10 +83,24 @@ KIND of an input is one of these:
   BadText       a string is not UTF-8
   BadEnum       an enum has no such value
   EqualKey      the key comes a second time in its dictionary or context
+  BadTag        no optional member or end may stand here; a tag does not rise, or is below 30 in its
+                long form
+  BadFormat     an optional member stands in another format than that of its type
+  BadFlags      the flags of a slice are none that may stand here; slices without sizes, which
+                compact format has, are not read yet
+  CompactId     the type id of a slice is a compact one
+  BadLast       a slice is the last where its class has a base, or is not where it has none
+  BadTypeId     the index of a type id is 0, or above the number of type ids so far
+  WrongBase     the type id after a slice is not that of its class's base
+  UnknownClass  FILE has no class of this type id
+  BadReference  a reference to an instance that has not begun, a null in the indirection table of a
+                slice, or a place past the end of the table
+  TooMany       the reference begins an instance that is one more than 100,000
   BadIdentity   a proxy has a category and no name
   BadFacet      a facet is more than one text
   BadMode       the mode of a proxy is above 4, that of a call above 2
   LeftOver      bytes are left after the last part
+  WrongClass    the class of the instance is not the declared one, nor derived from it
   Endless       more than 1,000,000 messages
 ";
 

@@ -7,7 +7,8 @@ ghost use Rattle.ice_node.specs.Answers.{status, error_line};
 ghost use Rattle.ice_node.specs.Outcomes.{answer_of};
 
 use ice_ports::PortFault;
-use ice_prims::{Fault, Kind, ReadFault};
+use ice_prims::{Fault, Kind};
+use ice_relay::RelayFault;
 use ice_types::Name;
 use itoa::Buffer;
 use message_dump::Dump;
@@ -24,13 +25,13 @@ pub enum Outcome<'a> {
     Usage,
     /// The word names no type.
     NoSuchName(&'a str),
-    /// The word names a type that has values which the node does not carry.
-    NotBuilt(&'a str),
     /// The Slice file, or one that it includes, has this fault: the file by its name on the shelf,
     /// the place of the fault in its text, and the name of its kind.
     SliceRefused { file: Name, place: u32, kind: Name },
     /// The input is no encapsulation of a value of the type: its first fault.
     InputRefused(Fault),
+    /// The bytes to be written are so many, which is more than the limit.
+    TooLong(u64),
     /// The text is that of no proxy: the place of the first word that cannot stand.
     TextRefused(u32),
     /// A read of a file or of the input failed.
@@ -57,9 +58,12 @@ impl<'a> Outcome<'a> {
     {
         match self {
             Outcome::Done => 0,
-            Outcome::Usage | Outcome::NoSuchName(_) | Outcome::NotBuilt(_) => 2,
+            Outcome::Usage | Outcome::NoSuchName(_) => 2,
             Outcome::SliceRefused { .. } => 3,
-            Outcome::InputRefused(_) | Outcome::TextRefused(_) | Outcome::RefusedAfter(_) => 4,
+            Outcome::InputRefused(_)
+            | Outcome::TooLong(_)
+            | Outcome::TextRefused(_)
+            | Outcome::RefusedAfter(_) => 4,
             Outcome::ReadFailed | Outcome::ReadFailedAfter => 5,
             Outcome::WriteFailed => 6,
             Outcome::Memory | Outcome::MemoryAfter => 9,
@@ -75,7 +79,6 @@ impl<'a> Outcome<'a> {
             Outcome::Done => one(""),
             Outcome::Usage => one("ice: usage\n"),
             Outcome::NoSuchName(word) => of_word("ice: no such name ", word),
-            Outcome::NotBuilt(word) => of_word("ice: not built ", word),
             Outcome::SliceRefused { file, place, kind } => {
                 let place = digits.format(*place);
                 [
@@ -92,6 +95,10 @@ impl<'a> Outcome<'a> {
                 let place = digits.format(fault.place);
                 let kind = word_of(fault.kind);
                 ["ice: input refused at ", place, ": ", kind, "\n", "", ""]
+            }
+            Outcome::TooLong(length) => {
+                let length = digits.format(*length);
+                ["ice: answer too long: ", length, "\n", "", "", "", ""]
             }
             Outcome::TextRefused(place) => {
                 let place = digits.format(*place);
@@ -154,16 +161,17 @@ impl From<LoadFault> for Outcome<'_> {
     }
 }
 
-impl From<ReadFault> for Outcome<'_> {
+impl From<RelayFault> for Outcome<'_> {
     ghost use Rattle.std.specs.Prelude.{◌≡◌};
-    ghost use Rattle.ice_node.specs.Outcomes.{of_read};
+    ghost use Rattle.ice_node.specs.Outcomes.{of_relay};
 
-    ghost from_gives = { λ fault outcome. outcome ≡ of_read fault };
+    ghost from_gives = { λ fault outcome. outcome ≡ of_relay fault };
 
-    fn from(fault: ReadFault) -> Self {
+    fn from(fault: RelayFault) -> Self {
         match fault {
-            ReadFault::Broken(fault) => Outcome::InputRefused(fault),
-            ReadFault::Memory => Outcome::Memory,
+            RelayFault::Broken(fault) => Outcome::InputRefused(fault),
+            RelayFault::TooLong(length) => Outcome::TooLong(length),
+            RelayFault::Memory => Outcome::Memory,
         }
     }
 }

@@ -7,8 +7,8 @@ ghost use Rattle.ice_node.specs.Outcomes.{Prints, answer_of};
 
 use crate::outcome::Outcome;
 use ice_ports::{Failed, Sink};
-use ice_relay::{write_all, write_pieces};
 use itoa::Buffer;
+use sink_writes::{write_all, write_pieces};
 
 /// Writes the whole answer. A sink that fails has taken a prefix of it, and is not asked again.
 pub fn print<K: Sink>(bytes: &[u8], sink: &mut K) -> Outcome<'static>

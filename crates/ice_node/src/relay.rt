@@ -1,7 +1,6 @@
 //! `relay FILE TYPE`: one encapsulation in, the canonical one out.
 
-ghost use Rattle.std.specs.Prelude.{ℕ, ◌↔◌, IsTrue};
-ghost use Rattle.ice_node.specs.Decided.{IsBuilt};
+ghost use Rattle.std.specs.Prelude.{ℕ};
 ghost use Rattle.ice_node.specs.Words.{relay as wanted};
 ghost use Rattle.ice_node.specs.Outside.{counts};
 ghost use Rattle.ice_node.specs.Outcomes.{FindsType, FindsBytes, TakesFound, bytes_found};
@@ -11,7 +10,7 @@ use crate::outcome::Outcome;
 use crate::type_words::type_of_word;
 use ice_ports::{Shelf, Source};
 use ice_relay::{canonical_of, read_input};
-use ice_types::{MOST_DEPTH, Schema, TypeRef};
+use ice_types::{Schema, TypeRef};
 use std::alloc::Global;
 
 /// The canonical encapsulation of the value of the type that the source holds, or why there is
@@ -30,30 +29,14 @@ pub fn relay<'a, H: Shelf, S: Source>(
     ensures taken { TakesFound (wanted file.now word.now) (S.left source.old) (S.left source.new) result }
 {
     let schema = load_schema(alloc, file, shelf)?;
-    let kind = built_type(&schema, word)?;
+    let kind = named_type(&schema, word)?;
     let input = read_input(alloc, source)?;
     Ok(canonical_of(alloc, &schema, kind, input.as_slice())?)
 }
 
-/// The type that the word names, whose values the node carries.
-fn built_type<'a>(schema: &Schema, word: &'a str) -> Result<TypeRef, Outcome<'a>>
+/// The type that the word names.
+fn named_type<'a>(schema: &Schema, word: &'a str) -> Result<TypeRef, Outcome<'a>>
     ensures { FindsType schema.now word.now result }
 {
-    let Some(kind) = type_of_word(schema, word) else {
-        return Err(Outcome::NoSuchName(word));
-    };
-    if !is_built(schema, kind) {
-        return Err(Outcome::NotBuilt(word));
-    }
-    Ok(kind)
-}
-
-/// Whether the node carries values of the type.
-fn is_built(schema: &Schema, kind: TypeRef) -> bool
-    ensures { IsTrue result ↔ IsBuilt schema.now kind }
-{
-    match schema.measure_within(MOST_DEPTH, kind) {
-        Some(found) => found.is_built,
-        None => false,
-    }
+    type_of_word(schema, word).ok_or(Outcome::NoSuchName(word))
 }

@@ -115,21 +115,15 @@ const CALLS: &[Call] = &[
     ),
     (
         &["relay", "w.ice", "Value"],
-        2,
+        4,
         "",
-        "ice: no such name Value\n",
+        "ice: input refused at 6: BadReference\n",
     ),
     (
         &["relay", "w.ice", "::M::N"],
-        2,
+        4,
         "",
-        "ice: not built ::M::N\n",
-    ),
-    (
-        &["relay", "w.ice", "Object"],
-        2,
-        "",
-        "ice: not built Object\n",
+        "ice: input refused at 6: BadReference\n",
     ),
     (
         &["relay", "w.ice", "Object*"],

@@ -7,16 +7,13 @@ ghost use Rattle.ice_node.specs.TypeWords.{IsTypeWord, IsProxyWord};
 
 use ice_types::{Schema, TypeRef};
 
-/// The type that the word names: a built-in type's word, `Object`, `Object*`, a type id, or an
-/// interface's type id followed by `*`. None where it names none.
+/// The type that the word names: a built-in type's word, `Object` or `Value`, `Object*`, a type id, or
+/// an interface's type id followed by `*`. None where it names none.
 pub(crate) fn type_of_word(schema: &Schema, word: &str) -> Option<TypeRef>
     ensures named { FindsKind (IsTypeWord schema.now word.now) result }
     ensures only { IfSome result (λ kind.
         (other : TypeRef) → IsTypeWord schema.now word.now other → other ≡ kind) }
 {
-    if word == "Value" {
-        return None;
-    }
     match schema.type_named(word) {
         Some(kind) => Some(kind),
         None => proxy_of_word(schema, word),

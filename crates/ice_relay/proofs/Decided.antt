@@ -1,5 +1,5 @@
 -- What was read decides: bytes that follow it change neither the value nor the first fault.
-use Rattle.std.proofs.Common.{◌≡◌, ℕ, ℤ, pos, negsuc, ◌+◌, ◌-◌, ◌<◌, ◌≤◌, Bool, true, false, ltb, List, ◌++◌, length, take, drop, Option, None, Some, Result, Ok, Err, refl, sym, ap, ◌∙◌, append_assoc, arith, inl, inr}
+use Rattle.std.proofs.Common.{◌≡◌, ℕ, ℤ, pos, negsuc, ◌+◌, ◌-◌, ◌<◌, ◌≤◌, Bool, true, false, ltb, List, [], ◌∷◌, ◌++◌, length, take, drop, Option, None, Some, Result, Ok, Err, refl, sym, ap, ◌∙◌, append_assoc, arith, inl, inr}
 use Rattle.std.specs.Int.{w32}
 use Rattle.std.proofs.lemmas.Bool.{ltb-true, ltb-false, le-ltb}
 use Rattle.std.proofs.lemmas.List.{append-nil, length-append, length-take, take-append-drop}
@@ -14,10 +14,16 @@ use Rattle.ice_parts.specs.declared.limits.TheConstants.{SMALLEST}
 use Rattle.ice_parts.specs.Bounds.{claimed, ended, filled}
 use Rattle.ice_parts.specs.Encapsulation.{encoding}
 use Rattle.ice_parts.proofs.Bounded.{claimed_ok}
-use Rattle.ice_encoding.specs.Encapsulation.{encapsulated_at, encapsulation_at}
-use Rattle.ice_encoding.specs.Value.{plain_value_at}
-use Rattle.ice_relay.proofs.EncapsulationSteps.{not_empty}
+use Rattle.ice_encoding.specs.Encapsulation.{encapsulated_at}
+use Rattle.ice_graphs.specs.Flags.{sized_known}
+use Rattle.ice_graphs.specs.Instances.{graph_at}
+use Rattle.ice_relay.specs.Relaying.{one_value, held}
 use Rattle.ice_relay.specs.Streams.{GoesOn, IsDecided, ReadsInput}
+
+-- a list that is not empty begins with something
+not_empty : (bytes : List ℕ) → 0 < length bytes → (byte : ℕ) × (others : List ℕ) × (bytes ≡ byte ∷ others)
+not_empty [] lt = absurd (omega arith)
+not_empty (byte ∷ others) lt = (byte, others, refl)
 
 -- ---- the steps of reading from the size on, each with what follows it
 
@@ -179,11 +185,11 @@ module _ {A : Type 0} (read : Rest → Result (A × Rest) Fault) where
       ∙ sym (begins (got ++ rest) c.size (c.more ++ rest) z whole_parts c.spelled)
       ∙ sym (regrouped (whole (got ++ rest)))
 
--- as the whole input, what was read holds the value or has the first fault that the input has
-pub read_decides : (t : Tables) (kind : TypeRef) (known got : List ℕ) (left : Option (List ℕ)) → ReadsInput (Some known) left got → encapsulation_at t kind (whole got) ≡ encapsulation_at t kind (whole known)
+-- as the whole input, what was read holds the graph or has the first fault that the input has
+pub read_decides : (t : Tables) (kind : TypeRef) (known got : List ℕ) (left : Option (List ℕ)) → ReadsInput (Some known) left got → held t kind got ≡ held t kind known
 read_decides t kind known got None r = absurd r.0
 read_decides t kind known got (Some rest) (all, inl end, frugal) =
     let same : got ≡ known = sym (all ∙ ap (λ (l : List ℕ). got ++ l) end ∙ append-nil got) in
-    ap (λ (l : List ℕ). encapsulation_at t kind (whole l)) same
+    ap (held t kind) same
 read_decides t kind known got (Some rest) (all, inr decided, frugal) =
-    read_alike (plain_value_at t kind) got rest decided ∙ ap (λ (l : List ℕ). encapsulation_at t kind (whole l)) (sym all)
+    read_alike (graph_at t sized_known (one_value kind)) got rest decided ∙ ap (held t kind) (sym all)

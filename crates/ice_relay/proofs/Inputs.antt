@@ -3,7 +3,7 @@ use Rattle.std.proofs.Common.{◌≡◌, ℕ, ℤ, pos, ◌+◌, ◌-◌, ◌<�
 use Rattle.std.proofs.lemmas.List.{length-append, length-take}
 use Rattle.std.specs.Io.KnownBytes.{Consumes, Keeps, IsAtEnd}
 use Rattle.ice_relay.specs.Streams.{ReadsUpTo, TakesUpTo, Claims, GoesOn, ClaimsMore, IsDecided, ReadsInput, TakesFrugally}
-use Rattle.ice_relay.proofs.KnownBytes.{Consumes-none, Consumes-kept, Consumes-then}
+use Rattle.std.proofs.KnownBytes.{Consumes-nil, Consumes-trans, Consumes-kept}
 
 all_new : (got more : List ℕ) → got ≡ [] ++ more → more ≡ got
 all_new got more e = sym e
@@ -31,7 +31,7 @@ pub rest_is_enough : (before mid now : Option (List ℕ)) (old first got : List 
 rest_is_enough before mid now old first got n none r claims s =
     let parts : first ≡ [] ++ r.more = r.parts ∙ ap (λ (l : List ℕ). l ++ r.more) none in
     let front : Consumes before mid first = subst (λ (l : List ℕ). Consumes before mid l) (all_new first r.more parts) r.consumed in
-    let consumed : Consumes before now got = subst (λ (l : List ℕ). Consumes before now l) (sym s.parts) (Consumes-then before mid now first s.more front s.consumed) in
+    let consumed : Consumes before now got = subst (λ (l : List ℕ). Consumes before now l) (sym s.parts) (Consumes-trans before mid now first s.more front s.consumed) in
     let on = claims_on first got s.more claims.0 s.parts claims.1 in
     (consumed, enough on s.enough, inr (claims.0, n, on, claims.2, s.within))
   where
@@ -52,10 +52,10 @@ rest_is_frugal before mid now old first n none r claims t =
     let parts : first ≡ [] ++ r.more = r.parts ∙ ap (λ (l : List ℕ). l ++ r.more) none in
     let front : Consumes before mid first = subst (λ (l : List ℕ). Consumes before mid l) (all_new first r.more parts) r.consumed in
     let on = claims_on first (first ++ t.more) t.more claims.0 refl claims.1 in
-    (first ++ t.more, Consumes-then before mid now first t.more front t.consumed, inr (claims.0, n, on, claims.2, omega (arith, length-append first t.more, t.within)))
+    (first ++ t.more, Consumes-trans before mid now first t.more front t.consumed, inr (claims.0, n, on, claims.2, omega (arith, length-append first t.more, t.within)))
 
 pub nothing_is_frugal : (before now : Option (List ℕ)) → Keeps before now → TakesFrugally before now
-nothing_is_frugal before now kept = ([], Consumes-kept before before now [] (Consumes-none before) kept, inl (omega arith))
+nothing_is_frugal before now kept = ([], Consumes-kept before before now [] (Consumes-nil before) kept, inl (omega arith))
 
 -- a read that failed took nothing more
 pub fails_within : (before mid now : Option (List ℕ)) (goal : ℕ) (old more : List ℕ) → length old + length more ≤ goal → Consumes before mid more → Keeps mid now → TakesUpTo goal before now old
@@ -71,4 +71,4 @@ pub lost_within : (before mid now : Option (List ℕ)) (goal : ℕ) (old there m
 lost_within before mid now goal old there more piece n parts small within first then =
     let long : length there ≡ length old + length more = ap length parts ∙ length-append old more in
     let taken : length (take n piece) ≤ n = omega (arith, length-take n piece) in
-    record { more = more ++ take n piece; within = omega (arith, long, taken, small, within, length-append more (take n piece)); consumed = Consumes-then before mid now more (take n piece) first then }
+    record { more = more ++ take n piece; within = omega (arith, long, taken, small, within, length-append more (take n piece)); consumed = Consumes-trans before mid now more (take n piece) first then }

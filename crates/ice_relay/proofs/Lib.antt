@@ -1,6 +1,3 @@
-pub mod EncapsulationSteps
-pub mod KnownBytes
 pub mod Inputs
 pub mod Decided
-pub mod Values
-pub mod Written
+pub mod Holding

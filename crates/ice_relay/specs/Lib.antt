@@ -1,3 +1,3 @@
-pub mod Steps
 pub mod Streams
+pub mod Faults
 pub mod Relaying

@@ -1,13 +1,9 @@
--- What is read of an input before it is decided, and what a sink gets of bytes. An encapsulation
--- begins with its size. (Ice manual, "Basic Data Encoding", "Encapsulations".)
-use Rattle.std.specs.Prelude.{ℕ, ℤ, pos, ◌+◌, ◌<◌, ◌≤◌, ◌≡◌, ◌⊎◌, List, ◌++◌, length, Option, None, Some, Result, Ok, Err}
+-- What is read of an input before it is decided. An encapsulation begins with its size. (Ice manual, "Basic Data Encoding", "Encapsulations".)
+use Rattle.std.specs.Prelude.{ℕ, ℤ, pos, ◌+◌, ◌<◌, ◌≤◌, ◌≡◌, ◌⊎◌, List, ◌++◌, length, Option, None, Some}
 use Rattle.std.specs.Int.{w32}
-use Rattle.std.specs.Io.KnownBytes.{Appends, Consumes, IsAtEnd}
+use Rattle.std.specs.Io.KnownBytes.{Consumes, IsAtEnd}
 use Rattle.ice_prims.specs.Number.{SpellsSigned}
-use Rattle.ice_ports.specs.Failures.{one_more}
 use Rattle.ice_parts.specs.declared.limits.TheConstants.{LARGEST, SIZE_BYTES}
-
--- ---- input
 
 -- Bytes were read after those that were there, up to so many in all or the end of the input.
 pub record ReadsUpTo (goal : ℕ) (old_left new_left : Option (List ℕ)) (old new : List ℕ)
@@ -60,17 +56,3 @@ TakesFrugally old new = (got : List ℕ) × Consumes old new got × IsFrugal got
 abbrev pub ReadsInput : Option (List ℕ) → Option (List ℕ) → List ℕ → Type 0
 ReadsInput old_left new_left got =
     Consumes old_left new_left got × (IsAtEnd new_left ⊎ IsDecided got) × IsFrugal got
-
--- ---- output
-
--- a prefix of the bytes was taken
-abbrev pub AppendsPrefix : Option (List ℕ) → Option (List ℕ) → List ℕ → Type 0
-AppendsPrefix old new bytes =
-    (prefix rest : List ℕ) × (bytes ≡ prefix ++ rest) × Appends old new prefix
-
--- The sink got the bytes, and no write failed; or it got a prefix of them, and then one failed.
-abbrev pub Writes : {X E : Type 0} → (old new : Option (List ℕ)) → (before after : ℕ)
-    → Result X E → List ℕ → Type 0
-Writes old new before after (Ok x) bytes = Appends old new bytes × (after ≡ before)
-Writes old new before after (Err e) bytes =
-    AppendsPrefix old new bytes × (after ≡ one_more before)

@@ -3,10 +3,9 @@
 ghost use Rattle.std.specs.Prelude.{◌≡◌, ◌≤◌, ℕ, List, Option, Some, length, IfOk, OnOk, OnErr, vec_len};
 ghost use Rattle.ice_types.specs.declared.kind.TypeRef.{TypeRef};
 ghost use Rattle.ice_types.specs.Tables.{Tables};
-ghost use Rattle.ice_prims.specs.Rest.{whole};
-ghost use Rattle.ice_encoding.specs.Encapsulation.{encapsulation_at};
 ghost use Rattle.ice_ports.specs.Failures.{count_after};
 ghost use Rattle.ice_ports.specs.Files.{is_failed};
+ghost use Rattle.ice_relay.specs.Relaying.{held};
 ghost use Rattle.ice_relay.specs.Streams.{ReadsUpTo, TakesUpTo, ReadsInput, TakesFrugally, ClaimsMore};
 
 use ice_parts::{LARGEST, SIZE_BYTES};
@@ -32,11 +31,11 @@ pub fn read_input<S: Source>(alloc: Global, source: &mut S) -> Result<Vec<u8>, P
     Ok(input)
 }
 
-/// What is read of an input decides it: the value that it holds, or its first fault.
+/// What is read of an input decides it: the graph that it holds, or its first fault.
 pub fn reading_decides()
     ensures { (t : Tables) (kind : TypeRef) (input got : List ℕ) (left : Option (List ℕ))
         → ReadsInput (Some input) left got
-        → encapsulation_at t kind (whole got) ≡ encapsulation_at t kind (whole input) }
+        → held t kind got ≡ held t kind input }
 {}
 
 /// How many bytes these claim, with those after them; None where they are fewer than a size has,

@@ -1,13 +1,11 @@
-//! A value on its way through the program: one encapsulation out of a source, the canonical one of
-//! the same value, and bytes into a sink.
+//! A value on its way through the program: one encapsulation out of a source, and the canonical one of
+//! the same value, with all class instances that it leads to.
 #![tactic(auto)]
 
-mod encapsulation;
+mod fault;
 mod input;
-mod output;
 mod relay;
 
-pub use encapsulation::{decode, encode};
+pub use fault::RelayFault;
 pub use input::{read_input, reading_decides};
-pub use output::{write_all, write_pieces};
 pub use relay::canonical_of;

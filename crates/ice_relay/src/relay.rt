@@ -1,22 +1,42 @@
 //! From the bytes that came in to those that go out.
 
-ghost use Rattle.ice_relay.specs.Relaying.{Canonicalizes};
+ghost use Rattle.std.specs.Prelude.{◌≡◌, IfOk};
+ghost use Rattle.ice_relay.specs.Relaying.{Canonicalizes, root_of};
 
-use crate::encapsulation::{decode, encode};
-use ice_prims::ReadFault;
-use ice_types::{Schema, TypeRef};
-use std::alloc::Global;
+use crate::fault::RelayFault;
+use class_slices::{decode, encode_typed};
+use ice_members::Fields;
+use ice_parts::LARGEST;
+use ice_types::{Member, Name, Schema, TypeRef};
+use std::alloc::{AllocError, Global};
 
-/// The canonical encapsulation of the value that the whole input holds, or the first
-/// fault from the left.
+/// The canonical encapsulation, in sliced format, of the value that the whole input holds, with all
+/// instances that it leads to; or the first fault from the left; or the length of the encapsulation,
+/// where it is more than 1,048,576 bytes. (Ice manual, "Data Encoding for Class and Exception Types".)
 pub fn canonical_of(
     alloc: Global,
     schema: &Schema,
     kind: TypeRef,
     input: &[u8],
-) -> Result<Vec<u8>, ReadFault>
+) -> Result<Vec<u8>, RelayFault>
     ensures { Canonicalizes schema.now kind input.now result }
 {
-    let value = decode(alloc, schema, kind, input)?;
-    Ok(encode(alloc, &value)?)
+    let root = [root_of(alloc, kind)?];
+    let fields = Fields {
+        required: &root,
+        optional: &[],
+    };
+    let graph = decode(alloc, schema, fields, input)?;
+    Ok(encode_typed(alloc, schema, fields, graph, LARGEST as u32)?)
+}
+
+/// The member that stands for a value which is no member of anything.
+fn root_of(alloc: Global, kind: TypeRef) -> Result<Member, AllocError>
+    ensures { IfOk result (λ root. root ≡ root_of kind) }
+{
+    Ok(Member {
+        name: Name::of(alloc, "$value")?,
+        kind,
+        tag: None,
+    })
 }

@@ -1,10 +1,5 @@
-use Rattle.std.proofs.Common.{codes, sym}
-use Rattle.std.proofs.lemmas.Slice.Eq.{bytes_eq-Decides}
-use Rattle.ice_node.proofs.Naming.{value_names_none, type_only, as_proxy, as_only_proxy}
+use Rattle.ice_node.proofs.Naming.{type_only, as_proxy, as_only_proxy}
 use Rattle.ice_node.proofs.type_words.type_of_word.Goals as goal
-
-pub returns-then-eq-clause-named : goal.returns-then-eq-clause-named
-returns-then-eq-clause-named c = value_names_none c.args.schema.now c.args.word.now ((bytes_eq-Decides c.args.word.now (codes "Value")).0 (sym c.if-eq.ensures))
 
 pub returns-in-Some-clause-only : goal.returns-in-Some-clause-only
 returns-in-Some-clause-only c = type_only c.args.schema.now c.args.word.now c.in-Some.kind c.in-Some.ensures.named c.in-Some.ensures.only

@@ -1,0 +1,15 @@
+-- What a fault of a part comes to.
+use Rattle.ice_prims.specs.declared.fault.ReadFault.{ReadFault}
+use Rattle.ice_prims.specs.declared.fault.ReadFault.TheVariants as read_faults
+use Rattle.class_slices.specs.declared.write_fault.WriteFault.{WriteFault}
+use Rattle.class_slices.specs.declared.write_fault.WriteFault.TheVariants as write_faults
+use Rattle.ice_relay.specs.declared.fault.RelayFault.{RelayFault}
+use Rattle.ice_relay.specs.declared.fault.RelayFault.TheVariants as faults
+
+abbrev pub of_read : ReadFault → RelayFault
+of_read (read_faults.Broken fault) = faults.Broken fault
+of_read read_faults.Memory = faults.Memory
+
+abbrev pub of_write : WriteFault → RelayFault
+of_write (write_faults.TooLong n) = faults.TooLong n
+of_write write_faults.Memory = faults.Memory
