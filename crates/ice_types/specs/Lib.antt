@@ -12,3 +12,4 @@ pub mod Inherited
 pub mod Formats
 pub mod Lacking
 pub mod Object
+pub mod Lends

@@ -1,4 +1,6 @@
 use Rattle.std.proofs.Common.{◌≡◌, List, [], ◌∷◌, ℕ, ◌++◌, length, map, sym, ap, ◌∙◌, arith, string_bytes, refl, subst}
+use Rattle.std.specs.Str.{IsUtf8}
+use Rattle.std.proofs.lemmas.Str.{IsUtf8-string_bytes}
 use Rattle.ice_types.specs.Tables.{HasRowId}
 use Rattle.slice_meaning.specs.Known.{id_here}
 use Rattle.slice_faults.specs.Held.{known_of}
@@ -21,7 +23,10 @@ returns-clause-is c =
     c.in_ok-id.ensures ∙ (c.as_str-2.ensures.value ∙ (text ∙ sym (of_parts k.scope c.args.word.now.name)))
 
 pub returns-clause-type_id : goal.returns-clause-type_id
-returns-clause-type_id c = let k = known_of c.args.known.now in begins c.in_ok-id.id k.scope c.args.word.now.name (returns-clause-is c)
+returns-clause-type_id c = let k = known_of c.args.known.now in (
+  begins c.in_ok-id.id k.scope c.args.word.now.name (returns-clause-is c),
+  subst IsUtf8 (sym (c.in_ok-id.ensures ∙ c.as_str-2.ensures.value)) (IsUtf8-string_bytes c.add_part-2.new.id),
+)
 
 pub returns-clause-new_id : goal.returns-clause-new_id
 returns-clause-new_id c =
