@@ -164,8 +164,8 @@ fn a_long_ring(rt: HostRuntime) -> Result<(), Fail> {
 
 #[test]
 fn places_of_a_table(rt: HostRuntime) -> Result<(), Fail> {
-    let places = pair_of(&rt, (Some(1), None), 2)?;
-    let names = resolve_members(rt.alloc(), places, &[7, 9])?;
+    let mut names = pair_of(&rt, (Some(1), None), 2)?;
+    resolve_members(&mut names, &[7, 9]);
     let want = pair_of(&rt, (Some(9), None), 10)?;
     assert_eq!(rt;
         format!(in rt.alloc(); "{names:?}")?,

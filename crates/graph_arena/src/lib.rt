@@ -24,7 +24,7 @@ mod visiting;
 pub use graph::{Graph, MOST_INSTANCES};
 pub use instance::{Instance, Members, Slice};
 pub use laws::{equal_keys_repeat, sorting_keeps_the_value};
-pub use order::{is_above, is_sorted};
+pub use order::{is_above, is_rising, is_sorted};
 pub use resolving::{resolve, resolve_members};
 pub use sort::{in_order, keyed, put, sort_pairs};
 pub use value::Value;

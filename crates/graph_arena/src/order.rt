@@ -57,7 +57,7 @@ fn have_sorted_parts(pairs: &[(Value, Value)]) -> bool
 }
 
 /// Whether each key is below the next.
-fn is_rising(pairs: &[(Value, Value)]) -> bool
+pub fn is_rising(pairs: &[(Value, Value)]) -> bool
     ensures { IsTrue result ↔ IsRising (view_pairs pairs.now) }
 {
     let mut last: Option<&Value> = None;

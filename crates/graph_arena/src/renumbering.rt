@@ -26,9 +26,10 @@ impl Graph {
         let alloc = self.alloc();
         let order = self.first_visit()?;
         let index = index_of(alloc, self.len(), order.as_slice())?;
-        let (roots, instances) = self.into_parts();
+        let (mut roots, instances) = self.into_parts();
+        resolve_members(&mut roots, index.as_slice());
         Ok(Graph::of(
-            resolve_members(alloc, roots, index.as_slice())?,
+            roots,
             in_order(alloc, instances, order.as_slice(), index.as_slice())?,
         ))
     }
@@ -60,38 +61,28 @@ fn in_order(
     requires in_range { AreBelow (length instances.items) names.now }
     ensures { IfOk result (λ taken. map view_instance taken.items ≡ map (λ n. map (renamed_slice (entry_in table.now)) (slices_of (map view_instance instances.items) n)) names.now) }
 {
-    let mut taken = Vec::new(alloc);
+    let mut taken = Vec::with_capacity(alloc, names.len())?;
     for name in names {
-        let slices = mem::replace(&mut instances[*name as usize].slices, List::new(alloc));
-        let slices = resolve_slices(alloc, slices, table)?;
+        let mut slices = mem::replace(&mut instances[*name as usize].slices, List::new(alloc));
+        resolve_slices(slices.as_mut_slice(), table);
         taken.push(Instance { slices })?;
     }
     Ok(taken)
 }
 
-/// The slices with each name replaced by what the table has for it.
-fn resolve_slices(
-    alloc: Global,
-    mut slices: List<Slice>,
-    table: &[u32],
-) -> Result<List<Slice>, AllocError>
-    ensures { IfOk result (λ resolved. view_slices resolved ≡ map (renamed_slice (entry_in table.now)) (view_slices slices)) }
+/// Puts for each name in the slices what the table has for it.
+fn resolve_slices(slices: &mut [Slice], table: &[u32])
+    ensures { view_slices slices.new ≡ map (renamed_slice (entry_in table.now)) (view_slices slices.old) }
 {
-    let mut resolved = Vec::new(alloc);
-    while let Some(slice) = slices.pop() {
-        resolved.push(resolve_slice(alloc, slice, table)?)?;
+    for slice in slices.iter_mut() {
+        resolve_slice(slice, table);
     }
-    resolved.reverse();
-    Ok(List::from_vec(resolved))
 }
 
-fn resolve_slice(alloc: Global, slice: Slice, table: &[u32]) -> Result<Slice, AllocError>
-    ensures { IfOk result (λ resolved. view_slice resolved ≡ renamed_slice (entry_in table.now) (view_slice slice)) }
+fn resolve_slice(slice: &mut Slice, table: &[u32])
+    ensures { view_slice slice.new ≡ renamed_slice (entry_in table.now) (view_slice slice.old) }
 {
     match slice {
-        Slice::Known { class, members } => Ok(Slice::Known {
-            class,
-            members: resolve_members(alloc, members, table)?,
-        }),
+        Slice::Known { members, .. } => resolve_members(members, table),
     }
 }

@@ -1,6 +1,6 @@
 //! The references of a slice that has a table: each is a place in the table until that is read.
 
-ghost use Rattle.std.specs.Prelude.{◌≡◌, IfOk};
+ghost use Rattle.std.specs.Prelude.{◌≡◌};
 ghost use Rattle.ice_graphs.specs.Names.{renamed, renamed_each, renamed_members, renamed_name, renamed_pairs};
 ghost use Rattle.ice_graphs.specs.Names.{renamed_present};
 ghost use Rattle.ice_graphs.specs.References.{entry_in};
@@ -9,57 +9,42 @@ ghost use Rattle.graph_arena.specs.Seen.{view_content, view_present};
 
 use crate::Value;
 use crate::instance::Members;
-use ice_types::List;
-use std::alloc::{AllocError, Global};
 
-/// The members with each place of the table replaced by the name that stands there.
-pub fn resolve_members(
-    alloc: Global,
-    members: Members,
-    table: &[u32],
-) -> Result<Members, AllocError>
-    ensures { IfOk result (λ resolved. view_content resolved ≡ renamed_members (entry_in table.now) (view_content members)) }
+/// Puts for each place of the table in the members the name that stands there.
+pub fn resolve_members(members: &mut Members, table: &[u32])
+    ensures { view_content members.new ≡ renamed_members (entry_in table.now) (view_content members.old) }
 {
-    Ok(Members {
-        required: resolve_each(alloc, members.required, table)?,
-        optional: resolve_present(alloc, members.optional, table)?,
-    })
+    resolve_each(members.required.as_mut_slice(), table);
+    resolve_present(members.optional.as_mut_slice(), table);
 }
 
-fn resolve_present(
-    alloc: Global,
-    mut optional: List<(u32, Value)>,
-    table: &[u32],
-) -> Result<List<(u32, Value)>, AllocError>
-    ensures { IfOk result (λ resolved. view_present resolved ≡ renamed_present (entry_in table.now) (view_present optional)) }
+fn resolve_present(optional: &mut [(u32, Value)], table: &[u32])
+    ensures { view_present optional.new ≡ renamed_present (entry_in table.now) (view_present optional.old) }
 {
-    let mut resolved = Vec::new(alloc);
-    while let Some((tag, value)) = optional.pop() {
-        resolved.push((tag, resolve(alloc, value, table)?))?;
+    for member in optional.iter_mut() {
+        resolve(&mut member.1, table);
     }
-    resolved.reverse();
-    Ok(List::from_vec(resolved))
 }
 
-/// The value with each place of the table replaced by the name that stands there; a place past its
-/// end becomes 0. Keys have no references. What the value holds is moved, and not copied.
+/// Puts for each place of the table in the value the name that stands there; a place past its end
+/// becomes 0. Keys have no references.
 #[cycle(resolving)]
-pub fn resolve(alloc: Global, value: Value, table: &[u32]) -> Result<Value, AllocError>
-    ensures { IfOk result (λ resolved. view resolved ≡ renamed (entry_in table.now) (view value)) }
+pub fn resolve(value: &mut Value, table: &[u32])
+    ensures { view value.new ≡ renamed (entry_in table.now) (view value.old) }
 {
     match value {
-        Value::Bool(b) => Ok(Value::Bool(b)),
-        Value::Byte(n) => Ok(Value::Byte(n)),
-        Value::Short(n) => Ok(Value::Short(n)),
-        Value::Int(n) => Ok(Value::Int(n)),
-        Value::Long(n) => Ok(Value::Long(n)),
-        Value::Text(text) => Ok(Value::Text(text)),
-        Value::Enum(number) => Ok(Value::Enum(number)),
-        Value::Proxy(proxy) => Ok(Value::Proxy(proxy)),
-        Value::Reference(place) => Ok(Value::Reference(entry(table, place))),
-        Value::Seq(items) => Ok(Value::Seq(resolve_each(alloc, items, table)?)),
-        Value::Members(items) => Ok(Value::Members(resolve_each(alloc, items, table)?)),
-        Value::Pairs(pairs) => Ok(Value::Pairs(resolve_pairs(alloc, pairs, table)?)),
+        Value::Bool(_)
+        | Value::Byte(_)
+        | Value::Short(_)
+        | Value::Int(_)
+        | Value::Long(_)
+        | Value::Text(_)
+        | Value::Enum(_)
+        | Value::Proxy(_) => {}
+        Value::Reference(place) => *place = entry(table, *place),
+        Value::Seq(items) => resolve_each(items.as_mut_slice(), table),
+        Value::Members(items) => resolve_each(items.as_mut_slice(), table),
+        Value::Pairs(pairs) => resolve_pairs(pairs.as_mut_slice(), table),
     }
 }
 
@@ -74,33 +59,19 @@ fn entry(table: &[u32], place: Option<u32>) -> Option<u32>
 }
 
 #[cycle(resolving)]
-fn resolve_each(
-    alloc: Global,
-    mut items: List<Value>,
-    table: &[u32],
-) -> Result<List<Value>, AllocError>
-    ensures { IfOk result (λ resolved. view_all resolved ≡ renamed_each (entry_in table.now) (view_all items)) }
+fn resolve_each(items: &mut [Value], table: &[u32])
+    ensures { view_all items.new ≡ renamed_each (entry_in table.now) (view_all items.old) }
 {
-    let mut resolved = Vec::new(alloc);
-    while let Some(item) = items.pop() {
-        resolved.push(resolve(alloc, item, table)?)?;
+    for item in items.iter_mut() {
+        resolve(item, table);
     }
-    resolved.reverse();
-    Ok(List::from_vec(resolved))
 }
 
 #[cycle(resolving)]
-fn resolve_pairs(
-    alloc: Global,
-    mut pairs: List<(Value, Value)>,
-    table: &[u32],
-) -> Result<List<(Value, Value)>, AllocError>
-    ensures { IfOk result (λ resolved. view_pairs resolved ≡ renamed_pairs (entry_in table.now) (view_pairs pairs)) }
+fn resolve_pairs(pairs: &mut [(Value, Value)], table: &[u32])
+    ensures { view_pairs pairs.new ≡ renamed_pairs (entry_in table.now) (view_pairs pairs.old) }
 {
-    let mut resolved = Vec::new(alloc);
-    while let Some((key, value)) = pairs.pop() {
-        resolved.push((key, resolve(alloc, value, table)?))?;
+    for pair in pairs.iter_mut() {
+        resolve(&mut pair.1, table);
     }
-    resolved.reverse();
-    Ok(List::from_vec(resolved))
 }

@@ -17,6 +17,7 @@ mod writer;
 pub use ending::Ending;
 pub use fields::{Fields, Optionals};
 pub use reader::{MembersReader, PausedMembers, read_members};
+pub use tagged::kind_tagged;
 pub use writer::{MembersWriter, write_members};
 
 #[cfg(test)]

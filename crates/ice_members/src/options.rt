@@ -16,6 +16,7 @@ ghost use Rattle.ice_members.specs.Advancing.{Advances, GoesOn, NarrowsOnAdvance
 
 use crate::advanced::Advanced;
 use crate::prefix::{enter, leave, prefix_of};
+use crate::tagged::kind_tagged;
 use encaps_optionals::{Skipped, skip_format, take_tag};
 use graph_arena::Value;
 use ice_prims::{Cursor, Fault, Kind, ReadFault};
@@ -239,18 +240,6 @@ fn begun<'a>(
         reader: ValueReader::new(alloc, kind),
         behind,
     })
-}
-
-/// The type of the member with this tag. Members without a tag are not looked at.
-fn kind_tagged(members: &[Member], tag: u32) -> Option<TypeRef>
-    ensures { result ≡ kind_tagged tag (with_tag members.now) }
-{
-    for member in members {
-        if member.tag == Some(tag) {
-            return Some(member.kind);
-        }
-    }
-    None
 }
 
 /// One more than there are bytes left.

@@ -2,15 +2,18 @@
 
 ghost use Rattle.std.specs.Prelude.{◌≡◌};
 ghost use Rattle.ice_optionals.specs.Optionals.{kind_tagged};
+ghost use Rattle.ice_members.specs.Shapes.{with_tag};
 
 use ice_types::{Member, TypeRef};
 
-/// The type of the member with this tag, None where there is none.
-pub(crate) fn kind_tagged(members: &[Member], number: u32) -> Option<TypeRef>
-    ensures { result ≡ kind_tagged number members.now }
+/// The type of the member with this tag, None where there is none. Members without a tag are not
+/// looked at.
+pub fn kind_tagged(members: &[Member], tag: u32) -> Option<TypeRef>
+    ensures among_all { result ≡ kind_tagged tag members.now }
+    ensures among_tagged { result ≡ kind_tagged tag (with_tag members.now) }
 {
     for member in members {
-        if member.tag == Some(number) {
+        if member.tag == Some(tag) {
             return Some(member.kind);
         }
     }

@@ -1,10 +1,9 @@
 -- What the calls of a port answer.
-use Rattle.std.specs.Prelude.{ℕ, ◌≡◌, ◌<◌, ◌≤◌, Option, None, Some, Result, Ok, Err}
+use Rattle.std.specs.Prelude.{ℕ, ◌≡◌, ◌<◌, ◌≤◌, Result, Ok, Err}
 use Rattle.ice_prims.specs.declared.fault.ReadFault.{ReadFault}
 use Rattle.ice_prims.specs.declared.fault.Fault.{Fault}
 use Rattle.ice_prims.specs.Rest.{Rest}
 use Rattle.ice_prims.specs.Taking.{Fails}
-use Rattle.ice_encoding.specs.Port.{Reader}
 use Rattle.ice_encoding.specs.Pausing as pausing
 use Rattle.ice_values.specs.declared.port.Met.{Met}
 use Rattle.ice_values.specs.declared.port.Met.TheVariants as mets

@@ -1,9 +1,9 @@
 //! Values without parts.
 
-ghost use Rattle.std.specs.Prelude.{◌≡◌, ◌++◌, OnOk, OnErr};
+ghost use Rattle.std.specs.Prelude.{◌≡◌, ◌++◌, ◌↔◌, IsTrue, OnOk, OnErr};
 ghost use Rattle.ice_prims.specs.Bytes.{Grows};
 ghost use Rattle.ice_parts.specs.Proxy as parts;
-ghost use Rattle.ice_encoding.specs.Enum.{has_number, enumerator_at};
+ghost use Rattle.ice_encoding.specs.Enum.{HasNumber, has_number, enumerator_at};
 ghost use Rattle.graph_arena.specs.View.{unboxed, view};
 ghost use Rattle.ice_encoding.specs.Canonical.{HasSize};
 ghost use Rattle.ice_values.specs.Leaves.{leaf_at, leaf_bytes, Reads, Sees};
@@ -69,8 +69,9 @@ fn take_enumerator(entries: &[Entry], cursor: &mut Cursor<'_>) -> Result<u32, Fa
 }
 
 /// Whether one of the entries has the number: mostly the one at the place of the number.
-fn has_number(entries: &[Entry], number: u32) -> bool
-    ensures { result ≡ has_number entries.now number }
+pub fn has_number(entries: &[Entry], number: u32) -> bool
+    ensures value { result ≡ has_number entries.now number }
+    ensures told { IsTrue result ↔ HasNumber entries.now number }
 {
     if let Some(entry) = entries.get(number as usize)
         && entry.number == number

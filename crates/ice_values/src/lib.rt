@@ -14,6 +14,7 @@ mod sorted;
 mod value;
 mod writer;
 
+pub use leaf::has_number;
 pub use numbers::Numbers;
 pub use port::{Met, RefPort};
 pub use put_port::PutPort;

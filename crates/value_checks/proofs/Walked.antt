@@ -1,5 +1,5 @@
 -- What a walk over the parts of a value tells of the value.
-use Rattle.std.proofs.Common.{◌≡◌, ℕ, zero, suc, ◌<◌, ◌≤◌, ◌^◌, Bool, true, IsTrue, ◌↔◌, List, [], ◌∷◌, length, map, drop, nat_eq, refl, sym, ap, ◌∙◌, subst, arith, Option, Some}
+use Rattle.std.proofs.Common.{◌≡◌, ℕ, zero, suc, ◌<◌, ◌≤◌, ◌^◌, Bool, IsTrue, ◌↔◌, List, [], ◌∷◌, length, map, drop, nat_eq, refl, sym, ap, ◌∙◌, subst, arith, Some}
 use Rattle.std.specs.Prelude.{slice_get}
 use Rattle.std.proofs.lemmas.Bool.{eqb-true, eq-eqb}
 use Rattle.ice_types.specs.declared.kind.TypeRef.{TypeRef}
@@ -12,7 +12,7 @@ use Rattle.ice_types.specs.declared.declarations.Member.{Member}
 use Rattle.ice_types.specs.Tables.{Tables}
 use Rattle.ice_encoding.specs.Enum.{HasNumber}
 use Rattle.ice_encoding.specs.Order.{IsRising}
-use Rattle.ice_encoding.specs.Tree.{Tree, sequence, dictionary, tree_count, entry_count, none, tree}
+use Rattle.ice_encoding.specs.Tree.{Tree, sequence, dictionary}
 use Rattle.ice_encoding.specs.Typed.{AllOf, EachOf, PairsOf, Refers, no_reference, HasType}
 use Rattle.graph_arena.specs.declared.value.Value.{Value}
 use Rattle.graph_arena.specs.View.{view_all, view_pairs}

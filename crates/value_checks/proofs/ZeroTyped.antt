@@ -1,5 +1,5 @@
 -- The value of zeros is of its type.
-use Rattle.std.proofs.Common.{rules, ◌≡◌, ◌≢◌, ℕ, zero, suc, pos, ◌<◌, ◌≤◌, ◌^◌, true, false, List, [], ◌∷◌, map, refl, sym, ap, ◌∙◌, subst, arith, Option, None, Some, All}
+use Rattle.std.proofs.Common.{rules, ◌≡◌, ℕ, zero, suc, pos, ◌<◌, ◌^◌, false, List, [], ◌∷◌, map, refl, ap, arith, Option, None, Some}
 use Rattle.std.specs.Prelude.{slice_get}
 use Rattle.ice_types.specs.declared.kind.TypeRef.{TypeRef}
 use Rattle.ice_types.specs.declared.kind.TypeRef.TheVariants as kinds
@@ -11,7 +11,7 @@ use Rattle.ice_types.specs.declared.measure.Measure.{Measure}
 use Rattle.ice_types.specs.Tables.{Tables}
 use Rattle.ice_types.specs.Rules.{IsSchema}
 use Rattle.ice_types.specs.Fits.{EnumFits}
-use Rattle.ice_types.specs.Measures.{measure, measured, measure_members, with_member, container, structure, enumeration, sequence_of, dictionary_of, struct_of}
+use Rattle.ice_types.specs.Measures.{measure, measured, measure_members, with_member, structure, enumeration, sequence_of, dictionary_of, struct_of}
 use Rattle.ice_types.proofs.Levels.{found_by}
 use Rattle.ice_encoding.specs.Enum.{HasNumber}
 use Rattle.ice_encoding.specs.Tree.{Tree, struct, enumerator, none, no_entry}

@@ -1,11 +1,11 @@
 -- The value of zeros, as it is made.
-use Rattle.std.proofs.Common.{◌≡◌, ℕ, zero, suc, List, map, sym, ap, ◌∙◌, arith, Option, None, Some}
+use Rattle.std.proofs.Common.{◌≡◌, ℕ, zero, suc, List, map, sym, ap, ◌∙◌, arith, None}
 use Rattle.std.specs.Prelude.{slice_get}
 use Rattle.ice_types.specs.declared.kind.TypeRef.{TypeRef}
 use Rattle.ice_types.specs.declared.kind.TypeRef.TheVariants as kinds
 use Rattle.ice_types.specs.declared.declarations.Member.{Member}
 use Rattle.ice_types.specs.Tables.{Tables}
-use Rattle.ice_encoding.specs.Tree.{Tree, struct, reference}
+use Rattle.ice_encoding.specs.Tree.{Tree, struct}
 use Rattle.graph_arena.specs.declared.value.Value.{Value}
 use Rattle.graph_arena.specs.declared.value.Value.TheVariants as variants
 use Rattle.graph_arena.specs.declared.value.Value.TheVariants.{rolls-Reference}

@@ -1,5 +1,4 @@
 -- Which references may stand in a value.
-use Rattle.std.specs.Prelude.{ℕ, Option}
 use Rattle.ice_types.specs.Tables.{Tables}
 use Rattle.ice_encoding.specs.Typed.{Refers, no_reference}
 use Rattle.ice_graphs.specs.Typed.{RefersIn}

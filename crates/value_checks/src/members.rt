@@ -16,7 +16,7 @@ use crate::proxies::is_size;
 use crate::references::References;
 use crate::values::is_of;
 use graph_arena::{Graph, Members, Value};
-use ice_members::Fields;
+use ice_members::{Fields, kind_tagged};
 use ice_types::{MOST_DEPTH, Member, Schema, TypeRef};
 
 /// Whether they are the values of these members, each reference to an instance of the graph that fits.
@@ -94,16 +94,4 @@ fn is_option(schema: &Schema, graph: &Graph, members: &[Member], tag: u32, value
         Some(kind) => is_size(tag as usize) && has_type(schema, graph, kind, value),
         None => false,
     }
-}
-
-/// The type of the member with this tag. Members without a tag are not looked at.
-fn kind_tagged(members: &[Member], tag: u32) -> Option<TypeRef>
-    ensures { result ≡ optionals.kind_tagged tag (with_tag members.now) }
-{
-    for member in members {
-        if member.tag == Some(tag) {
-            return Some(member.kind);
-        }
-    }
-    None
 }

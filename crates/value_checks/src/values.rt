@@ -5,8 +5,6 @@ ghost use Rattle.std.specs.Int.{w16, w32, w64};
 ghost use Rattle.ice_types.specs.declared.kind.TypeRef.TheVariants as kinds;
 ghost use Rattle.ice_types.specs.declared.schema.TheConstants.{MOST_DEPTH};
 ghost use Rattle.ice_parts.specs.Proxy as parts;
-ghost use Rattle.ice_encoding.specs.Enum.{HasNumber};
-ghost use Rattle.ice_encoding.specs.Order.{IsRising};
 ghost use Rattle.ice_encoding.specs.Tree.{dictionary, sequence, struct};
 ghost use Rattle.ice_encoding.specs.Typed.{AllOf, EachOf, HasType, PairsOf, no_reference};
 ghost use Rattle.graph_arena.specs.View.{unboxed, view, view_all, view_pairs};
@@ -15,8 +13,9 @@ ghost use Rattle.value_checks.specs.References.{AnyRefers, MayStand};
 
 use crate::proxies::{is_proxy, is_size, is_text};
 use crate::references::References;
-use graph_arena::Value;
-use ice_types::{Entry, MOST_DEPTH, Member, Proxy, Schema, TypeRef};
+use graph_arena::{Value, is_rising};
+use ice_types::{MOST_DEPTH, Member, Proxy, Schema, TypeRef};
+use ice_values::has_number;
 
 /// Whether a value is of the type, by its form: each size is at most the greatest int, the keys of each
 /// dictionary rise, each enumerator is one of its enum, and each proxy can be spelled. Any reference may
@@ -108,18 +107,6 @@ fn is_enumerator(schema: &Schema, kind: TypeRef, number: u32) -> bool
         Some(decl) => is_size(number as usize) && has_number(decl.entries.as_slice(), number),
         None => false,
     }
-}
-
-/// Whether one of the entries has the number: mostly the one at the place of the number.
-fn has_number(entries: &[Entry], number: u32) -> bool
-    ensures { IsTrue result ↔ HasNumber entries.now number }
-{
-    if let Some(entry) = entries.get(number as usize)
-        && entry.number == number
-    {
-        return true;
-    }
-    entries.iter().any(|entry| entry.number == number)
 }
 
 /// Null, or a proxy that can be spelled.
@@ -226,22 +213,6 @@ fn are_pairs_of(
         {
             return false;
         }
-    }
-    true
-}
-
-/// Whether each key is below the next.
-fn is_rising(pairs: &[(Value, Value)]) -> bool
-    ensures { IsTrue result ↔ IsRising (view_pairs pairs.now) }
-{
-    let mut last: Option<&Value> = None;
-    for pair in pairs {
-        if let Some(before) = last
-            && before.cmp(&pair.0).is_ge()
-        {
-            return false;
-        }
-        last = Some(&pair.0);
     }
     true
 }

@@ -1,4 +1,4 @@
-use Rattle.std.proofs.Common.{ℕ, Bool, List, length, sym, ap, ◌∙◌, subst}
+use Rattle.std.proofs.Common.{ℕ, length, sym, ap, ◌∙◌, subst}
 use Rattle.graph_arena.specs.Arena.{AreBelow}
 use Rattle.graph_arena.proofs.Closed.{order-is}
 use Rattle.value_checks.specs.First.{AreFine, AreMarkedFine}

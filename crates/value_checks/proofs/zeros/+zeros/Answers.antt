@@ -1,4 +1,4 @@
-use Rattle.std.proofs.Common.{◌≡◌, suc, None, sym, subst}
+use Rattle.std.proofs.Common.{◌≡◌, suc, sym, subst}
 use Rattle.ice_types.specs.declared.kind.TypeRef.{TypeRef}
 use Rattle.graph_arena.specs.declared.value.Value.TheVariants as variants
 use Rattle.graph_arena.specs.View.{view}

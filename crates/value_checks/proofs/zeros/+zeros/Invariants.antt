@@ -1,4 +1,4 @@
-use Rattle.std.proofs.Common.{ℕ, ◌≡◌, ◌+◌, ◌*◌, map, take}
+use Rattle.std.proofs.Common.{◌≡◌, ◌+◌, ◌*◌, map, take}
 use Rattle.graph_arena.specs.View.{view}
 use Rattle.value_checks.specs.Zeros.{zero_of}
 use Rattle.value_checks.proofs.zeros.+zeros.Given as goal

@@ -32,7 +32,7 @@ pub of-requires : goal.of-requires
 of-requires c =
     let is = answered c.args.self c.len.ensures.sound c.len.result c.len.ensures.len c.as_slice.result.now c.in_ok-index.index.items (c.as_slice.ensures ∙ c.in_ok-order.ensures) c.in_ok-index.ensures
     (view_content c.into_parts-roots.result.0) c.into_parts-roots.ensures.roots c.as_slice-2.result.now c.as_slice-2.ensures.value
-    (view_content c.in_ok-resolve_members.field-0) c.in_ok-resolve_members.ensures
+    (view_content c.resolve_members.new.members) c.resolve_members.ensures
     (map view_instance c.into_parts-roots.result.1.items) c.into_parts-roots.ensures.instances
     c.as_slice-3.result.now c.as_slice-4.result.now (c.as_slice-3.ensures ∙ c.in_ok-order.ensures) c.as_slice-4.ensures.value
     (map view_instance c.in_ok-in_order.field-0.items) c.in_ok-in_order.ensures in
@@ -42,7 +42,7 @@ pub returns : goal.returns
 returns c =
     c.of.ensures ∙ answered c.args.self c.len.ensures.sound c.len.result c.len.ensures.len c.as_slice.result.now c.in_ok-index.index.items (c.as_slice.ensures ∙ c.in_ok-order.ensures) c.in_ok-index.ensures
     (view_content c.into_parts-roots.result.0) c.into_parts-roots.ensures.roots c.as_slice-2.result.now c.as_slice-2.ensures.value
-    (view_content c.in_ok-resolve_members.field-0) c.in_ok-resolve_members.ensures
+    (view_content c.resolve_members.new.members) c.resolve_members.ensures
     (map view_instance c.into_parts-roots.result.1.items) c.into_parts-roots.ensures.instances
     c.as_slice-3.result.now c.as_slice-4.result.now (c.as_slice-3.ensures ∙ c.in_ok-order.ensures) c.as_slice-4.ensures.value
     (map view_instance c.in_ok-in_order.field-0.items) c.in_ok-in_order.ensures
