@@ -3,18 +3,20 @@ use Rattle.std.proofs.Common.{◌≡◌, ℕ, zero, suc, ◌<◌, ◌≤◌, Lis
 use Rattle.ice_types.specs.declared.declarations.Shape.{Shape}
 use Rattle.ice_types.specs.Tables.{Tables}
 use Rattle.ice_types.specs.Rules.{IsSchema}
-use Rattle.ice_prims.specs.Rest.{Rest, whole, IsBytes}
+use Rattle.ice_prims.specs.Rest.{Rest, IsBytes}
+use Rattle.ice_prims.proofs.Parts.{Took-fits}
 use Rattle.ice_parts.specs.Encapsulation.{opened_at}
+use Rattle.ice_encoding.specs.Encapsulation.{encapsulated_at}
 use Rattle.ice_encoding.specs.Order.{KeysRise}
 use Rattle.ice_optionals.specs.Optionals.{Present}
 use Rattle.ice_optionals.specs.Members.{Members}
 use Rattle.ice_graphs.specs.Classes.{base_of, own_members}
 use Rattle.ice_graphs.specs.Graph.{Slice, known, kept, Graph}
 use Rattle.ice_graphs.specs.Flags.{Reach}
-use Rattle.ice_graphs.specs.Instances.{slices_of, most_instances, graph_at, numbered_at}
+use Rattle.ice_graphs.specs.Instances.{slices_of, most_instances, graph_at}
 use Rattle.ice_graphs.specs.Visiting.{most}
 use Rattle.ice_graphs.specs.Typed.{AreMembers, IsKnown, AreBases, IsInstance, RefersIn, OfType}
-use Rattle.ice_graphs.proofs.Graphs.{numbered_found}
+use Rattle.ice_graphs.proofs.Graphs.{next_found}
 use Rattle.graph_typing.proofs.Fitting.{InPresent, members_ordered}
 use Rattle.graph_typing.proofs.Ranged as ranged
 use Rattle.graph_typing.proofs.Sound.{numbered_typed}
@@ -66,19 +68,14 @@ typed-sound t shape g h le =
       instances = each-fits count g.instances (λ n lt. record { names = below count _ (range.instances n lt); order = instance-order t g.instances (slices_of g.instances n) (h.instances n lt) });
     }
 
--- what is read is of its type, and sound
-pub read-typed : (t : Tables) (reach : Reach) (shape : Shape) (bytes : List ℕ) (g : Graph) → IsSchema t → IsBytes bytes → numbered_at t reach shape (whole bytes) ≡ Ok g → OfType t shape g × IsSound g
-read-typed t reach shape bytes g rules fits e =
-    let typed = numbered_typed t reach shape rules bytes g fits (numbered_found t reach shape bytes g fits e) in
+next-is : (t : Tables) (reach : Reach) (shape : Shape) (start inside behind rest : Rest) (g : Graph) → opened_at start ≡ Ok (inside, behind) → graph_at t reach shape inside ≡ Ok (g, rest) → rest.bytes ≡ []
+    → encapsulated_at (graph_at t reach shape) start ≡ Ok (g, behind)
+next-is t reach shape start inside behind rest g opened is none = rw (opened, is, none) refl
+
+-- from what each step of reading answers, what is read is of its type, and sound
+pub steps-typed : (t : Tables) (reach : Reach) (shape : Shape) (start inside behind rest : Rest) (g : Graph) → IsSchema t → IsBytes start.bytes → opened_at start ≡ Ok (inside, behind)
+    → graph_at t reach shape inside ≡ Ok (g, rest) → rest.bytes ≡ [] → OfType t shape g × IsSound g
+steps-typed t reach shape start inside behind rest g rules fits opened is none =
+    let found = next_found t reach shape start (g, behind) fits (next-is t reach shape start inside behind rest g opened is none) in
+    let typed = numbered_typed t reach shape rules found.0 g (Took-fits start behind found.0 fits found.1).0 found.2 in
     (typed.0, typed-sound t shape g typed.0 typed.1)
-
-numbered-is : (t : Tables) (reach : Reach) (shape : Shape) (start inside behind rest : Rest) (g : Graph) → opened_at start ≡ Ok (inside, behind) → graph_at t reach shape inside ≡ Ok (g, rest) → rest.bytes ≡ [] → behind.bytes ≡ []
-    → numbered_at t reach shape start ≡ Ok g
-numbered-is t reach shape start inside behind rest g opened is none_inside none_behind = rw (opened, is, none_inside, none_behind) refl
-
--- from what each step of reading answers
-pub steps-typed : (t : Tables) (reach : Reach) (shape : Shape) (bytes : List ℕ) (start inside behind rest : Rest) (g : Graph) → IsSchema t → IsBytes bytes → start ≡ whole bytes → opened_at start ≡ Ok (inside, behind)
-    → graph_at t reach shape inside ≡ Ok (g, rest) → rest.bytes ≡ [] → behind.bytes ≡ [] → OfType t shape g × IsSound g
-steps-typed t reach shape bytes start inside behind rest g rules fits first opened is none_inside none_behind =
-    let whole_is : numbered_at t reach shape (whole bytes) ≡ Ok g = subst (λ (r : Rest). numbered_at t reach shape r ≡ Ok g) first (numbered-is t reach shape start inside behind rest g opened is none_inside none_behind) in
-    read-typed t reach shape bytes g rules fits whole_is

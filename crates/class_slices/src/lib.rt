@@ -1,5 +1,5 @@
-//! Graphs of class instances in encapsulations: read whole with the first fault, and written in their
-//! canonical bytes, in sliced format. (Ice manual, "Data Encoding for Class and Exception Types".)
+//! Graphs of class instances in encapsulations: read whole, in either format, with the first fault, and
+//! written in their canonical bytes, in sliced format. (Ice manual, "Data Encoding for Class and Exception Types".)
 #![tactic(auto)]
 
 mod encode_fault;
@@ -10,6 +10,6 @@ mod writing;
 
 pub use encode_fault::EncodeFault;
 pub use encoding::encode;
-pub use reading::decode;
+pub use reading::{decode, decode_rest, take_graph};
 pub use write_fault::WriteFault;
 pub use writing::encode_typed;

@@ -1,10 +1,11 @@
 //! The graph in an encapsulation.
 
-ghost use Rattle.std.specs.Prelude.{IfOk};
-ghost use Rattle.ice_prims.specs.Rest.{whole};
-ghost use Rattle.ice_prims.specs.Taking.{GivesUnlessMemory};
-ghost use Rattle.ice_graphs.specs.Flags.{sized_known};
-ghost use Rattle.ice_graphs.specs.Instances.{numbered_at};
+ghost use Rattle.std.specs.Prelude.{◌≡◌, IfOk};
+ghost use Rattle.ice_prims.specs.Rest.{whole, IsBytes};
+ghost use Rattle.ice_prims.specs.Taking.{GivesUnlessMemory, TakesUnlessMemory};
+ghost use Rattle.ice_encoding.specs.Encapsulation.{encapsulated_at};
+ghost use Rattle.ice_graphs.specs.Flags.{known_classes};
+ghost use Rattle.ice_graphs.specs.Instances.{graph_at, numbered_at};
 ghost use Rattle.ice_graphs.specs.Typed.{OfType};
 ghost use Rattle.ice_members.specs.Shapes.{shape_seen};
 ghost use Rattle.instance_reading.specs.Slices.{Ends};
@@ -17,9 +18,9 @@ use ice_types::Schema;
 use instance_reading::read_content;
 use std::alloc::Global;
 
-/// The graph that the whole input holds in one encapsulation, or the first fault: sized slices of known
-/// classes, and each instance named by the order in which it begins. Nothing may follow the members, or
-/// the encapsulation. (Ice manual, "Data Encoding for Class and Exception Types".)
+/// The graph that the whole input holds in one encapsulation, or the first fault: slices of known classes,
+/// with sizes or without, and each instance named by the order in which it begins. Nothing may follow the
+/// members, or the encapsulation. (Ice manual, "Data Encoding for Class and Exception Types".)
 pub fn decode(
     alloc: Global,
     schema: &Schema,
@@ -27,16 +28,64 @@ pub fn decode(
     input: &[u8],
 ) -> Result<Graph, ReadFault>
     ensures reads { GivesUnlessMemory (λ graph. graph) result
-        (numbered_at schema.now sized_known (shape_seen fields.entry) (whole input.now)) }
+        (numbered_at schema.now known_classes (shape_seen fields.entry) (whole input.now)) }
     ensures typed { IfOk result (λ graph. OfType schema.now (shape_seen fields.entry) graph) }
 {
-    let mut cursor = Cursor::new(input);
-    let mut inside = open_encaps(&mut cursor)?;
+    decode_rest(alloc, schema, fields, Cursor::new(input))
+}
+
+/// The same of all that is left of an input, with places that count as the cursor's do.
+pub fn decode_rest(
+    alloc: Global,
+    schema: &Schema,
+    fields: Fields<'_>,
+    mut cursor: Cursor<'_>,
+) -> Result<Graph, ReadFault>
+    ensures reads { GivesUnlessMemory (λ graph. graph) result
+        (numbered_at schema.now known_classes (shape_seen fields.entry) cursor.entry) }
+    ensures typed { IfOk result (λ graph. OfType schema.now (shape_seen fields.entry) graph) }
+{
+    let graph = take_graph(alloc, schema, fields, &mut cursor)?;
+    end(&cursor)?;
+    Ok(graph)
+}
+
+/// The same of the encapsulation that begins here, whatever follows it. The cursor goes on after it; a
+/// fault, whose place counts as the cursor's do, leaves the cursor as it was.
+pub fn take_graph(
+    alloc: Global,
+    schema: &Schema,
+    fields: Fields<'_>,
+    cursor: &mut Cursor<'_>,
+) -> Result<Graph, ReadFault>
+    ensures reads { TakesUnlessMemory (λ graph. graph) result cursor.old cursor.new
+        (encapsulated_at (graph_at schema.now known_classes (shape_seen fields.entry)) cursor.old) }
+    ensures typed { IfOk result (λ graph. OfType schema.now (shape_seen fields.entry) graph) }
+{
+    // A text is of its type since what is read are bytes.
+    are_bytes(left_bytes(cursor));
+    let mut ahead = cursor.fork();
+    let mut inside = open_encaps(&mut ahead)?;
     let content = read_content(alloc, schema, fields, &mut inside)?;
     end(&inside)?;
-    end(&cursor)?;
     schema.rules();
+    *cursor = ahead;
     Ok(Graph::of(content.roots, content.instances))
+}
+
+/// Each is a number below 256.
+fn are_bytes(bytes: &[u8])
+    ensures { IsBytes bytes.now }
+{
+    let _ = bytes;
+}
+
+/// The bytes that are left.
+fn left_bytes<'a>(cursor: &Cursor<'a>) -> &'a [u8]
+    ensures { result.now ≡ cursor.now.bytes }
+{
+    let mut ahead = cursor.fork();
+    ahead.take_bytes(ahead.left()).unwrap_or(&[])
 }
 
 /// The end of a bound.

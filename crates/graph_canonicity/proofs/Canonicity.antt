@@ -14,15 +14,15 @@ use Rattle.ice_graphs.specs.Graph.{Slice, Graph}
 use Rattle.ice_graphs.specs.Names.{renamed_slice}
 use Rattle.ice_graphs.specs.References.{State, opening, seen}
 use Rattle.ice_graphs.specs.Flags.{Reach, all_slices}
-use Rattle.ice_graphs.specs.Instances.{slices_of, most_instances, AllFit, SpellsGraph, SpellsNumbered}
+use Rattle.ice_graphs.specs.Instances.{instances, slices_of, most_instances, AllFit, SpellsGraph, SpellsNumbered}
 use Rattle.ice_graphs.specs.Visiting.{place, order, most}
 use Rattle.ice_graphs.specs.Same.{Same, form, numbered, Spells}
 use Rattle.ice_graphs.specs.Typed.{OfType}
 use Rattle.ice_graphs.specs.Canonical.{Format, bytes_of, canonical_graph, graph_bytes}
-use Rattle.graph_canonicity.proofs.IdRules.{Spelled, IdRules, Ports, as_utf8, utf8_ports}
+use Rattle.ice_graphs.proofs.Slices.{instances_seen, instances_lawful}
+use Rattle.graph_canonicity.proofs.TypeIds.{Spelled}
 use Rattle.graph_canonicity.proofs.Weaker.{content_weaker}
 use Rattle.graph_canonicity.proofs.Named.{AreNamed}
-use Rattle.graph_canonicity.proofs.AnyIds.{any_ids, any_instances, any_seen, any_lawful, any_ports}
 use Rattle.graph_canonicity.proofs.Renumbered.{form-same}
 use Rattle.graph_canonicity.proofs.Formed.{EachAsked, Reached, form-in_order, form-typed, form-same-graph}
 use Rattle.graph_canonicity.proofs.WrittenGraphs.{content_spelled}
@@ -31,7 +31,7 @@ use Rattle.graph_canonicity.proofs.WrittenGraphs.{content_spelled}
 
 module _ (t : Tables) (reach : Reach) (shape : Shape) (room more : ℕ) where
   abbrev port : Port (State ℕ) Spelled
-  port = any_instances t reach room more
+  port = instances t reach room more
 
   abbrev Contents : List ℕ → Members → Spelled → Type 0
   Contents bytes roots end = SpellsContent port t shape bytes roots opening end
@@ -40,9 +40,9 @@ module _ (t : Tables) (reach : Reach) (shape : Shape) (room more : ℕ) where
       → (last : State ℕ) × (seen last ≡ end) × (content_at port.read t shape opening (whole bytes) ≡ Ok (roots, last, record { place = 0 + length bytes; bytes = [] }))
   read_is bytes roots end h =
       let start : SpellsContent port t shape bytes roots (port.seen opening) end =
-      subst (λ (see : State ℕ → Spelled). SpellsContent port t shape bytes roots (see opening) end) (sym (any_seen t reach room more)) h in
-      let o = content_only port (any_lawful t reach room more) t shape opening end (whole bytes) roots start in
-      (o.0, ap (λ (see : State ℕ → Spelled). see o.0) (sym (any_seen t reach room more)) ∙ o.1, o.2)
+      subst (λ (see : State ℕ → Spelled). SpellsContent port t shape bytes roots (see opening) end) (sym (instances_seen t reach room more)) h in
+      let o = content_only port (instances_lawful t reach room more) t shape opening end (whole bytes) roots start in
+      (o.0, ap (λ (see : State ℕ → Spelled). see o.0) (sym (instances_seen t reach room more)) ∙ o.1, o.2)
 
   spelled_once : (bytes : List ℕ) (a b : Members) (x y : Spelled) → Contents bytes a x → Contents bytes b y → (a ≡ b) × (x ≡ y)
   spelled_once bytes a b x y p q =
@@ -79,42 +79,41 @@ same_from_form g h g-in h-in e = record { left = order g; right = order h; left_
 
 -- ---- the form is spelled
 
-module _ (ids : IdRules) (t : Tables) (named : AreNamed t) (shape : Shape) (reach : Reach) (format : Format) where
-  form_spelled : (room more : ℕ) (ports : Ports ids t reach room) (g : Graph) → Reached g → OfType t shape g → EachAsked ids t reach format g → length (form g).instances ≤ room → length (form g).instances ≤ more → length (canonical_graph t shape format g) < 2 ^ 31
-      → (end : Spelled) × SpellsContent (ports.port more) t shape (canonical_graph t shape format g) (form g).roots opening end × (end.instances ≡ (form g).instances) × AllFit t (form g).instances end.met
+module _ (t : Tables) (named : AreNamed t) (shape : Shape) (reach : Reach) (format : Format) where
+  form_spelled : (room more : ℕ) (g : Graph) → Reached g → OfType t shape g → EachAsked t reach format g → length (form g).instances ≤ room → length (form g).instances ≤ more → length (canonical_graph t shape format g) < 2 ^ 31
+      → (end : Spelled) × SpellsContent (instances t reach room more) t shape (canonical_graph t shape format g) (form g).roots opening end × (end.instances ≡ (form g).instances) × AllFit t (form g).instances end.met
   unfolding canonical_graph form order most
-  form_spelled room more ports g reached typed asked fits wide small =
+  form_spelled room more g reached typed asked fits wide small =
       let k : Graph = numbered (order g) g in
       let in_order = form-in_order g reached in
-      let of_type = form-typed ids t shape reach format g reached typed asked in
-      content_spelled ids t named reach format k room ports fits (omega (arith, in_order.size)) of_type.typed.instances of_type.asked in_order.instances more shape of_type.typed.roots in_order.size wide in_order.order small
+      let of_type = form-typed t shape reach format g reached typed asked in
+      content_spelled t named reach format k room fits (omega (arith, in_order.size)) of_type.typed.instances of_type.asked in_order.instances more shape of_type.typed.roots in_order.size wide in_order.order small
 
 form_small : (g : Graph) → Reached g → length (form g).instances ≤ most
 form_small g reached = omega (arith, form_fewer g, reached.few)
 
-pub same_from_bytes : (t : Tables) → AreNamed t → (shape : Shape) (reach : Reach) (format : Format) (g h : Graph) → Reached g → Reached h → OfType t shape g → OfType t shape h → EachAsked any_ids t reach format g → EachAsked any_ids t reach format h
+pub same_from_bytes : (t : Tables) → AreNamed t → (shape : Shape) (reach : Reach) (format : Format) (g h : Graph) → Reached g → Reached h → OfType t shape g → OfType t shape h → EachAsked t reach format g → EachAsked t reach format h
     → length (graph_bytes t shape format g) < 2 ^ 31 → graph_bytes t shape format g ≡ graph_bytes t shape format h → Same g h
 same_from_bytes t named shape reach format g h g-in h-in g-typed h-typed g-can h-can small equal =
     let e = inside_is (canonical_graph t shape format g) (canonical_graph t shape format h) equal in
     let content_small : length (canonical_graph t shape format g) < 2 ^ 31 = omega (arith, longer t shape format g, small) in
-    let ports = any_ports t reach most in
-    let one = form_spelled any_ids t named shape reach format most most ports g g-in g-typed g-can (form_small g g-in) (form_small g g-in) content_small in
-    let two = form_spelled any_ids t named shape reach format most most ports h h-in h-typed h-can (form_small h h-in) (form_small h h-in) (subst (λ (b : List ℕ). length b < 2 ^ 31) e content_small) in
+    let one = form_spelled t named shape reach format most most g g-in g-typed g-can (form_small g g-in) (form_small g g-in) content_small in
+    let two = form_spelled t named shape reach format most most h h-in h-typed h-can (form_small h h-in) (form_small h h-in) (subst (λ (b : List ℕ). length b < 2 ^ 31) e content_small) in
     let same = spelled_once t reach shape most most (canonical_graph t shape format g) (form g).roots (form h).roots one.0 two.0 one.1
-    (subst (λ (b : List ℕ). SpellsContent (any_instances t reach most most) t shape b (form h).roots opening two.0) (sym e) two.1) in
+    (subst (λ (b : List ℕ). SpellsContent (instances t reach most most) t shape b (form h).roots opening two.0) (sym e) two.1) in
     let instances_are : (form g).instances ≡ (form h).instances = sym one.2 ∙ ap (λ (s : Spelled). s.instances) same.1 ∙ two.2 in
     same_from_form g h g-in h-in (λ i. record { roots = same.0 i; instances = instances_are i })
 
 -- within the limits, no other graph is read from the canonical encapsulation, whatever is read
-pub read_is_same : (t : Tables) → AreNamed t → (reach : Reach) (shape : Shape) (format : Format) (g h : Graph) → Reached g → OfType t shape g → EachAsked any_ids t all_slices format g → length (order g) ≤ most_instances
+pub read_is_same : (t : Tables) → AreNamed t → (reach : Reach) (shape : Shape) (format : Format) (g h : Graph) → Reached g → OfType t shape g → EachAsked t all_slices format g → length (order g) ≤ most_instances
     → SpellsNumbered t reach shape (graph_bytes t shape format g) h → Same h g
 unfolding SpellsGraph
 read_is_same t named reach shape format g h reached typed asked few (content, is, short, (end, spelled, instances_are, fit)) =
     let c = canonical_graph t shape format g in
     let fewer : length (form g).instances ≤ most_instances = omega (arith, form_fewer g, few) in
-    let one = form_spelled any_ids t named shape all_slices format most_instances most_instances (any_ports t all_slices most_instances) g reached typed asked fewer fewer (omega (arith, longer t shape format g, short)) in
-    let two : SpellsContent (any_instances t all_slices most_instances most_instances) t shape c h.roots opening end =
-    subst (λ (b : List ℕ). SpellsContent (any_instances t all_slices most_instances most_instances) t shape b h.roots opening end) (sym (inside_is c content is)) (content_weaker t reach most_instances most_instances shape content h.roots opening end spelled) in
+    let one = form_spelled t named shape all_slices format most_instances most_instances g reached typed asked fewer fewer (omega (arith, longer t shape format g, short)) in
+    let two : SpellsContent (instances t all_slices most_instances most_instances) t shape c h.roots opening end =
+    subst (λ (b : List ℕ). SpellsContent (instances t all_slices most_instances most_instances) t shape b h.roots opening end) (sym (inside_is c content is)) (content_weaker t reach most_instances most_instances shape content h.roots opening end spelled) in
     let same = spelled_once t all_slices shape most_instances most_instances c (form g).roots h.roots one.0 end one.1 two in
     let all_instances : (form g).instances ≡ h.instances = sym one.2 ∙ ap (λ (s : Spelled). s.instances) same.1 ∙ instances_are in
     let form_is : form g ≡ h = λ i. record { roots = same.0 i; instances = all_instances i } in
@@ -122,13 +121,13 @@ read_is_same t named reach shape format g h reached typed asked few (content, is
 
 module _ (t : Tables) (named : AreNamed t) (shape : Shape) (reach : Reach) (format : Format) where
   -- within the limits, the canonical encapsulation spells the form
-  numbered_spelled : (g : Graph) → Reached g → OfType t shape g → EachAsked as_utf8 t reach format g → length (order g) ≤ most_instances → length (graph_bytes t shape format g) ≤ LARGEST → SpellsNumbered t reach shape (graph_bytes t shape format g) (form g)
+  numbered_spelled : (g : Graph) → Reached g → OfType t shape g → EachAsked t reach format g → length (order g) ≤ most_instances → length (graph_bytes t shape format g) ≤ LARGEST → SpellsNumbered t reach shape (graph_bytes t shape format g) (form g)
   unfolding SpellsGraph
   numbered_spelled g reached typed asked few small =
       let c = canonical_graph t shape format g in
       let fewer : length (form g).instances ≤ most_instances = omega (arith, form_fewer g, few) in
-      let one = form_spelled as_utf8 t named shape reach format most_instances most_instances (utf8_ports t reach most_instances) g reached typed asked fewer fewer (omega (arith, longer t shape format g, small)) in
+      let one = form_spelled t named shape reach format most_instances most_instances g reached typed asked fewer fewer (omega (arith, longer t shape format g, small)) in
       (c, refl, small, (one.0, one.1, one.2, subst (λ (is : List (List Slice)). AllFit t is one.0.met) (sym one.2) one.3))
 
-  pub graph_spelled : (g : Graph) → Reached g → OfType t shape g → EachAsked as_utf8 t reach format g → length (order g) ≤ most_instances → length (graph_bytes t shape format g) ≤ LARGEST → Spells t reach shape (graph_bytes t shape format g) g
+  pub graph_spelled : (g : Graph) → Reached g → OfType t shape g → EachAsked t reach format g → length (order g) ≤ most_instances → length (graph_bytes t shape format g) ≤ LARGEST → Spells t reach shape (graph_bytes t shape format g) g
   graph_spelled g reached typed asked few small = (form g, numbered_spelled g reached typed asked few small, form-same-graph g reached)

@@ -13,7 +13,7 @@ use Rattle.ice_graphs.specs.Instances.{class_of, slices_of, class_fits}
 use Rattle.ice_graphs.specs.Visiting.{place, order, most}
 use Rattle.ice_graphs.specs.Same.{AreListed, HasEachOnce, Holds, numbered, Same, form}
 use Rattle.ice_graphs.specs.Typed.{AreReferred, IsKnown, AreBases, IsInstance, RefersIn, OfType}
-use Rattle.ice_graphs.specs.Flags.{Reach, all_slices, sized_known}
+use Rattle.ice_graphs.specs.Flags.{Reach, all_slices, known_classes}
 use Rattle.ice_graphs.specs.Canonical.{Format, sliced, compact, Compact, Writable}
 use Rattle.graph_typing.proofs.Renamed.{Moves, members-renamed}
 use Rattle.graph_arena.specs.Arena.{AreBelow}
@@ -22,7 +22,7 @@ use Rattle.graph_arena.proofs.Keeping as keeping
 use Rattle.graph_canonicity.proofs.Places.{get-place, AreListed-left, AreListed-right}
 use Rattle.graph_canonicity.proofs.Renumbered.{order-numbered, instance-numbered, renumbered}
 use Rattle.graph_canonicity.proofs.Sameness.{place-get, listed-within}
-use Rattle.graph_canonicity.proofs.IdRules.{IdRules, HaveTexts}
+use Rattle.graph_canonicity.proofs.TypeIds.{HaveTexts}
 use Rattle.graph_canonicity.proofs.Narrowed.{Narrow, members-narrowed}
 use Rattle.graph_canonicity.proofs.Upto.{upto, length-upto, place-upto, unlisted-upto}
 
@@ -70,20 +70,19 @@ class-renamed f (kept id bytes optionals table ∷ ss) = class-renamed f ss
 
 -- ---- what can be written, and read within a reach
 
--- where only sizes and known classes are read, the format has sizes and the first slice is known, and so all are
+-- where known classes alone are read, the first slice is of one, and so all are
 abbrev pub Asked : Reach → Format → List Slice → Type 0
 Asked all_slices format slices = Writable format slices
-Asked sized_known sliced slices = Compact slices
-Asked sized_known compact slices = ⊥
+Asked known_classes format slices = Compact slices
 
--- and each type id can stand as a text
-abbrev pub EachAsked : IdRules → Tables → Reach → Format → Graph → Type 0
-EachAsked ids t reach format g = (n : ℕ) → place (order g) n < length (order g) → Asked reach format (slices_of g.instances n) × HaveTexts ids t (slices_of g.instances n)
+-- and each type id is UTF-8
+abbrev pub EachAsked : Tables → Reach → Format → Graph → Type 0
+EachAsked t reach format g = (n : ℕ) → place (order g) n < length (order g) → Asked reach format (slices_of g.instances n) × HaveTexts t (slices_of g.instances n)
 
-texts-renamed : (ids : IdRules) (t : Tables) (f : ℕ → ℕ) (ss : List Slice) → HaveTexts ids t ss → HaveTexts ids t (map (renamed_slice f) ss)
-texts-renamed ids t f [] h = tt
-texts-renamed ids t f (known class content ∷ ss) h = (h.0, texts-renamed ids t f ss h.1)
-texts-renamed ids t f (kept id bytes optionals table ∷ ss) h = texts-renamed ids t f ss h
+texts-renamed : (t : Tables) (f : ℕ → ℕ) (ss : List Slice) → HaveTexts t ss → HaveTexts t (map (renamed_slice f) ss)
+texts-renamed t f [] h = tt
+texts-renamed t f (known class content ∷ ss) h = (h.0, texts-renamed t f ss h.1)
+texts-renamed t f (kept id bytes optionals table ∷ ss) h = texts-renamed t f ss h
 
 compact-renamed : (f : ℕ → ℕ) (ss : List Slice) → Compact ss → Compact (map (renamed_slice f) ss)
 compact-renamed f [] h = h
@@ -93,8 +92,7 @@ compact-renamed f (kept id bytes optionals table ∷ ss) h = h
 asked-renamed : (reach : Reach) (format : Format) (f : ℕ → ℕ) (ss : List Slice) → Asked reach format ss → Asked reach format (map (renamed_slice f) ss)
 asked-renamed all_slices sliced f ss h = tt
 asked-renamed all_slices compact f ss h = compact-renamed f ss h
-asked-renamed sized_known sliced f ss h = compact-renamed f ss h
-asked-renamed sized_known compact f ss h = absurd h
+asked-renamed known_classes format f ss h = compact-renamed f ss h
 
 -- ---- the form
 
@@ -161,12 +159,12 @@ form-moves t g declared (Some n) h =
     let class : class_of (slices_of (numbered ns g).instances (place ns n)) ≡ class_of (slices_of g.instances n) = ap class_of (instance-numbered ns g n h.1.0) ∙ class-renamed (place ns) (slices_of g.instances n) in
     (omega (arith, h.1.0, length-map ns (λ n. map (renamed_slice (place ns)) (slices_of g.instances n))), ap (class_fits t declared) class ∙ h.0.1)
 
-pub record Typed (ids : IdRules) (t : Tables) (shape : Shape) (reach : Reach) (format : Format) (g : Graph) : Type 0 where
+pub record Typed (t : Tables) (shape : Shape) (reach : Reach) (format : Format) (g : Graph) : Type 0 where
   pub typed : OfType t shape g
-  pub asked : (n : ℕ) → n < length g.instances → Asked reach format (slices_of g.instances n) × HaveTexts ids t (slices_of g.instances n)
+  pub asked : (n : ℕ) → n < length g.instances → Asked reach format (slices_of g.instances n) × HaveTexts t (slices_of g.instances n)
 
-pub form-typed : (ids : IdRules) (t : Tables) (shape : Shape) (reach : Reach) (format : Format) (g : Graph) → Reached g → OfType t shape g → EachAsked ids t reach format g → Typed ids t shape reach format (numbered (order g) g)
-form-typed ids t shape reach format g reached h asked =
+pub form-typed : (t : Tables) (shape : Shape) (reach : Reach) (format : Format) (g : Graph) → Reached g → OfType t shape g → EachAsked t reach format g → Typed t shape reach format (numbered (order g) g)
+form-typed t shape reach format g reached h asked =
     let ns : List ℕ = order g in
     let is : IsOrder g ns = reached.is in
     let k : Graph = numbered ns g in
@@ -187,7 +185,7 @@ form-typed ids t shape reach format g reached h asked =
           let slices : slices_of k.instances n ≡ map (renamed_slice (place ns)) (slices_of g.instances m.name) = ap (slices_of k.instances) m.is ∙ instance-numbered ns g m.name m.listed in
           let one = asked m.name m.listed in (
             subst (Asked reach format) (sym slices) (asked-renamed reach format (place ns) (slices_of g.instances m.name) one.0),
-            subst (HaveTexts ids t) (sym slices) (texts-renamed ids t (place ns) (slices_of g.instances m.name) one.1),
+            subst (HaveTexts t) (sym slices) (texts-renamed t (place ns) (slices_of g.instances m.name) one.1),
           );
     }
 

@@ -2,7 +2,7 @@
 -- and each that has ended is that of the graph.
 use Rattle.std.proofs.Common.{ℕ, suc, ◌+◌, ◌<◌, ◌≤◌, ◌^◌, ◌≡◌, Bool, true, false, List, [], ◌∷◌, ◌++◌, length, refl, sym, ap, ◌∙◌, subst, arith, inl, inr, Option, Some, None}
 use Rattle.std.specs.Prelude.{slice_get, if◌then◌else◌}
-use Rattle.std.specs.Str.{bytes_eq}
+use Rattle.std.specs.Str.{IsUtf8, bytes_eq}
 use Rattle.std.proofs.lemmas.Bool.{cases_lt}
 use Rattle.std.proofs.lemmas.List.{length-append}
 use Rattle.std.proofs.lemmas.Slice.Eq.{bytes_eq-Decides}
@@ -12,14 +12,14 @@ use Rattle.ice_prims.specs.Bytes.{size_bytes, text_bytes}
 use Rattle.ice_graphs.specs.Graph.{Slice, Graph}
 use Rattle.ice_graphs.specs.References.{Reference, with_met}
 use Rattle.ice_graphs.specs.Flags.{IdForm, no_id, as_text, as_index, has_id}
-use Rattle.ice_graphs.specs.TypeIds.{with_id}
+use Rattle.ice_graphs.specs.TypeIds.{with_id, SpellsId}
 use Rattle.ice_graphs.specs.Instances.{slices_of, AllFit}
 use Rattle.ice_graphs.specs.Visiting.{visit_each}
 use Rattle.ice_graphs.specs.Canonical.{Pen, head_as, written_head}
 use Rattle.ice_parts.specs.Parts.{Part}
 use Rattle.ice_encoding.specs.Writing.{Piece, exactly, ◌>>◌}
 use Rattle.ice_graphs.specs.Members.{with_length}
-use Rattle.graph_canonicity.proofs.IdRules.{Spelled, IdRules}
+use Rattle.graph_canonicity.proofs.TypeIds.{Spelled, text_spelled, index_spelled}
 use Rattle.graph_canonicity.proofs.Upto.{upto, upto-one, Grows, parts}
 use Rattle.graph_canonicity.proofs.WrittenValues.{Relation, Chain, Behind, Rules}
 
@@ -154,32 +154,31 @@ module _ (t : Tables) (k : Graph) where
         let g = good from p j stands is_ready run small in
         record { end = with_met ms g.end; spelled = (g.end, g.spelled, refl); count = g.count; begun = g.begun; ids = g.ids; many = g.many; earlier = g.earlier; inside = g.inside; fit = λ h. all_fit_more t k.instances g.end.met ms (g.fit h) fits }
 
-    module _ (ids : IdRules) where
-      -- the flags, and the type id
-      abbrev pub Head : (IdForm → Type 0) → (IdForm → ℕ) → List ℕ → Relation Spelled
-      Head Ok flags id b from to = (form : IdForm) × Ok form × (id_bytes : List ℕ) × (b ≡ flags form ∷ id_bytes) × ids.Spells form id_bytes id from to
+    -- the flags, and the type id
+    abbrev pub Head : (IdForm → Type 0) → (IdForm → ℕ) → List ℕ → Relation Spelled
+    Head Ok flags id b from to = (form : IdForm) × Ok form × (id_bytes : List ℕ) × (b ≡ flags form ∷ id_bytes) × SpellsId form id_bytes id from to
 
-      abbrev pub HasId : IdForm → Type 0
-      HasId form = has_id form ≡ true
+    abbrev pub HasId : IdForm → Type 0
+    HasId form = has_id form ≡ true
 
-      head_cases : (flags : IdForm → ℕ) (id : List ℕ) → ids.Is id → (from : Spelled) (p : Pen) (j : ℕ) → Stands from p → upto p.begun ≡ upto j → (o : Option ℕ) → place_of p.ids id ≡ o → length p.ids + length (head_as o flags id p).0 < 2 ^ 31
-          → Goes (Head HasId flags id) from p (head_as o flags id p) j
-      head_cases flags id text from p j stands run (Some i) e small =
-          let at = place_is p.ids id i e in
-          let row : slice_get from.ids i ≡ Some id = ap (λ (ids : List (List ℕ)). slice_get ids i) stands.ids ∙ at.0 in
-          still (Head HasId flags id) from from p p (flags as_index ∷ size_bytes (suc i)) j stands run (as_index, refl, size_bytes (suc i), refl, ids.index i id from (omega (arith, at.1, small)) row) refl refl refl stands.ids (omega arith)
-      head_cases flags id text from p j stands run None e small =
-          let q : Pen = record { begun = p.begun; ids = p.ids ++ id ∷ [] } in
-          let lt : length id < 2 ^ 31 = omega (arith, small, length-append (size_bytes (length id)) id) in
-          still (Head HasId flags id) from (with_id id from) p q (flags as_text ∷ text_bytes id) j stands run
-          (as_text, refl, text_bytes id, refl, ids.text id from text lt) refl refl refl (ap (λ (ids : List (List ℕ)). ids ++ id ∷ []) stands.ids) (omega (arith, length-append p.ids (id ∷ [])))
+    head_cases : (flags : IdForm → ℕ) (id : List ℕ) → IsUtf8 id → (from : Spelled) (p : Pen) (j : ℕ) → Stands from p → upto p.begun ≡ upto j → (o : Option ℕ) → place_of p.ids id ≡ o → length p.ids + length (head_as o flags id p).0 < 2 ^ 31
+        → Goes (Head HasId flags id) from p (head_as o flags id p) j
+    head_cases flags id text from p j stands run (Some i) e small =
+        let at = place_is p.ids id i e in
+        let row : slice_get from.ids i ≡ Some id = ap (λ (ids : List (List ℕ)). slice_get ids i) stands.ids ∙ at.0 in
+        still (Head HasId flags id) from from p p (flags as_index ∷ size_bytes (suc i)) j stands run (as_index, refl, size_bytes (suc i), refl, index_spelled i id from (omega (arith, at.1, small)) row) refl refl refl stands.ids (omega arith)
+    head_cases flags id text from p j stands run None e small =
+        let q : Pen = record { begun = p.begun; ids = p.ids ++ id ∷ [] } in
+        let lt : length id < 2 ^ 31 = omega (arith, small, length-append (size_bytes (length id)) id) in
+        still (Head HasId flags id) from (with_id id from) p q (flags as_text ∷ text_bytes id) j stands run
+        (as_text, refl, text_bytes id, refl, text_spelled id from text lt) refl refl refl (ap (λ (ids : List (List ℕ)). ids ++ id ∷ []) stands.ids) (omega (arith, length-append p.ids (id ∷ [])))
 
-      pub head_good : (flags : IdForm → ℕ) (id : List ℕ) → ids.Is id → Good (written_head flags id) [] (Head HasId flags id)
-      head_good flags id text from p j stands is_ready run small = head_cases flags id text from p j stands run (place_of p.ids id) refl small
+    pub head_good : (flags : IdForm → ℕ) (id : List ℕ) → IsUtf8 id → Good (written_head flags id) [] (Head HasId flags id)
+    head_good flags id text from p j stands is_ready run small = head_cases flags id text from p j stands run (place_of p.ids id) refl small
 
-      abbrev pub IsNone : IdForm → Type 0
-      IsNone form = form ≡ no_id
+    abbrev pub IsNone : IdForm → Type 0
+    IsNone form = form ≡ no_id
 
-      -- no type id
-      pub bare_good : (flags : IdForm → ℕ) → Good (exactly (flags no_id ∷ [])) [] (Head IsNone flags [])
-      bare_good flags = exact_good (flags no_id ∷ []) (Head IsNone flags []) (λ s. (no_id, refl, [], refl, ids.none s))
+    -- no type id
+    pub bare_good : (flags : IdForm → ℕ) → Good (exactly (flags no_id ∷ [])) [] (Head IsNone flags [])
+    bare_good flags = exact_good (flags no_id ∷ []) (Head IsNone flags []) (λ s. (no_id, refl, [], refl, (refl, refl, refl)))

@@ -6,8 +6,7 @@ pub mod Once
 pub mod Narrowed
 pub mod WrittenValues
 pub mod WrittenMembers
-pub mod IdRules
-pub mod AnyIds
+pub mod TypeIds
 pub mod Weaker
 pub mod Named
 pub mod Formed

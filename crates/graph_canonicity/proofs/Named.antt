@@ -1,5 +1,5 @@
--- In a schema each class is found by its type id, and what is found has it.
-use Rattle.std.proofs.Common.{ℕ, zero, suc, ◌≡◌, Bool, true, false, List, [], ◌∷◌, map, refl, sym, ap, ◌∙◌, subst, arith, Option, Some, None}
+-- In a schema each class is found by its type id.
+use Rattle.std.proofs.Common.{ℕ, zero, suc, ◌≡◌, Bool, true, false, List, [], ◌∷◌, map, refl, sym, ap, ◌∙◌, arith, Option, Some, None}
 use Rattle.std.specs.Prelude.{slice_get, if◌then◌else◌}
 use Rattle.std.specs.Str.{bytes_eq}
 use Rattle.std.proofs.lemmas.Bool.{false≢true}
@@ -9,11 +9,6 @@ use Rattle.ice_types.specs.declared.kind.RowRef.TheVariants as rows
 use Rattle.ice_types.specs.Tables.{Tables}
 use Rattle.ice_types.specs.Rules.{IsSchema}
 use Rattle.ice_graphs.specs.Classes.{one_further, place_of, class_named}
-use Rattle.ice_graphs.specs.Canonical.{id_in}
-
-further_of : {C : Type 0} (o : Option ℕ) (i : ℕ) → one_further o ≡ Some i → ((j : ℕ) → o ≡ Some j → suc j ≡ i → C) → C
-further_of None i e go = absurd cc
-further_of (Some j) i e go = go j refl cc
 
 -- no two rows have one id
 abbrev Apart : List ClassDecl → Type 0
@@ -33,7 +28,7 @@ own_place [] apart class d is = absurd cc
 own_place (c ∷ ds) apart class d is =
     place_by c d ds apart (λ at at_is. own_place ds (λ a b x y x_is y_is same. less a b (apart (suc a) (suc b) x y x_is y_is same)) at d at_is) (bytes_eq c.id d.id) refl class is
 
-id_of_row : (ds : List ClassDecl) (at : ℕ) (d : ClassDecl) → slice_get ds at ≡ Some d → slice_get (map (λ c. c.id) ds) at ≡ Some d.id
+pub id_of_row : (ds : List ClassDecl) (at : ℕ) (d : ClassDecl) → slice_get ds at ≡ Some d → slice_get (map (λ c. c.id) ds) at ≡ Some d.id
 id_of_row [] at d is = absurd cc
 id_of_row (c ∷ ds) zero d is = ap (λ (o : Option ClassDecl). elim o [ None ↦ None | Some x ↦ Some x.id ]) is
 id_of_row (c ∷ ds) (suc at) d is = id_of_row ds at d is
@@ -51,14 +46,3 @@ are_named t rules class d is = own_place t.classes apart class d is
     apart : Apart t.classes
     apart = λ a b c d a_is b_is same. same_row a b
         (rules.apart d.id (rows.Class a) (rows.Class b) (id_of_row t.classes a c a_is ∙ ap Some same) (id_of_row t.classes b d b_is))
-
--- the class that is found has this type id
-id_by : (c : ClassDecl) (ds : List ClassDecl) (id : List ℕ) → ((at : ℕ) → place_of (map (λ x. x.id) ds) id ≡ Some at → id_in (slice_get ds at) ≡ id)
-    → (b : Bool) → bytes_eq c.id id ≡ b → (class : ℕ) → (if b then Some 0 else one_further (place_of (map (λ x. x.id) ds) id)) ≡ Some class → id_in (slice_get (c ∷ ds) class) ≡ id
-id_by c ds id later true same zero is = (bytes_eq-Decides c.id id).0 same
-id_by c ds id later true same (suc class) is = absurd cc
-id_by c ds id later false other class is = further_of (place_of (map (λ x. x.id) ds) id) class is (λ at at_is next. subst (λ (n : ℕ). id_in (slice_get (c ∷ ds) n) ≡ id) next (later at at_is))
-
-pub found_id : (ds : List ClassDecl) (id : List ℕ) (class : ℕ) → place_of (map (λ x. x.id) ds) id ≡ Some class → id_in (slice_get ds class) ≡ id
-found_id [] id class is = absurd cc
-found_id (c ∷ ds) id class is = id_by c ds id (found_id ds id) (bytes_eq c.id id) refl class is

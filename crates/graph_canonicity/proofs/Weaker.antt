@@ -1,6 +1,5 @@
--- What is spelled within a reach, with type ids that are UTF-8, is spelled within the whole reach, with any type ids.
-use Rattle.std.proofs.Common.{ℕ, zero, suc, ◌≡◌, ◌&&◌, ◌||◌, ◌==◌, Bool, true, false, List, [], ◌∷◌, map, replicate, refl, Option, Some, None, inl, inr}
-use Rattle.std.specs.Prelude.{not, nat_lt}
+-- What is spelled within a reach is spelled within the whole.
+use Rattle.std.proofs.Common.{ℕ, zero, suc, ◌≡◌, ◌==◌, Bool, true, false, List, [], ◌∷◌, map, replicate, refl, Option, Some, None, inl, inr}
 use Rattle.ice_types.specs.declared.kind.TypeRef.{TypeRef}
 use Rattle.ice_types.specs.declared.kind.TypeRef.TheVariants as kinds
 use Rattle.ice_types.specs.declared.declarations.Member.{Member}
@@ -18,13 +17,12 @@ use Rattle.ice_optionals.specs.Members.{required_kinds, IfFlagged, SpellsSliceMe
 use Rattle.ice_graphs.specs.Classes.{own_members}
 use Rattle.ice_graphs.specs.Graph.{Slice}
 use Rattle.ice_graphs.specs.References.{State, Reference, SpellsEntries, SpellsTable, SpellsInline}
-use Rattle.ice_graphs.specs.Flags.{IdForm, no_id, as_text, as_index, as_number, Flags, Reach, all_slices, sized_known, Before, first, only_kept, derived, has_id, may_stand, SpellsFlags}
-use Rattle.ice_graphs.specs.TypeIds.{SpellsId, class_in, can_be_read, before_next}
+use Rattle.ice_graphs.specs.Flags.{Flags, Reach, all_slices, known_classes, Before, first}
+use Rattle.ice_graphs.specs.TypeIds.{class_in, can_be_read, before_next}
 use Rattle.ice_graphs.specs.Slices.{SpellsBody, SpellsSlices, SpellsInstance}
 use Rattle.ice_graphs.specs.Slices.{Behind as Others}
 use Rattle.ice_graphs.specs.Instances.{instances}
-use Rattle.graph_canonicity.proofs.IdRules.{Spelled, SlicesBy, InstanceBy}
-use Rattle.graph_canonicity.proofs.AnyIds.{AnyId, any_instances}
+use Rattle.graph_canonicity.proofs.TypeIds.{Spelled}
 
 -- what is spelled one way is spelled the other
 abbrev pub Goes : {S A : Type 0} → Speller S A → Speller S A → Type 0
@@ -110,35 +108,10 @@ module _ {R S : Type 0} (port other : Port R S) (t : Tables) (refers : (declared
 
 -- ---- what is asked within a reach, is there within the whole
 
-may_more : (reach : Reach) (before : Before) (f : Flags) → may_stand reach before f ≡ true → may_stand all_slices before f ≡ true
-may_more all_slices before f h = h
-may_more sized_known first f h = first_more (has_id f.id) f.has_size (not f.has_table) h
-  where
-    first_more : (id sized bare : Bool) → (id && (sized || (false && bare))) ≡ true → (id && (sized || (true && bare))) ≡ true
-    first_more true true bare h = refl
-    first_more true false bare h = absurd cc
-    first_more false sized bare h = absurd cc
-may_more sized_known only_kept f h = h
-may_more sized_known (derived true base) f h = h
-may_more sized_known (derived false base) f h = h
-
 read_more : (reach : Reach) (class : Option ℕ) (f : Flags) → can_be_read reach class f ≡ true → can_be_read all_slices class f ≡ true
 read_more all_slices class f h = h
-read_more sized_known None f h = absurd cc
-read_more sized_known (Some class) f h = refl
-
-with_may : (small may more : Bool) → (may ≡ true → more ≡ true) → (small && may) ≡ true → (small && more) ≡ true
-with_may true may more step h = step h
-with_may false may more step h = absurd cc
-
-flags_more : (reach : Reach) (before : Before) (bytes : List ℕ) (f : Flags) → SpellsFlags (may_stand reach before) bytes f → SpellsFlags (may_stand all_slices before) bytes f
-flags_more reach before bytes f h = (h.0, h.1, h.2, with_may (nat_lt h.0 64) (may_stand reach before f) (may_stand all_slices before f) (may_more reach before f) h.3)
-
-id_goes : (form : IdForm) → Goes (SpellsId form) (AnyId form)
-id_goes no_id bytes id from to h = h
-id_goes as_text bytes id from to h = ((h.0.0, h.0.3, h.0.1), h.1)
-id_goes as_index bytes id from to h = h
-id_goes as_number bytes id from to h = h
+read_more known_classes None f h = absurd cc
+read_more known_classes (Some class) f h = refl
 
 module _ (t : Tables) (reach : Reach) where
   module _ (port other : Port (State ℕ) Spelled) (refers : (declared : Option ℕ) → Goes (port.Spells declared) (other.Spells declared)) where
@@ -160,30 +133,30 @@ module _ (t : Tables) (reach : Reach) where
     behind_goes Next Next' next true ahead bytes ss from to h = h
     behind_goes Next Next' next false ahead bytes ss from to h = next ahead bytes ss from to h
 
-    slices_go : (n : ℕ) (ahead : Before) → Goes (SpellsSlices port t reach n ahead) (SlicesBy AnyId other t all_slices n ahead)
+    slices_go : (n : ℕ) (ahead : Before) → Goes (SpellsSlices port t reach n ahead) (SpellsSlices other t all_slices n ahead)
     slices_go zero ahead bytes ss from to h = h
-    slices_go (suc n) ahead bytes ss from to (f, a, b, mid, parts, (flags, first_is), (id, c, d, next, cut, is_id, (base, (read, (ends, (slice, g, h, end, pieces, body, (others, is, rest))))))) =
+    slices_go (suc n) ahead bytes ss from to (f, a, b, mid, parts, flags, (id, c, d, next, cut, is_id, (base, (read, (ends, (slice, g, h, end, pieces, body, (others, is, rest))))))) =
         let class = class_in t ahead id in (
           f,
           a,
           b,
           mid,
           parts,
-          (flags_more reach ahead a f flags, first_is),
+          flags,
           (
             id,
             c,
             d,
             next,
             cut,
-            id_goes f.id c id mid next is_id,
+            is_id,
             (
               base,
               (
                 read_more reach class f read,
                 (
                   ends,
-                  (slice, g, h, end, pieces, body_goes f id f.has_size class g slice next end body, (others, is, behind_goes (SpellsSlices port t reach n) (SlicesBy AnyId other t all_slices n) (slices_go n) f.is_last (before_next t class f) h others end to rest)),
+                  (slice, g, h, end, pieces, body_goes f id f.has_size class g slice next end body, (others, is, behind_goes (SpellsSlices port t reach n) (SpellsSlices other t all_slices n) (slices_go n) f.is_last (before_next t class f) h others end to rest)),
                 ),
               ),
             ),
@@ -195,11 +168,11 @@ module _ (t : Tables) (reach : Reach) where
   inline_goes limit Slices Slices' one declared bytes (Some n) from to (inl (ss, front, rest, end, parts, size, number, room, h, ends)) = inl (ss, front, rest, end, parts, size, number, room, one rest ss _ end h, ends)
   inline_goes limit Slices Slices' one declared bytes (Some n) from to (inr h) = inr h
 
-  instances_go : (limit more : ℕ) (declared : Option ℕ) → Goes ((instances t reach limit more).Spells declared) ((any_instances t all_slices limit more).Spells declared)
+  instances_go : (limit more : ℕ) (declared : Option ℕ) → Goes ((instances t reach limit more).Spells declared) ((instances t all_slices limit more).Spells declared)
   instances_go limit zero declared = inline_goes limit (λ bytes slices from to. ⊥) (λ bytes slices from to. ⊥) (λ bytes slices from to h. h) declared
   instances_go limit (suc more) declared =
-      inline_goes limit (SpellsInstance (instances t reach limit more) t reach) (InstanceBy AnyId (any_instances t all_slices limit more) t all_slices)
-      (λ bytes ss from to h. (h.0, slices_go (instances t reach limit more) (any_instances t all_slices limit more) (instances_go limit more) h.0 first bytes ss from to h.1)) declared
+      inline_goes limit (SpellsInstance (instances t reach limit more) t reach) (SpellsInstance (instances t all_slices limit more) t all_slices)
+      (λ bytes ss from to h. (h.0, slices_go (instances t reach limit more) (instances t all_slices limit more) (instances_go limit more) h.0 first bytes ss from to h.1)) declared
 
-  pub content_weaker : (limit more : ℕ) (shape : Shape) → Goes (SpellsContent (instances t reach limit more) t shape) (SpellsContent (any_instances t all_slices limit more) t shape)
-  content_weaker limit more shape = content_goes (instances t reach limit more) (any_instances t all_slices limit more) t (instances_go limit more) shape
+  pub content_weaker : (limit more : ℕ) (shape : Shape) → Goes (SpellsContent (instances t reach limit more) t shape) (SpellsContent (instances t all_slices limit more) t shape)
+  content_weaker limit more shape = content_goes (instances t reach limit more) (instances t all_slices limit more) t (instances_go limit more) shape

@@ -13,12 +13,12 @@ use Rattle.ice_graphs.specs.Graph.{Slice, Graph}
 use Rattle.ice_graphs.specs.Names.{listed_name, names_of, instance_names}
 use Rattle.ice_graphs.specs.References.{met_at, opening, with_met, with_ended, replaced, beginning}
 use Rattle.ice_graphs.specs.Flags.{Reach}
-use Rattle.ice_graphs.specs.Instances.{slices_of, class_of, class_fits, AllFit}
+use Rattle.ice_graphs.specs.Instances.{instances, slices_of, class_of, class_fits, AllFit}
 use Rattle.ice_graphs.specs.Visiting.{visit_each, visit_at, most}
 use Rattle.ice_graphs.specs.Typed.{AreMembers, IsInstance, RefersIn}
 use Rattle.ice_graphs.specs.Canonical.{Pen, Format, put_inline, written_instance, with_one_begun, blank, bytes_of}
 use Rattle.graph_arena.specs.Arena.{AreBelow}
-use Rattle.graph_canonicity.proofs.IdRules.{Spelled, IdRules, HaveTexts, Ports}
+use Rattle.graph_canonicity.proofs.TypeIds.{Spelled, HaveTexts, null_at, back_at}
 use Rattle.graph_canonicity.proofs.Named.{AreNamed}
 use Rattle.graph_canonicity.proofs.Formed.{Asked}
 use Rattle.graph_canonicity.proofs.Upto.{upto, upto-one, visit-grows}
@@ -54,8 +54,8 @@ size_long n = by_test (ltb n 255)
     by_test true = omega arith
     by_test false = omega arith
 
-module _ (ids : IdRules) (t : Tables) (named : AreNamed t) (reach : Reach) (format : Format) (k : Graph) (room : ℕ) (ports : Ports ids t reach room) (fits : length k.instances ≤ room) (small_graph : length k.instances + 2 < 2 ^ 31)
-    (typed : (n : ℕ) → n < length k.instances → IsInstance t (RefersIn t k.instances) (slices_of k.instances n)) (asked : (n : ℕ) → n < length k.instances → Asked reach format (slices_of k.instances n) × HaveTexts ids t (slices_of k.instances n))
+module _ (t : Tables) (named : AreNamed t) (reach : Reach) (format : Format) (k : Graph) (room : ℕ) (fits : length k.instances ≤ room) (small_graph : length k.instances + 2 < 2 ^ 31)
+    (typed : (n : ℕ) → n < length k.instances → IsInstance t (RefersIn t k.instances) (slices_of k.instances n)) (asked : (n : ℕ) → n < length k.instances → Asked reach format (slices_of k.instances n) × HaveTexts t (slices_of k.instances n))
     (range : (n : ℕ) → n < length k.instances → AreBelow (length k.instances) (instance_names (slices_of k.instances n))) where
   abbrev limit : ℕ
   limit = length k.instances
@@ -82,7 +82,7 @@ module _ (ids : IdRules) (t : Tables) (named : AreNamed t) (reach : Reach) (form
 
   abbrev GoesAt : ℕ → ℕ → Option ℕ → Option ℕ → Type 0
   GoesAt depth more declared n = (from : Spelled) (p : Pen) (j : ℕ) → Stands t k from p → Ready depth more p.begun → visit_each (visit_at depth k) (listed_name n) (upto p.begun) ≡ upto j → length p.ids + length (refer depth n p).0 < 2 ^ 31
-      → Goes t k (λ b from to. (ports.port more).Spells declared b n from to) from p (refer depth n p) j
+      → Goes t k (λ b from to. (instances t reach room more).Spells declared b n from to) from p (refer depth n p) j
 
   abbrev Rising : ℕ → ℕ → Type 0
   Rising depth more = (declared n : Option ℕ) → RefersIn t k.instances declared n → GoesAt depth more declared n
@@ -96,12 +96,12 @@ module _ (ids : IdRules) (t : Tables) (named : AreNamed t) (reach : Reach) (form
 
   -- one that has begun
   back : (depth more : ℕ) (declared : Option ℕ) (n : ℕ) → RefersIn t k.instances declared (Some n) → (from : Spelled) (p : Pen) (j : ℕ) → Stands t k from p → n < p.begun → visit_at depth k n (upto p.begun) ≡ upto j
-      → Goes t k (λ b from to. (ports.port more).Spells declared b (Some n) from to) from p (put_named true depth n p) j
+      → Goes t k (λ b from to. (instances t reach room more).Spells declared b (Some n) from to) from p (put_named true depth n p) j
   back depth more declared n refers from p j stands lt run =
       let j_is = upto-one p.begun j (sym (listed-stays depth k n p.begun lt) ∙ run) in
       record {
         end = with_met (met_at tt declared n ∷ []) from;
-        spelled = subst (λ (b : List ℕ). (ports.port more).Spells declared b (Some n) from (with_met (met_at tt declared n ∷ []) from)) (sym (append-nil (size_bytes (suc (suc n))))) (ports.back more declared (size_bytes (suc (suc n))) n from (with_met (met_at tt declared n ∷ []) from) (size_spelled (suc (suc n)) (omega (arith, refers.0, small_graph)), omega (arith, stands.count, lt), refl));
+        spelled = subst (λ (b : List ℕ). (instances t reach room more).Spells declared b (Some n) from (with_met (met_at tt declared n ∷ []) from)) (sym (append-nil (size_bytes (suc (suc n))))) (back_at t reach room more declared (size_bytes (suc (suc n))) n from (with_met (met_at tt declared n ∷ []) from) (size_spelled (suc (suc n)) (omega (arith, refers.0, small_graph)), omega (arith, stands.count, lt), refl));
         count = stands.count ∙ j_is;
         begun = j_is;
         ids = stands.ids;
@@ -114,7 +114,7 @@ module _ (ids : IdRules) (t : Tables) (named : AreNamed t) (reach : Reach) (form
   -- one that begins
   begins : (depth more : ℕ) → Rising depth more → (declared : Option ℕ) (n : ℕ) → RefersIn t k.instances declared (Some n) → (from : Spelled) (p : Pen) (j : ℕ) → Stands t k from p → Ready (suc depth) (suc more) p.begun → p.begun ≤ n → visit_at (suc depth) k n (upto p.begun) ≡ upto j
       → length p.ids + length (put_named false (suc depth) n p).0 < 2 ^ 31
-      → Goes t k (λ b from to. (ports.port (suc more)).Spells declared b (Some n) from to) from p (put_named false (suc depth) n p) j
+      → Goes t k (λ b from to. (instances t reach room (suc more)).Spells declared b (Some n) from to) from p (put_named false (suc depth) n p) j
   begins depth more rising declared n refers from p j stands is_ready le run small =
       let slices : List Slice = slices_of k.instances n in
       let out = written_instance t format k (suc depth) n p in
@@ -124,14 +124,14 @@ module _ (ids : IdRules) (t : Tables) (named : AreNamed t) (reach : Reach) (form
       let run' : visit_each (visit_at depth k) (instance_names slices) (upto (suc p.begun)) ≡ upto j = ap (λ (m : ℕ). visit_each (visit_at depth k) (instance_names slices) (upto p.begun ++ m ∷ [])) (sym x.is) ∙ e in
       let start : Spelled = beginning tt declared from in
       let started : length start.instances ≡ suc p.begun = length-append from.instances ([] ∷ []) ∙ omega (arith, stands.count) in
-      let g = as_good ids t named reach k (visit_at depth k) (visit-grows depth k) (Ready depth more) (ready depth more) (ports.port more) (refer depth) rising (refer_long depth)
+      let g = as_good t named reach k (visit_at depth k) (visit-grows depth k) (Ready depth more) (ready depth more) (instances t reach room more) (refer depth) rising (refer_long depth)
       (λ ns i j h below run. once-run k limit depth [] ns i j h.0 tt below run) format slices (asked n refers.0).0 (asked n refers.0).1 (typed n refers.0) (range n refers.0) start (with_one_begun p) j (record { count = started; ids = stands.ids })
       (omega (arith, is_ready.0), omega (arith, is_ready.1)) run' (omega (arith, small, long)) in
       let at : n ≡ length from.instances = x.is ∙ sym stands.count in
       let below_end : n < length g.end.instances = omega (arith, g.count, x.is, x.below) in
       record {
         end = with_ended n slices g.end;
-        spelled = ports.begin more declared (size_bytes 1 ++ out.0) n from (with_ended n slices g.end) (slices, size_bytes 1, out.0, g.end, refl, size_spelled 1 (omega arith), at, lt-ltb n room (omega (arith, refers.0, fits)), g.spelled, refl);
+        spelled = inl (slices, size_bytes 1, out.0, g.end, refl, size_spelled 1 (omega arith), at, lt-ltb n room (omega (arith, refers.0, fits)), g.spelled, refl);
         count = replaced_length n slices g.end.instances ∙ g.count;
         begun = g.begun;
         ids = g.ids;
@@ -154,7 +154,7 @@ module _ (ids : IdRules) (t : Tables) (named : AreNamed t) (reach : Reach) (form
       let j_is = upto-one p.begun j run in
       record {
         end = from;
-        spelled = ports.null more declared from;
+        spelled = null_at t reach room more declared from;
         count = stands.count ∙ j_is;
         begun = j_is;
         ids = stands.ids;
@@ -164,19 +164,19 @@ module _ (ids : IdRules) (t : Tables) (named : AreNamed t) (reach : Reach) (form
         fit = λ h. h;
       }
   rising zero more declared (Some n) refers from p j stands is_ready run small =
-      by_begun (λ b from to. (ports.port more).Spells declared b (Some n) from to) from p j zero n (ltb n p.begun) small
+      by_begun (λ b from to. (instances t reach room more).Spells declared b (Some n) from to) from p j zero n (ltb n p.begun) small
       (λ e. back zero more declared n refers from p j stands (ltb-true n p.begun e) run) (λ e less. absurd (omega (arith, ltb-false n p.begun e, refers.0, is_ready.0)))
   rising (suc depth) zero declared (Some n) refers from p j stands is_ready run small =
-      by_begun (λ b from to. (ports.port 0).Spells declared b (Some n) from to) from p j (suc depth) n (ltb n p.begun) small
+      by_begun (λ b from to. (instances t reach room 0).Spells declared b (Some n) from to) from p j (suc depth) n (ltb n p.begun) small
       (λ e. back (suc depth) zero declared n refers from p j stands (ltb-true n p.begun e) run) (λ e less. absurd (omega (arith, ltb-false n p.begun e, refers.0, is_ready.1)))
   rising (suc depth) (suc more) declared (Some n) refers from p j stands is_ready run small =
-      by_begun (λ b from to. (ports.port (suc more)).Spells declared b (Some n) from to) from p j (suc depth) n (ltb n p.begun) small
+      by_begun (λ b from to. (instances t reach room (suc more)).Spells declared b (Some n) from to) from p j (suc depth) n (ltb n p.begun) small
       (λ e. back (suc depth) (suc more) declared n refers from p j stands (ltb-true n p.begun e) run) (λ e less. begins depth more (rising depth more) declared n refers from p j stands is_ready (ltb-false n p.begun e) run less)
 
   -- the whole, where visits of the roots list all
   pub content_spelled : (more : ℕ) (shape : Shape) → AreMembers t (RefersIn t k.instances) shape k.roots → limit ≤ most → limit ≤ more → visit_each (visit_at most k) (names_of k.roots) [] ≡ upto limit → length (bytes_of t shape format k) < 2 ^ 31
-      → (end : Spelled) × SpellsContent (ports.port more) t shape (bytes_of t shape format k) k.roots opening end × (end.instances ≡ k.instances) × AllFit t k.instances end.met
+      → (end : Spelled) × SpellsContent (instances t reach room more) t shape (bytes_of t shape format k) k.roots opening end × (end.instances ≡ k.instances) × AllFit t k.instances end.met
   content_spelled more shape h deep wide run small =
-      let g = content_good (inline_rules t k (visit_at most k) (visit-grows most k) (Ready most more) (ready most more)) t (ports.port more) (refer most) (RefersIn t k.instances) (rising most more) shape k.roots h
+      let g = content_good (inline_rules t k (visit_at most k) (visit-grows most k) (Ready most more) (ready most more)) t (instances t reach room more) (refer most) (RefersIn t k.instances) (rising most more) shape k.roots h
       opening blank limit (record { count = refl; ids = refl }) (omega (arith, deep), omega (arith, wide)) run (omega (arith, small)) in
       (g.end, g.spelled, ext_get_or [] g.end.instances k.instances g.count (λ n lt. g.inside n (omega arith) (omega (arith, g.count, lt))), g.fit tt)

@@ -1,19 +1,18 @@
 //! What the canonical bytes of a graph tell of it, one law a function.
 
 ghost use Rattle.std.specs.Prelude.{◌≡◌, ◌≤◌, ◌<◌, ◌^◌, ◌↔◌, ℕ, List, length};
-ghost use Rattle.std.specs.Str.{IsUtf8};
 ghost use Rattle.ice_types.specs.declared.declarations.Shape.{Shape};
 ghost use Rattle.ice_types.specs.Tables.{Tables};
-ghost use Rattle.ice_types.specs.Rules.{IsSchema, EachRow};
+ghost use Rattle.ice_types.specs.Rules.{IsSchema};
 ghost use Rattle.ice_prims.specs.Rest.{IsBytes};
 ghost use Rattle.ice_parts.specs.declared.limits.TheConstants.{LARGEST};
 ghost use Rattle.ice_graphs.specs.Graph.{Graph};
-ghost use Rattle.ice_graphs.specs.Flags.{Reach, all_slices, sized_known};
+ghost use Rattle.ice_graphs.specs.Flags.{Reach, all_slices, known_classes};
 ghost use Rattle.ice_graphs.specs.Instances.{most_instances, SpellsNumbered};
 ghost use Rattle.ice_graphs.specs.Visiting.{most, order};
 ghost use Rattle.ice_graphs.specs.Same.{Same, Spells};
 ghost use Rattle.ice_graphs.specs.Typed.{OfType};
-ghost use Rattle.ice_graphs.specs.Canonical.{Format, sliced, compact, graph_bytes, IsWritable};
+ghost use Rattle.ice_graphs.specs.Canonical.{Format, compact, graph_bytes, IsWritable};
 
 /// Two graphs that the same bytes spell are the same but for the names of their instances.
 pub fn spelled_same()
@@ -39,33 +38,33 @@ pub fn equal_graphs()
 {}
 
 /// Within the limits, the canonical encapsulation of a graph of a type spells it. Where each instance that
-/// is reached is of known classes alone, that in sliced format does so for those who read no other slices.
+/// is reached is of known classes alone, it does so also for those who read no others, in each format.
 /// Whoever reads it, of these, reads the same graph.
 pub fn graphs_canonical()
     ensures all { (t : Tables) (shape : Shape) (format : Format) (g : Graph)
-        → IsSchema t → EachRow t.classes (λ c. IsUtf8 c.id) → OfType t shape g → IsWritable format g
+        → IsSchema t → OfType t shape g → IsWritable format g
         → length (order g) ≤ most_instances → length (graph_bytes t shape format g) ≤ LARGEST
         → Spells t all_slices shape (graph_bytes t shape format g) g }
-    ensures known { (t : Tables) (shape : Shape) (g : Graph)
-        → IsSchema t → EachRow t.classes (λ c. IsUtf8 c.id) → OfType t shape g → IsWritable compact g
-        → length (order g) ≤ most_instances → length (graph_bytes t shape sliced g) ≤ LARGEST
-        → Spells t sized_known shape (graph_bytes t shape sliced g) g }
+    ensures known { (t : Tables) (shape : Shape) (format : Format) (g : Graph)
+        → IsSchema t → OfType t shape g → IsWritable compact g
+        → length (order g) ≤ most_instances → length (graph_bytes t shape format g) ≤ LARGEST
+        → Spells t known_classes shape (graph_bytes t shape format g) g }
     ensures only { (t : Tables) (reach : Reach) (shape : Shape) (format : Format) (g h : Graph)
         → IsSchema t → OfType t shape g → IsWritable format g → length (order g) ≤ most_instances
         → SpellsNumbered t reach shape (graph_bytes t shape format g) h → Same h g }
 {}
 
 /// What was read, and is written in a format in which it can be, is the same graph: the bytes spell it, and
-/// whoever reads them reads the same. What was read of slices with sizes and of known classes alone, and is
-/// written in sliced format, can be read so again.
+/// whoever reads them reads the same. What was read of known classes alone, with sizes or without, and is
+/// written in either format, can be read so again.
 pub fn graphs_relayed()
     ensures spelled { (t : Tables) (reach : Reach) (shape : Shape) (format : Format) (bytes : List ℕ) (g : Graph)
-        → IsSchema t → EachRow t.classes (λ c. IsUtf8 c.id) → IsBytes bytes → SpellsNumbered t reach shape bytes g
+        → IsSchema t → IsBytes bytes → SpellsNumbered t reach shape bytes g
         → IsWritable format g → length (graph_bytes t shape format g) ≤ LARGEST
         → Spells t all_slices shape (graph_bytes t shape format g) g }
-    ensures known { (t : Tables) (shape : Shape) (bytes : List ℕ) (g : Graph)
-        → IsSchema t → IsBytes bytes → SpellsNumbered t sized_known shape bytes g
-        → length (graph_bytes t shape sliced g) ≤ LARGEST → Spells t sized_known shape (graph_bytes t shape sliced g) g }
+    ensures known { (t : Tables) (shape : Shape) (format : Format) (bytes : List ℕ) (g : Graph)
+        → IsSchema t → IsBytes bytes → SpellsNumbered t known_classes shape bytes g
+        → length (graph_bytes t shape format g) ≤ LARGEST → Spells t known_classes shape (graph_bytes t shape format g) g }
     ensures same { (t : Tables) (reach again : Reach) (shape : Shape) (format : Format) (bytes : List ℕ) (g h : Graph)
         → IsSchema t → IsBytes bytes → SpellsNumbered t reach shape bytes g → IsWritable format g
         → SpellsNumbered t again shape (graph_bytes t shape format g) h → Same h g }

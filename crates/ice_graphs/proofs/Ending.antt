@@ -34,16 +34,22 @@ ended_ok (byte ∷ bytes) place x y e go = absurd cc
 -- ---- an input as a whole
 
 module _ {A : Type 0} (read : Rest → Result (A × Rest) Fault) (Spells : List ℕ → A → Type 0) where
-  pub whole_found : FoundPart read Spells → (bytes : List ℕ) (v : A) → IsBytes bytes → filled read (whole bytes) ≡ Ok v → Spells bytes v
-  whole_found found bytes v fits e =
-      then_ok (read (whole bytes)) (λ x. ended x.1.bytes x.1.place x.0) v e λ x x_is last.
+  pub left_found : FoundPart read Spells → (r : Rest) (v : A) → IsBytes r.bytes → filled read r ≡ Ok v → Spells r.bytes v
+  left_found found r v fits e =
+      then_ok (read r) (λ x. ended x.1.bytes x.1.place x.0) v e λ x x_is last.
       ended_ok x.1.bytes x.1.place x.0 v last λ none same.
-      let f = found (whole bytes) x fits x_is in
-      let all : f.0 ≡ bytes = sym (f.1.parts ∙ ap (λ (l : List ℕ). f.0 ++ l) none ∙ append-nil f.0) in
+      let f = found r x fits x_is in
+      let all : f.0 ≡ r.bytes = sym (f.1.parts ∙ ap (λ (l : List ℕ). f.0 ++ l) none ∙ append-nil f.0) in
       subst (λ (l : List ℕ). Spells l v) all (subst (Spells f.0) same f.2)
 
+  pub left_only : OnlyPart read Spells → (r : Rest) (v : A) → Spells r.bytes v → filled read r ≡ Ok v
+  left_only only r v h = rw (only r (ends r) r.bytes v (took_all r) h) refl
+
+  pub whole_found : FoundPart read Spells → (bytes : List ℕ) (v : A) → IsBytes bytes → filled read (whole bytes) ≡ Ok v → Spells bytes v
+  whole_found found bytes = left_found found (whole bytes)
+
   pub whole_only : OnlyPart read Spells → (bytes : List ℕ) (v : A) → Spells bytes v → filled read (whole bytes) ≡ Ok v
-  whole_only only bytes v h = rw (only (whole bytes) (ends (whole bytes)) bytes v (took_all (whole bytes)) h) refl
+  whole_only only bytes = left_only only (whole bytes)
 
 -- ---- both laws, where nothing is left
 

@@ -72,7 +72,7 @@ module _ (port : Port (State ℕ) (State (Unit {0}))) (same : port.seen ≡ seen
   Within steps before bytes slices from to = (n : ℕ) × (n ≤ steps) × RaisedSlices port t reach n before bytes slices from to
 
   abbrev Step : (Before → Spelled) → Before → Spelled
-  Step Next before = Followed (Plain (SpellsFlags (may_be_raised reach before))) (λ f. Followed (Plain SpellsText)
+  Step Next before = Followed (Plain (SpellsFlags (may_be_raised before))) (λ f. Followed (Plain SpellsText)
       (λ id. let class = class_named t id in FromId port t reach (BehindRaised (Next (before_next t class f)) (is_known_last t class f) class) (may_be_last t class f) before f id class))
 
   -- what is there of one count for some bytes is there where those follow
@@ -115,7 +115,7 @@ module _ (port : Port (State ℕ) (State (Unit {0}))) (same : port.seen ≡ seen
       no bytes v from to (suc n, le, h) = omega (arith, le)
   slices_lawful (suc steps) before =
       alike_to_end seen (raised_slices port t reach (suc steps) before) (Step (Within steps) before) (Within (suc steps) before) (step_there steps before) (step_back steps before)
-      (placed_to_end seen _ _ (λ flags_place. followed_to_end seen _ _ _ _ (plain_lawful seen (flags_at (may_be_raised reach before)) (SpellsFlags (may_be_raised reach before)) (flags_lawful (may_be_raised reach before)))
+      (placed_to_end seen _ _ (λ flags_place. followed_to_end seen _ _ _ _ (plain_lawful seen (flags_at (may_be_raised before)) (SpellsFlags (may_be_raised before)) (flags_lawful (may_be_raised before)))
       (λ f. placed_to_end seen _ _ (λ id_place. followed_to_end seen _ _ _ _ (plain_lawful seen text_at SpellsText text_lawful)
       (λ id. let class = class_named t id in from_lawful _ _ (behind_lawful (raised_slices port t reach steps (before_next t class f)) (Within steps (before_next t class f)) (slices_lawful steps (before_next t class f)) (is_known_last t class f) class)
       (may_be_last t class f) before f flags_place id_place id class)))))

@@ -3,7 +3,7 @@ use Rattle.std.proofs.Common.{◌≡◌, ℕ, List, [], ◌∷◌, ◌++◌, map
 use Rattle.ice_types.specs.declared.declarations.Shape.{Shape}
 use Rattle.ice_types.specs.Tables.{Tables}
 use Rattle.ice_prims.specs.Rest.{Rest, whole, Took, IsBytes}
-use Rattle.ice_prims.specs.Laws.{FoundPart}
+use Rattle.ice_prims.specs.Laws.{FoundPart, OnlyPart}
 use Rattle.ice_prims.proofs.Parts.{chosen, then_ok, ok_is}
 use Rattle.ice_encoding.specs.Port.{IsLawful}
 use Rattle.ice_encoding.specs.Encapsulation.{encapsulated_at}
@@ -14,7 +14,7 @@ use Rattle.ice_graphs.specs.Graph.{Slice, Graph}
 use Rattle.ice_graphs.specs.References.{State, Reference, opening, seen, unplaced}
 use Rattle.ice_graphs.specs.Flags.{Reach}
 use Rattle.ice_graphs.specs.Instances.{most_instances, references, fits, AllFit, earlier, misfit, unless_misfit, SpellsGraph, graph_at, SpellsNumbered, numbered_at}
-use Rattle.ice_graphs.proofs.Ending.{ends, took_all, ends_is, whole_found, whole_only}
+use Rattle.ice_graphs.proofs.Ending.{ends, took_all, ends_is, left_found, left_only}
 use Rattle.ice_graphs.proofs.Slices.{instances_seen, instances_lawful}
 
 pub references_seen : (t : Tables) (reach : Reach) → (references t reach).seen ≡ seen
@@ -79,11 +79,26 @@ module _ (t : Tables) (reach : Reach) (shape : Shape) where
       let instances_is : o.0.instances ≡ g.instances = ap (λ (u : State (Unit {0})). u.instances) end_is ∙ h.2 in
       graph_is r (ends r) g.roots o.0 o.2 (all_fit t o.0.instances o.0.met fit) ∙ (λ i. Ok (record { roots = g.roots; instances = instances_is i }, sym (ends_is r s bytes k none) i))
 
+  -- an encapsulation that begins where reading stands, whatever follows it
+  pub next_found : FoundPart (encapsulated_at (graph_at t reach shape)) (SpellsNumbered t reach shape)
+  next_found = encapsulated_found (graph_at t reach shape) (SpellsGraph t reach shape) graph_found
+
+  pub next_only : OnlyPart (encapsulated_at (graph_at t reach shape)) (SpellsNumbered t reach shape)
+  next_only = encapsulated_only (graph_at t reach shape) (SpellsGraph t reach shape) graph_only
+
+  -- one that is all that is left
+  pub last_found : (r : Rest) (g : Graph) → IsBytes r.bytes → numbered_at t reach shape r ≡ Ok g → SpellsNumbered t reach shape r.bytes g
+  last_found = left_found (encapsulated_at (graph_at t reach shape)) (SpellsNumbered t reach shape) next_found
+
+  pub last_only : (r : Rest) (g : Graph) → SpellsNumbered t reach shape r.bytes g → numbered_at t reach shape r ≡ Ok g
+  last_only = left_only (encapsulated_at (graph_at t reach shape)) (SpellsNumbered t reach shape) next_only
+
+  -- and that is all
   pub numbered_found : (bytes : List ℕ) (g : Graph) → IsBytes bytes → numbered_at t reach shape (whole bytes) ≡ Ok g → SpellsNumbered t reach shape bytes g
-  numbered_found = whole_found (encapsulated_at (graph_at t reach shape)) (SpellsNumbered t reach shape) (encapsulated_found (graph_at t reach shape) (SpellsGraph t reach shape) graph_found)
+  numbered_found bytes = last_found (whole bytes)
 
   pub numbered_only : (bytes : List ℕ) (g : Graph) → SpellsNumbered t reach shape bytes g → numbered_at t reach shape (whole bytes) ≡ Ok g
-  numbered_only = whole_only (encapsulated_at (graph_at t reach shape)) (SpellsNumbered t reach shape) (encapsulated_only (graph_at t reach shape) (SpellsGraph t reach shape) graph_only)
+  numbered_only bytes = last_only (whole bytes)
 
   pub numbered_apart : (bytes : List ℕ) (g h : Graph) → SpellsNumbered t reach shape bytes g → SpellsNumbered t reach shape bytes h → g ≡ h
   numbered_apart bytes g h p q = ok_is g h (sym (numbered_only bytes g p) ∙ numbered_only bytes h q)

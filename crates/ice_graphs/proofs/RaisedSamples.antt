@@ -15,7 +15,7 @@ use Rattle.ice_parts.specs.Encapsulation.{encapsulated_bytes}
 use Rattle.ice_encoding.specs.Tree.{int, text, none, tree}
 use Rattle.ice_optionals.specs.Members.{with_optional}
 use Rattle.ice_graphs.specs.Graph.{Slice, known, kept}
-use Rattle.ice_graphs.specs.Flags.{Reach, all_slices, sized_known}
+use Rattle.ice_graphs.specs.Flags.{Reach, all_slices, known_classes}
 use Rattle.ice_graphs.specs.Instances.{most_instances}
 use Rattle.ice_graphs.specs.Exceptions.{Raised, raised_at, exception_at}
 use Rattle.ice_graphs.proofs.Samples.{always, tagged, classes, node_id, point_id, values, to, node}
@@ -197,14 +197,14 @@ empty : breaks tables [] 6 faults.Short
 unfolding raised_at most_instances measure is_utf8 chars encode
 empty = refl
 
--- ---- with sizes and known exceptions alone
+-- ---- of known exceptions alone
 
 -- without a size
-unsized : read_to sized_known tables (32 ∷ e_id ++ []) ≡ fault 6 faults.BadFlags
+unsized : read_to known_classes tables (32 ∷ e_id ++ []) ≡ Ok (record { slices = known 0 (values none) ∷ []; instances = [] })
 unfolding raised_at most_instances measure is_utf8 chars encode
 unsized = refl
 
 -- an exception that is not known
-not_kept : read_to sized_known fewer (48 ∷ g_id ++ 6 ∷ 0 ∷ 0 ∷ 0 ∷ 1 ∷ 120 ∷ []) ≡ fault 7 faults.UnknownClass
+not_kept : read_to known_classes fewer (48 ∷ g_id ++ 6 ∷ 0 ∷ 0 ∷ 0 ∷ 1 ∷ 120 ∷ []) ≡ fault 7 faults.UnknownClass
 unfolding raised_at most_instances measure is_utf8 chars encode
 not_kept = refl

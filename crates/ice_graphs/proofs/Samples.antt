@@ -19,7 +19,7 @@ use Rattle.ice_encoding.specs.Tree.{short, int, byte, sequence, struct, text, re
 use Rattle.ice_optionals.specs.Members.{Members, with_optional, content_at}
 use Rattle.ice_graphs.specs.Graph.{Slice, known, kept, Graph}
 use Rattle.ice_graphs.specs.References.{opening}
-use Rattle.ice_graphs.specs.Flags.{Reach, all_slices, sized_known}
+use Rattle.ice_graphs.specs.Flags.{Reach, all_slices, known_classes}
 use Rattle.ice_graphs.specs.Instances.{most_instances, instances, graph_at, numbered_at}
 use Rattle.ice_graphs.specs.Visiting.{most, order}
 use Rattle.ice_graphs.specs.Same.{form}
@@ -451,20 +451,20 @@ tag_does_not_rise : breaks tables (kinds.Class (Some 0)) (1 ∷ 57 ∷ node_id +
 unfolding graph_at most_instances measure is_utf8 chars encode
 tag_does_not_rise = refl
 
--- ---- with sizes and known classes alone
+-- ---- of known classes alone
 
 -- with a size
-sized : read_to sized_known tables (kinds.Class (Some 0)) (1 ∷ 57 ∷ node_id ++ 9 ∷ 0 ∷ 0 ∷ 0 ∷ 7 ∷ 0 ∷ 0 ∷ 0 ∷ 1 ∷ 1 ∷ 2 ∷ []) ≡ Ok (graph (node 7 0 ∷ []))
+sized : read_to known_classes tables (kinds.Class (Some 0)) (1 ∷ 57 ∷ node_id ++ 9 ∷ 0 ∷ 0 ∷ 0 ∷ 7 ∷ 0 ∷ 0 ∷ 0 ∷ 1 ∷ 1 ∷ 2 ∷ []) ≡ Ok (graph (node 7 0 ∷ []))
 unfolding graph_at most_instances measure is_utf8 chars encode
 sized = refl
 
 -- without one
-unsized : read_to sized_known tables (kinds.Class (Some 0)) (1 ∷ 33 ∷ node_id ++ 7 ∷ 0 ∷ 0 ∷ 0 ∷ 2 ∷ []) ≡ fault 7 faults.BadFlags
+unsized : read_to known_classes tables (kinds.Class (Some 0)) (1 ∷ 33 ∷ node_id ++ 7 ∷ 0 ∷ 0 ∷ 0 ∷ 2 ∷ []) ≡ Ok (graph (node 7 0 ∷ []))
 unfolding graph_at most_instances measure is_utf8 chars encode
 unsized = refl
 
 -- a class that is not known
-not_kept : read_to sized_known fewer (kinds.Class None) (1 ∷ 53 ∷ other_id ++ 6 ∷ 0 ∷ 0 ∷ 0 ∷ 7 ∷ 255 ∷ []) ≡ fault 8 faults.UnknownClass
+not_kept : read_to known_classes fewer (kinds.Class None) (1 ∷ 53 ∷ other_id ++ 6 ∷ 0 ∷ 0 ∷ 0 ∷ 7 ∷ 255 ∷ []) ≡ fault 8 faults.UnknownClass
 unfolding graph_at most_instances measure is_utf8 chars encode
 not_kept = refl
 

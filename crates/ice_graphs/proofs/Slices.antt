@@ -129,7 +129,7 @@ module _ (port : Port (State ℕ) (State (Unit {0}))) (same : port.seen ≡ seen
     Within steps before bytes slices from to = (n : ℕ) × (n ≤ steps) × SpellsSlices port t reach n before bytes slices from to
 
     abbrev Step : (Before → Speller (State (Unit {0})) (List Slice)) → Before → Speller (State (Unit {0})) (List Slice)
-    Step Next before = Followed (Plain (SpellsFlags (may_stand reach before))) (λ f. Followed (SpellsId f.id) (λ id. let class = class_in t before id in FromId port t reach (Behind port t Next f.is_last (before_next t class f)) (ends_well t class f) before f id class))
+    Step Next before = Followed (Plain (SpellsFlags (may_stand before))) (λ f. Followed (SpellsId f.id) (λ id. let class = class_in t before id in FromId port t reach (Behind port t Next f.is_last (before_next t class f)) (ends_well t class f) before f id class))
 
     behind_there : (steps : ℕ) (last : Bool) (before : Before) (bytes : List ℕ) (slices : List Slice) (from to : State (Unit {0})) → Behind port t (Within steps) last before bytes slices from to → (n : ℕ) × (n ≤ steps) × Behind port t (SpellsSlices port t reach n) last before bytes slices from to
     behind_there steps true before bytes slices from to h = (0, omega arith, h)
@@ -157,7 +157,7 @@ module _ (port : Port (State ℕ) (State (Unit {0}))) (same : port.seen ≡ seen
         none (suc n, le, h) = omega (arith, le)
     slices_lawful (suc steps) before =
         alike seen (slices_at port.read t reach (suc steps) before) (Step (Within steps) before) (Within (suc steps) before) (step_there steps before) (step_back steps before)
-        (placed_lawful seen _ _ (λ flags_place. followed_lawful seen _ _ _ _ (plain_lawful seen (flags_at (may_stand reach before)) (SpellsFlags (may_stand reach before)) (flags_lawful (may_stand reach before)))
+        (placed_lawful seen _ _ (λ flags_place. followed_lawful seen _ _ _ _ (plain_lawful seen (flags_at (may_stand before)) (SpellsFlags (may_stand before)) (flags_lawful (may_stand before)))
         (λ f. placed_lawful seen _ _ (λ id_place. followed_lawful seen _ _ _ _ (id_lawful flags_place f.id)
         (λ id. let class = class_in t before id in from_lawful _ _ (next_lawful (slices_at port.read t reach steps) (Within steps) (slices_lawful steps) f.is_last (before_next t class f)) (ends_well t class f) before f flags_place id_place id class)))))
 

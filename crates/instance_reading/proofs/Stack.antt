@@ -10,7 +10,7 @@ use Rattle.ice_encoding.specs.Port.{Reader}
 use Rattle.ice_encoding.specs.Pausing.{Inside}
 use Rattle.ice_optionals.specs.Members as defs
 use Rattle.ice_graphs.specs.Graph.{Slice, Graph}
-use Rattle.ice_graphs.specs.Flags.{first, sized_known}
+use Rattle.ice_graphs.specs.Flags.{first, known_classes}
 use Rattle.ice_graphs.specs.Instances.{most_instances, references, graph_at, misfit, unless_misfit}
 use Rattle.ice_graphs.specs.References.{State, inline_at, opening, with_ended}
 use Rattle.ice_graphs.specs.Slices.{slices_at}
@@ -24,7 +24,8 @@ use Rattle.graph_arena.specs.Seen.{view_slices}
 use Rattle.instance_reading.specs.declared.decoder.Content.{Content}
 use Rattle.instance_reading.specs.declared.decoder.Decoder.{Decoder}
 use Rattle.instance_reading.specs.declared.unfinished.Unfinished.{Unfinished}
-use Rattle.instance_reading.specs.Unfinished.{begun, behind, left_slices, refer_by}
+use Rattle.instance_reading.specs.Slices.{refer_by}
+use Rattle.instance_reading.specs.Unfinished.{begun, behind, left_slices}
 use Rattle.instance_reading.specs.Stacked.{Rests, Steps, ReadsGraph, Fits, refer_within, instance_within, inside_then, left_instance, onward, content_left}
 use Rattle.instance_reading.proofs.Heads.{fails_then}
 
@@ -58,35 +59,33 @@ module _ (t : Tables) where
     abbrev below : Inside (State ℕ)
     below = instance_within t top_depth
 
-    top_is : (u : Unfinished) (s : State ℕ) (r : Rest) → onward t depth last (us ++ u ∷ []) s r ≡ inside_then (ended u.name (left_slices (refer_by below) t u s r)) (onward t depth last us)
-    top_is u s r =
-        onward-push depth last us u s r room
-        ∙ ap (λ (refer : Option ℕ → Reader (State ℕ) (Option ℕ)). inside_then (ended u.name (left_slices refer t u s r)) (onward t depth last us)) (refer_is top_depth)
+    top_is : (u : Unfinished) (s : State ℕ) (r : Rest) → onward t depth last (us ++ u ∷ []) s r ≡ inside_then (ended u.name (left_slices below t u s r)) (onward t depth last us)
+    top_is u s r = onward-push depth last us u s r room
 
     -- the instance on top fails
-    pub top-fails : (e : ReadFault) (u : Unfinished) (s : State ℕ) (r : Rest) → ((inside : Inside (State ℕ)) → Fails e (left_slices (refer_by inside) t u s r)) → Fails e (onward t depth last (us ++ u ∷ []) s r)
+    pub top-fails : (e : ReadFault) (u : Unfinished) (s : State ℕ) (r : Rest) → ((inside : Inside (State ℕ)) → Fails e (left_slices inside t u s r)) → Fails e (onward t depth last (us ++ u ∷ []) s r)
     top-fails e u s r h =
         subst (Fails e) (sym (top_is u s r))
-        (fails_then e (ended u.name (left_slices (refer_by below) t u s r)) (λ x. onward t depth last us x.0 x.1) (fails_then e (left_slices (refer_by below) t u s r) (λ x. Ok (with_ended u.name x.0 x.1, x.2)) (h below)))
+        (fails_then e (ended u.name (left_slices below t u s r)) (λ x. onward t depth last us x.0 x.1) (fails_then e (left_slices below t u s r) (λ x. Ok (with_ended u.name x.0 x.1, x.2)) (h below)))
 
     -- the instance on top is read whole
-    pub top-ends : (old new : Unfinished) (s s' : State ℕ) (r r' : Rest) → ((inside : Inside (State ℕ)) → left_slices (refer_by inside) t old s r ≡ Ok (view_slices new.slices, s', r')) → new.name ≡ old.name
+    pub top-ends : (old new : Unfinished) (s s' : State ℕ) (r r' : Rest) → ((inside : Inside (State ℕ)) → left_slices inside t old s r ≡ Ok (view_slices new.slices, s', r')) → new.name ≡ old.name
         → onward t depth last (us ++ old ∷ []) s r ≡ onward t depth last us (with_ended new.name (view_slices new.slices) s') r'
     top-ends old new s s' r r' read same =
         top_is old s r ∙ ap (λ (x : Result (List Slice × State ℕ × Rest) Fault). inside_then (ended old.name x) (onward t depth last us)) (read below)
         ∙ ap (λ (n : ℕ). onward t depth last us (with_ended n (view_slices new.slices) s') r') (sym same)
 
     -- an instance begins in the one on top
-    pub top-pauses : (old new : Unfinished) (n : ℕ) (s s' : State ℕ) (r r' : Rest) → ((inside : Inside (State ℕ)) → left_slices (refer_by inside) t old s r ≡ (inside n s' r' >>= λ x. left_slices (refer_by inside) t new x.0 x.1)) → new.name ≡ old.name
+    pub top-pauses : (old new : Unfinished) (n : ℕ) (s s' : State ℕ) (r r' : Rest) → ((inside : Inside (State ℕ)) → left_slices inside t old s r ≡ (inside n s' r' >>= λ x. left_slices inside t new x.0 x.1)) → new.name ≡ old.name
         → onward t depth last (us ++ old ∷ []) s r ≡ inside_then (instance_within t (depth - length (us ++ new ∷ [])) n s' r') (onward t depth last (us ++ new ∷ []))
     top-pauses old new n s s' r r' read same =
         top_is old s r
         ∙ ap (λ (x : Result (List Slice × State ℕ × Rest) Fault). inside_then (ended old.name x) (onward t depth last us)) (read below)
-        ∙ ap (λ (m : ℕ). inside_then (ended m (below n s' r' >>= λ x. left_slices (refer_by below) t new x.0 x.1)) (onward t depth last us)) (sym same)
+        ∙ ap (λ (m : ℕ). inside_then (ended m (below n s' r' >>= λ x. left_slices below t new x.0 x.1)) (onward t depth last us)) (sym same)
         ∙ after_it (below n s' r')
         ∙ ap (λ (d : ℕ). inside_then (instance_within t d n s' r') (onward t depth last (us ++ new ∷ []))) deeper
       where
-        after_it : (read : Result (State ℕ × Rest) Fault) → inside_then (ended new.name (read >>= λ x. left_slices (refer_by below) t new x.0 x.1)) (onward t depth last us) ≡ inside_then read (onward t depth last (us ++ new ∷ []))
+        after_it : (read : Result (State ℕ × Rest) Fault) → inside_then (ended new.name (read >>= λ x. left_slices below t new x.0 x.1)) (onward t depth last us) ≡ inside_then read (onward t depth last (us ++ new ∷ []))
         after_it (Ok x) = sym (top_is new x.0 x.1)
         after_it (Err e) = refl
 
@@ -98,9 +97,11 @@ module _ (t : Tables) where
     whole_slices (Ok x) = refl
     whole_slices (Err e) = refl
 
-    begins_here : (n : ℕ) (s : State ℕ) (r : Rest) → instance_within t (suc top_depth) n s r ≡ ended n (left_slices (refer_within t top_depth) t (begun n r) s r)
+    begins_here : (n : ℕ) (s : State ℕ) (r : Rest) → instance_within t (suc top_depth) n s r ≡ ended n (left_slices below t (begun n r) s r)
     unfolding instance_within
-    begins_here n s r = ap (ended n) (whole_slices (slices_at (refer_within t top_depth) t sized_known (length r.bytes) first s r))
+    begins_here n s r =
+        ap (ended n) (whole_slices (slices_at (refer_within t top_depth) t known_classes (length r.bytes) first s r))
+        ∙ ap (λ (refer : Option ℕ → Reader (State ℕ) (Option ℕ)). ended n (slices_at refer t known_classes (length r.bytes) first s r >>= λ x. Ok (behind [] x.0, x.1, x.2))) (refer_is top_depth)
 
     pub top-begins : (n : ℕ) (s : State ℕ) (r : Rest) → inside_then (instance_within t (depth - length us) n s r) (onward t depth last us) ≡ onward t depth last (us ++ begun n r ∷ []) s r
     top-begins n s r =
@@ -131,7 +132,7 @@ module _ (t : Tables) where
   roots-fail handed depth old us e s r none_was read = rw none_was read
 
   -- before the first byte
-  pub content-fresh : (handed : Shape) (r : Rest) → content_left t handed most_instances (fresh_members ToEnd) [] opening r ≡ defs.content_at (references t sized_known).read t (told_apart handed) opening r
+  pub content-fresh : (handed : Shape) (r : Rest) → content_left t handed most_instances (fresh_members ToEnd) [] opening r ≡ defs.content_at (references t known_classes).read t (told_apart handed) opening r
   unfolding content_left
   content-fresh handed r =
       sym (left-content (inline_at most_instances) t (instance_within t most_instances) handed opening r)
@@ -144,16 +145,16 @@ steps-along t handed depth now result read read' r is h = subst (λ (x : Result 
 
 module _ (t : Tables) (shape : Shape) (r : Rest) where
   abbrev of_content : Result (defs.Members × State ℕ × Rest) Fault
-  of_content = defs.content_at (references t sized_known).read t shape opening r
+  of_content = defs.content_at (references t known_classes).read t shape opening r
 
   abbrev fitted : defs.Members × State ℕ × Rest → Result (Graph × Rest) Fault
   fitted x = unless_misfit (misfit t x.1.instances x.1.met) (record { roots = x.0; instances = x.1.instances }, x.2)
 
-  pub graph_read : (roots : defs.Members) (s : State ℕ) (after : Rest) (result : Result Content ReadFault) → of_content ≡ Ok (roots, s, after) → Fits t roots s result → ReadsGraph result (graph_at t sized_known shape r) after
+  pub graph_read : (roots : defs.Members) (s : State ℕ) (after : Rest) (result : Result Content ReadFault) → of_content ≡ Ok (roots, s, after) → Fits t roots s result → ReadsGraph result (graph_at t known_classes shape r) after
   unfolding graph_at
   graph_read roots s after (Ok c) is (fits, same) = ap (λ (x : Result (defs.Members × State ℕ × Rest) Fault). x >>= fitted) is ∙ rw fits (λ i. Ok (sym same i, after))
-  graph_read roots s after (Err e) is (place, misfits, same) = subst (λ (f : ReadFault). Fails f (graph_at t sized_known shape r)) (sym same) (ap (λ (x : Result (defs.Members × State ℕ × Rest) Fault). x >>= fitted) is ∙ rw misfits refl)
+  graph_read roots s after (Err e) is (place, misfits, same) = subst (λ (f : ReadFault). Fails f (graph_at t known_classes shape r)) (sym same) (ap (λ (x : Result (defs.Members × State ℕ × Rest) Fault). x >>= fitted) is ∙ rw misfits refl)
 
-  pub graph_fails : (e : ReadFault) → Fails e of_content → Fails e (graph_at t sized_known shape r)
+  pub graph_fails : (e : ReadFault) → Fails e of_content → Fails e (graph_at t known_classes shape r)
   unfolding graph_at
   graph_fails e h = fails_then e of_content fitted h

@@ -1,16 +1,23 @@
 -- What reading remembers, without where it lies in memory.
-use Rattle.std.specs.Prelude.{ℕ, Bool, true, false, List, map, Option, Result, Ok, refl}
+use Rattle.std.specs.Prelude.{ℕ, Bool, true, false, List, map, Option, Result, Ok, refl, slice_get}
+use Rattle.ice_types.specs.declared.declarations.Shape.{Shape}
+use Rattle.ice_types.specs.Tables.{Tables}
 use Rattle.ice_prims.specs.declared.fault.Fault.{Fault}
 use Rattle.ice_prims.specs.Rest.{Rest, ◌>>=◌}
 use Rattle.ice_encoding.specs.Port.{Reader}
 use Rattle.ice_encoding.specs.Pausing.{Met, known}
 use Rattle.std.specs.Coded.{Coded, code_by, coded×, coded_ℕ, coded_list, coded_option}
+use Rattle.ice_graphs.specs.Classes.{members_in}
+use Rattle.ice_graphs.specs.Flags.{first, derived}
+use Rattle.ice_graphs.specs.Flags as flags
 use Rattle.ice_graphs.specs.Graph.{Slice}
 use Rattle.ice_graphs.specs.References as refs
 use Rattle.graph_arena.specs.Stored.{instances_code}
 use Rattle.ice_members.specs.declared.fields.Optionals.{Optionals}
 use Rattle.ice_members.specs.declared.fields.Optionals.TheVariants.{Absent, Marked}
 use Rattle.instance_reading.specs.declared.arena.Reference.{Reference}
+use Rattle.instance_reading.specs.declared.slice.Before.{Before}
+use Rattle.instance_reading.specs.declared.slice.Before.TheVariants as befores
 
 -- a reference that was met
 abbrev pub view_reference : Reference → refs.Reference ℕ
@@ -28,6 +35,15 @@ references_code = coded_list reference_code
 abbrev pub state_code : Coded (refs.State ℕ)
 state_code = code_by (List (List Slice) × (List (List ℕ) × List (refs.Reference ℕ))) (coded× instances_code (coded× (coded_list (coded_list coded_ℕ)) references_code))
     (λ s. (s.instances, (s.ids, s.met))) (λ p. record { instances = p.0; ids = p.1.0; met = p.1.1 }) (λ _. refl)
+
+-- what a slice follows: no slice is kept
+abbrev pub view_before : Before → flags.Before
+view_before befores.First = first
+view_before (befores.Derived sized base) = derived sized base
+
+-- the members that a class declares itself, as they are handed over to be read
+abbrev pub own_fields : Tables → ℕ → Shape
+own_fields t class = let members = members_in (slice_get t.classes class) in record { required = members; optional = members }
 
 -- where the optional members of a slice stand, by its flag
 abbrev pub by_flag : Bool → Optionals

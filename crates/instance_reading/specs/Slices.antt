@@ -1,5 +1,5 @@
--- A slice whose table is being read, and what the calls that begin one answer.
-use Rattle.std.specs.Prelude.{ℕ, suc, ◌≡◌, Bool, true, false, List, [], ◌∷◌, ◌++◌, Option, None, Some, Result, Ok, Err, slice_get}
+-- A slice that has begun, and what the calls that begin one answer.
+use Rattle.std.specs.Prelude.{ℕ, suc, ◌≡◌, ◌+◌, Bool, true, false, List, [], ◌∷◌, ◌++◌, Option, None, Some, Result, Ok, Err, slice_get}
 use Rattle.std.specs.Borrow.{Bor}
 use Rattle.ice_types.specs.Tables.{Tables}
 use Rattle.ice_prims.specs.declared.fault.Fault.{Fault}
@@ -9,30 +9,30 @@ use Rattle.ice_prims.specs.declared.fault.ReadFault.TheVariants as faults
 use Rattle.ice_prims.specs.Rest.{Rest, fault, ◌>>=◌}
 use Rattle.ice_prims.specs.Taking.{Fails}
 use Rattle.ice_encoding.specs.Port.{Reader}
+use Rattle.ice_encoding.specs.Pausing.{Inside, in_place}
 use Rattle.ice_encoding.specs.Reading.{made}
 use Rattle.ice_optionals.specs.Steps.{followed, given, tested}
 use Rattle.ice_optionals.specs.Prefixes.{prefixed}
 use Rattle.ice_optionals.specs.Members.{slice_members_at}
 use Rattle.ice_optionals.specs.Members as defs
 use Rattle.ice_graphs.specs.Classes.{own_members}
+use Rattle.ice_graphs.specs.Graph.{known}
 use Rattle.ice_graphs.specs.Graph as graphs
-use Rattle.ice_graphs.specs.Flags.{Flags, flags_of, sized_known, first, derived, may_stand, flags_at}
+use Rattle.ice_graphs.specs.Flags.{Flags, flags_of, known_classes, derived, may_stand, flags_at}
 use Rattle.ice_graphs.specs.Flags as flags
 use Rattle.ice_graphs.specs.TypeIds.{id_at, id_indexed, is_base, can_be_read, ends_well, before_next}
-use Rattle.ice_graphs.specs.References.{State, entry_at, entries_at, table_at, within, resolved, with_met}
+use Rattle.ice_graphs.specs.Instances.{most_instances}
+use Rattle.ice_graphs.specs.References.{State, inline_at, entry_at, entries_at, table_at, within, resolved, with_met}
 use Rattle.ice_graphs.specs.References as refs
 use Rattle.ice_graphs.specs.Slices.{slice_size, by_table, one_more, body_at, next_slices, slices_at}
 use Rattle.graph_arena.specs.Seen.{view_content}
-use Rattle.instance_reading.specs.Seen.{view_references}
-use Rattle.instance_reading.specs.declared.slice.Before.{Before}
-use Rattle.instance_reading.specs.declared.slice.Before.TheVariants as befores
-use Rattle.instance_reading.specs.declared.slice.SizedMembers.{SizedMembers}
-use Rattle.instance_reading.specs.declared.slice.OpenSlice.{OpenSlice}
-
--- each slice has a size
-abbrev pub view_before : Before → flags.Before
-view_before befores.First = first
-view_before (befores.Derived base) = derived true base
+use Rattle.ice_members.specs.Unread.{left_of_members}
+use Rattle.instance_reading.specs.Seen.{own_fields, view_before, view_references}
+use Rattle.instance_reading.specs.declared.sized.SizedMembers.{SizedMembers}
+use Rattle.instance_reading.specs.declared.sized.OpenSlice.{OpenSlice}
+use Rattle.instance_reading.specs.declared.slice.CompactSlice.{CompactSlice}
+use Rattle.instance_reading.specs.declared.slice.Stage.{Stage}
+use Rattle.instance_reading.specs.declared.slice.Stage.TheVariants as stages
 
 -- ---- what is still read
 
@@ -57,24 +57,47 @@ module _ (refer : Option ℕ → Reader (State ℕ) (Option ℕ)) (t : Tables) w
   abbrev pub left_table : Open → Reader (State ℕ) graphs.Slice
   left_table o s r = entries_at refer o.left s r >>= with_entries o
 
-  -- the slices of the bases
-  abbrev pub left_bases : ℕ → Option ℕ → Reader (State ℕ) (List graphs.Slice)
-  left_bases steps None = given []
-  left_bases steps (Some base) = slices_at refer t sized_known steps (derived true base)
+  -- the slices of the bases, behind a slice with a size or without
+  abbrev pub left_bases : Bool → ℕ → Option ℕ → Reader (State ℕ) (List graphs.Slice)
+  left_bases sized steps None = given []
+  left_bases sized steps (Some base) = slices_at refer t known_classes steps (derived sized base)
 
   abbrev pub left_open : ℕ → Open → Reader (State ℕ) (List graphs.Slice)
-  left_open steps o = followed (left_table o) (λ slice. made (one_more slice) (left_bases steps o.base))
+  left_open steps o = followed (left_table o) (λ slice. made (one_more slice) (left_bases true steps o.base))
 
   -- what is read behind the tests of a class
   abbrev pub behind_tests : ℕ → Flags → ℕ → List ℕ → Reader (State ℕ) (List graphs.Slice)
-  behind_tests steps f class id = followed (body_at refer t f id f.has_size (Some class)) (λ slice. made (one_more slice) (next_slices refer t (slices_at refer t sized_known steps) f.is_last (before_next t (Some class) f)))
+  behind_tests steps f class id = followed (body_at refer t f id f.has_size (Some class)) (λ slice. made (one_more slice) (next_slices refer t (slices_at refer t known_classes steps) f.is_last (before_next t (Some class) f)))
+
+-- a reference, with the instance that begins at it
+abbrev pub refer_by : Inside (State ℕ) → Option ℕ → Reader (State ℕ) (Option ℕ)
+refer_by inside = in_place (inline_at most_instances) inside
+
+module _ (inside : Inside (State ℕ)) (t : Tables) where
+  -- the slice without a size, when the rest of its members is read
+  unfoldable pub left_members : CompactSlice → Reader (State ℕ) graphs.Slice
+  left_members c = made (known c.class) (left_of_members (inline_at most_instances) t inside (own_fields t c.class) c.members)
+
+  abbrev pub left_compact : ℕ → CompactSlice → Reader (State ℕ) (List graphs.Slice)
+  left_compact steps c = followed (left_members c) (λ slice. made (one_more slice) (left_bases (refer_by inside) t false steps c.base))
+
+  abbrev pub left_stage : ℕ → Stage → Reader (State ℕ) (List graphs.Slice)
+  left_stage steps (stages.Next before) = slices_at (refer_by inside) t known_classes steps (view_before before)
+  left_stage steps (stages.Open o) = left_open (refer_by inside) t steps (opened o)
+  left_stage steps (stages.Compact c) = left_compact steps c
+
+-- entries of the table, and then slices
+abbrev pub stage_work : Stage → ℕ
+stage_work (stages.Next before) = 0
+stage_work (stages.Open o) = 1 + o.left
+stage_work (stages.Compact c) = 1
 
 -- ---- what calls answer
 
--- flags that may stand, a size among them
+-- flags that may stand
 abbrev pub SeesFlags : flags.Before → Result ℕ Fault → Rest → Rest → Type 0
-SeesFlags before (Ok b) r r' = (flags_at (may_stand sized_known before) r ≡ Ok (flags_of b, r')) × ((flags_of b).has_size ≡ true)
-SeesFlags before (Err e) r r' = flags_at (may_stand sized_known before) r ≡ Err e
+SeesFlags before (Ok b) r r' = flags_at (may_stand before) r ≡ Ok (flags_of b, r')
+SeesFlags before (Err e) r r' = flags_at (may_stand before) r ≡ Err e
 
 abbrev pub ReadsId : ℕ → ℕ → Result (Bor (List ℕ)) ReadFault → State ℕ → Rest → State ℕ → Rest → Type 0
 ReadsId place b (Ok id) s r s' r' = id_at place (flags_of b).id s r ≡ Ok (id.now, s', r')
@@ -86,9 +109,9 @@ FindsId unknown index ids (Err e) = (e ≡ faults.Broken unknown) × ((s : State
 
 -- the class passes the tests behind a type id, or the first that fails is the fault
 abbrev pub Tests : Tables → flags.Before → Flags → ℕ → ℕ → Option ℕ → Result ℕ Fault → Type 0
-Tests t before f flags_place id_place class (Ok c) = (class ≡ Some c) × (is_base before class ≡ true) × (can_be_read sized_known class f ≡ true) × (ends_well t class f ≡ true)
+Tests t before f flags_place id_place class (Ok c) = (class ≡ Some c) × (is_base before class ≡ true) × (can_be_read known_classes class f ≡ true) × (ends_well t class f ≡ true)
 Tests t before f flags_place id_place class (Err e) = (read : Reader (State ℕ) (List graphs.Slice)) (s : State ℕ) (r : Rest)
-    → tested (is_base before class) id_place WrongBase (tested (can_be_read sized_known class f) id_place UnknownClass (tested (ends_well t class f) flags_place BadLast read)) s r ≡ Err e
+    → tested (is_base before class) id_place WrongBase (tested (can_be_read known_classes class f) id_place UnknownClass (tested (ends_well t class f) flags_place BadLast read)) s r ≡ Err e
 
 -- the members of a class in a slice, with places as references; what was met is of no use without a table
 abbrev pub uses_in : Bool → List (refs.Reference ℕ) → List (refs.Reference ℕ) → Type 0
@@ -123,14 +146,21 @@ SeesTable tabled uses (Ok n) r r' = (refer : Option ℕ → Reader (State ℕ) (
 SeesTable tabled uses (Err e) r r' = (refer : Option ℕ → Reader (State ℕ) (Option ℕ)) (s : State ℕ) → table_at refer tabled uses s r ≡ Err e
 
 -- the same behind the type id of a class that passed the tests
-abbrev pub OpensSlice : Tables → Flags → ℕ → Result OpenSlice ReadFault → Rest → Rest → Type 0
-OpensSlice t f class (Ok o) r r' = (refer : Option ℕ → Reader (State ℕ) (Option ℕ)) (steps : ℕ) (id : List ℕ) (s : State ℕ) → f.has_size ≡ true → ends_well t (Some class) f ≡ true
+abbrev pub OpensSized : Tables → Flags → ℕ → Result OpenSlice ReadFault → Rest → Rest → Type 0
+OpensSized t f class (Ok o) r r' = (refer : Option ℕ → Reader (State ℕ) (Option ℕ)) (steps : ℕ) (id : List ℕ) (s : State ℕ) → f.has_size ≡ true → ends_well t (Some class) f ≡ true
     → behind_tests refer t steps f class id s r ≡ left_open refer t steps (opened o) s r'
-OpensSlice t f class (Err e) r r' = (refer : Option ℕ → Reader (State ℕ) (Option ℕ)) (steps : ℕ) (id : List ℕ) (s : State ℕ) → f.has_size ≡ true → ends_well t (Some class) f ≡ true
+OpensSized t f class (Err e) r r' = (refer : Option ℕ → Reader (State ℕ) (Option ℕ)) (steps : ℕ) (id : List ℕ) (s : State ℕ) → f.has_size ≡ true → ends_well t (Some class) f ≡ true
     → Fails e (behind_tests refer t steps f class id s r)
 
--- a slice has begun, up to the entries of its table
-abbrev pub BeginsSlice : Tables → flags.Before → Result OpenSlice ReadFault → State ℕ → Rest → State ℕ → Rest → Type 0
-BeginsSlice t before (Ok o) s r s' r' = (refer : Option ℕ → Reader (State ℕ) (Option ℕ)) (steps : ℕ)
-    → slices_at refer t sized_known (suc steps) before s r ≡ left_open refer t steps (opened o) s' r'
-BeginsSlice t before (Err e) s r s' r' = (refer : Option ℕ → Reader (State ℕ) (Option ℕ)) (steps : ℕ) → Fails e (slices_at refer t sized_known (suc steps) before s r)
+-- the same with a size or without
+abbrev pub OpensSlice : Tables → Flags → ℕ → Result Stage ReadFault → Rest → Rest → Type 0
+OpensSlice t f class (Ok stage) r r' = (inside : Inside (State ℕ)) (steps : ℕ) (id : List ℕ) (s : State ℕ) → ends_well t (Some class) f ≡ true
+    → behind_tests (refer_by inside) t steps f class id s r ≡ left_stage inside t steps stage s r'
+OpensSlice t f class (Err e) r r' = (inside : Inside (State ℕ)) (steps : ℕ) (id : List ℕ) (s : State ℕ) → ends_well t (Some class) f ≡ true
+    → Fails e (behind_tests (refer_by inside) t steps f class id s r)
+
+-- a slice has begun, up to the entries of its table or, where it has no size, up to its members
+abbrev pub BeginsSlice : Tables → flags.Before → Result Stage ReadFault → State ℕ → Rest → State ℕ → Rest → Type 0
+BeginsSlice t before (Ok stage) s r s' r' = (inside : Inside (State ℕ)) (steps : ℕ)
+    → slices_at (refer_by inside) t known_classes (suc steps) before s r ≡ left_stage inside t steps stage s' r'
+BeginsSlice t before (Err e) s r s' r' = (inside : Inside (State ℕ)) (steps : ℕ) → Fails e (slices_at (refer_by inside) t known_classes (suc steps) before s r)

@@ -12,7 +12,7 @@ use Rattle.ice_encoding.specs.Port.{Reader, nowhere}
 use Rattle.ice_encoding.specs.Pausing.{Inside}
 use Rattle.ice_optionals.specs.Members as defs
 use Rattle.ice_graphs.specs.Graph as graphs
-use Rattle.ice_graphs.specs.Flags.{sized_known}
+use Rattle.ice_graphs.specs.Flags.{known_classes}
 use Rattle.ice_graphs.specs.References.{State, inline_at, instance_by, with_ended}
 use Rattle.ice_graphs.specs.Instances.{most_instances, instances, misfit}
 use Rattle.ice_graphs.specs.Slices.{instance_at}
@@ -30,12 +30,12 @@ Rests = State ℕ → Rest → Result (defs.Members × State ℕ × Rest) Fault
 
 -- how references are read where so many more instances may begin in one another
 abbrev pub refer_within : Tables → ℕ → Option ℕ → Reader (State ℕ) (Option ℕ)
-refer_within t more = (instances t sized_known most_instances more).read
+refer_within t more = (instances t known_classes most_instances more).read
 
 -- an instance that begins where so many more may
 unfoldable pub instance_within : Tables → ℕ → Inside (State ℕ)
 instance_within t zero = instance_by most_instances (λ s r. nowhere r)
-instance_within t (suc more) = instance_by most_instances (instance_at (refer_within t more) t sized_known)
+instance_within t (suc more) = instance_by most_instances (instance_at (refer_within t more) t known_classes)
 
 -- the instance is read whole, and then the rest
 abbrev pub inside_then : Result (State ℕ × Rest) Fault → Rests → Result (defs.Members × State ℕ × Rest) Fault
@@ -43,7 +43,7 @@ inside_then read next = read >>= λ x. next x.0 x.1
 
 -- what is left of an instance, which has ended then
 abbrev pub left_instance : Tables → ℕ → Unfinished → State ℕ → Rest → Result (State ℕ × Rest) Fault
-left_instance t more u s r = left_slices (refer_within t more) t u s r >>= λ x. Ok (with_ended u.name x.0 x.1, x.2)
+left_instance t more u s r = left_slices (instance_within t more) t u s r >>= λ x. Ok (with_ended u.name x.0 x.1, x.2)
 
 -- What is read once the instances on the stack are read whole, and then the last. The outermost stands first; so many more may
 -- begin in one another.

@@ -1,24 +1,23 @@
 -- An instance that has begun and is not read whole: what is still read of it, and what reading on answers.
-use Rattle.std.specs.Prelude.{ℕ, ◌≡◌, ◌+◌, ◌*◌, ◌^◌, ◌<◌, ◌≤◌, ◌-◌, List, [], ◌∷◌, ◌++◌, length, Option, None, Some, Result, Ok, Err}
+use Rattle.std.specs.Prelude.{ℕ, ◌≡◌, ◌+◌, ◌*◌, ◌^◌, ◌<◌, ◌≤◌, ◌-◌, List, [], ◌∷◌, ◌++◌, length, false, Option, None, Some, Result, Ok, Err}
 use Rattle.ice_types.specs.Tables.{Tables}
 use Rattle.ice_prims.specs.declared.fault.Fault.{Fault}
 use Rattle.ice_prims.specs.declared.fault.ReadFault.{ReadFault}
 use Rattle.ice_prims.specs.Rest.{Rest, ◌>>=◌}
 use Rattle.ice_prims.specs.Taking.{Fails}
 use Rattle.ice_encoding.specs.Port.{Reader}
-use Rattle.ice_encoding.specs.Pausing.{Inside, in_place}
+use Rattle.ice_encoding.specs.Pausing.{Inside}
 use Rattle.ice_encoding.specs.Reading.{made}
 use Rattle.ice_graphs.specs.Graph as graphs
-use Rattle.ice_graphs.specs.Flags.{sized_known}
-use Rattle.ice_graphs.specs.References.{State, inline_at}
-use Rattle.ice_graphs.specs.Slices.{slices_at}
+use Rattle.ice_graphs.specs.References.{State}
 use Rattle.ice_graphs.specs.Instances.{most_instances}
+use Rattle.graph_arena.specs.declared.instance.Slice.{Slice}
 use Rattle.graph_arena.specs.Seen.{view_slices}
 use Rattle.instance_reading.specs.declared.slice.Before.TheVariants as befores
-use Rattle.instance_reading.specs.declared.slice.OpenSlice.{OpenSlice}
-use Rattle.instance_reading.specs.Slices.{Open, view_before, opened, left_open}
-use Rattle.instance_reading.specs.declared.unfinished.Stage.{Stage}
-use Rattle.instance_reading.specs.declared.unfinished.Stage.TheVariants as stages
+use Rattle.instance_reading.specs.declared.slice.Stage.{Stage}
+use Rattle.instance_reading.specs.declared.slice.Stage.TheVariants as stages
+use Rattle.instance_reading.specs.declared.sized.OpenSlice.{OpenSlice}
+use Rattle.instance_reading.specs.Slices.{Open, opened, refer_by, left_bases, left_stage, stage_work}
 use Rattle.instance_reading.specs.declared.unfinished.Unfinished.{Unfinished}
 use Rattle.instance_reading.specs.declared.unfinished.Advanced.{Advanced}
 use Rattle.instance_reading.specs.declared.unfinished.Advanced.TheVariants as advances
@@ -27,18 +26,14 @@ use Rattle.instance_reading.specs.declared.unfinished.Advanced.TheVariants as ad
 abbrev pub behind : List graphs.Slice → List graphs.Slice → List graphs.Slice
 behind had others = had ++ others
 
--- a reference, with the instance that begins at it
-abbrev pub refer_by : Inside (State ℕ) → Option ℕ → Reader (State ℕ) (Option ℕ)
-refer_by inside = in_place (inline_at most_instances) inside
+module _ (inside : Inside (State ℕ)) (t : Tables) where
+  -- all slices of the instance, with these that are read, from the base of a slice without a size on
+  abbrev pub left_behind : ℕ → List Slice → Option ℕ → Reader (State ℕ) (List graphs.Slice)
+  left_behind steps had base = made (behind (view_slices had)) (left_bases (refer_by inside) t false steps base)
 
-module _ (refer : Option ℕ → Reader (State ℕ) (Option ℕ)) (t : Tables) where
-  abbrev pub left_stage : ℕ → Stage → Reader (State ℕ) (List graphs.Slice)
-  left_stage steps (stages.Next before) = slices_at refer t sized_known steps (view_before before)
-  left_stage steps (stages.Open o) = left_open refer t steps (opened o)
-
-  -- all slices of the instance, those that are read among them, from a stage on
+  -- the same from a stage on
   abbrev pub left_by : Unfinished → Stage → Reader (State ℕ) (List graphs.Slice)
-  left_by u stage = made (behind (view_slices u.slices)) (left_stage u.steps stage)
+  left_by u stage = made (behind (view_slices u.slices)) (left_stage inside t u.steps stage)
 
   abbrev pub left_slices : Unfinished → Reader (State ℕ) (List graphs.Slice)
   left_slices u = left_by u u.stage
@@ -55,13 +50,13 @@ Keeps old new o name = (kept : OpenSlice) × (new ≡ record { name = old.name; 
 -- The instance is read whole; or another one begins, and then this is read on; or it is the fault.
 abbrev pub Goes : Inside (State ℕ) → Tables → Unfinished → Result (Option ℕ) ReadFault → Result (List graphs.Slice × State ℕ × Rest) Fault → State ℕ → Rest → Type 0
 Goes inside t now (Ok None) read s r = read ≡ Ok (view_slices now.slices, s, r)
-Goes inside t now (Ok (Some n)) read s r = read ≡ (inside n s r >>= λ x. left_slices (refer_by inside) t now x.0 x.1)
+Goes inside t now (Ok (Some n)) read s r = read ≡ (inside n s r >>= λ x. left_slices inside t now x.0 x.1)
 Goes inside t now (Err e) read s r = Fails e read
 
 abbrev pub Advances : Inside (State ℕ) → Tables → Unfinished → Result Advanced ReadFault → Result (List graphs.Slice × State ℕ × Rest) Fault → State ℕ → Rest → Type 0
-Advances inside t now (Ok advances.On) read s r = read ≡ left_slices (refer_by inside) t now s r
+Advances inside t now (Ok advances.On) read s r = read ≡ left_slices inside t now s r
 Advances inside t now (Ok advances.Done) read s r = read ≡ Ok (view_slices now.slices, s, r)
-Advances inside t now (Ok (advances.Begins n)) read s r = read ≡ (inside n s r >>= λ x. left_slices (refer_by inside) t now x.0 x.1)
+Advances inside t now (Ok (advances.Begins n)) read s r = read ≡ (inside n s r >>= λ x. left_slices inside t now x.0 x.1)
 Advances inside t now (Err e) read s r = Fails e read
 
 -- ---- that reading ends
@@ -69,11 +64,7 @@ Advances inside t now (Err e) read s r = Fails e read
 abbrev pub room : State ℕ → ℕ
 room s = most_instances - length s.instances
 
--- entries of the table, and then slices
-abbrev pub stage_work : Stage → ℕ
-stage_work (stages.Next before) = 0
-stage_work (stages.Open o) = 1 + o.left
-
+-- the slice that has begun, and then slices
 abbrev pub work_left : Unfinished → ℕ
 work_left u = u.steps * (2 ^ 33) + stage_work u.stage
 

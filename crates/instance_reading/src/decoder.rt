@@ -1,7 +1,7 @@
 //! Members with the instances that begin in them, without recursion over instances.
 
 ghost use Rattle.std.specs.Prelude.{◌≡◌, ◌+◌, ◌-◌, ◌++◌, ◌∷◌, [], length, OnOk};
-ghost use Rattle.ice_graphs.specs.Flags.{sized_known};
+ghost use Rattle.ice_graphs.specs.Flags.{known_classes};
 ghost use Rattle.ice_graphs.specs.Instances.{graph_at, most_instances};
 ghost use Rattle.graph_arena.specs.Seen.{view_content};
 ghost use Rattle.ice_members.specs.Shapes.{handed, shape_seen};
@@ -20,7 +20,7 @@ use std::alloc::Global;
 pub(crate) struct Decoder<'a> {
     pub roots: MembersReader<'a>,
     /// The innermost one stands last.
-    pub stack: List<Unfinished>,
+    pub stack: List<Unfinished<'a>>,
     pub arena: Arena<'a>,
 }
 
@@ -31,9 +31,10 @@ pub struct Content {
     pub instances: Vec<Instance>,
 }
 
-/// The members that fill a content, with the instances that begin in it: sized slices of known classes, at
-/// most 100,000 instances. The first fault from the left, or out of memory, leaves the cursor anywhere on
-/// the way; a reference to an instance whose class does not fit is the fault where there is no other.
+/// The members that fill a content, with the instances that begin in it: slices of known classes, in
+/// either format, and at most 100,000 instances. The first fault from the left, or out of memory, leaves
+/// the cursor anywhere on the way; a reference to an instance whose class does not fit is the fault where
+/// there is no other.
 /// (Ice manual, "Data Encoding for Class and Exception Types".)
 pub fn read_content<'a>(
     alloc: Global,
@@ -41,7 +42,7 @@ pub fn read_content<'a>(
     fields: Fields<'_>,
     cursor: &mut Cursor<'a>,
 ) -> Result<Content, ReadFault>
-    ensures { ReadsGraph result (graph_at schema.now sized_known (shape_seen fields.entry) cursor.old) cursor.new }
+    ensures { ReadsGraph result (graph_at schema.now known_classes (shape_seen fields.entry) cursor.old) cursor.new }
 {
     let mut decoder = Decoder {
         roots: MembersReader::new(alloc, Optionals::ToEnd),
@@ -106,13 +107,13 @@ impl<'a> Decoder<'a> {
         alloc: Global,
         schema: &Schema,
         fields: Fields<'_>,
-        mut top: Unfinished,
+        mut top: Unfinished<'a>,
         cursor: &mut Cursor<'a>,
     ) -> Result<Option<Members>, ReadFault>
         requires { is_within (self.old.stack ++ top ∷ []) self.old.arena most_instances }
-        ensures steps { Steps schema.now (handed fields.entry) most_instances self.new result (content_left schema.now (handed fields.entry) most_instances self.old.roots (self.old.stack ++ top ∷ []) self.old.arena cursor.old) cursor.new }
+        ensures steps { Steps schema.now (handed fields.entry) most_instances self.new result (content_left schema.now (handed fields.entry) most_instances self.old.roots (self.old.stack ++ top.entry ∷ []) self.old.arena cursor.old) cursor.new }
         ensures within { OnOk result (is_within self.new.stack self.new.arena most_instances) }
-        ensures less { LessOnNone result (steps_left (self.old.stack ++ top ∷ []) self.old.arena) (steps_left self.new.stack self.new.arena) }
+        ensures less { LessOnNone result (steps_left (self.old.stack ++ top.entry ∷ []) self.old.arena) (steps_left self.new.stack self.new.arena) }
     {
         match top.go(alloc, schema, cursor, &mut self.arena) {
             Err(fault) => Err(fault),

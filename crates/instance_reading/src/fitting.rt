@@ -7,7 +7,7 @@ ghost use Rattle.graph_arena.specs.Seen.{view_instance, view_slices};
 ghost use Rattle.instance_reading.specs.Seen.{view_reference, view_references};
 
 use crate::arena::Reference;
-use crate::slice::base_of;
+use crate::class::base_of;
 use graph_arena::{Instance, Slice};
 use ice_types::Schema;
 

@@ -3,8 +3,11 @@
 #![tactic(auto)]
 
 mod arena;
+mod class;
 mod decoder;
 mod fitting;
+mod flags;
+mod sized;
 mod slice;
 mod table_port;
 mod unfinished;

@@ -2,7 +2,7 @@ use Rattle.instance_reading.proofs.Stages.{begins_next, fails_next}
 use Rattle.instance_reading.proofs.unfinished.Unfinished.begin.Goals as goal
 
 pub returns-in-Ok-clause-advances : goal.returns-in-Ok-clause-advances
-returns-in-Ok-clause-advances c inside = begins_next inside c.args.schema.now c.args.self.now c.args.before c.in-Ok.slice c.args.arena.now c.begin_slice.new.arena c.args.cursor.now c.begin_slice.new.cursor c.if-self-eq0.false c.in-Ok.ensures.slice
+returns-in-Ok-clause-advances c inside = begins_next inside c.args.schema.now c.args.self.now c.args.before c.in-Ok.stage c.args.arena.now c.begin_slice.new.arena c.args.cursor.now c.begin_slice.new.cursor c.if-self-eq0.false c.in-Ok.ensures.slice
 
 pub returns-in-Err-clause-advances : goal.returns-in-Err-clause-advances
 returns-in-Err-clause-advances c inside = fails_next inside c.args.schema.now c.args.self.now c.args.before c.in-Err.fault c.args.arena.now c.begin_slice.new.arena c.args.cursor.now c.begin_slice.new.cursor c.if-self-eq0.false c.in-Err.ensures.slice

@@ -1,12 +1,12 @@
 use Rattle.std.proofs.Common.{ℕ, ◌≡◌, ◌≤◌}
 use Rattle.ice_encoding.specs.Pausing.{Inside}
 use Rattle.ice_graphs.specs.References.{State}
-use Rattle.instance_reading.specs.Unfinished.{left_slices, refer_by, room, work_left}
+use Rattle.instance_reading.specs.Unfinished.{left_slices, room, work_left}
 use Rattle.instance_reading.proofs.unfinished.Unfinished.go.Given as goal
 
 abbrev pub invariant-loop-name : goal.invariant-loop-name
 invariant-loop-name l = record {
-  left : (inside : Inside (State ℕ)) → left_slices (refer_by inside) l.schema l.fn.self l.fn.arena l.fn.cursor ≡ left_slices (refer_by inside) l.schema l.self l.arena l.cursor;
+  left : (inside : Inside (State ℕ)) → left_slices inside l.schema l.fn.self l.fn.arena l.fn.cursor ≡ left_slices inside l.schema l.self l.arena l.cursor;
   name : l.self.name ≡ l.fn.self.name;
   room : room l.arena ≤ room l.fn.arena;
 }

@@ -2,7 +2,7 @@ use Rattle.std.proofs.Common.{ℕ, ◌≡◌}
 use Rattle.ice_types.specs.Tables.{class_ids}
 use Rattle.ice_types.specs.declared.kind.RowRef.TheVariants as rows
 use Rattle.instance_reading.proofs.Naming.{found_is}
-use Rattle.instance_reading.proofs.slice.class_named.Goals as goal
+use Rattle.instance_reading.proofs.class.class_named.Goals as goal
 
 pub returns : goal.returns
 returns c = found_is (class_ids c.args.schema.now) c.args.id.now c.class.result (λ a b is other. same a b (c.rules.ensures.apart c.args.id.now (rows.Class a) (rows.Class b) is other)) c.class.ensures

@@ -3,7 +3,7 @@ use Rattle.ice_prims.specs.declared.fault.Fault.{Fault}
 use Rattle.ice_prims.specs.Rest.{Rest}
 use Rattle.ice_graphs.specs.References.{State, within}
 use Rattle.instance_reading.specs.Seen.{view_references}
-use Rattle.instance_reading.proofs.slice.first_outside.Given as goal
+use Rattle.instance_reading.proofs.sized.first_outside.Given as goal
 
 abbrev pub invariant-loop-used : goal.invariant-loop-used
 invariant-loop-used l = record {

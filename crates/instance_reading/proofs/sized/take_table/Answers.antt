@@ -7,7 +7,7 @@ use Rattle.ice_graphs.specs.References.{State, Reference, entries_at, table_at, 
 use Rattle.instance_reading.specs.Seen.{view_references}
 use Rattle.instance_reading.specs.Slices.{uses_in}
 use Rattle.instance_reading.proofs.Places.{none_met}
-use Rattle.instance_reading.proofs.slice.take_table.Goals as goal
+use Rattle.instance_reading.proofs.sized.take_table.Goals as goal
 
 without : (tabled : Bool) (refer : Option ℕ → Reader (State ℕ) (Option ℕ)) (uses : List (Reference ℕ)) (s : State ℕ) (r : Rest) → tabled ≡ false → uses_in tabled uses uses
     → table_at refer tabled uses s r ≡ (entries_at refer 0 s r >>= λ x. Ok (x.0, with_met (resolved x.0 uses) x.1, x.2))

@@ -1,0 +1,51 @@
+//! The flags of a slice. (Ice manual, "Data Encoding for Class and Exception Types".)
+
+ghost use Rattle.std.specs.Prelude.{◌≡◌};
+ghost use Rattle.ice_graphs.specs.Flags.{flags_of, has_id, is_odd};
+ghost use Rattle.ice_graphs.specs.Flags as spec;
+ghost use Rattle.instance_reading.specs.Seen.{view_before};
+ghost use Rattle.instance_reading.specs.Slices.{SeesFlags};
+
+use crate::slice::Before;
+use ice_prims::{Cursor, Fault, Kind};
+
+/// Whether the lowest bit of the flags is set, once those below it are shifted out.
+pub(crate) fn is_odd(flags: u8) -> bool
+    ensures { result ≡ is_odd flags }
+{
+    flags % 2 == 1
+}
+
+/// The flags of a slice that may stand behind this one.
+pub(crate) fn take_flags(before: Before, cursor: &mut Cursor<'_>) -> Result<u8, Fault>
+    ensures { SeesFlags (view_before before) result cursor.old cursor.new }
+{
+    let wrong = cursor.fault(Kind::BadFlags);
+    let flags = cursor.take_byte()?;
+    if flags >= 64 || !may_stand(before, flags) {
+        return Err(wrong);
+    }
+    Ok(flags)
+}
+
+/// Whether a slice with these flags may stand there. The first one has a type id, and each behind a slice
+/// with a size has both; behind one without a size it has neither. A table comes with a size alone.
+fn may_stand(before: Before, flags: u8) -> bool
+    ensures { result ≡ spec.may_stand (view_before before) (flags_of flags) }
+{
+    let has_id = has_id(flags);
+    let has_table = is_odd(flags / 8);
+    let has_size = is_odd(flags / 16);
+    match before {
+        Before::First => has_id && (has_size || !has_table),
+        Before::Derived { sized: true, .. } => has_id && has_size,
+        Before::Derived { sized: false, .. } => !has_id && !has_size && !has_table,
+    }
+}
+
+/// Whether a type id stands behind the flags.
+fn has_id(flags: u8) -> bool
+    ensures { result ≡ has_id (flags_of flags).id }
+{
+    flags % 4 != 0
+}
