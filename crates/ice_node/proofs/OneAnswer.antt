@@ -3,15 +3,20 @@ use Rattle.std.proofs.Common.{◌≡◌, ℕ, List, Option, None, Some, Err, ref
 use Rattle.ice_types.specs.declared.kind.TypeRef.{TypeRef}
 use Rattle.ice_types.specs.Tables.{Tables}
 use Rattle.ice_prims.specs.declared.fault.Fault.{Fault}
+use Rattle.ice_prims.proofs.Parts.{ok_is}
 use Rattle.ice_graphs.specs.Graph.{Graph}
-use Rattle.ice_graphs.specs.Flags.{sized_known}
+use Rattle.ice_graphs.specs.Flags.{known_classes}
 use Rattle.ice_graphs.proofs.Graphs.{numbered_only, numbered_apart}
 use Rattle.ice_relay.specs.Relaying.{one_value, Holds, held, canonical_bytes}
+use Rattle.ice_relay.specs.Comparing.{HoldTwo, two_held, CanBeCompared, IsFirstLong}
+use Rattle.ice_relay.proofs.Compared.{two_only}
+use Rattle.ice_node.specs.declared.words.Task.{Task}
+use Rattle.ice_node.specs.declared.words.Task.TheVariants as tasks
 use Rattle.slice_meaning.proofs.Loads.{one_meaning, one_break, never_both}
-use Rattle.ice_node.specs.Words.{Word, Command, relay, check, proxy, messages, help, version, Asks}
+use Rattle.ice_node.specs.Words.{Word, Command, values, check, proxy, messages, help, version, Asks}
 use Rattle.ice_node.specs.Outside.{Files, Failures, Outside}
-use Rattle.ice_node.specs.Answers.{Answer, done, usage, no_such_name, slice_refused, input_refused, too_long, text_refused, read_failed, write_failed, no_memory, refused_after, read_failed_after, no_memory_after, status}
-use Rattle.ice_node.specs.Decided.{WithSchema, WithType, WithGraph, WithinLimit, Relays, Checks, Decides, Decided}
+use Rattle.ice_node.specs.Answers.{Answer, done, denied, usage, no_such_name, slice_refused, input_refused, too_long, text_refused, read_failed, write_failed, no_memory, refused_after, read_failed_after, no_memory_after, status}
+use Rattle.ice_node.specs.Decided.{WithSchema, WithType, WithGraph, WithinLimit, WithTwo, IsVerdict, WithinBoth, Relays, Compares, Does, DoesTask, Checks, Decides, Decided}
 use Rattle.ice_node.specs.Causes.{Causes}
 use Rattle.ice_node.specs.Statuses.{Answered, IsFailure, Ends}
 use Rattle.ice_node.proofs.CommandForms.{asks_apart}
@@ -36,7 +41,7 @@ one_fault input t kind a b p q = cc (p, q)
 
 -- an input that has a fault holds no graph
 no_fault : (input : List ℕ) (t : Tables) (kind : TypeRef) (a : Fault) (g : Graph) → held t kind input ≡ Err a → Holds t kind input g → ⊥
-no_fault input t kind a g p h = never (sym p ∙ numbered_only t sized_known (one_value kind) input g h)
+no_fault input t kind a g p h = never (sym p ∙ numbered_only t known_classes (one_value kind) input g h)
   where
     never : {X E : Type 0} {x : X} {e : E} → Err e ≡ Ok x → ⊥
     never e = cc
@@ -45,7 +50,7 @@ graph_apart : (input : List ℕ) (t : Tables) (kind : TypeRef) (a b : Answer) (N
 graph_apart input t kind a b Next Other one (inl p) (inl q) = p.2 ∙ ap input_refused (one_fault input t kind p.0 q.0 p.1 q.1) ∙ sym q.2
 graph_apart input t kind a b Next Other one (inl p) (inr q) = absurd (no_fault input t kind p.0 q.0 p.1 q.1)
 graph_apart input t kind a b Next Other one (inr p) (inl q) = absurd (no_fault input t kind q.0 p.0 q.1 p.1)
-graph_apart input t kind a b Next Other one (inr p) (inr q) = one q.0 (subst Next (numbered_apart t sized_known (one_value kind) input p.0 q.0 p.1 q.1) p.2) q.2
+graph_apart input t kind a b Next Other one (inr p) (inr q) = one q.0 (subst Next (numbered_apart t known_classes (one_value kind) input p.0 q.0 p.1 q.1) p.2) q.2
 
 -- bytes are within the limit or above it
 length_apart : (bytes : List ℕ) (a b : Answer) → WithinLimit bytes a → WithinLimit bytes b → a ≡ b
@@ -54,16 +59,75 @@ length_apart bytes a b (inl p) (inr q) = absurd (omega (arith, p.0, q.0))
 length_apart bytes a b (inr p) (inl q) = absurd (omega (arith, p.0, q.0))
 length_apart bytes a b (inr p) (inr q) = p.1 ∙ sym q.1
 
+-- ---- two graphs
+
+-- two that are held are the two that are read
+two_are : (input : List ℕ) (t : Tables) (kind : TypeRef) (g h k l : Graph) → HoldTwo t kind input g h → HoldTwo t kind input k l → (g ≡ k) × (h ≡ l)
+two_are input t kind g h k l p q =
+    let same : (g, h) ≡ (k, l) = ok_is (g, h) (k, l) (sym (two_only t kind input g h p) ∙ two_only t kind input k l q) in
+    (ap (λ (both : Graph × Graph). both.0) same, ap (λ (both : Graph × Graph). both.1) same)
+
+-- an input that has a fault does not hold two
+no_fault_of_two : (input : List ℕ) (t : Tables) (kind : TypeRef) (a : Fault) (g h : Graph) → two_held t kind input ≡ Err a → HoldTwo t kind input g h → ⊥
+no_fault_of_two input t kind a g h p both = never (sym p ∙ two_only t kind input g h both)
+  where
+    never : {X E : Type 0} {x : X} {e : E} → Err e ≡ Ok x → ⊥
+    never e = cc
+
+one_fault_of_two : (input : List ℕ) (t : Tables) (kind : TypeRef) (a b : Fault) → two_held t kind input ≡ Err a → two_held t kind input ≡ Err b → a ≡ b
+one_fault_of_two input t kind a b p q = cc (p, q)
+
+two_apart : (input : List ℕ) (t : Tables) (kind : TypeRef) (a b : Answer) (Next Other : Graph → Graph → Type 0) → ((g h : Graph) → Next g h → Other g h → a ≡ b) → WithTwo (Some input) t kind a Next → WithTwo (Some input) t kind b Other → a ≡ b
+two_apart input t kind a b Next Other one (inl p) (inl q) = p.2 ∙ ap input_refused (one_fault_of_two input t kind p.0 q.0 p.1 q.1) ∙ sym q.2
+two_apart input t kind a b Next Other one (inl p) (inr q) = absurd (no_fault_of_two input t kind p.0 q.0 q.1 p.1 q.2)
+two_apart input t kind a b Next Other one (inr p) (inl q) = absurd (no_fault_of_two input t kind q.0 p.0 p.1 q.1 p.2)
+two_apart input t kind a b Next Other one (inr p) (inr q) =
+    let same = two_are input t kind p.0 p.1 q.0 q.1 p.2 q.2 in
+    one q.0 q.1 (subst (λ (g : Graph). Next g q.1) same.0 (subst (Next p.0) same.1 p.3)) q.3
+
+verdict_apart : (g h : Graph) (a b : Answer) → IsVerdict g h a → IsVerdict g h b → a ≡ b
+verdict_apart g h a b (inl p) (inl q) = p.1 ∙ sym q.1
+verdict_apart g h a b (inl p) (inr q) = absurd (q.0 p.0)
+verdict_apart g h a b (inr p) (inl q) = absurd (p.0 q.0)
+verdict_apart g h a b (inr p) (inr q) = p.1 ∙ sym q.1
+
+long_apart : (t : Tables) (kind : TypeRef) (g h : Graph) (n m : ℕ) → IsFirstLong t kind g h n → IsFirstLong t kind g h m → n ≡ m
+long_apart t kind g h n m (x, inl p) (y, inl q) = p ∙ sym q
+long_apart t kind g h n m (x, inl p) (y, inr q) = absurd (omega (arith, x, p, q.0))
+long_apart t kind g h n m (x, inr p) (y, inl q) = absurd (omega (arith, y, q, p.0))
+long_apart t kind g h n m (x, inr p) (y, inr q) = p.1 ∙ sym q.1
+
+-- what is too long is not compared
+never_long : (t : Tables) (kind : TypeRef) (g h : Graph) (n : ℕ) → CanBeCompared t kind g h → IsFirstLong t kind g h n → ⊥
+never_long t kind g h n small (x, inl p) = omega (arith, small.0, x, p)
+never_long t kind g h n small (x, inr p) = omega (arith, small.1, x, p.1)
+
+both_apart : (t : Tables) (kind : TypeRef) (g h : Graph) (a b : Answer) → WithinBoth t kind g h a → WithinBoth t kind g h b → a ≡ b
+both_apart t kind g h a b (inl p) (inl q) = verdict_apart g h a b p.1 q.1
+both_apart t kind g h a b (inl p) (inr q) = absurd (never_long t kind g h q.0 p.0 q.1)
+both_apart t kind g h a b (inr p) (inl q) = absurd (never_long t kind g h p.0 q.0 p.1)
+both_apart t kind g h a b (inr p) (inr q) = p.2 ∙ ap too_long (long_apart t kind g h p.0 q.0 p.1 q.1) ∙ sym q.2
+
 -- ---- the commands
 
-relays_apart : (files : Files) (input : List ℕ) (file word : Word) (a b : Answer) → Relays (Some files) (Some input) file word a → Relays (Some files) (Some input) file word b → a ≡ b
-relays_apart files input file word a b = schema_apart files file a b _ _ (λ t. type_apart t word a b _ _ (λ kind. graph_apart input t kind a b _ _ (λ g. length_apart (canonical_bytes t kind g) a b)))
+relays_apart : (input : List ℕ) (t : Tables) (kind : TypeRef) (a b : Answer) → Relays (Some input) t kind a → Relays (Some input) t kind b → a ≡ b
+relays_apart input t kind a b = graph_apart input t kind a b _ _ (λ g. length_apart (canonical_bytes t kind g) a b)
+
+compares_apart : (input : List ℕ) (t : Tables) (kind : TypeRef) (a b : Answer) → Compares (Some input) t kind a → Compares (Some input) t kind b → a ≡ b
+compares_apart input t kind a b = two_apart input t kind a b _ _ (λ g h. both_apart t kind g h a b)
+
+does_apart : (task : Task) (input : List ℕ) (t : Tables) (kind : TypeRef) (a b : Answer) → Does task (Some input) t kind a → Does task (Some input) t kind b → a ≡ b
+does_apart tasks.Relay input t kind a b = relays_apart input t kind a b
+does_apart tasks.Same input t kind a b = compares_apart input t kind a b
+
+tasks_apart : (task : Task) (files : Files) (input : List ℕ) (file word : Word) (a b : Answer) → DoesTask task (Some files) (Some input) file word a → DoesTask task (Some files) (Some input) file word b → a ≡ b
+tasks_apart task files input file word a b = schema_apart files file a b _ _ (λ t. type_apart t word a b _ _ (λ kind. does_apart task input t kind a b))
 
 checks_apart : (files : Files) (file : Word) (a b : Answer) → Checks (Some files) file a → Checks (Some files) file b → a ≡ b
 checks_apart files file a b = schema_apart files file a b _ _ (λ t x y. x ∙ sym y)
 
 decides_apart : (asked : Option Command) (files : Files) (input : List ℕ) (a b : Answer) → Decides asked (Some files) (Some input) a → Decides asked (Some files) (Some input) b → a ≡ b
-decides_apart (Some (relay file word)) files input a b p q = relays_apart files input file word a b p q
+decides_apart (Some (values task file word)) files input a b p q = tasks_apart task files input file word a b p q
 decides_apart (Some (check file)) files input a b p q = checks_apart files file a b p q
 decides_apart (Some (proxy text)) files input a b p q = p ∙ sym q
 decides_apart (Some messages) files input a b p q = dumps_one input a b p q
@@ -81,6 +145,7 @@ answers_apart words files input a b p q =
 -- it is the one that is decided, unless something failed
 came_as_decided : (words : List Word) (files : Files) (input : List ℕ) (before after : Failures) (asked : Option Command) (came answer : Answer) → Asks words asked → Causes asked (Some files) (Some input) before after came → Decided words files input answer → (came ≡ answer) ⊎ IsFailure (status came)
 came_as_decided words files input b n asked (done bytes) answer asks c d = inl (answers_apart words files input (done bytes) answer (asked, asks, c.0) d)
+came_as_decided words files input b n asked (denied bytes) answer asks c d = inl (answers_apart words files input (denied bytes) answer (asked, asks, c.0) d)
 came_as_decided words files input b n asked usage answer asks c d = inl (answers_apart words files input usage answer (asked, asks, c.0) d)
 came_as_decided words files input b n asked (no_such_name word) answer asks c d = inl (answers_apart words files input (no_such_name word) answer (asked, asks, c.0) d)
 came_as_decided words files input b n asked (slice_refused broken) answer asks c d = inl (answers_apart words files input (slice_refused broken) answer (asked, asks, c.0) d)

@@ -8,7 +8,8 @@ use Rattle.message_dump.specs.declared.dump.Dump.TheVariants as dumps
 use Rattle.message_dump.specs.Dumps.{Tells, IsDump}
 use Rattle.message_dump.specs.Sources.{TellsSome, TellsAll, IsTold, GetsLines, ReadsFrugally, is_read_failed, is_write_failed}
 use Rattle.message_dump.proofs.OneDump.{one_dump}
-use Rattle.ice_node.specs.Words.{Command, relay, check, proxy, messages, help, version}
+use Rattle.ice_node.specs.declared.words.Task.TheVariants as tasks
+use Rattle.ice_node.specs.Words.{Command, values, check, proxy, messages, help, version}
 use Rattle.ice_node.specs.Outside.{Files, counts}
 use Rattle.ice_node.specs.Answers.{Answer, done, refused_after}
 use Rattle.ice_node.specs.Decided.{told, Dumps, Decides}
@@ -56,7 +57,8 @@ whole_is_first (Some known) bytes lines end (told_lines, Some fault, d, e) = abs
 -- what is decided is to be written
 pub to_be_written : (asked : Option Command) (files : Option Files) (input : Option (List ℕ)) (bytes : List ℕ) → Decides asked files input (done bytes) → IsToBeWritten asked files input bytes
 to_be_written (Some messages) files input bytes d = whole_is_first input bytes [] None d
-to_be_written (Some (relay file word)) files input bytes d = d
+to_be_written (Some (values tasks.Relay file word)) files input bytes d = d
+to_be_written (Some (values tasks.Same file word)) files input bytes d = inl d
 to_be_written (Some (check file)) files input bytes d = d
 to_be_written (Some (proxy text)) files input bytes d = d
 to_be_written (Some help) files input bytes d = d

@@ -3,9 +3,10 @@ use Rattle.std.specs.Prelude.{ℕ, ◌⊎◌, List, Option, Some, None, IfSome}
 use Rattle.ice_types.specs.declared.kind.TypeRef.{TypeRef}
 use Rattle.ice_types.specs.Tables.{Tables}
 use Rattle.message_dump.specs.Sources.{TellsSome}
-use Rattle.ice_node.specs.Words.{Word, Command, relay, check, proxy, messages, help, version}
+use Rattle.ice_node.specs.Words.{Word, Command, values, check, proxy, messages, help, version}
+use Rattle.ice_node.specs.declared.words.Task.TheVariants as tasks
 use Rattle.ice_node.specs.Outside.{Files, Failures, NoneFailed, ShelfFailed, SourceFailed, SinkFailed}
-use Rattle.ice_node.specs.Answers.{Answer, done, usage, no_such_name, slice_refused, input_refused, too_long, text_refused, read_failed, write_failed, no_memory, refused_after, read_failed_after, no_memory_after}
+use Rattle.ice_node.specs.Answers.{Answer, done, denied, usage, no_such_name, slice_refused, input_refused, too_long, text_refused, read_failed, write_failed, no_memory, refused_after, read_failed_after, no_memory_after}
 use Rattle.ice_node.specs.Decided.{IsSchema, IsNamed, Decides}
 
 -- FILE means a schema in which the word names a type: only then is the input read
@@ -15,7 +16,7 @@ WantsValue files file word = (t : Tables) × (kind : TypeRef)
 
 -- A read failed: of FILE or a file that it includes; or of the input, where it is wanted.
 abbrev pub ReadFails : Option Command → Option Files → Failures → Failures → Type 0
-ReadFails (Some (relay file word)) files before after =
+ReadFails (Some (values task file word)) files before after =
     ShelfFailed before after ⊎ (WantsValue files file word × SourceFailed before after)
 ReadFails (Some (check file)) files before after = ShelfFailed before after
 ReadFails (Some (proxy text)) files before after = ⊥
@@ -26,7 +27,7 @@ ReadFails None files before after = ⊥
 
 -- memory may run out: for the commands that load a file or read a proxy; `messages` has an answer of its own for that
 abbrev pub MayRunOut : Option Command → Type 0
-MayRunOut (Some (relay file word)) = Unit {0}
+MayRunOut (Some (values task file word)) = Unit {0}
 MayRunOut (Some (check file)) = Unit {0}
 MayRunOut (Some (proxy text)) = Unit {0}
 MayRunOut (Some messages) = ⊥
@@ -41,7 +42,9 @@ TellsFirst input lines = IfSome input (λ known. TellsSome known lines)
 -- These bytes were to be written: the whole answer, or of messages the lines that are known, since each is written by itself.
 abbrev pub IsToBeWritten : Option Command → Option Files → Option (List ℕ) → List ℕ → Type 0
 IsToBeWritten (Some messages) files input bytes = TellsFirst input bytes
-IsToBeWritten (Some (relay file word)) files input bytes = Decides (Some (relay file word)) files input (done bytes)
+IsToBeWritten (Some (values tasks.Relay file word)) files input bytes = Decides (Some (values tasks.Relay file word)) files input (done bytes)
+IsToBeWritten (Some (values tasks.Same file word)) files input bytes = Decides (Some (values tasks.Same file word)) files input (done bytes)
+    ⊎ Decides (Some (values tasks.Same file word)) files input (denied bytes)
 IsToBeWritten (Some (check file)) files input bytes = Decides (Some (check file)) files input (done bytes)
 IsToBeWritten (Some (proxy text)) files input bytes = Decides (Some (proxy text)) files input (done bytes)
 IsToBeWritten (Some help) files input bytes = Decides (Some help) files input (done bytes)
@@ -51,7 +54,7 @@ IsToBeWritten None files input bytes = Decides None files input (done bytes)
 -- `messages` has written these lines, and goes on
 abbrev pub HasTold : Option Command → Option (List ℕ) → List ℕ → Type 0
 HasTold (Some messages) input written = TellsFirst input written
-HasTold (Some (relay file word)) input written = ⊥
+HasTold (Some (values task file word)) input written = ⊥
 HasTold (Some (check file)) input written = ⊥
 HasTold (Some (proxy text)) input written = ⊥
 HasTold (Some help) input written = ⊥
@@ -63,6 +66,8 @@ abbrev pub Causes : Option Command → Option Files → Option (List ℕ)
     → (before after : Failures) → Answer → Type 0
 Causes asked files input before after (done bytes) =
     Decides asked files input (done bytes) × NoneFailed before after
+Causes asked files input before after (denied bytes) =
+    Decides asked files input (denied bytes) × NoneFailed before after
 Causes asked files input before after usage =
     Decides asked files input usage × NoneFailed before after
 Causes asked files input before after (no_such_name word) =

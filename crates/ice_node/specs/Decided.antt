@@ -8,7 +8,9 @@ use Rattle.ice_types.specs.Tables.{Tables}
 use Rattle.ice_prims.specs.declared.fault.Fault.{Fault}
 use Rattle.ice_parts.specs.declared.limits.TheConstants.{LARGEST}
 use Rattle.ice_graphs.specs.Graph.{Graph}
+use Rattle.ice_graphs.specs.Same.{Same}
 use Rattle.ice_relay.specs.Relaying.{Holds, held, canonical_bytes}
+use Rattle.ice_relay.specs.Comparing.{HoldTwo, two_held, CanBeCompared, IsFirstLong}
 use Rattle.ice_types.specs.declared.proxy.Proxy.{Proxy}
 use Rattle.ice_parts.specs.Proxy as parts
 use Rattle.hex.specs.Hex.{encode_lower}
@@ -18,10 +20,12 @@ use Rattle.message_dump.specs.Dumps.{IsDump}
 use Rattle.slice_meaning.specs.Printed.{LoadBreak}
 use Rattle.slice_meaning.specs.Loading.{Loads, LoadBreaks}
 use Rattle.ice_node.specs.declared.help.TheConstants.{HELP, VERSION}
-use Rattle.ice_node.specs.Words.{Word, Command, relay, check, proxy, messages, help, version, Asks}
+use Rattle.ice_node.specs.Words.{Word, Command, values, check, proxy, messages, help, version, Asks}
+use Rattle.ice_node.specs.declared.words.Task.{Task}
+use Rattle.ice_node.specs.declared.words.Task.TheVariants as tasks
 use Rattle.ice_node.specs.TypeWords.{IsTypeWord}
 use Rattle.ice_node.specs.Outside.{Files}
-use Rattle.ice_node.specs.Answers.{Answer, done, usage, no_such_name, slice_refused, input_refused, too_long, text_refused, refused_after}
+use Rattle.ice_node.specs.Answers.{Answer, done, denied, usage, no_such_name, slice_refused, input_refused, too_long, text_refused, refused_after}
 
 -- ---- the steps
 
@@ -69,15 +73,53 @@ abbrev pub WithinLimit : List ℕ → Answer → Type 0
 WithinLimit bytes answer = ((length bytes ≤ LARGEST) × (answer ≡ done bytes))
     ⊎ ((LARGEST < length bytes) × (answer ≡ too_long (length bytes)))
 
+-- the input is two encapsulations of values of the type, of these graphs, where the source tells it
+abbrev pub AreHeld : Option (List ℕ) → Tables → TypeRef → Graph → Graph → Type 0
+AreHeld input t kind g h = IfSome input (λ known. HoldTwo t kind known g h)
+
+-- read as two, the whole input has this first fault, where the source tells it
+abbrev pub IsFaultOfTwo : Option (List ℕ) → Tables → TypeRef → Fault → Type 0
+IsFaultOfTwo input t kind fault = IfSome input (λ known. two_held t kind known ≡ Err fault)
+
+-- the input is refused, or holds two graphs, from which it goes on
+abbrev pub WithTwo : Option (List ℕ) → Tables → TypeRef → Answer → (Graph → Graph → Type 0) → Type 0
+WithTwo input t kind answer Next =
+    ((fault : Fault) × IsFaultOfTwo input t kind fault × (answer ≡ input_refused fault))
+    ⊎ ((g h : Graph) × AreHeld input t kind g h × Next g h)
+
+-- the graphs are the same but for the names of their instances, or not
+abbrev pub IsVerdict : Graph → Graph → Answer → Type 0
+IsVerdict g h answer = (Same g h × (answer ≡ done (codes "same\n")))
+    ⊎ ((Same g h → ⊥) × (answer ≡ denied (codes "different\n")))
+
+-- they are compared, or refused with the length of the first of their encapsulations that is above the limit
+abbrev pub WithinBoth : Tables → TypeRef → Graph → Graph → Answer → Type 0
+WithinBoth t kind g h answer = (CanBeCompared t kind g h × IsVerdict g h answer)
+    ⊎ ((n : ℕ) × IsFirstLong t kind g h n × (answer ≡ too_long n))
+
 -- ---- the commands
 
--- `relay FILE TYPE`: the canonical encapsulation of the graph
-abbrev pub Relays : Option Files → Option (List ℕ) → Word → Word → Answer → Type 0
-Relays files input file word answer =
+-- `relay`: the canonical encapsulation of the graph
+abbrev pub Relays : Option (List ℕ) → Tables → TypeRef → Answer → Type 0
+Relays input t kind answer =
+    WithGraph input t kind answer (λ g. WithinLimit (canonical_bytes t kind g) answer)
+
+-- `same`: whether the two graphs are the same
+abbrev pub Compares : Option (List ℕ) → Tables → TypeRef → Answer → Type 0
+Compares input t kind answer =
+    WithTwo input t kind answer (λ g h. WithinBoth t kind g h answer)
+
+-- what a task comes to
+abbrev pub Does : Task → Option (List ℕ) → Tables → TypeRef → Answer → Type 0
+Does tasks.Relay input t kind answer = Relays input t kind answer
+Does tasks.Same input t kind answer = Compares input t kind answer
+
+-- `relay FILE TYPE`, `same FILE TYPE`
+abbrev pub DoesTask : Task → Option Files → Option (List ℕ) → Word → Word → Answer → Type 0
+DoesTask task files input file word answer =
     WithSchema files file answer (λ t.
     WithType t word answer (λ kind.
-    WithGraph input t kind answer (λ g.
-    WithinLimit (canonical_bytes t kind g) answer)))
+    Does task input t kind answer))
 
 -- what `check` says of so many definitions
 abbrev pub count_line : (types classes exceptions interfaces : ℕ) → List ℕ
@@ -114,7 +156,7 @@ Dumps input answer = (lines : List ℕ) × (end : Option Fault) × IfSome input 
 
 -- what a command comes to, and words that are none
 abbrev pub Decides : Option Command → Option Files → Option (List ℕ) → Answer → Type 0
-Decides (Some (relay file word)) files input answer = Relays files input file word answer
+Decides (Some (values task file word)) files input answer = DoesTask task files input file word answer
 Decides (Some (check file)) files input answer = Checks files file answer
 Decides (Some (proxy text)) files input answer = answer ≡ read_text (proxy_text text)
 Decides (Some messages) files input answer = Dumps input answer

@@ -3,15 +3,17 @@ use Rattle.std.specs.Prelude.{ℕ, ◌≡◌, ◌⊎◌, List, Option, Some, Non
 use Rattle.std.specs.Io.KnownBytes.{Keeps, Appends}
 use Rattle.ice_ports.specs.Failures.{one_more}
 use Rattle.message_dump.specs.Sources.{ReadsFrugally}
-use Rattle.ice_node.specs.Words.{Command, relay, check, proxy, messages, help, version}
+use Rattle.ice_node.specs.Words.{Command, values, check, proxy, messages, help, version}
 use Rattle.sink_writes.specs.Writing.{AppendsPrefix}
-use Rattle.ice_relay.specs.Streams.{TakesFrugally}
-use Rattle.ice_node.specs.Answers.{Answer, done, usage, no_such_name, slice_refused, input_refused, too_long, text_refused, read_failed, write_failed, no_memory, refused_after, read_failed_after, no_memory_after, error_line}
+use Rattle.ice_relay.specs.Streams.{TakesFrugally, TakesTwoFrugally}
+use Rattle.ice_node.specs.declared.words.Task.TheVariants as tasks
+use Rattle.ice_node.specs.Answers.{Answer, done, denied, usage, no_such_name, slice_refused, input_refused, too_long, text_refused, read_failed, write_failed, no_memory, refused_after, read_failed_after, no_memory_after, error_line}
 
--- No more of the input than is wanted: for `relay` the encapsulation that it claims and one byte; for `messages` another piece only where
--- all messages that were whole are told.
+-- No more of the input than is wanted: for `relay` the encapsulation that it claims and one byte, for `same` two encapsulations and one
+-- byte; for `messages` another piece only where all messages that were whole are told.
 abbrev pub TakesInput : Option Command → Option (List ℕ) → Option (List ℕ) → Type 0
-TakesInput (Some (relay file word)) old new = TakesFrugally old new
+TakesInput (Some (values tasks.Relay file word)) old new = TakesFrugally old new
+TakesInput (Some (values tasks.Same file word)) old new = TakesTwoFrugally old new
 TakesInput (Some (check file)) old new = Keeps old new
 TakesInput (Some (proxy text)) old new = Keeps old new
 TakesInput (Some messages) old new = ReadsFrugally old new
@@ -22,6 +24,7 @@ TakesInput None old new = Keeps old new
 -- what was taken of the input: nothing where the answer comes without it
 abbrev pub Takes : Option Command → Option (List ℕ) → Option (List ℕ) → Answer → Type 0
 Takes asked old new (done bytes) = TakesInput asked old new
+Takes asked old new (denied bytes) = TakesInput asked old new
 Takes asked old new usage = Keeps old new
 Takes asked old new (no_such_name word) = Keeps old new
 Takes asked old new (slice_refused broken) = Keeps old new
@@ -38,6 +41,7 @@ Takes asked old new (no_memory_after written) = TakesInput asked old new
 -- what the sink got: the bytes, a prefix of them after a failed write, and of a refusal nothing, or what was written before it
 abbrev pub Outputs : Option (List ℕ) → Option (List ℕ) → Answer → Type 0
 Outputs old new (done bytes) = Appends old new bytes
+Outputs old new (denied bytes) = Appends old new bytes
 Outputs old new usage = Keeps old new
 Outputs old new (no_such_name word) = Keeps old new
 Outputs old new (slice_refused broken) = Keeps old new

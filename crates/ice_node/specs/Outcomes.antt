@@ -1,5 +1,5 @@
 -- How the program's answer is seen inside it, before the bytes of an answer are told.
-use Rattle.std.specs.Prelude.{ℕ, ◌≡◌, ◌⊎◌, List, [], Option, Some, Result, Ok, Err, Vec, String, string_bytes}
+use Rattle.std.specs.Prelude.{ℕ, ◌≡◌, ◌⊎◌, Bool, true, false, List, [], Option, Some, Result, Ok, Err, Vec, String, string_bytes, codes}
 use Rattle.std.specs.declared.alloc.Global.{Global}
 use Rattle.ice_types.specs.declared.kind.TypeRef.{TypeRef}
 use Rattle.ice_types.specs.Tables.{Tables}
@@ -18,7 +18,7 @@ use Rattle.ice_node.specs.declared.outcome.Outcome.{Outcome}
 use Rattle.ice_node.specs.declared.outcome.Outcome.TheVariants as outcomes
 use Rattle.ice_node.specs.Words.{Word, Command}
 use Rattle.ice_node.specs.Outside.{Files, Failures, NoneFailed}
-use Rattle.ice_node.specs.Answers.{Answer, done, usage, no_such_name, slice_refused, input_refused, too_long, text_refused, read_failed, write_failed, no_memory, refused_after, read_failed_after, no_memory_after}
+use Rattle.ice_node.specs.Answers.{Answer, done, denied, usage, no_such_name, slice_refused, input_refused, too_long, text_refused, read_failed, write_failed, no_memory, refused_after, read_failed_after, no_memory_after}
 use Rattle.ice_node.specs.Decided.{IsSchema, IsFault, IsNamed, WithType, Decides}
 use Rattle.ice_node.specs.Causes.{Causes}
 use Rattle.ice_node.specs.Effects.{TakesInput, Takes}
@@ -26,6 +26,7 @@ use Rattle.ice_node.specs.Effects.{TakesInput, Takes}
 -- the answer, with the bytes that were to be written
 abbrev pub answer_of : Outcome → List ℕ → Answer
 answer_of outcomes.Done bytes = done bytes
+answer_of outcomes.Denied bytes = denied bytes
 answer_of outcomes.Usage bytes = usage
 answer_of (outcomes.NoSuchName word) bytes = no_such_name word.now
 answer_of (outcomes.SliceRefused file place kind) bytes =
@@ -68,11 +69,24 @@ of_dump dumps.ReadFailed = outcomes.ReadFailedAfter
 of_dump dumps.WriteFailed = outcomes.WriteFailed
 of_dump dumps.Memory = outcomes.MemoryAfter
 
--- the bytes were written and no write failed, or one failed
-abbrev pub Prints : (before after : ℕ) → Outcome → Type 0
-Prints before after outcome =
-    ((outcome ≡ outcomes.Done) × (after ≡ before))
+-- the bytes were written, with this outcome, and no write failed, or one failed
+abbrev pub PrintsFor : Outcome → (before after : ℕ) → Outcome → Type 0
+PrintsFor written before after outcome =
+    ((outcome ≡ written) × (after ≡ before))
     ⊎ ((outcome ≡ outcomes.WriteFailed) × (after ≡ one_more before))
+
+abbrev pub Prints : (before after : ℕ) → Outcome → Type 0
+Prints = PrintsFor outcomes.Done
+
+-- ---- a verdict
+
+abbrev pub verdict_line : Bool → List ℕ
+verdict_line true = codes "same\n"
+verdict_line false = codes "different\n"
+
+abbrev pub verdict : Bool → Outcome
+verdict true = outcomes.Done
+verdict false = outcomes.Denied
 
 -- ---- the steps of the commands
 
@@ -83,6 +97,7 @@ GivesNoSchema files file before after (slice_refused broken) =
 GivesNoSchema files file before after read_failed = after ≡ one_more before
 GivesNoSchema files file before after no_memory = after ≡ before
 GivesNoSchema files file before after (done bytes) = ⊥
+GivesNoSchema files file before after (denied bytes) = ⊥
 GivesNoSchema files file before after usage = ⊥
 GivesNoSchema files file before after (no_such_name word) = ⊥
 GivesNoSchema files file before after (input_refused fault) = ⊥
@@ -110,6 +125,14 @@ abbrev pub FindsBytes : Command → Option Files → Option (List ℕ) → (befo
 FindsBytes command files input before after (Ok bytes) =
     Decides (Some command) files input (done bytes) × NoneFailed before after
 FindsBytes command files input before after (Err outcome) =
+    Causes (Some command) files input before after (answer_of outcome [])
+
+-- the verdict that the command is to tell, or why there is none
+abbrev pub FindsVerdict : Command → Option Files → Option (List ℕ) → (before after : Failures)
+    → Result Bool Outcome → Type 0
+FindsVerdict command files input before after (Ok same) =
+    Decides (Some command) files input (answer_of (verdict same) (verdict_line same)) × NoneFailed before after
+FindsVerdict command files input before after (Err outcome) =
     Causes (Some command) files input before after (answer_of outcome [])
 
 -- what was taken of the input on the way

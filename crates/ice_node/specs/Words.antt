@@ -2,6 +2,8 @@
 use Rattle.std.specs.Prelude.{ℕ, ◌≡◌, ◌≤◌, List, [], ◌∷◌, length, map, codes, Option, Some, None, String, string_bytes}
 use Rattle.std.specs.declared.alloc.Global.{Global}
 use Rattle.ice_node.specs.declared.words.TheConstants.{MOST_OF_A_WORD}
+use Rattle.ice_node.specs.declared.words.Task.{Task}
+use Rattle.ice_node.specs.declared.words.Task.TheVariants as tasks
 use Rattle.ice_node.specs.declared.words.Command.{Command as Written}
 use Rattle.ice_node.specs.declared.words.Command.TheVariants as written
 
@@ -9,8 +11,8 @@ abbrev pub Word : Type 0
 Word = List ℕ
 
 pub data Command : Type 0 where
-  -- the Slice file, and the name of the type
-  relay : Word → Word → Command
+  -- a task with values: the Slice file, and the name of their type
+  values : Task → Word → Word → Command
   -- the Slice file
   check : Word → Command
   -- the text of a proxy
@@ -23,10 +25,15 @@ pub data Command : Type 0 where
 abbrev pub IsWord : Word → Type 0
 IsWord word = length word ≤ MOST_OF_A_WORD
 
+-- the word for the task
+abbrev pub task_word : Task → Word
+task_word tasks.Relay = codes "relay"
+task_word tasks.Same = codes "same"
+
 -- The listed forms. Words that are none of them are a faulty command line.
 abbrev pub Form : List Word → Command → Type 0
-Form words (relay file kind) =
-    (words ≡ codes "relay" ∷ file ∷ kind ∷ []) × IsWord file × IsWord kind
+Form words (values task file kind) =
+    (words ≡ task_word task ∷ file ∷ kind ∷ []) × IsWord file × IsWord kind
 Form words (check file) = (words ≡ codes "check" ∷ file ∷ []) × IsWord file
 Form words (proxy text) = (words ≡ codes "proxy" ∷ text ∷ []) × IsWord text
 Form words messages = words ≡ codes "messages" ∷ []
@@ -44,7 +51,7 @@ words_of words = map string_bytes words
 
 -- the command, wherever its words lie in memory
 abbrev pub asked_of : Option Written → Option Command
-asked_of (Some (written.Relay file kind)) = Some (relay file.now kind.now)
+asked_of (Some (written.Values task file kind)) = Some (values task file.now kind.now)
 asked_of (Some (written.Check file)) = Some (check file.now)
 asked_of (Some (written.Proxy text)) = Some (proxy text.now)
 asked_of (Some written.Messages) = Some messages

@@ -6,6 +6,9 @@ usage: ice COMMAND
 
   relay FILE TYPE  reads one encapsulation of a value of TYPE from standard input, and writes the
                    canonical encapsulation of the same value to standard output
+  same FILE TYPE   reads two encapsulations of values of TYPE, one after the other, from standard
+                   input, and writes same or different: whether both are the same value, with all
+                   instances that it leads to, however these are named
   check FILE       reads FILE and all that it includes, and writes how much they define, as
                    ok: 2 types, 5 classes, 0 exceptions, 1 interfaces
   proxy TEXT       writes the proxy that TEXT stands for in its one form, and then its bytes in
@@ -28,16 +31,18 @@ the words, FILE and what it includes, TYPE, the input, the output.
                                  from 0, and its kind
   2  ice: no such name TYPE      no type of FILE has this name
   4  ice: input refused at PLACE: KIND
-                                 the input is not one encapsulation of a value of TYPE, or a
-                                 message is none: the first byte of the part with the first fault,
-                                 counted from 0, and its kind
+                                 the input is not one encapsulation of a value of TYPE, or of same
+                                 not two, or a message is none: the first byte of the part with the
+                                 first fault, counted from 0 through the whole input, and its kind
   4  ice: answer too long: LENGTH
-                                 the canonical encapsulation has LENGTH bytes, more than 1,048,576
+                                 the canonical encapsulation has LENGTH bytes, more than 1,048,576,
+                                 or of same more than 2,147,483,647
   4  ice: text refused at PLACE  TEXT is not that of a proxy: the first byte of the first word that
                                  cannot stand, or its length where a word lacks
   5  ice: read failed            a file or standard input could not be read
   6  ice: write failed           standard output could not be written
   9  ice: no memory
+  1                              different
   0                              done
 
 After 2 to 5 nothing was written to standard output, but by messages, which has told what came
@@ -86,8 +91,7 @@ KIND of an input is one of these:
   BadTag        no optional member or end may stand here; a tag does not rise, or is below 30 in its
                 long form
   BadFormat     an optional member stands in another format than that of its type
-  BadFlags      the flags of a slice are none that may stand here; slices without sizes, which
-                compact format has, are not read yet
+  BadFlags      the flags of a slice are none that may stand here
   CompactId     the type id of a slice is a compact one
   BadLast       a slice is the last where its class has a base, or is not where it has none
   BadTypeId     the index of a type id is 0, or above the number of type ids so far

@@ -21,6 +21,8 @@ use std::alloc::AllocError;
 pub enum Outcome<'a> {
     /// The answer was written.
     Done,
+    /// The answer was written, and it is no.
+    Denied,
     /// The words are none of the listed forms.
     Usage,
     /// The word names no type.
@@ -58,6 +60,7 @@ impl<'a> Outcome<'a> {
     {
         match self {
             Outcome::Done => 0,
+            Outcome::Denied => 1,
             Outcome::Usage | Outcome::NoSuchName(_) => 2,
             Outcome::SliceRefused { .. } => 3,
             Outcome::InputRefused(_)
@@ -76,7 +79,7 @@ impl<'a> Outcome<'a> {
             → flat_map (λ piece. piece.now) result ≡ error_line (answer_of self.now bytes) }
     {
         match self {
-            Outcome::Done => one(""),
+            Outcome::Done | Outcome::Denied => one(""),
             Outcome::Usage => one("ice: usage\n"),
             Outcome::NoSuchName(word) => of_word("ice: no such name ", word),
             Outcome::SliceRefused { file, place, kind } => {

@@ -3,7 +3,7 @@
 ghost use Rattle.std.specs.Prelude.{◌≡◌, ℕ, List};
 ghost use Rattle.ice_node.specs.Answers.{status};
 ghost use Rattle.ice_node.specs.Effects.{Outputs, GetsLine};
-ghost use Rattle.ice_node.specs.Outcomes.{Prints, answer_of};
+ghost use Rattle.ice_node.specs.Outcomes.{Prints, PrintsFor, verdict, verdict_line, answer_of};
 
 use crate::outcome::Outcome;
 use ice_ports::{Failed, Sink};
@@ -18,6 +18,21 @@ pub fn print<K: Sink>(bytes: &[u8], sink: &mut K) -> Outcome<'static>
     match write_all(sink, bytes) {
         Ok(()) => Outcome::Done,
         Err(Failed) => Outcome::WriteFailed,
+    }
+}
+
+/// Writes the word for whether two values are the same, and where they are not the outcome is
+/// `Denied`. A sink that fails has taken a prefix of it, and is not asked again.
+pub fn print_verdict<K: Sink>(same: bool, sink: &mut K) -> Outcome<'static>
+    ensures outcome { PrintsFor (verdict same) (K.failures sink.old) (K.failures sink.new) result }
+    ensures output { Outputs (K.taken sink.old) (K.taken sink.new) (answer_of result (verdict_line same)) }
+{
+    if same {
+        return print("same\n".as_bytes(), sink);
+    }
+    match print("different\n".as_bytes(), sink) {
+        Outcome::Done => Outcome::Denied,
+        _ => Outcome::WriteFailed,
     }
 }
 

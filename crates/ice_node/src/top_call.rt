@@ -14,10 +14,10 @@ use crate::check::check;
 use crate::help::{HELP, VERSION};
 use crate::messages::messages;
 use crate::outcome::Outcome;
-use crate::output::{print, report};
+use crate::output::{print, print_verdict, report};
 use crate::proxy::proxy;
-use crate::relay::relay;
-use crate::words::{Command, command_of};
+use crate::relay::{relay, same};
+use crate::words::{Command, Task, command_of};
 use ice_ports::{Shelf, Sink, Source};
 use std::alloc::Global;
 
@@ -77,9 +77,15 @@ fn run<'a, H: Shelf, S: Source, K: Sink>(
         × Outputs (K.taken sink.old) (K.taken sink.new) (answer_of result bytes) }
 {
     match command_of(words) {
-        Some(Command::Relay { file, kind }) => match relay(alloc, file, kind, shelf, source) {
-            Ok(bytes) => print(bytes.as_slice(), sink),
-            Err(outcome) => outcome,
+        Some(Command::Values { task, file, kind }) => match task {
+            Task::Relay => match relay(alloc, file, kind, shelf, source) {
+                Ok(bytes) => print(bytes.as_slice(), sink),
+                Err(outcome) => outcome,
+            },
+            Task::Same => match same(alloc, file, kind, shelf, source) {
+                Ok(is_same) => print_verdict(is_same, sink),
+                Err(outcome) => outcome,
+            },
         },
         Some(Command::Check { file }) => match check(alloc, file, shelf) {
             Ok(text) => print(text.as_bytes(), sink),

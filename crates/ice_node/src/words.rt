@@ -6,15 +6,32 @@ ghost use Rattle.ice_node.specs.Words.{Word, Command as Asked, Form, Asks, asked
 /// The most bytes of a word that is the file, the type or the text of a listed form.
 pub(crate) const MOST_OF_A_WORD: usize = 8192;
 
+/// What is done with values that are read.
+#[derive(Clone, Copy, Debug, PartialEq, Eq)]
+pub enum Task {
+    /// To relay one.
+    Relay,
+    /// To tell whether two are the same.
+    Same,
+}
+
 /// What the words ask the program to do.
 #[derive(Clone, Copy, Debug, PartialEq, Eq)]
 pub enum Command<'a> {
-    /// To relay values of the type `kind`, which the Slice file defines.
-    Relay { file: &'a str, kind: &'a str },
+    /// To do a task with values of the type `kind`, which the Slice file defines.
+    Values {
+        task: Task,
+        file: &'a str,
+        kind: &'a str,
+    },
     /// To check the Slice file and all that it includes.
-    Check { file: &'a str },
+    Check {
+        file: &'a str,
+    },
     /// To print the proxy that the text stands for, and its bytes.
-    Proxy { text: &'a str },
+    Proxy {
+        text: &'a str,
+    },
     /// To tell the messages of the input.
     Messages,
     /// To print how the program is called.
@@ -30,7 +47,7 @@ pub fn command_of(words: &[String]) -> Option<Command<'_>>
     match words {
         [word] => of_one_word(word.as_str()),
         [command, word] => of_two_words(command.as_str(), word.as_str()),
-        [command, file, kind] => relay_of(command.as_str(), file.as_str(), kind.as_str()),
+        [task, file, kind] => of_three_words(task.as_str(), file.as_str(), kind.as_str()),
         _ => None,
     }
 }
@@ -59,14 +76,18 @@ fn of_two_words<'a>(command: &'a str, word: &'a str) -> Option<Command<'a>>
     }
 }
 
-fn relay_of<'a>(word: &'a str, file: &'a str, kind: &'a str) -> Option<Command<'a>>
+fn of_three_words<'a>(word: &'a str, file: &'a str, kind: &'a str) -> Option<Command<'a>>
     ensures { Asks (word.now ∷ file.now ∷ kind.now ∷ []) (asked_of result) }
 {
-    if word == "relay" && file.len() <= MOST_OF_A_WORD && kind.len() <= MOST_OF_A_WORD {
-        Some(Command::Relay { file, kind })
-    } else {
-        None
+    if file.len() > MOST_OF_A_WORD || kind.len() > MOST_OF_A_WORD {
+        return None;
     }
+    let task = match word {
+        "relay" => Task::Relay,
+        "same" => Task::Same,
+        _ => return None,
+    };
+    Some(Command::Values { task, file, kind })
 }
 
 /// Words ask for one command at most.

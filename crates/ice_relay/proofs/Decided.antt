@@ -1,4 +1,4 @@
--- What was read decides: bytes that follow it change neither the value nor the first fault.
+-- What was read decides: bytes that follow it change neither the values nor the first fault.
 use Rattle.std.proofs.Common.{◌≡◌, ℕ, ℤ, pos, negsuc, ◌+◌, ◌-◌, ◌<◌, ◌≤◌, Bool, true, false, ltb, List, [], ◌∷◌, ◌++◌, length, take, drop, Option, None, Some, Result, Ok, Err, refl, sym, ap, ◌∙◌, append_assoc, arith, inl, inr}
 use Rattle.std.specs.Int.{w32}
 use Rattle.std.proofs.lemmas.Bool.{ltb-true, ltb-false, le-ltb}
@@ -6,7 +6,7 @@ use Rattle.std.proofs.lemmas.List.{append-nil, length-append, length-take, take-
 use Rattle.ice_types.specs.declared.kind.TypeRef.{TypeRef}
 use Rattle.ice_types.specs.Tables.{Tables}
 use Rattle.ice_prims.specs.declared.fault.Fault.{Fault}
-use Rattle.ice_prims.specs.Rest.{Rest, whole, ◌>>=◌, bytes_at, bound_at}
+use Rattle.ice_prims.specs.Rest.{Rest, ◌>>=◌, bytes_at, bound_at}
 use Rattle.ice_prims.specs.Number.{SpellsSigned, signed_at}
 use Rattle.ice_prims.proofs.Parts.{bytes_only}
 use Rattle.ice_prims.proofs.Numbers.{signed_only}
@@ -15,7 +15,7 @@ use Rattle.ice_parts.specs.Bounds.{claimed, ended, filled}
 use Rattle.ice_parts.specs.Encapsulation.{encoding}
 use Rattle.ice_parts.proofs.Bounded.{claimed_ok}
 use Rattle.ice_encoding.specs.Encapsulation.{encapsulated_at}
-use Rattle.ice_graphs.specs.Flags.{sized_known}
+use Rattle.ice_graphs.specs.Flags.{known_classes}
 use Rattle.ice_graphs.specs.Instances.{graph_at}
 use Rattle.ice_relay.specs.Relaying.{one_value, held}
 use Rattle.ice_relay.specs.Streams.{GoesOn, IsDecided, ReadsInput}
@@ -25,34 +25,37 @@ not_empty : (bytes : List ℕ) → 0 < length bytes → (byte : ℕ) × (others 
 not_empty [] lt = absurd (omega arith)
 not_empty (byte ∷ others) lt = (byte, others, refl)
 
+abbrev pub left : ℕ → List ℕ → Rest
+left place bytes = record { place = place; bytes = bytes }
+
 -- ---- the steps of reading from the size on, each with what follows it
 
 -- something, and what follows it
-abbrev beside : {A : Type 0} → Rest → A → Result (A × Rest) Fault
+abbrev pub beside : {A : Type 0} → Rest → A → Result (A × Rest) Fault
 beside after x = Ok (x, after)
 
 -- what follows the version, and what follows the bound
-abbrev behind : Rest → Unit {0} × Rest → Result (Rest × Rest) Fault
+abbrev pub behind : Rest → Unit {0} × Rest → Result (Rest × Rest) Fault
 behind after v = Ok (v.1, after)
 
-abbrev at_end : {A : Type 0} → A × Rest → Result A Fault
+abbrev pub at_end : {A : Type 0} → A × Rest → Result A Fault
 at_end x = ended x.1.bytes x.1.place x.0
 
-abbrev open_version : Rest × Rest → Result (Rest × Rest) Fault
+abbrev pub open_version : Rest × Rest → Result (Rest × Rest) Fault
 open_version bound = encoding.read bound.0 >>= behind bound.1
 
-abbrev open_bound : Rest → ℕ → Result (Rest × Rest) Fault
+abbrev pub open_bound : Rest → ℕ → Result (Rest × Rest) Fault
 open_bound r n = bound_at (n - 4) r >>= open_version
 
 -- the size that an encapsulation claims here
-abbrev size_of : ℤ → Rest → Result ℕ Fault
+abbrev pub size_of : ℤ → Rest → Result ℕ Fault
 size_of z r = claimed r.place (length r.bytes) SMALLEST z
 
 abbrev open_size : Rest → ℤ × Rest → Result (Rest × Rest) Fault
 open_size r size = size_of size.0 r >>= open_bound size.1
 
 module _ {A : Type 0} (read : Rest → Result (A × Rest) Fault) where
-  abbrev in_content : Rest × Rest → Result (A × Rest) Fault
+  abbrev pub in_content : Rest × Rest → Result (A × Rest) Fault
   in_content parts = filled read parts.0 >>= beside parts.1
 
   -- the same, each up to the end
@@ -97,9 +100,6 @@ module _ {A : Type 0} (read : Rest → Result (A × Rest) Fault) where
       let q = not_empty b other in
       rw (p.2, q.2) refl
 
-  abbrev left : ℕ → List ℕ → Rest
-  left place bytes = record { place = place; bytes = bytes }
-
   content_alike : (c : Result A Fault) (place : ℕ) (a b : List ℕ) → 0 < length a → 0 < length b → ((c >>= beside (left place a)) >>= at_end) ≡ ((c >>= beside (left place b)) >>= at_end)
   content_alike (Ok x) place a b some other = ends_alike place a b x some other
   content_alike (Err e) place a b some other = refl
@@ -133,7 +133,7 @@ module _ {A : Type 0} (read : Rest → Result (A × Rest) Fault) where
   -- ---- the size
 
   -- a size that is there is tested alike, however many bytes are there
-  there : (n place : ℕ) (a b : List ℕ) → n ≤ length a → n ≤ length b → size_of (pos n) (left place a) ≡ size_of (pos n) (left place b)
+  pub there : (n place : ℕ) (a b : List ℕ) → n ≤ length a → n ≤ length b → size_of (pos n) (left place a) ≡ size_of (pos n) (left place b)
   there n place a b here other =
       let first : ltb (length a) n ≡ false = le-ltb _ _ here in
       let second : ltb (length b) n ≡ false = le-ltb _ _ other in
@@ -143,16 +143,16 @@ module _ {A : Type 0} (read : Rest → Result (A × Rest) Fault) where
   large : (n place : ℕ) (a b : List ℕ) → ltb 1048576 n ≡ true → size_of (pos n) (left place a) ≡ size_of (pos n) (left place b)
   large n place a b is = rw is refl
 
-  size_alike : (z : ℤ) (got rest : List ℕ) → 4 ≤ length got → ((n : ℕ) → GoesOn z n → n < length got) → size_of z (whole got) ≡ size_of z (whole (got ++ rest))
-  size_alike (negsuc n) got rest size past = refl
-  size_alike (pos n) got rest size past = by_test (ltb 1048576 n) refl
+  pub size_alike : (z : ℤ) (place : ℕ) (got rest : List ℕ) → 4 ≤ length got → ((n : ℕ) → GoesOn z n → n < length got) → size_of z (left place got) ≡ size_of z (left place (got ++ rest))
+  size_alike (negsuc n) place got rest size past = refl
+  size_alike (pos n) place got rest size past = by_test (ltb 1048576 n) refl
     where
-      by_test : (test : Bool) → ltb 1048576 n ≡ test → size_of (pos n) (whole got) ≡ size_of (pos n) (whole (got ++ rest))
-      by_test true is = large n 0 got (got ++ rest) is
+      by_test : (test : Bool) → ltb 1048576 n ≡ test → size_of (pos n) (left place got) ≡ size_of (pos n) (left place (got ++ rest))
+      by_test true is = large n place got (got ++ rest) is
       by_test false is =
           let most : n ≤ 1048576 = ltb-false _ _ is in
           let here : n ≤ length got = by_more (ltb 4 n) refl most in
-          there n 0 got (got ++ rest) here (omega (arith, here, length-append got rest))
+          there n place got (got ++ rest) here (omega (arith, here, length-append got rest))
         where
           by_more : (test : Bool) → ltb 4 n ≡ test → n ≤ 1048576 → n ≤ length got
           by_more true more most = let below : n < length got = past n (refl, ltb-true _ _ more, most) in omega (arith, below)
@@ -164,26 +164,28 @@ module _ {A : Type 0} (read : Rest → Result (A × Rest) Fault) where
   sized_alike (Ok n) place more rest past = bound_alike n place more rest (past n refl)
   sized_alike (Err e) place more rest past = refl
 
-  begins : (got size more : List ℕ) (z : ℤ) → got ≡ size ++ more → SpellsSigned w32 size z → (signed_at w32 (whole got) >>= at_size (whole got)) ≡ at_size (whole got) (z, left 4 more)
-  begins got size more z parts spelled =
-      let front : signed_at w32 (whole got) ≡ Ok (z, left 4 more) = signed_only w32 (whole got) (left 4 more) size z (record { parts = parts; moved = omega (arith, spelled.0) }) spelled in
-      rw front refl
+  pub front_is : (place : ℕ) (got size more : List ℕ) (z : ℤ) → got ≡ size ++ more → SpellsSigned w32 size z → signed_at w32 (left place got) ≡ Ok (z, left (place + 4) more)
+  front_is place got size more z parts spelled = signed_only w32 (left place got) (left (place + 4) more) size z (record { parts = parts; moved = omega (arith, spelled.0) }) spelled
 
-  read_alike : (got rest : List ℕ) → IsDecided got → filled (encapsulated_at read) (whole got) ≡ filled (encapsulated_at read) (whole (got ++ rest))
-  read_alike got rest (z, c, past) =
+  begins : (place : ℕ) (got size more : List ℕ) (z : ℤ) → got ≡ size ++ more → SpellsSigned w32 size z → (signed_at w32 (left place got) >>= at_size (left place got)) ≡ at_size (left place got) (z, left (place + 4) more)
+  begins place got size more z parts spelled = rw (front_is place got size more z parts spelled) refl
+
+  -- an encapsulation that is all that is left, wherever it begins
+  pub read_alike : (place : ℕ) (got rest : List ℕ) → IsDecided got → filled (encapsulated_at read) (left place got) ≡ filled (encapsulated_at read) (left place (got ++ rest))
+  read_alike place got rest (z, c, past) =
       let long : length got ≡ 4 + length c.more = ap length c.parts ∙ length-append c.size c.more ∙ omega (arith, c.spelled.0) in
       let whole_parts : got ++ rest ≡ c.size ++ (c.more ++ rest) = ap (λ (l : List ℕ). l ++ rest) c.parts ∙ append_assoc c.size c.more rest in
-      let tested = size_alike z got rest (omega (arith, long)) past in
-      let within : (n : ℕ) → size_of z (whole got) ≡ Ok n → n - 4 < length c.more = λ n is.
-      claimed_ok 0 (length got) SMALLEST z n is λ same large there small.
+      let tested = size_alike z place got rest (omega (arith, long)) past in
+      let within : (n : ℕ) → size_of z (left place got) ≡ Ok n → n - 4 < length c.more = λ n is.
+      claimed_ok place (length got) SMALLEST z n is λ same large there small.
       let below : n < length got = past n (same, omega (arith, small), large) in
       omega (arith, long, below, small) in
-      regrouped (whole got)
-      ∙ begins got c.size c.more z c.parts c.spelled
-      ∙ sized_alike (size_of z (whole got)) 4 c.more rest within
-      ∙ ap (λ (size : Result ℕ Fault). size >>= at_bound (left 4 (c.more ++ rest))) tested
-      ∙ sym (begins (got ++ rest) c.size (c.more ++ rest) z whole_parts c.spelled)
-      ∙ sym (regrouped (whole (got ++ rest)))
+      regrouped (left place got)
+      ∙ begins place got c.size c.more z c.parts c.spelled
+      ∙ sized_alike (size_of z (left place got)) (place + 4) c.more rest within
+      ∙ ap (λ (size : Result ℕ Fault). size >>= at_bound (left (place + 4) (c.more ++ rest))) tested
+      ∙ sym (begins place (got ++ rest) c.size (c.more ++ rest) z whole_parts c.spelled)
+      ∙ sym (regrouped (left place (got ++ rest)))
 
 -- as the whole input, what was read holds the graph or has the first fault that the input has
 pub read_decides : (t : Tables) (kind : TypeRef) (known got : List ℕ) (left : Option (List ℕ)) → ReadsInput (Some known) left got → held t kind got ≡ held t kind known
@@ -192,4 +194,4 @@ read_decides t kind known got (Some rest) (all, inl end, frugal) =
     let same : got ≡ known = sym (all ∙ ap (λ (l : List ℕ). got ++ l) end ∙ append-nil got) in
     ap (held t kind) same
 read_decides t kind known got (Some rest) (all, inr decided, frugal) =
-    read_alike (graph_at t sized_known (one_value kind)) got rest decided ∙ ap (held t kind) (sym all)
+    read_alike (graph_at t known_classes (one_value kind)) 0 got rest decided ∙ ap (held t kind) (sym all)

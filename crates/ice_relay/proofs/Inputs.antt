@@ -5,7 +5,7 @@ use Rattle.std.specs.Io.KnownBytes.{Consumes, Keeps, IsAtEnd}
 use Rattle.ice_relay.specs.Streams.{ReadsUpTo, TakesUpTo, Claims, GoesOn, ClaimsMore, IsDecided, ReadsInput, TakesFrugally}
 use Rattle.std.proofs.KnownBytes.{Consumes-nil, Consumes-trans, Consumes-kept}
 
-all_new : (got more : List ℕ) → got ≡ [] ++ more → more ≡ got
+pub all_new : (got more : List ℕ) → got ≡ [] ++ more → more ≡ got
 all_new got more e = sym e
 
 pub first_is_enough : (before now : Option (List ℕ)) (old got : List ℕ) → old ≡ [] → ReadsUpTo 4 before now old got → ClaimsMore got None → ReadsInput before now got
@@ -19,7 +19,7 @@ first_is_enough before now old got none r claims =
     enough (inl few) (inr end) = inl end
     enough (inr c) e = inr (c.0, c.1, λ n s. absurd (c.2 n s))
 
-claims_on : (first got more : List ℕ) (z : ℤ) → got ≡ first ++ more → Claims first z → Claims got z
+pub claims_on : (first got more : List ℕ) (z : ℤ) → got ≡ first ++ more → Claims first z → Claims got z
 claims_on first got more z e c = record {
   size = c.size;
   more = c.more ++ more;

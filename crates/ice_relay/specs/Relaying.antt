@@ -9,7 +9,7 @@ use Rattle.ice_prims.specs.declared.fault.Fault.{Fault}
 use Rattle.ice_prims.specs.Rest.{whole}
 use Rattle.ice_parts.specs.declared.limits.TheConstants.{LARGEST}
 use Rattle.ice_graphs.specs.Graph.{Graph}
-use Rattle.ice_graphs.specs.Flags.{sized_known}
+use Rattle.ice_graphs.specs.Flags.{known_classes}
 use Rattle.ice_graphs.specs.Instances.{SpellsNumbered, numbered_at}
 use Rattle.ice_graphs.specs.Canonical.{sliced, graph_bytes}
 use Rattle.ice_relay.specs.declared.fault.RelayFault.{RelayFault}
@@ -23,14 +23,14 @@ root_of kind = record { name = codes "$value"; kind = kind; tag = None }
 abbrev pub one_value : TypeRef → Shape
 one_value kind = record { required = root_of kind ∷ []; optional = [] }
 
--- The whole input is one encapsulation of a value of the type with the instances that it leads to, each in
--- sized slices of known classes: this graph.
+-- The whole input is one encapsulation of a value of the type with the instances that it leads to, each of
+-- known classes: this graph.
 abbrev pub Holds : Tables → TypeRef → List ℕ → Graph → Type 0
-Holds t kind = SpellsNumbered t sized_known (one_value kind)
+Holds t kind = SpellsNumbered t known_classes (one_value kind)
 
 -- the graph that the whole input holds, or its first fault
 abbrev pub held : Tables → TypeRef → List ℕ → Result Graph Fault
-held t kind input = numbered_at t sized_known (one_value kind) (whole input)
+held t kind input = numbered_at t known_classes (one_value kind) (whole input)
 
 -- the canonical encapsulation of a graph, in sliced format
 abbrev pub canonical_bytes : Tables → TypeRef → Graph → List ℕ

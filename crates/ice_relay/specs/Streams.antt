@@ -1,5 +1,5 @@
 -- What is read of an input before it is decided. An encapsulation begins with its size. (Ice manual, "Basic Data Encoding", "Encapsulations".)
-use Rattle.std.specs.Prelude.{ℕ, ℤ, pos, ◌+◌, ◌<◌, ◌≤◌, ◌≡◌, ◌⊎◌, List, ◌++◌, length, Option, None, Some}
+use Rattle.std.specs.Prelude.{ℕ, ℤ, pos, ◌+◌, ◌<◌, ◌≤◌, ◌≡◌, ◌⊎◌, List, ◌++◌, length, drop, Option, None, Some}
 use Rattle.std.specs.Int.{w32}
 use Rattle.std.specs.Io.KnownBytes.{Consumes, IsAtEnd}
 use Rattle.ice_prims.specs.Number.{SpellsSigned}
@@ -56,3 +56,31 @@ TakesFrugally old new = (got : List ℕ) × Consumes old new got × IsFrugal got
 abbrev pub ReadsInput : Option (List ℕ) → Option (List ℕ) → List ℕ → Type 0
 ReadsInput old_left new_left got =
     Consumes old_left new_left got × (IsAtEnd new_left ⊎ IsDecided got) × IsFrugal got
+
+-- ---- two encapsulations, one after the other
+
+-- the size that the first four bytes claim is refused by itself
+abbrev pub IsRefused : List ℕ → Type 0
+IsRefused got = (z : ℤ) × Claims got z × ((n : ℕ) → GoesOn z n → ⊥)
+
+-- the bytes begin with an encapsulation of so many, by the size that they claim
+abbrev pub BeginsWith : List ℕ → ℕ → Type 0
+BeginsWith got n = (z : ℤ) × Claims got z × GoesOn z n
+
+-- Whatever follows the bytes, the first fault is one of these: the first size is refused by itself, or so is
+-- the second, or they pass the second encapsulation.
+abbrev pub AreDecided : List ℕ → Type 0
+AreDecided got = IsRefused got ⊎ ((n : ℕ) × BeginsWith got n × IsDecided (drop n got))
+
+-- at most the first encapsulation that the bytes claim, and then the second and one byte more
+abbrev pub AreFrugal : List ℕ → Type 0
+AreFrugal got = (length got ≤ SIZE_BYTES) ⊎ ((n : ℕ) × BeginsWith got n × IsFrugal (drop n got))
+
+-- that much and no more was taken
+abbrev pub TakesTwoFrugally : Option (List ℕ) → Option (List ℕ) → Type 0
+TakesTwoFrugally old new = (got : List ℕ) × Consumes old new got × AreFrugal got
+
+-- What was read is the whole input, or has its first fault whatever follows.
+abbrev pub ReadsTwo : Option (List ℕ) → Option (List ℕ) → List ℕ → Type 0
+ReadsTwo old_left new_left got =
+    Consumes old_left new_left got × (IsAtEnd new_left ⊎ AreDecided got) × AreFrugal got

@@ -1,12 +1,13 @@
 //! An encapsulation from a source.
 
-ghost use Rattle.std.specs.Prelude.{◌≡◌, ◌≤◌, ℕ, List, Option, Some, length, IfOk, OnOk, OnErr, vec_len};
+ghost use Rattle.std.specs.Prelude.{◌≡◌, ◌≤◌, ℕ, List, Option, Some, length, drop, IfOk, OnOk, OnErr, vec_len};
 ghost use Rattle.ice_types.specs.declared.kind.TypeRef.{TypeRef};
 ghost use Rattle.ice_types.specs.Tables.{Tables};
 ghost use Rattle.ice_ports.specs.Failures.{count_after};
 ghost use Rattle.ice_ports.specs.Files.{is_failed};
 ghost use Rattle.ice_relay.specs.Relaying.{held};
-ghost use Rattle.ice_relay.specs.Streams.{ReadsUpTo, TakesUpTo, ReadsInput, TakesFrugally, ClaimsMore};
+ghost use Rattle.ice_relay.specs.Comparing.{two_held};
+ghost use Rattle.ice_relay.specs.Streams.{ReadsUpTo, TakesUpTo, ReadsInput, ReadsTwo, TakesFrugally, TakesTwoFrugally, ClaimsMore};
 
 use ice_parts::{LARGEST, SIZE_BYTES};
 use ice_ports::{MOST_OF_A_READ, PortFault, Source};
@@ -37,6 +38,43 @@ pub fn reading_decides()
         → ReadsInput (Some input) left got
         → held t kind got ≡ held t kind input }
 {}
+
+/// The input up to one byte after the second of two encapsulations that follow each other, each as long as
+/// it claims to be, or to its end. Where a size is refused by itself, no more than that size is read.
+/// What was read of a source that fails is lost; that was no more either.
+/// (Ice manual, "Encapsulations".)
+pub fn read_two<S: Source>(alloc: Global, source: &mut S) -> Result<Vec<u8>, PortFault>
+    ensures read { IfOk result (λ got.
+        ReadsTwo (S.left source.old) (S.left source.new) got.items) }
+    ensures taken { TakesTwoFrugally (S.left source.old) (S.left source.new) }
+    ensures count { S.failures source.new ≡ count_after (S.failures source.old) (is_failed result) }
+{
+    let mut input = Vec::new(alloc);
+    read_up_to(source, &mut input, SIZE_BYTES)?;
+    let Some(first) = claimed_bytes(input.as_slice()) else {
+        return Ok(input);
+    };
+    read_up_to(source, &mut input, first + SIZE_BYTES)?;
+    let Some(second) = claimed_bytes(behind(input.as_slice(), first)) else {
+        return Ok(input);
+    };
+    read_up_to(source, &mut input, first + second + 1)?;
+    Ok(input)
+}
+
+/// What is read of an input of two decides it: the graphs that it holds, or its first fault.
+pub fn two_decided()
+    ensures { (t : Tables) (kind : TypeRef) (input got : List ℕ) (left : Option (List ℕ))
+        → ReadsTwo (Some input) left got
+        → two_held t kind got ≡ two_held t kind input }
+{}
+
+/// The bytes behind so many, none where there are fewer.
+fn behind(bytes: &[u8], count: usize) -> &[u8]
+    ensures { result.now ≡ drop count bytes.now }
+{
+    bytes.get(count..).unwrap_or(&[])
+}
 
 /// How many bytes these claim, with those after them; None where they are fewer than a size has,
 /// and where they claim no more than that, or more than an encapsulation has.

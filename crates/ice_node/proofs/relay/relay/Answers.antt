@@ -1,10 +1,11 @@
 use Rattle.std.proofs.Common.{ℕ, ◌≤◌, List, [], length, Err, refl, ap, subst, inl, inr}
 use Rattle.std.proofs.lemmas.Result.{err_from_is_err_and}
+use Rattle.ice_node.specs.declared.words.Task.TheVariants as tasks
 use Rattle.ice_node.specs.Outside.{counts}
 use Rattle.ice_node.specs.Answers.{done}
 use Rattle.ice_node.specs.Outcomes.{answer_of}
 use Rattle.ice_relay.specs.Relaying.{Canonicalizes}
-use Rattle.ice_node.proofs.Relaying.{graph_read, input_gives_none, input_unread, relay_untyped, relay_unloaded, unloaded_takes, untyped_takes, unread_takes, unfound_takes}
+use Rattle.ice_node.proofs.Relaying.{graph_read, input_gives_none, input_unread, task_untyped, task_unloaded, unloaded_takes, untyped_takes, unread_takes, unfound_takes}
 use Rattle.ice_node.proofs.relay.relay.Goals as goal
 
 pub returns-in_err-canonical_of-clause-found : goal.returns-in_err-canonical_of-clause-found
@@ -31,39 +32,39 @@ returns-clause-taken g c = c.in_ok-input.ensures.taken
 pub returns-in_err-canonical_of-clause-taken : goal.returns-in_err-canonical_of-clause-taken
 returns-in_err-canonical_of-clause-taken g c =
     let failed = err_from_is_err_and c.from_residual-in_err-canonical_of.result c.from_residual-in_err-canonical_of.ensures.1 in
-    rw failed.1 (unfound_takes c.args.file.now c.args.word.now (g.S.Source.left c.args.source.now) (g.S.Source.left c.read_input.new.source) c.in_err-canonical_of.field-0.0 failed.0 failed.2 c.in_ok-input.ensures.taken)
+    rw failed.1 (unfound_takes tasks.Relay c.args.file.now c.args.word.now (g.S.Source.left c.args.source.now) (g.S.Source.left c.read_input.new.source) c.in_err-canonical_of.field-0.0 failed.0 failed.2 c.in_ok-input.ensures.taken)
 
 pub returns-in_err-input-clause-found : goal.returns-in_err-input-clause-found
 returns-in_err-input-clause-found g c = λ sink.
     let failed = err_from_is_err_and c.from_residual-in_err-input.result c.from_residual-in_err-input.ensures.1 in
     let before = counts (g.H.Shelf.failures c.args.shelf.now) (g.S.Source.failures c.args.source.now) sink in
     let after = counts (g.H.Shelf.failures c.load_schema.new.shelf) (g.S.Source.failures c.read_input.new.source) sink in
-    rw failed.1 (input_unread (g.H.Shelf.files c.args.shelf.now) (g.S.Source.left c.args.source.now) c.args.file.now c.args.word.now c.in_ok-schema.schema c.in_ok-kind.kind before after c.in_err-input.field-0.0 failed.0 failed.2
+    rw failed.1 (input_unread (g.H.Shelf.files c.args.shelf.now) (g.S.Source.left c.args.source.now) tasks.Relay c.args.file.now c.args.word.now c.in_ok-schema.schema c.in_ok-kind.kind before after c.in_err-input.field-0.0 failed.0 failed.2
     c.in_ok-schema.ensures.0 c.in_ok-kind.ensures c.in_ok-schema.ensures.1 c.in_err-input.ensures.count refl)
 
 pub returns-in_err-input-clause-taken : goal.returns-in_err-input-clause-taken
 returns-in_err-input-clause-taken g c =
     let failed = err_from_is_err_and c.from_residual-in_err-input.result c.from_residual-in_err-input.ensures.1 in
-    rw failed.1 (unread_takes c.args.file.now c.args.word.now (g.S.Source.left c.args.source.now) (g.S.Source.left c.read_input.new.source) c.in_err-input.field-0.0 failed.0 failed.2 c.in_err-input.ensures.taken)
+    rw failed.1 (unread_takes tasks.Relay c.args.file.now c.args.word.now (g.S.Source.left c.args.source.now) (g.S.Source.left c.read_input.new.source) c.in_err-input.field-0.0 failed.0 failed.2 c.in_err-input.ensures.taken)
 
 pub returns-in_err-kind-clause-found : goal.returns-in_err-kind-clause-found
 returns-in_err-kind-clause-found g c = λ sink.
     let failed = err_from_is_err_and c.from_residual-in_err-kind.result c.from_residual-in_err-kind.ensures.1 in
     let before = counts (g.H.Shelf.failures c.args.shelf.now) (g.S.Source.failures c.args.source.now) sink in
     let after = counts (g.H.Shelf.failures c.load_schema.new.shelf) (g.S.Source.failures c.args.source.now) sink in
-    rw (failed.1, failed.2) (relay_untyped (g.H.Shelf.files c.args.shelf.now) (g.S.Source.left c.args.source.now) c.args.file.now c.args.word.now c.in_ok-schema.schema before after (answer_of c.in_err-kind.field-0.0 []) c.in_ok-schema.ensures.0 (c.in_ok-schema.ensures.1, refl, refl) c.in_err-kind.ensures)
+    rw (failed.1, failed.2) (task_untyped (g.H.Shelf.files c.args.shelf.now) (g.S.Source.left c.args.source.now) tasks.Relay c.args.file.now c.args.word.now c.in_ok-schema.schema before after (answer_of c.in_err-kind.field-0.0 []) c.in_ok-schema.ensures.0 (c.in_ok-schema.ensures.1, refl, refl) c.in_err-kind.ensures)
 
 pub returns-in_err-kind-clause-taken : goal.returns-in_err-kind-clause-taken
 returns-in_err-kind-clause-taken g c =
     let failed = err_from_is_err_and c.from_residual-in_err-kind.result c.from_residual-in_err-kind.ensures.1 in
-    rw (failed.1, failed.2) (untyped_takes c.args.file.now c.args.word.now c.in_ok-schema.schema (g.S.Source.left c.args.source.now) (answer_of c.in_err-kind.field-0.0 []) c.in_err-kind.ensures)
+    rw (failed.1, failed.2) (untyped_takes tasks.Relay c.args.file.now c.args.word.now c.in_ok-schema.schema (g.S.Source.left c.args.source.now) (answer_of c.in_err-kind.field-0.0 []) c.in_err-kind.ensures)
 
 pub returns-in_err-schema-clause-found : goal.returns-in_err-schema-clause-found
 returns-in_err-schema-clause-found g c = λ sink.
     let failed = err_from_is_err_and c.from_residual.result c.from_residual.ensures.1 in
-    rw (failed.1, failed.2) (relay_unloaded (g.H.Shelf.files c.args.shelf.now) (g.S.Source.left c.args.source.now) c.args.file.now c.args.word.now (g.H.Shelf.failures c.args.shelf.now) (g.H.Shelf.failures c.load_schema.new.shelf) (g.S.Source.failures c.args.source.now) sink (answer_of c.in_err-schema.field-0.0 []) c.in_err-schema.ensures)
+    rw (failed.1, failed.2) (task_unloaded (g.H.Shelf.files c.args.shelf.now) (g.S.Source.left c.args.source.now) tasks.Relay c.args.file.now c.args.word.now (g.H.Shelf.failures c.args.shelf.now) (g.H.Shelf.failures c.load_schema.new.shelf) (g.S.Source.failures c.args.source.now) sink (answer_of c.in_err-schema.field-0.0 []) c.in_err-schema.ensures)
 
 pub returns-in_err-schema-clause-taken : goal.returns-in_err-schema-clause-taken
 returns-in_err-schema-clause-taken g c =
     let failed = err_from_is_err_and c.from_residual.result c.from_residual.ensures.1 in
-    rw (failed.1, failed.2) (unloaded_takes (g.H.Shelf.files c.args.shelf.now) c.args.file.now c.args.word.now (g.H.Shelf.failures c.args.shelf.now) (g.H.Shelf.failures c.load_schema.new.shelf) (g.S.Source.left c.args.source.now) (answer_of c.in_err-schema.field-0.0 []) c.in_err-schema.ensures)
+    rw (failed.1, failed.2) (unloaded_takes (g.H.Shelf.files c.args.shelf.now) tasks.Relay c.args.file.now c.args.word.now (g.H.Shelf.failures c.args.shelf.now) (g.H.Shelf.failures c.load_schema.new.shelf) (g.S.Source.left c.args.source.now) (answer_of c.in_err-schema.field-0.0 []) c.in_err-schema.ensures)

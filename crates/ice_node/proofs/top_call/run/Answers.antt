@@ -1,25 +1,40 @@
 use Rattle.std.proofs.Common.{[], Some, string_bytes, refl}
-use Rattle.ice_node.specs.Words.{relay, check, proxy, messages, help}
+use Rattle.ice_node.specs.declared.words.Task.TheVariants as tasks
+use Rattle.ice_node.specs.Words.{values, check, proxy, messages, help}
 use Rattle.ice_node.specs.declared.help.TheConstants.{HELP}
 use Rattle.ice_node.specs.Outside.{counts}
-use Rattle.ice_node.specs.Outcomes.{answer_of}
-use Rattle.ice_node.proofs.Answering.{printed, outputs_nothing, takes_nothing}
+use Rattle.ice_node.specs.Outcomes.{answer_of, verdict_line}
+use Rattle.ice_node.proofs.Answering.{printed, verdict_printed, outputs_nothing, takes_nothing}
 use Rattle.ice_node.proofs.Keeping.{keeps_itself}
 use Rattle.ice_node.proofs.top_call.run.Goals as goal
 
 pub returns-in-Ok : goal.returns-in-Ok
 returns-in-Ok g c =
     let found = c.in-Ok.ensures.found (g.K.Sink.failures c.args.sink.now) in
-    let asked = Some (relay c.in-Some-Relay.file.now c.in-Some-Relay.kind.now) in
+    let asked = Some (values tasks.Relay c.in-Some-Values.file.now c.in-Some-Values.kind.now) in
     let came = printed asked (g.H.Shelf.files c.args.shelf.now) (g.S.Source.left c.args.source.now) (g.S.Source.left c.relay.new.source)
     (record { shelf = g.H.Shelf.failures c.args.shelf.now; source = g.S.Source.failures c.args.source.now; sink = g.K.Sink.failures c.args.sink.now })
     (record { shelf = g.H.Shelf.failures c.relay.new.shelf; source = g.S.Source.failures c.relay.new.source; sink = g.K.Sink.failures c.print.new.sink })
     c.in-Ok.bytes.items c.print.result found.0 found.1.0 found.1.1 c.in-Ok.ensures.taken c.print.ensures.outcome in
-    (c.in-Ok.bytes.items, asked, (rw c.in-Some-Relay.field-0-is at c.in-Some-Relay.ensures), came.0, came.1, (rw c.as_slice.ensures.value at c.print.ensures.output))
+    (c.in-Ok.bytes.items, asked, (rw (c.in-Some-Values.field-0-is, c.in-Relay.is) at c.in-Some-Values.ensures), came.0, came.1, (rw c.as_slice.ensures.value at c.print.ensures.output))
 
 pub returns-in-Err : goal.returns-in-Err
 returns-in-Err g c =
-    ([], Some (relay c.in-Some-Relay.file.now c.in-Some-Relay.kind.now), (rw c.in-Some-Relay.field-0-is at c.in-Some-Relay.ensures), c.in-Err.ensures.found (g.K.Sink.failures c.args.sink.now), c.in-Err.ensures.taken, outputs_nothing (g.K.Sink.taken c.args.sink.now) c.in-Err.outcome)
+    ([], Some (values tasks.Relay c.in-Some-Values.file.now c.in-Some-Values.kind.now), (rw (c.in-Some-Values.field-0-is, c.in-Relay.is) at c.in-Some-Values.ensures), c.in-Err.ensures.found (g.K.Sink.failures c.args.sink.now), c.in-Err.ensures.taken, outputs_nothing (g.K.Sink.taken c.args.sink.now) c.in-Err.outcome)
+
+pub returns-in-Ok-same : goal.returns-in-Ok-same
+returns-in-Ok-same g c =
+    let found = c.in-Ok-same.ensures.found (g.K.Sink.failures c.args.sink.now) in
+    let asked = Some (values tasks.Same c.in-Some-Values.file.now c.in-Some-Values.kind.now) in
+    let came = verdict_printed (g.H.Shelf.files c.args.shelf.now) c.in-Some-Values.file.now c.in-Some-Values.kind.now (g.S.Source.left c.args.source.now) (g.S.Source.left c.same.new.source)
+    (record { shelf = g.H.Shelf.failures c.args.shelf.now; source = g.S.Source.failures c.args.source.now; sink = g.K.Sink.failures c.args.sink.now })
+    (record { shelf = g.H.Shelf.failures c.same.new.shelf; source = g.S.Source.failures c.same.new.source; sink = g.K.Sink.failures c.print_verdict.new.sink })
+    c.in-Ok-same.is_same c.print_verdict.result found.0 found.1.0 found.1.1 c.in-Ok-same.ensures.taken c.print_verdict.ensures.outcome in
+    (verdict_line c.in-Ok-same.is_same, asked, (rw (c.in-Some-Values.field-0-is, c.in-Same.is) at c.in-Some-Values.ensures), came.0, came.1, c.print_verdict.ensures.output)
+
+pub returns-in-Err-same : goal.returns-in-Err-same
+returns-in-Err-same g c =
+    ([], Some (values tasks.Same c.in-Some-Values.file.now c.in-Some-Values.kind.now), (rw (c.in-Some-Values.field-0-is, c.in-Same.is) at c.in-Some-Values.ensures), c.in-Err-same.ensures.found (g.K.Sink.failures c.args.sink.now), c.in-Err-same.ensures.taken, outputs_nothing (g.K.Sink.taken c.args.sink.now) c.in-Err-same.outcome)
 
 pub returns-in-Ok-check : goal.returns-in-Ok-check
 returns-in-Ok-check g c =

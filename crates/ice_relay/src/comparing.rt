@@ -1,0 +1,40 @@
+//! Whether two encapsulations hold the same graph.
+
+ghost use Rattle.ice_relay.specs.Comparing.{Compares};
+
+use crate::fault::RelayFault;
+use crate::relay::root_of;
+use class_slices::{decode_rest, encode_typed, take_graph};
+use ice_members::Fields;
+use ice_prims::Cursor;
+use ice_types::{Schema, TypeRef};
+use std::alloc::Global;
+
+/// The most bytes of a canonical encapsulation that is compared.
+pub const MOST_COMPARED: usize = 2_147_483_647;
+
+/// Whether the two values that the whole input holds, one encapsulation after the other, are the same with
+/// all instances that they lead to, however these are named; or the first fault from the left; or the length of the
+/// first of their canonical encapsulations that has more than 2,147,483,647 bytes.
+/// (Ice manual, "Data Encoding for Class and Exception Types".)
+pub fn are_same(
+    alloc: Global,
+    schema: &Schema,
+    kind: TypeRef,
+    input: &[u8],
+) -> Result<bool, RelayFault>
+    ensures { Compares schema.now kind input.now result }
+{
+    let root = [root_of(alloc, kind)?];
+    let fields = Fields {
+        required: &root,
+        optional: &[],
+    };
+    let mut cursor = Cursor::new(input);
+    let first = take_graph(alloc, schema, fields, &mut cursor)?;
+    let second = decode_rest(alloc, schema, fields, cursor)?;
+    schema.rules();
+    let first = encode_typed(alloc, schema, fields, first, MOST_COMPARED as u32)?;
+    let second = encode_typed(alloc, schema, fields, second, MOST_COMPARED as u32)?;
+    Ok(first.as_slice() == second.as_slice())
+}
