@@ -145,12 +145,13 @@ class Style:
 
     def __init__(self, chance):
         self.tables, self.ids, self.tags, self.order = [chance.choice([0, 0.2, 0.6]) for _ in range(4)]
+        self.compact = chance.choice([0, 0, 0.3, 1])
 
 
 class VariedWriter(graphs.Writer):
     """Writes a graph in any way that is read as that graph: dictionaries in any order, type ids as strings again, members of
-    unknown tags, tables in any order with entries that come twice or that nothing uses. With `at` the part of that number is
-    changed, and what counts it fits."""
+    unknown tags, tables in any order with entries that come twice or that nothing uses, instances without sizes. With `at` the part
+    of that number is changed, and what counts it fits."""
 
     def __init__(self, graph, seed, at=None, changed=None):
         super().__init__(graph)
@@ -170,6 +171,27 @@ class VariedWriter(graphs.Writer):
     def plain(self, value, kind):
         order = generate.shuffled(self.chance) if self.is_so(self.style.order) else sorted
         return values.spelled(value, kind, order, values.EMPTY_FACET if self.is_so(self.style.order) else values.NO_FACET)
+
+    def instance(self, number):
+        if not self.is_so(self.style.compact):
+            yield from super().instance(number)
+            return
+        slices = self.graph.instances[number]
+        for at, it in enumerate(slices):
+            yield from self.compact(it, at == 0, at == len(slices) - 1)
+
+    def compact(self, it, is_first, is_last):
+        """Writes a slice without a size, in which references stand as they do outside of slices."""
+        form, type_id = self.type_id(it.row.type_id) if is_first else (0, b"")
+        has_optional = self.has_optional(it)
+        self.put(bytes([form | has_optional * graphs.OPTIONAL | is_last * graphs.LAST]), "flags")
+        if is_first:
+            self.put(type_id, "type id" if form == graphs.AS_TEXT else "index")
+        for value, kind in zip(it.required, it.row.required):
+            yield from self.value(value, kind, self.inline)
+        if has_optional:
+            self.entries = range(len(self.graph.instances))
+            yield from self.options(it.optional, it.row, self.inline)
 
     def type_id(self, it):
         there = [at for at, other in enumerate(self.ids, 1) if other == it]

@@ -21,9 +21,8 @@ FIXED_FORMATS = {kinds.F1: 1, kinds.F2: 2, kinds.F4: 4, kinds.F8: 8}
 
 @dataclass(frozen=True)
 class Reach:
-    """What is read beside slices that have a size and a known class, and how many instances may begin."""
+    """What is read beside slices of a known class, with a size or without, and how many instances may begin."""
 
-    has_compact: bool = False  # slices without a size; else they are `BadFlags`
     has_kept: bool = False  # slices with a size of an unknown class; else they are `UnknownClass`
     most: int = 100_000
 
@@ -215,7 +214,7 @@ class Reader:
             is_bad = is_bad or not has_id
         else:
             is_bad = is_bad or has_id and not has_size or has_size != is_sized
-        if is_bad or not has_size and not self.reach.has_compact:
+        if is_bad:
             raise Fault(first, "BadFlags")
         if flags & TYPE_ID == AS_NUMBER:
             raise Fault(first, "CompactId")
@@ -323,9 +322,8 @@ def prefixed(cursor, format_):
     return inside
 
 
-def decode(data, kind, classes=(), reach=Reach()):
-    """Returns the graph that an input is the encapsulation of, or raises its first `Fault`. `classes` are all of the schema."""
-    input_ = Cursor(data, 0, len(data))
+def take_graph(input_, kind, classes, reach):
+    """Returns the graph of the encapsulation where a cursor is, and leaves that behind it, or raises the first `Fault` in it."""
     inside = input_.encapsulation()
     first = inside.at
     if inside.version() != values.VERSION:
@@ -335,9 +333,22 @@ def decode(data, kind, classes=(), reach=Reach()):
     misfits = list(reader.misfits())
     if misfits:
         raise Fault(min(misfits), "WrongClass")
-    # What is wrong inside the encapsulation comes before what follows it.
-    input_.left_over()
     return Graph(root, reader.instances)
+
+
+def decode_all(data, count, kind, classes=(), reach=Reach()):
+    """Returns the graphs of an input that is so many encapsulations, one after the other, or raises its first `Fault`. `classes`
+    are all of the schema."""
+    input_ = Cursor(data, 0, len(data))
+    found = [take_graph(input_, kind, classes, reach) for _ in range(count)]
+    # What is wrong inside of the encapsulations comes before what follows them.
+    input_.left_over()
+    return found
+
+
+def decode(data, kind, classes=(), reach=Reach()):
+    """Returns the graph that an input is the encapsulation of, or raises its first `Fault`."""
+    return decode_all(data, 1, kind, classes, reach)[0]
 
 
 # Writing
@@ -391,7 +402,7 @@ class Writer:
         self.put(values.spelled_size(number), what)
 
     def apart(self, write):
-        """Returns what is written apart, to be put behind its length. No instance begins in it."""
+        """Returns what is written apart, to be put behind the size of a slice. No instance begins in it."""
         outer, self.out = self.out, bytearray()
         finished(write, None)
         written, self.out = self.out, outer
@@ -442,10 +453,13 @@ class Writer:
     def option(self, tag, value, kind, refer):
         format_ = kinds.optional_format(kind)
         self.put(spelled_tag(tag, format_), "tag")
+        first = len(self.out)
+        yield from self.value(value, kind, refer)
         if format_ not in (kinds.VSIZE, kinds.FSIZE) or kinds.counts_itself(kind):
-            yield from self.value(value, kind, refer)
             return
-        inside = self.apart(self.value(value, kind, refer))
+        # What is written is put behind its length.
+        inside = self.out[first:]
+        del self.out[first:]
         if format_ == kinds.VSIZE:
             self.put_size(len(inside), "prefix")
         else:

@@ -1,10 +1,11 @@
-"""The answers that `ice check FILE`, `ice relay FILE TYPE` and `ice proxy TEXT` have to give: status, standard output, and the
-line on standard error."""
+"""The answers that `ice check FILE`, `ice relay FILE TYPE`, `ice same FILE TYPE` and `ice proxy TEXT` have to give: status, standard
+output, and the line on standard error."""
 import graphs
 import kinds
 import loading
 import names
 import proxies
+import same as sameness
 import values
 
 # The most bytes of a word of the command line.
@@ -35,23 +36,53 @@ def kind_of(schema, word):
     return found.kind if isinstance(found, sorts) else None
 
 
+class Unread(Exception):
+    """The answer where no graph is read, and why."""
+
+
+def schema_of(shelf, file):
+    try:
+        return loading.load(shelf, file)
+    except loading.Refused as why:
+        raise Unread(refused_slice(why), str(why)) from None
+
+
+def read(schema, word, data, count):
+    """Returns the type and the graphs of an input of so many encapsulations."""
+    kind = kind_of(schema, word)
+    if kind is None:
+        raise Unread((2, b"", b"ice: no such name " + word.encode() + b"\n"), "no such name")
+    try:
+        return kind, graphs.decode_all(data, count, kind, [it.kind.class_ for it in schema.rules.classes])
+    except values.Fault as why:
+        raise Unread((4, b"", f"ice: input refused at {why.place}: {why.kind}\n".encode()), str(why)) from None
+
+
 def relay(shelf, file, word, data):
     """Returns the answer for the shelf, for FILE, for TYPE and for the input, and where one is refused, why."""
     try:
-        schema = loading.load(shelf, file)
-    except loading.Refused as why:
-        return refused_slice(why), str(why)
-    kind = kind_of(schema, word)
-    if kind is None:
-        return (2, b"", b"ice: no such name " + word.encode() + b"\n"), "no such name"
-    try:
-        graph = graphs.decode(data, kind, [it.kind.class_ for it in schema.rules.classes])
-    except values.Fault as why:
-        return (4, b"", f"ice: input refused at {why.place}: {why.kind}\n".encode()), str(why)
+        kind, (graph,) = read(schema_of(shelf, file), word, data, 1)
+    except Unread as unread:
+        return unread.args
     written = graphs.encode(graph, kind)
     if len(written) > values.MOST_BYTES:
         return (4, b"", f"ice: answer too long: {len(written)}\n".encode()), "too long"
     return (0, written, b""), ""
+
+
+def same(shelf, file, word, data):
+    """Returns likewise the answer to whether two graphs are the same."""
+    try:
+        return same_of(schema_of(shelf, file), word, data)
+    except Unread as unread:
+        return unread.args
+
+
+def same_of(schema, word, data):
+    kind, both = read(schema, word, data, 2)
+    if sameness.is_same(*both, kind):
+        return (0, b"same\n", b""), "same"
+    return (1, b"different\n", b""), "different"
 
 
 def proxy(text):

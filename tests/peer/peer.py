@@ -40,6 +40,7 @@ class Peer:
         self.types = importlib.import_module(module)
         operations = importlib.import_module(OPERATIONS)
         self.communicator = Ice.initialize(["--Ice.MessageSizeMax=0", *options])
+        self.communicators, self.operations = [self.communicator], operations
         adapter = self.communicator.createObjectAdapterWithEndpoints("peer", "tcp -h 127.0.0.1")
         self.bytes, self.values = Bytes(), self.servant(operations.Values)
         self.writer = operations.ValuesPrx.uncheckedCast(self.remote(adapter, self.bytes, "bytes"))
@@ -62,9 +63,14 @@ class Peer:
         given = self.communicator.stringToProxy(made_proxies.text_for_ice(proxy))
         return getattr(self.types, f"{name}Prx").uncheckedCast(given) if name else given
 
-    def written(self, name, value):
+    def writer_with(self, *options):
+        """Returns a further writer, of a communicator that has these options."""
+        self.communicators.append(Ice.initialize(["--Ice.MessageSizeMax=0", *options]))
+        return self.operations.ValuesPrx.uncheckedCast(self.communicators[-1].stringToProxy(str(self.writer)))
+
+    def written(self, name, value, writer=None):
         """Returns the encapsulation that Ice writes for a value of the type."""
-        getattr(self.writer, f"put{self.names.index(name)}")(value)
+        getattr(writer or self.writer, f"put{self.names.index(name)}")(value)
         return self.bytes.got
 
     def read(self, name, encapsulation):
@@ -73,4 +79,5 @@ class Peer:
         return self.values.got
 
     def close(self):
-        self.communicator.destroy()
+        for it in self.communicators:
+            it.destroy()
