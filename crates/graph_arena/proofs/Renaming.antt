@@ -20,6 +20,13 @@ module _ {A T : Type 0} (told seen : A → T) where
   all-put (z ∷ xs) zero le = absurd (omega (arith, le))
   all-put (z ∷ xs) (suc n) le = ap (λ (l : List T). seen z ∷ l) (all-put xs n (omega (arith, le)))
 
+abbrev pub itself : ℕ → ℕ
+itself n = n
+
+map-itself : (ns : List ℕ) → map itself ns ≡ ns
+map-itself [] = refl
+map-itself (n ∷ ns) = ap (λ (l : List ℕ). n ∷ l) (map-itself ns)
+
 module _ (f : ℕ → ℕ) where
   abbrev pub renamed_view : Value → Tree
   renamed_view v = renamed f (view v)
@@ -52,6 +59,11 @@ module _ (f : ℕ → ℕ) where
 
   pub present-put : (options now : List (ℕ × Value)) (n : ℕ) → length now ≤ n → so_far renamed_option view_option now n ≡ map renamed_option options → view_present now ≡ renamed_present f (view_present options)
   present-put options now n le all = sym (all-put renamed_option view_option now n le) ∙ (all ∙ present-is options)
+
+  -- ---- names that stand alone
+
+  pub names-put : (names now : List ℕ) (n : ℕ) → length now ≤ n → so_far f itself now n ≡ map f names → now ≡ map f names
+  names-put names now n le all = sym (map-itself now) ∙ (sym (all-put f itself now n le) ∙ all)
 
   -- ---- slices
 

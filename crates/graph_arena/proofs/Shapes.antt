@@ -1,5 +1,5 @@
 -- How a value that holds values is seen.
-use Rattle.std.proofs.Common.{◌≡◌, List, ap, sym, ◌∙◌, ℕ, refl}
+use Rattle.std.proofs.Common.{◌≡◌, List, ap, sym, ◌∙◌}
 use Rattle.ice_encoding.specs.Tree.{Tree, sequence, dictionary, struct}
 use Rattle.graph_arena.specs.declared.value.Value.{Value}
 use Rattle.graph_arena.specs.declared.value.Value.TheFolds.{fold-roll-Value}
@@ -7,9 +7,6 @@ use Rattle.graph_arena.specs.declared.value.Value.TheVariants as variants
 use Rattle.graph_arena.specs.declared.value.Value.TheVariants.{rolls-Seq, rolls-Pairs, rolls-Members}
 use Rattle.graph_arena.specs.declared.value.Value.TheOpen.{Value-F}
 use Rattle.graph_arena.specs.View.{view, view_step, view_all, view_pairs}
-use Rattle.graph_arena.specs.declared.instance.Members.{Members}
-use Rattle.graph_arena.specs.declared.instance.Slice.{Slice}
-use Rattle.graph_arena.specs.declared.instance.Slice.TheVariants.{Known}
 
 pub view_seq : (items : List Value) → view (variants.Seq items) ≡ sequence (view_all items)
 view_seq items = ap view (sym (rolls-Seq items)) ∙ fold-roll-Value Tree view_step (Value-F.Seq items)
@@ -19,6 +16,3 @@ view_dict pairs = ap view (sym (rolls-Pairs pairs)) ∙ fold-roll-Value Tree vie
 
 pub view_members : (items : List Value) → view (variants.Members items) ≡ struct (view_all items)
 view_members items = ap view (sym (rolls-Members items)) ∙ fold-roll-Value Tree view_step (Value-F.Members items)
-
-pub known-slice : (s : Slice) → (class : ℕ) × (content : Members) × (s ≡ Known class content)
-known-slice (Known class content) = (class, content, refl)

@@ -1,7 +1,11 @@
 //! Instances of classes, and the values of their members.
 
+ghost use Rattle.std.specs.Prelude.{◌≡◌};
+ghost use Rattle.ice_graphs.specs.Instances as graphs;
+ghost use Rattle.graph_arena.specs.Seen.{view_slices};
+
 use crate::Value;
-use ice_types::List;
+use ice_types::{Bytes, List, Name};
 
 /// The values of the required members in order, and of the optional ones that are present, by rising
 /// tag. (Ice manual, "Data Encoding for Class and Exception Types".)
@@ -15,7 +19,18 @@ pub struct Members {
 #[derive(Debug, Drop)]
 pub enum Slice {
     /// A class by its place in the schema's table, and the values of its own members.
-    Known { class: u32, members: Members },
+    Known {
+        class: u32,
+        members: Members,
+    },
+    /// A class that the schema lacks: its type id, the bytes of its members without the end marker of
+    /// optional ones, whether that marker stood behind them, and the names in the slice's table.
+    Kept {
+        id: Name,
+        bytes: Bytes,
+        optionals: bool,
+        table: List<u32>,
+    },
 }
 
 /// An instance of a class.
@@ -23,4 +38,17 @@ pub enum Slice {
 pub struct Instance {
     /// From the most derived class on.
     pub slices: List<Slice>,
+}
+
+/// The class of an instance with these slices: that of the first one whose class is known, None where
+/// there is none, which is `Object`. (Ice manual, "Class Inheritance".)
+pub fn class_of(slices: &[Slice]) -> Option<u32>
+    ensures { result ≡ graphs.class_of (view_slices slices.now) }
+{
+    for slice in slices {
+        if let Slice::Known { class, .. } = slice {
+            return Some(*class);
+        }
+    }
+    None
 }

@@ -22,7 +22,7 @@ mod value;
 mod visiting;
 
 pub use graph::{Graph, MOST_INSTANCES};
-pub use instance::{Instance, Members, Slice};
+pub use instance::{Instance, Members, Slice, class_of};
 pub use laws::{equal_keys_repeat, sorting_keeps_the_value};
 pub use order::{is_above, is_rising, is_sorted};
 pub use resolving::{resolve, resolve_members};

@@ -34,7 +34,18 @@ fn push_slice(names: &mut List<u32>, slice: &Slice) -> Result<(), AllocError>
 {
     match slice {
         Slice::Known { members, .. } => push_members(names, members),
+        Slice::Kept { table, .. } => push_table(names, table.as_slice()),
     }
+}
+
+/// Those in the table of a slice that is kept.
+fn push_table(names: &mut List<u32>, table: &[u32]) -> Result<(), AllocError>
+    ensures { OnOk result (names.new ≡ names.old ++ table.now) }
+{
+    for name in table {
+        names.push(*name)?;
+    }
+    Ok(())
 }
 
 fn push_present(names: &mut List<u32>, optional: &[(u32, Value)]) -> Result<(), AllocError>

@@ -11,7 +11,7 @@ ghost use Rattle.graph_arena.specs.Seen.{view_instance, view_slice, view_slices}
 
 use crate::graph::Graph;
 use crate::instance::{Instance, Slice};
-use crate::resolving::resolve_members;
+use crate::resolving::{resolve_members, resolve_names};
 use ice_types::List;
 use std::alloc::{AllocError, Global};
 use std::mem;
@@ -84,5 +84,6 @@ fn resolve_slice(slice: &mut Slice, table: &[u32])
 {
     match slice {
         Slice::Known { members, .. } => resolve_members(members, table),
+        Slice::Kept { table: names, .. } => resolve_names(names.as_mut_slice(), table),
     }
 }

@@ -1,6 +1,6 @@
 //! The references of a slice that has a table: each is a place in the table until that is read.
 
-ghost use Rattle.std.specs.Prelude.{◌≡◌};
+ghost use Rattle.std.specs.Prelude.{◌≡◌, map};
 ghost use Rattle.ice_graphs.specs.Names.{renamed, renamed_each, renamed_members, renamed_name, renamed_pairs};
 ghost use Rattle.ice_graphs.specs.Names.{renamed_present};
 ghost use Rattle.ice_graphs.specs.References.{entry_in};
@@ -48,14 +48,27 @@ pub fn resolve(value: &mut Value, table: &[u32])
     }
 }
 
-/// What the table has at a place.
+/// Puts for each of these places the name that stands there.
+pub(crate) fn resolve_names(names: &mut [u32], table: &[u32])
+    ensures { names.new ≡ map (entry_in table.now) names.old }
+{
+    for name in names.iter_mut() {
+        *name = name_at(table, *name);
+    }
+}
+
+/// What the table has at a place, null for null.
 fn entry(table: &[u32], place: Option<u32>) -> Option<u32>
     ensures { result ≡ renamed_name (entry_in table.now) place }
 {
-    match place {
-        Some(place) => Some(table.get(place as usize).copied().unwrap_or(0)),
-        None => None,
-    }
+    Some(name_at(table, place?))
+}
+
+/// What the table has at a place.
+fn name_at(table: &[u32], place: u32) -> u32
+    ensures { result ≡ entry_in table.now place }
+{
+    table.get(place as usize).copied().unwrap_or(0)
 }
 
 #[cycle(resolving)]
