@@ -1,0 +1,13 @@
+//! What the definitions promise of kept slices.
+
+ghost use Rattle.std.specs.Prelude.{◌≡◌, ◌++◌, ℕ, Bool, List, Ok};
+ghost use Rattle.ice_prims.specs.Rest.{Rest, IsBytes};
+ghost use Rattle.ice_graphs.specs.Slices.{kept_at};
+ghost use Rattle.preserved.specs.Kept.{kept_part};
+
+/// Bytes come out as they went in: what is written of a kept slice is what was taken for it, its size and
+/// the end marker of optional members among it.
+pub fn kept_unchanged()
+    ensures { (flagged : Bool) (bytes : List ℕ) (r after : Rest) → IsBytes r.bytes → kept_at flagged r ≡ Ok (bytes, after)
+        → r.bytes ≡ kept_part flagged bytes ++ after.bytes }
+{}

@@ -1,0 +1,11 @@
+//! Slices whose class a schema lacks: what is kept of one, and what is written of it again, the same bytes.
+//! (Ice manual, "Data Encoding for Class and Exception Types".)
+#![tactic(auto)]
+
+mod laws;
+mod reading;
+mod writing;
+
+pub use laws::kept_unchanged;
+pub use reading::{KeptPart, keep, skip_slice, slice_bound};
+pub use writing::{put_slice_size, write_kept};
