@@ -10,7 +10,7 @@ use Rattle.ice_encoding.specs.Port.{Reader}
 use Rattle.ice_encoding.specs.Pausing.{Inside}
 use Rattle.ice_optionals.specs.Members as defs
 use Rattle.ice_graphs.specs.Graph.{Slice, Graph}
-use Rattle.ice_graphs.specs.Flags.{first, known_classes}
+use Rattle.ice_graphs.specs.Flags.{first, all_slices}
 use Rattle.ice_graphs.specs.Instances.{most_instances, references, graph_at, misfit, unless_misfit}
 use Rattle.ice_graphs.specs.References.{State, inline_at, opening, with_ended}
 use Rattle.ice_graphs.specs.Slices.{slices_at}
@@ -100,8 +100,8 @@ module _ (t : Tables) where
     begins_here : (n : ℕ) (s : State ℕ) (r : Rest) → instance_within t (suc top_depth) n s r ≡ ended n (left_slices below t (begun n r) s r)
     unfolding instance_within
     begins_here n s r =
-        ap (ended n) (whole_slices (slices_at (refer_within t top_depth) t known_classes (length r.bytes) first s r))
-        ∙ ap (λ (refer : Option ℕ → Reader (State ℕ) (Option ℕ)). ended n (slices_at refer t known_classes (length r.bytes) first s r >>= λ x. Ok (behind [] x.0, x.1, x.2))) (refer_is top_depth)
+        ap (ended n) (whole_slices (slices_at (refer_within t top_depth) t all_slices (length r.bytes) first s r))
+        ∙ ap (λ (refer : Option ℕ → Reader (State ℕ) (Option ℕ)). ended n (slices_at refer t all_slices (length r.bytes) first s r >>= λ x. Ok (behind [] x.0, x.1, x.2))) (refer_is top_depth)
 
     pub top-begins : (n : ℕ) (s : State ℕ) (r : Rest) → inside_then (instance_within t (depth - length us) n s r) (onward t depth last us) ≡ onward t depth last (us ++ begun n r ∷ []) s r
     top-begins n s r =
@@ -132,7 +132,7 @@ module _ (t : Tables) where
   roots-fail handed depth old us e s r none_was read = rw none_was read
 
   -- before the first byte
-  pub content-fresh : (handed : Shape) (r : Rest) → content_left t handed most_instances (fresh_members ToEnd) [] opening r ≡ defs.content_at (references t known_classes).read t (told_apart handed) opening r
+  pub content-fresh : (handed : Shape) (r : Rest) → content_left t handed most_instances (fresh_members ToEnd) [] opening r ≡ defs.content_at (references t all_slices).read t (told_apart handed) opening r
   unfolding content_left
   content-fresh handed r =
       sym (left-content (inline_at most_instances) t (instance_within t most_instances) handed opening r)
@@ -145,16 +145,16 @@ steps-along t handed depth now result read read' r is h = subst (λ (x : Result 
 
 module _ (t : Tables) (shape : Shape) (r : Rest) where
   abbrev of_content : Result (defs.Members × State ℕ × Rest) Fault
-  of_content = defs.content_at (references t known_classes).read t shape opening r
+  of_content = defs.content_at (references t all_slices).read t shape opening r
 
   abbrev fitted : defs.Members × State ℕ × Rest → Result (Graph × Rest) Fault
   fitted x = unless_misfit (misfit t x.1.instances x.1.met) (record { roots = x.0; instances = x.1.instances }, x.2)
 
-  pub graph_read : (roots : defs.Members) (s : State ℕ) (after : Rest) (result : Result Content ReadFault) → of_content ≡ Ok (roots, s, after) → Fits t roots s result → ReadsGraph result (graph_at t known_classes shape r) after
+  pub graph_read : (roots : defs.Members) (s : State ℕ) (after : Rest) (result : Result Content ReadFault) → of_content ≡ Ok (roots, s, after) → Fits t roots s result → ReadsGraph result (graph_at t all_slices shape r) after
   unfolding graph_at
   graph_read roots s after (Ok c) is (fits, same) = ap (λ (x : Result (defs.Members × State ℕ × Rest) Fault). x >>= fitted) is ∙ rw fits (λ i. Ok (sym same i, after))
-  graph_read roots s after (Err e) is (place, misfits, same) = subst (λ (f : ReadFault). Fails f (graph_at t known_classes shape r)) (sym same) (ap (λ (x : Result (defs.Members × State ℕ × Rest) Fault). x >>= fitted) is ∙ rw misfits refl)
+  graph_read roots s after (Err e) is (place, misfits, same) = subst (λ (f : ReadFault). Fails f (graph_at t all_slices shape r)) (sym same) (ap (λ (x : Result (defs.Members × State ℕ × Rest) Fault). x >>= fitted) is ∙ rw misfits refl)
 
-  pub graph_fails : (e : ReadFault) → Fails e of_content → Fails e (graph_at t known_classes shape r)
+  pub graph_fails : (e : ReadFault) → Fails e of_content → Fails e (graph_at t all_slices shape r)
   unfolding graph_at
   graph_fails e h = fails_then e of_content fitted h

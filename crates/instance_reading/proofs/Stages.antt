@@ -1,5 +1,5 @@
 -- How what is still read of an instance changes with a step.
-use Rattle.std.proofs.Common.{ℕ, zero, suc, ◌≡◌, ◌-◌, ◌<◌, true, false, List, [], ◌∷◌, ◌++◌, Option, None, Some, Result, Ok, Err, refl, sym, ap, subst, ◌∙◌, append-nil, arith}
+use Rattle.std.proofs.Common.{ℕ, zero, suc, ◌≡◌, ◌-◌, ◌<◌, List, [], ◌∷◌, ◌++◌, Option, None, Some, Result, Ok, Err, refl, sym, ap, subst, ◌∙◌, append-nil, arith}
 use Rattle.std.proofs.lemmas.List.{append_assoc}
 use Rattle.ice_types.specs.Tables.{Tables}
 use Rattle.ice_prims.specs.declared.fault.Fault.{Fault}
@@ -14,10 +14,10 @@ use Rattle.ice_encoding.specs.Reading.{made}
 use Rattle.ice_types.specs.declared.declarations.Shape.{Shape}
 use Rattle.ice_optionals.specs.Members.{Members}
 use Rattle.ice_graphs.specs.Graph.{Slice, known}
-use Rattle.ice_graphs.specs.Flags.{Before, known_classes}
+use Rattle.ice_graphs.specs.Flags.{Before, all_slices}
 use Rattle.ice_graphs.specs.Instances.{most_instances}
 use Rattle.ice_graphs.specs.References.{State, inline_at, entries_at, not_null, resolved, with_met}
-use Rattle.ice_graphs.specs.Slices.{by_table, one_more, slices_at}
+use Rattle.ice_graphs.specs.Slices.{one_more, slices_at}
 use Rattle.graph_arena.specs.declared.instance.Members as stored_members
 use Rattle.graph_arena.specs.declared.instance.Slice as stored
 use Rattle.graph_arena.specs.declared.instance.Slice.TheVariants.{Known}
@@ -25,16 +25,15 @@ use Rattle.graph_arena.specs.Seen.{view_content, view_slice, view_slices}
 use Rattle.ice_members.specs.declared.reader.MembersReader.{MembersReader}
 use Rattle.ice_members.specs.Unread.{left_of_members}
 use Rattle.instance_reading.specs.declared.slice.Before as code
-use Rattle.instance_reading.specs.declared.slice.Before.TheVariants as befores
 use Rattle.instance_reading.specs.declared.slice.CompactSlice.{CompactSlice}
-use Rattle.instance_reading.specs.Seen.{own_fields, view_before}
-use Rattle.instance_reading.specs.Slices.{Open, BeginsSlice, refer_by, opened, with_entries, left_table, left_bases, left_open, left_members, left_stage}
+use Rattle.instance_reading.specs.Seen.{own_fields, view_before, view_next}
+use Rattle.instance_reading.specs.Slices.{Open, BeginsSlice, refer_by, opened, slice_with, uses_of, view_body, with_entries, left_table, left_next, left_open, left_members, left_compact, left_stage}
 use Rattle.instance_reading.specs.declared.sized.OpenSlice.{OpenSlice}
 use Rattle.instance_reading.specs.declared.slice.Stage.{Stage}
 use Rattle.instance_reading.specs.declared.slice.Stage.TheVariants as stages
 use Rattle.instance_reading.specs.declared.unfinished.Unfinished.{Unfinished}
 use Rattle.instance_reading.specs.declared.unfinished.Advanced.{Advanced}
-use Rattle.instance_reading.specs.Unfinished.{behind, left_behind, left_by, left_slices, Keeps, Advances}
+use Rattle.instance_reading.specs.Unfinished.{behind, left_behind, left_by, left_slices, Keeps, Pauses, Advances}
 use Rattle.instance_reading.proofs.Heads.{fails_then}
 use Rattle.instance_reading.proofs.Places.{fault_along}
 
@@ -42,27 +41,27 @@ use Rattle.instance_reading.proofs.Places.{fault_along}
 
 module _ (inside : Inside (State ℕ)) (t : Tables) where
   slice_begins : (steps : ℕ) (before : Before) (stage : Stage) (s s' : State ℕ) (r after : Rest) → (steps ≡ 0 → ⊥) → BeginsSlice t before (Ok stage) s r s' after
-      → slices_at (refer_by inside) t known_classes steps before s r ≡ left_stage inside t (steps - 1) stage s' after
+      → slices_at (refer_by inside) t all_slices steps before s r ≡ left_stage inside t (steps - 1) stage s' after
   slice_begins zero before stage s s' r after some h = absurd (some refl)
   slice_begins (suc steps) before stage s s' r after some h =
       let e : steps ≡ suc steps - 1 = omega arith in
       h inside steps ∙ ap (λ (n : ℕ). left_stage inside t n stage s' after) e
 
-  slice_fails : (steps : ℕ) (before : Before) (e : ReadFault) (s s' : State ℕ) (r after : Rest) → (steps ≡ 0 → ⊥) → BeginsSlice t before (Err e) s r s' after → Fails e (slices_at (refer_by inside) t known_classes steps before s r)
+  slice_fails : (steps : ℕ) (before : Before) (e : ReadFault) (s s' : State ℕ) (r after : Rest) → (steps ≡ 0 → ⊥) → BeginsSlice t before (Err e) s r s' after → Fails e (slices_at (refer_by inside) t all_slices steps before s r)
   slice_fails zero before e s s' r after some h = absurd (some refl)
   slice_fails (suc steps) before e s s' r after some h = h inside steps
 
 -- ---- an entry of the table
 
 abbrev pub with_entry : Open → ℕ → Open
-with_entry o n = record { class = o.class; base = o.base; content = o.content; uses = o.uses; table = o.table ++ n ∷ []; left = o.left - 1 }
+with_entry o n = record { front = o.front; next = o.next; table = o.table ++ n ∷ []; left = o.left - 1 }
 
 module _ (refer : Option ℕ → Reader (State ℕ) (Option ℕ)) (t : Tables) where
   abbrev entry_first : ℕ → List ℕ × State ℕ × Rest → Result (List ℕ × State ℕ × Rest) Fault
   entry_first n y = Ok (n ∷ y.0, y.1, y.2)
 
   abbrev by_names : Open → State ℕ → Rest → List ℕ → Result (Slice × State ℕ × Rest) Fault
-  by_names o s r table = Ok (by_table o.class o.content table, with_met (resolved table o.uses) s, r)
+  by_names o s r table = Ok (slice_with o.front table, with_met (resolved table (uses_of o.front)) s, r)
 
   more : (o kept : Open) (n : ℕ) → kept ≡ with_entry o n → (read : Result (List ℕ × State ℕ × Rest) Fault) → (read >>= entry_first n >>= with_entries refer t o) ≡ (read >>= with_entries refer t kept)
   more o kept n is (Err e) = refl
@@ -112,13 +111,13 @@ module _ (inside : Inside (State ℕ)) (t : Tables) where
   abbrev refer : Option ℕ → Reader (State ℕ) (Option ℕ)
   refer = refer_by inside
 
-  -- the slices of the bases, and all slices
-  abbrev carried : ℕ → Option ℕ → List Slice → Result (Slice × State ℕ × Rest) Fault → Result (List Slice × State ℕ × Rest) Fault
-  carried steps base had read = (read >>= λ x. made (one_more x.0) (left_bases refer t true steps base) x.1 x.2) >>= λ y. Ok (behind had y.0, y.1, y.2)
+  -- the slices that follow, and all slices
+  abbrev carried : ℕ → Option Before → List Slice → Result (Slice × State ℕ × Rest) Fault → Result (List Slice × State ℕ × Rest) Fault
+  carried steps next had read = (read >>= λ x. made (one_more x.0) (left_next refer t steps next) x.1 x.2) >>= λ y. Ok (behind had y.0, y.1, y.2)
 
-  carried_behind : {A : Type 0} (steps : ℕ) (base : Option ℕ) (had : List Slice) (read : Result A Fault) (next : A → Result (Slice × State ℕ × Rest) Fault) → carried steps base had (read >>= next) ≡ (read >>= λ x. carried steps base had (next x))
-  carried_behind steps base had (Ok x) next = refl
-  carried_behind steps base had (Err e) next = refl
+  carried_behind : {A : Type 0} (steps : ℕ) (follows : Option Before) (had : List Slice) (read : Result A Fault) (next : A → Result (Slice × State ℕ × Rest) Fault) → carried steps follows had (read >>= next) ≡ (read >>= λ x. carried steps follows had (next x))
+  carried_behind steps follows had (Ok x) next = refl
+  carried_behind steps follows had (Err e) next = refl
 
   met_known : (n : Option ℕ) (s s' : State ℕ) (r after : Rest) → inline_at most_instances None s r ≡ Ok (pausing.known n, s', after) → refer None s r ≡ Ok (n, s', after)
   met_known n s s' r after e = rw e refl
@@ -132,7 +131,7 @@ module _ (inside : Inside (State ℕ)) (t : Tables) where
   begins_next u before stage s s' r after some h = ap (λ (read : Result (List Slice × State ℕ × Rest) Fault). read >>= λ y. Ok (behind (view_slices u.slices) y.0, y.1, y.2)) (slice_begins inside t u.steps (view_before before) stage s s' r after some h)
 
   pub fails_next : (u : Unfinished) (before : code.Before) (e : ReadFault) (s s' : State ℕ) (r after : Rest) → (u.steps ≡ 0 → ⊥) → BeginsSlice t (view_before before) (Err e) s r s' after → Fails e (left_by inside t u (stages.Next before) s r)
-  fails_next u before e s s' r after some h = fails_then e (slices_at refer t known_classes u.steps (view_before before) s r) (λ y. Ok (behind (view_slices u.slices) y.0, y.1, y.2)) (slice_fails inside t u.steps (view_before before) e s s' r after some h)
+  fails_next u before e s s' r after some h = fails_then e (slices_at refer t all_slices u.steps (view_before before) s r) (λ y. Ok (behind (view_slices u.slices) y.0, y.1, y.2)) (slice_fails inside t u.steps (view_before before) e s s' r after some h)
 
   -- an entry is read
   some_left : (n : ℕ) → 0 < n → (left : ℕ) × (n ≡ suc left)
@@ -143,106 +142,140 @@ module _ (inside : Inside (State ℕ)) (t : Tables) where
     pub keeps_known : Keeps old new (opened slice) n → inline_at most_instances None s r ≡ Ok (pausing.known (Some n), s', after) → left_by inside t old (stages.Open slice) s r ≡ left_slices inside t new s' after
     keeps_known (kept, new_is, is) e =
         let left = some_left slice.left some in
-        ap (carried old.steps slice.base (view_slices old.slices)) (entry_known refer t (opened slice) (opened kept) left.0 n s s' r after left.1 is (met_known (Some n) s s' r after e))
-        ∙ ap (λ (b : Option ℕ). carried old.steps b (view_slices old.slices) (left_table refer t (opened kept) s' after)) (sym (ap (λ (o : Open). o.base) is))
+        ap (carried old.steps (view_next slice.next) (view_slices old.slices)) (entry_known refer t (opened slice) (opened kept) left.0 n s s' r after left.1 is (met_known (Some n) s s' r after e))
+        ∙ ap (λ (b : Option Before). carried old.steps b (view_slices old.slices) (left_table refer t (opened kept) s' after)) (sym (ap (λ (o : Open). o.next) is))
         ∙ ap (λ (u : Unfinished). left_slices inside t u s' after) (sym new_is)
 
     pub keeps_begins : Keeps old new (opened slice) n → inline_at most_instances None s r ≡ Ok (begins n, s', after) → left_by inside t old (stages.Open slice) s r ≡ (inside n s' after >>= λ x. left_slices inside t new x.0 x.1)
     keeps_begins (kept, new_is, is) e =
         let left = some_left slice.left some in
-        ap (carried old.steps slice.base (view_slices old.slices)) (entry_begins refer t inside (opened slice) (opened kept) left.0 n s s' r after left.1 is (met_begins n s s' r after e))
-        ∙ carried_behind old.steps slice.base (view_slices old.slices) (inside n s' after) (λ x. left_table refer t (opened kept) x.0 x.1)
-        ∙ ap (λ (b : Option ℕ). inside n s' after >>= λ x. carried old.steps b (view_slices old.slices) (left_table refer t (opened kept) x.0 x.1)) (sym (ap (λ (o : Open). o.base) is))
+        ap (carried old.steps (view_next slice.next) (view_slices old.slices)) (entry_begins refer t inside (opened slice) (opened kept) left.0 n s s' r after left.1 is (met_begins n s s' r after e))
+        ∙ carried_behind old.steps (view_next slice.next) (view_slices old.slices) (inside n s' after) (λ x. left_table refer t (opened kept) x.0 x.1)
+        ∙ ap (λ (b : Option Before). inside n s' after >>= λ x. carried old.steps b (view_slices old.slices) (left_table refer t (opened kept) x.0 x.1)) (sym (ap (λ (o : Open). o.next) is))
         ∙ ap (λ (u : Unfinished). inside n s' after >>= λ x. left_slices inside t u x.0 x.1) (sym new_is)
 
   module _ (old : Unfinished) (slice : OpenSlice) (s s' : State ℕ) (r after : Rest) (some : 0 < slice.left) where
     pub null_entry : inline_at most_instances None s r ≡ Ok (pausing.known None, s', after) → left_by inside t old (stages.Open slice) s r ≡ fault r.place BadReference
     null_entry e =
         let left = some_left slice.left some in
-        ap (carried old.steps slice.base (view_slices old.slices)) (entry_null refer t (opened slice) left.0 s s' r after left.1 (met_known None s s' r after e))
+        ap (carried old.steps (view_next slice.next) (view_slices old.slices)) (entry_null refer t (opened slice) left.0 s s' r after left.1 (met_known None s s' r after e))
 
     pub entry_refused : (e : ReadFault) → Fails e (inline_at most_instances None s r) → Fails e (left_by inside t old (stages.Open slice) s r)
     entry_refused e h =
         let left = some_left slice.left some in
         fails_then e (left_open refer t old.steps (opened slice) s r) (λ y. Ok (behind (view_slices old.slices) y.0, y.1, y.2))
-        (fails_then e (left_table refer t (opened slice) s r) (λ x. made (one_more x.0) (left_bases refer t true old.steps slice.base) x.1 x.2)
+        (fails_then e (left_table refer t (opened slice) s r) (λ x. made (one_more x.0) (left_next refer t old.steps (view_next slice.next)) x.1 x.2)
         (entry_fails refer t (opened slice) left.0 e s r left.1 (fails_then e (inline_at most_instances None s r) (λ x. met inside x.0 x.1 x.2) h)))
 
--- ---- the members of a slice without a size
+-- ---- a slice is read whole
 
 -- one slice more before those that are behind it
 had_one : (had : List stored.Slice) (slice : stored.Slice) (others : List Slice) → behind (view_slices had) (one_more (view_slice slice) others) ≡ behind (view_slices (had ++ slice ∷ [])) others
 had_one [] slice others = refl
 had_one (first ∷ had) slice others = ap (λ (slices : List Slice). view_slice first ∷ slices) (had_one had slice others)
 
-module _ (inside : Inside (State ℕ)) (t : Tables) (u : Unfinished) (class : ℕ) (base : Option ℕ) (fields : Shape) (is : fields ≡ own_fields t class) where
+module _ (inside : Inside (State ℕ)) (t : Tables) (u : Unfinished) where
+  abbrev behind_had : List Slice × State ℕ × Rest → Result (List Slice × State ℕ × Rest) Fault
+  behind_had y = Ok (behind (view_slices u.slices) y.0, y.1, y.2)
+
+  -- it stands last, and others follow it
+  with_it : (slice : stored.Slice) (others : Result (List Slice × State ℕ × Rest) Fault)
+      → (others >>= λ y. Ok (one_more (view_slice slice) y.0, y.1, y.2)) >>= behind_had ≡ (others >>= λ y. Ok (behind (view_slices (u.slices ++ slice ∷ [])) y.0, y.1, y.2))
+  with_it slice (Ok y) = λ i. Ok (had_one u.slices slice y.0 i, y.1, y.2)
+  with_it slice (Err e) = refl
+
+  -- its table is read
+  table_whole : (o : Open) (s : State ℕ) (r : Rest) → o.left ≡ 0 → left_table (refer_by inside) t o s r ≡ Ok (slice_with o.front o.table, with_met (resolved o.table (uses_of o.front)) s, r)
+  table_whole o s r none =
+      ap (λ (n : ℕ). entries_at (refer_by inside) n s r >>= with_entries (refer_by inside) t o) none
+      ∙ (λ i. Ok (slice_with o.front (append-nil o.table i), with_met (resolved (append-nil o.table i) (uses_of o.front)) s, r))
+
+  closes : (o : OpenSlice) (slice : stored.Slice) (s s' : State ℕ) (r : Rest) → o.left ≡ 0 → view_slice slice ≡ slice_with (view_body o.body) o.table → s' ≡ with_met (resolved o.table (uses_of (view_body o.body))) s
+      → left_by inside t u (stages.Open o) s r ≡ left_behind inside t u.steps (u.slices ++ slice ∷ []) (view_next o.next) s' r
+  closes o slice s s' r none seen met =
+      ap (carried inside t u.steps (view_next o.next) (view_slices u.slices)) (table_whole (opened o) s r none ∙ (λ i. Ok (sym seen i, sym met i, r)))
+      ∙ with_it slice (left_next (refer_by inside) t u.steps (view_next o.next) s' r)
+
+  pub table_ends : (o : OpenSlice) (slice : stored.Slice) (s s' : State ℕ) (r : Rest) → o.left ≡ 0 → view_slice slice ≡ slice_with (view_body o.body) o.table → s' ≡ with_met (resolved o.table (uses_of (view_body o.body))) s
+      → (now : Unfinished) (result : Result Advanced ReadFault) → Advances inside t now result (left_behind inside t u.steps (u.slices ++ slice ∷ []) (view_next o.next) s' r) s' r → Advances inside t now result (left_by inside t u (stages.Open o) s r) s' r
+  table_ends o slice s s' r none seen met now result h = subst (λ (x : Result (List Slice × State ℕ × Rest) Fault). Advances inside t now result x s' r) (sym (closes o slice s s' r none seen met)) h
+
+-- ---- the members of a slice without a size
+
+module _ (inside : Inside (State ℕ)) (t : Tables) (u : Unfinished) (class : ℕ) (next : Option code.Before) (fields : Shape) (is : fields ≡ own_fields t class) where
   abbrev members_left : MembersReader → Reader (State ℕ) Members
   members_left members = left_of_members (inline_at most_instances) t inside fields members
 
   abbrev compact : MembersReader → CompactSlice
-  compact members = record { class = class; base = base; members = members }
+  compact members = record { class = class; next = next; members = members }
 
-  -- the slice of these members, the slices of the bases, and all slices
+  -- all slices, when the rest of these members is read
+  abbrev left_from : MembersReader → Reader (State ℕ) (List Slice)
+  left_from members = made (behind (view_slices u.slices)) (left_compact inside t u.steps (compact members))
+
   abbrev as_slice : Members × State ℕ × Rest → Result (Slice × State ℕ × Rest) Fault
   as_slice x = Ok (known class x.0, x.1, x.2)
 
-  abbrev and_bases : Slice × State ℕ × Rest → Result (List Slice × State ℕ × Rest) Fault
-  and_bases x = made (one_more x.0) (left_bases (refer_by inside) t false u.steps base) x.1 x.2
-
-  abbrev behind_had : List Slice × State ℕ × Rest → Result (List Slice × State ℕ × Rest) Fault
-  behind_had y = Ok (behind (view_slices u.slices) y.0, y.1, y.2)
+  abbrev and_next : Slice × State ℕ × Rest → Result (List Slice × State ℕ × Rest) Fault
+  and_next x = made (one_more x.0) (left_next (refer_by inside) t u.steps (view_next next)) x.1 x.2
 
   abbrev completed : Result (Members × State ℕ × Rest) Fault → Result (List Slice × State ℕ × Rest) Fault
-  completed read = read >>= as_slice >>= and_bases >>= behind_had
+  completed read = read >>= as_slice >>= and_next >>= behind_had inside t u
 
-  completed_behind : {A : Type 0} (read : Result A Fault) (next : A → Result (Members × State ℕ × Rest) Fault) → completed (read >>= next) ≡ (read >>= λ x. completed (next x))
-  completed_behind (Ok x) next = refl
-  completed_behind (Err e) next = refl
+  completed_behind : {A : Type 0} (read : Result A Fault) (then : A → Result (Members × State ℕ × Rest) Fault) → completed (read >>= then) ≡ (read >>= λ x. completed (then x))
+  completed_behind (Ok x) then = refl
+  completed_behind (Err e) then = refl
 
-  completes : (members : MembersReader) (s : State ℕ) (r : Rest) → left_by inside t u (stages.Compact (compact members)) s r ≡ completed (members_left members s r)
+  completes : (members : MembersReader) (s : State ℕ) (r : Rest) → left_from members s r ≡ completed (members_left members s r)
   unfolding left_members
   completes members s r = ap (λ (shape : Shape). completed (left_of_members (inline_at most_instances) t inside shape members s r)) (sym is)
 
-  pub members_pause : (old new : MembersReader) (n : ℕ) (s s' : State ℕ) (r after : Rest) → members_left old s r ≡ (inside n s' after >>= λ x. members_left new x.0 x.1)
-      → left_by inside t u (stages.Compact (compact old)) s r ≡ (inside n s' after >>= λ x. left_by inside t u (stages.Compact (compact new)) x.0 x.1)
+  members_pause : (old new : MembersReader) (n : ℕ) (s s' : State ℕ) (r after : Rest) → members_left old s r ≡ (inside n s' after >>= λ x. members_left new x.0 x.1)
+      → left_from old s r ≡ (inside n s' after >>= λ x. left_from new x.0 x.1)
   members_pause old new n s s' r after read =
       completes old s r ∙ ap completed read ∙ completed_behind (inside n s' after) (λ x. members_left new x.0 x.1) ∙ (λ i. inside n s' after >>= λ x. sym (completes new x.0 x.1) i)
 
-  pub members_fail : (old : MembersReader) (e : ReadFault) (s : State ℕ) (r : Rest) → Fails e (members_left old s r) → Fails e (left_by inside t u (stages.Compact (compact old)) s r)
+  -- and then it is left where it paused
+  pub members_paused : (old new : MembersReader) (n : ℕ) (s s' : State ℕ) (r after : Rest) → members_left old s r ≡ (inside n s' after >>= λ x. members_left new x.0 x.1) → (now : Unfinished) → Pauses u now (compact new)
+      → left_from old s r ≡ (inside n s' after >>= λ x. left_slices inside t now x.0 x.1)
+  members_paused old new n s s' r after read now (left, now_is, value_is) =
+      members_pause old new n s s' r after read
+      ∙ (λ i. inside n s' after >>= λ x. made (behind (view_slices u.slices)) (left_compact inside t u.steps (sym value_is i)) x.0 x.1)
+      ∙ ap (λ (w : Unfinished). inside n s' after >>= λ x. left_slices inside t w x.0 x.1) (sym now_is)
+
+  -- what is left from an equal slice
+  pub left_same : (old : MembersReader) (slice : CompactSlice) (s : State ℕ) (r : Rest) → compact old ≡ slice → left_from old s r ≡ made (behind (view_slices u.slices)) (left_compact inside t u.steps slice) s r
+  left_same old slice s r same = ap (λ (c : CompactSlice). made (behind (view_slices u.slices)) (left_compact inside t u.steps c) s r) same
+
+  pub members_fail : (old : MembersReader) (e : ReadFault) (s : State ℕ) (r : Rest) → Fails e (members_left old s r) → Fails e (left_from old s r)
   members_fail old e s r h =
       fault_along e _ _ (sym (completes old s r))
-      (fails_then e (members_left old s r >>= as_slice >>= and_bases) behind_had (fails_then e (members_left old s r >>= as_slice) and_bases (fails_then e (members_left old s r) as_slice h)))
+      (fails_then e (members_left old s r >>= as_slice >>= and_next) (behind_had inside t u) (fails_then e (members_left old s r >>= as_slice) and_next (fails_then e (members_left old s r) as_slice h)))
 
   -- the slice is read whole
   module _ (old : MembersReader) (members : stored_members.Members) (s s' : State ℕ) (r after : Rest) (read : members_left old s r ≡ Ok (view_content members, s', after)) where
-    abbrev one_first : List Slice × State ℕ × Rest → Result (List Slice × State ℕ × Rest) Fault
-    one_first y = Ok (one_more (known class (view_content members)) y.0, y.1, y.2)
+    others_left : left_from old s r ≡ left_behind inside t u.steps (u.slices ++ Known class members ∷ []) (view_next next) s' after
+    others_left = completes old s r ∙ ap completed read ∙ with_it inside t u (Known class members) (left_next (refer_by inside) t u.steps (view_next next) s' after)
 
-    with_it : (others : Result (List Slice × State ℕ × Rest) Fault) → (others >>= one_first >>= behind_had) ≡ (others >>= λ y. Ok (behind (view_slices (u.slices ++ Known class members ∷ [])) y.0, y.1, y.2))
-    with_it (Ok y) = λ i. Ok (had_one u.slices (Known class members) y.0 i, y.1, y.2)
-    with_it (Err e) = refl
+    pub members_whole : (now : Unfinished) (result : Result Advanced ReadFault) → Advances inside t now result (left_behind inside t u.steps (u.slices ++ Known class members ∷ []) (view_next next) s' after) s' after
+        → Advances inside t now result (left_from old s r) s' after
+    members_whole now result h = subst (λ (x : Result (List Slice × State ℕ × Rest) Fault). Advances inside t now result x s' after) (sym others_left) h
 
-    bases_left : left_by inside t u (stages.Compact (compact old)) s r ≡ left_behind inside t u.steps (u.slices ++ Known class members ∷ []) base s' after
-    bases_left = completes old s r ∙ ap completed read ∙ with_it (left_bases (refer_by inside) t false u.steps base s' after)
+-- ---- behind a slice
 
-    pub members_whole : (now : Unfinished) (result : Result Advanced ReadFault) → Advances inside t now result (left_behind inside t u.steps (u.slices ++ Known class members ∷ []) base s' after) s' after
-        → Advances inside t now result (left_by inside t u (stages.Compact (compact old)) s r) s' after
-    members_whole now result h = subst (λ (x : Result (List Slice × State ℕ × Rest) Fault). Advances inside t now result x s' after) (sym bases_left) h
-
--- behind a slice without a size
-module _ (inside : Inside (State ℕ)) (t : Tables) (u : Unfinished) (had now : List stored.Slice) (one : now ≡ had) (base : Option ℕ) (s : State ℕ) (r : Rest) where
+module _ (inside : Inside (State ℕ)) (t : Tables) (u : Unfinished) (had now : List stored.Slice) (one : now ≡ had) (next : Option code.Before) (s : State ℕ) (r : Rest) where
   abbrev behind_now : List Slice × State ℕ × Rest → Result (List Slice × State ℕ × Rest) Fault
   behind_now y = Ok (behind (view_slices now) y.0, y.1, y.2)
 
-  now_behind : left_behind inside t u.steps had base s r ≡ (left_bases (refer_by inside) t false u.steps base s r >>= behind_now)
-  now_behind = ap (λ (slices : List stored.Slice). left_behind inside t u.steps slices base s r) (sym one)
+  now_behind : left_behind inside t u.steps had (view_next next) s r ≡ (left_next (refer_by inside) t u.steps (view_next next) s r >>= behind_now)
+  now_behind = ap (λ (slices : List stored.Slice). left_behind inside t u.steps slices (view_next next) s r) (sym one)
 
-  -- with a base
-  pub bases_lead : (below : ℕ) → base ≡ Some below → left_behind inside t u.steps had base s r ≡ left_slices inside t (record { name = u.name; steps = u.steps; slices = now; stage = stages.Next (befores.Derived false below) }) s r
-  bases_lead below some = now_behind ∙ ap (λ (b : Option ℕ). left_bases (refer_by inside) t false u.steps b s r >>= behind_now) some
+  -- one follows
+  pub next_leads : (before : code.Before) → next ≡ Some before → left_behind inside t u.steps had (view_next next) s r ≡ left_slices inside t (record { name = u.name; steps = u.steps; slices = now; stage = stages.Next before }) s r
+  next_leads before some = now_behind ∙ ap (λ (n : Option code.Before). left_next (refer_by inside) t u.steps (view_next n) s r >>= behind_now) some
 
-  -- without one
-  pub bases_end : base ≡ None → left_behind inside t u.steps had base s r ≡ Ok (view_slices now, s, r)
-  bases_end none =
-      now_behind ∙ ap (λ (b : Option ℕ). left_bases (refer_by inside) t false u.steps b s r >>= behind_now) none
+  -- none follows
+  pub none_follows : next ≡ None → left_behind inside t u.steps had (view_next next) s r ≡ Ok (view_slices now, s, r)
+  none_follows none =
+      now_behind ∙ ap (λ (n : Option code.Before). left_next (refer_by inside) t u.steps (view_next n) s r >>= behind_now) none
       ∙ ap (λ (slices : List Slice). Ok (slices, s, r)) (append-nil (view_slices now))

@@ -1,5 +1,5 @@
 -- What reading remembers, without where it lies in memory.
-use Rattle.std.specs.Prelude.{ℕ, Bool, true, false, List, map, Option, Result, Ok, refl, slice_get}
+use Rattle.std.specs.Prelude.{ℕ, Bool, true, false, List, map, Option, None, Some, Result, Ok, refl, slice_get}
 use Rattle.ice_types.specs.declared.declarations.Shape.{Shape}
 use Rattle.ice_types.specs.Tables.{Tables}
 use Rattle.ice_prims.specs.declared.fault.Fault.{Fault}
@@ -8,7 +8,7 @@ use Rattle.ice_encoding.specs.Port.{Reader}
 use Rattle.ice_encoding.specs.Pausing.{Met, known}
 use Rattle.std.specs.Coded.{Coded, code_by, coded×, coded_ℕ, coded_list, coded_option}
 use Rattle.ice_graphs.specs.Classes.{members_in}
-use Rattle.ice_graphs.specs.Flags.{first, derived}
+use Rattle.ice_graphs.specs.Flags.{first, only_kept, derived}
 use Rattle.ice_graphs.specs.Flags as flags
 use Rattle.ice_graphs.specs.Graph.{Slice}
 use Rattle.ice_graphs.specs.References as refs
@@ -36,10 +36,16 @@ abbrev pub state_code : Coded (refs.State ℕ)
 state_code = code_by (List (List Slice) × (List (List ℕ) × List (refs.Reference ℕ))) (coded× instances_code (coded× (coded_list (coded_list coded_ℕ)) references_code))
     (λ s. (s.instances, (s.ids, s.met))) (λ p. record { instances = p.0; ids = p.1.0; met = p.1.1 }) (λ _. refl)
 
--- what a slice follows: no slice is kept
+-- what a slice follows
 abbrev pub view_before : Before → flags.Before
 view_before befores.First = first
+view_before befores.OnlyKept = only_kept
 view_before (befores.Derived sized base) = derived sized base
+
+-- what the next one follows, None where there is none
+abbrev pub view_next : Option Before → Option flags.Before
+view_next None = None
+view_next (Some before) = Some (view_before before)
 
 -- the members that a class declares itself, as they are handed over to be read
 abbrev pub own_fields : Tables → ℕ → Shape

@@ -16,9 +16,9 @@ use Rattle.ice_optionals.specs.Prefixes.{prefixed}
 use Rattle.ice_optionals.specs.Members.{slice_members_at}
 use Rattle.ice_optionals.specs.Members as defs
 use Rattle.ice_graphs.specs.Classes.{own_members}
-use Rattle.ice_graphs.specs.Graph.{known}
+use Rattle.ice_graphs.specs.Graph.{known, kept}
 use Rattle.ice_graphs.specs.Graph as graphs
-use Rattle.ice_graphs.specs.Flags.{Flags, flags_of, known_classes, derived, may_stand, flags_at}
+use Rattle.ice_graphs.specs.Flags.{Flags, flags_of, all_slices, may_stand, flags_at}
 use Rattle.ice_graphs.specs.Flags as flags
 use Rattle.ice_graphs.specs.TypeIds.{id_at, id_indexed, is_base, can_be_read, ends_well, before_next}
 use Rattle.ice_graphs.specs.Instances.{most_instances}
@@ -27,8 +27,10 @@ use Rattle.ice_graphs.specs.References as refs
 use Rattle.ice_graphs.specs.Slices.{slice_size, by_table, one_more, body_at, next_slices, slices_at}
 use Rattle.graph_arena.specs.Seen.{view_content}
 use Rattle.ice_members.specs.Unread.{left_of_members}
-use Rattle.instance_reading.specs.Seen.{own_fields, view_before, view_references}
+use Rattle.instance_reading.specs.Seen.{own_fields, view_before, view_next, view_references}
 use Rattle.instance_reading.specs.declared.sized.SizedMembers.{SizedMembers}
+use Rattle.instance_reading.specs.declared.sized.Body.{Body}
+use Rattle.instance_reading.specs.declared.sized.Body.TheVariants as bodies
 use Rattle.instance_reading.specs.declared.sized.OpenSlice.{OpenSlice}
 use Rattle.instance_reading.specs.declared.slice.CompactSlice.{CompactSlice}
 use Rattle.instance_reading.specs.declared.slice.Stage.{Stage}
@@ -36,38 +38,60 @@ use Rattle.instance_reading.specs.declared.slice.Stage.TheVariants as stages
 
 -- ---- what is still read
 
+-- what stands in a slice before its table: members with places in it, or what is kept
+pub data Front : Type 0 where
+  members_of : ℕ → defs.Members → List (refs.Reference ℕ) → Front
+  bytes_of : List ℕ → List ℕ → Bool → Front
+
+abbrev pub view_body : Body → Front
+view_body (bodies.Members class content uses) = members_of class (view_content content) (view_references uses.items)
+view_body (bodies.Kept id part) = bytes_of id.now part.bytes.now part.optionals
+
+-- the slice with its table
+abbrev pub slice_with : Front → List ℕ → graphs.Slice
+slice_with (members_of class content uses) table = by_table class content table
+slice_with (bytes_of id bytes optionals) table = kept id bytes optionals table
+
+-- the places that were met before it
+abbrev pub uses_of : Front → List (refs.Reference ℕ)
+uses_of (members_of class content uses) = uses
+uses_of (bytes_of id bytes optionals) = []
+
 -- a slice whose table is being read, without where it lies in memory
 pub record Open : Type 0 where
-  pub class : ℕ
-  pub base : Option ℕ
-  pub content : defs.Members
-  pub uses : List (refs.Reference ℕ)
+  pub front : Front
+  pub next : Option flags.Before
   pub table : List ℕ
   pub left : ℕ
 
 abbrev pub opened : OpenSlice → Open
-opened o = record { class = o.class; base = o.base; content = view_content o.members; uses = view_references o.uses.items; table = o.table.items; left = o.left }
+opened o = record { front = view_body o.body; next = view_next o.next; table = o.table; left = o.left }
+
+-- what the next slice follows, by whether this one is the last
+abbrev pub next_by : Bool → flags.Before → Option flags.Before
+next_by true before = None
+next_by false before = Some before
 
 module _ (refer : Option ℕ → Reader (State ℕ) (Option ℕ)) (t : Tables) where
   -- the slice, when these further entries of its table are read
   abbrev pub with_entries : Open → List ℕ × State ℕ × Rest → Result (graphs.Slice × State ℕ × Rest) Fault
-  with_entries o x = let table = o.table ++ x.0 in Ok (by_table o.class o.content table, with_met (resolved table o.uses) x.1, x.2)
+  with_entries o x = let table = o.table ++ x.0 in Ok (slice_with o.front table, with_met (resolved table (uses_of o.front)) x.1, x.2)
 
   -- the entries that are left, and the slice
   abbrev pub left_table : Open → Reader (State ℕ) graphs.Slice
   left_table o s r = entries_at refer o.left s r >>= with_entries o
 
-  -- the slices of the bases, behind a slice with a size or without
-  abbrev pub left_bases : Bool → ℕ → Option ℕ → Reader (State ℕ) (List graphs.Slice)
-  left_bases sized steps None = given []
-  left_bases sized steps (Some base) = slices_at refer t known_classes steps (derived sized base)
+  -- the slices that follow
+  abbrev pub left_next : ℕ → Option flags.Before → Reader (State ℕ) (List graphs.Slice)
+  left_next steps None = given []
+  left_next steps (Some before) = slices_at refer t all_slices steps before
 
   abbrev pub left_open : ℕ → Open → Reader (State ℕ) (List graphs.Slice)
-  left_open steps o = followed (left_table o) (λ slice. made (one_more slice) (left_bases true steps o.base))
+  left_open steps o = followed (left_table o) (λ slice. made (one_more slice) (left_next steps o.next))
 
   -- what is read behind the tests of a class
-  abbrev pub behind_tests : ℕ → Flags → ℕ → List ℕ → Reader (State ℕ) (List graphs.Slice)
-  behind_tests steps f class id = followed (body_at refer t f id f.has_size (Some class)) (λ slice. made (one_more slice) (next_slices refer t (slices_at refer t known_classes steps) f.is_last (before_next t (Some class) f)))
+  abbrev pub behind_tests : ℕ → Flags → Option ℕ → List ℕ → Reader (State ℕ) (List graphs.Slice)
+  behind_tests steps f class id = followed (body_at refer t f id f.has_size class) (λ slice. made (one_more slice) (next_slices refer t (slices_at refer t all_slices steps) f.is_last (before_next t class f)))
 
 -- a reference, with the instance that begins at it
 abbrev pub refer_by : Inside (State ℕ) → Option ℕ → Reader (State ℕ) (Option ℕ)
@@ -79,12 +103,12 @@ module _ (inside : Inside (State ℕ)) (t : Tables) where
   left_members c = made (known c.class) (left_of_members (inline_at most_instances) t inside (own_fields t c.class) c.members)
 
   abbrev pub left_compact : ℕ → CompactSlice → Reader (State ℕ) (List graphs.Slice)
-  left_compact steps c = followed (left_members c) (λ slice. made (one_more slice) (left_bases (refer_by inside) t false steps c.base))
+  left_compact steps c = followed (left_members c) (λ slice. made (one_more slice) (left_next (refer_by inside) t steps (view_next c.next)))
 
   abbrev pub left_stage : ℕ → Stage → Reader (State ℕ) (List graphs.Slice)
-  left_stage steps (stages.Next before) = slices_at (refer_by inside) t known_classes steps (view_before before)
+  left_stage steps (stages.Next before) = slices_at (refer_by inside) t all_slices steps (view_before before)
   left_stage steps (stages.Open o) = left_open (refer_by inside) t steps (opened o)
-  left_stage steps (stages.Compact c) = left_compact steps c
+  left_stage steps (stages.Compact c) = left_compact steps c.value
 
 -- entries of the table, and then slices
 abbrev pub stage_work : Stage → ℕ
@@ -108,10 +132,10 @@ FindsId unknown index ids (Ok id) = (i : ℕ) × (index ≡ suc i) × (slice_get
 FindsId unknown index ids (Err e) = (e ≡ faults.Broken unknown) × ((s : State ℕ) (r : Rest) → s.ids ≡ ids → id_indexed unknown.place index s r ≡ fault unknown.place BadTypeId)
 
 -- the class passes the tests behind a type id, or the first that fails is the fault
-abbrev pub Tests : Tables → flags.Before → Flags → ℕ → ℕ → Option ℕ → Result ℕ Fault → Type 0
-Tests t before f flags_place id_place class (Ok c) = (class ≡ Some c) × (is_base before class ≡ true) × (can_be_read known_classes class f ≡ true) × (ends_well t class f ≡ true)
+abbrev pub Tests : {X : Type 0} → Tables → flags.Before → Flags → ℕ → ℕ → Option ℕ → Result X Fault → Type 0
+Tests t before f flags_place id_place class (Ok x) = (is_base before class ≡ true) × (can_be_read all_slices class f ≡ true) × (ends_well t class f ≡ true)
 Tests t before f flags_place id_place class (Err e) = (read : Reader (State ℕ) (List graphs.Slice)) (s : State ℕ) (r : Rest)
-    → tested (is_base before class) id_place WrongBase (tested (can_be_read known_classes class f) id_place UnknownClass (tested (ends_well t class f) flags_place BadLast read)) s r ≡ Err e
+    → tested (is_base before class) id_place WrongBase (tested (can_be_read all_slices class f) id_place UnknownClass (tested (ends_well t class f) flags_place BadLast read)) s r ≡ Err e
 
 -- the members of a class in a slice, with places as references; what was met is of no use without a table
 abbrev pub uses_in : Bool → List (refs.Reference ℕ) → List (refs.Reference ℕ) → Type 0
@@ -147,20 +171,33 @@ SeesTable tabled uses (Err e) r r' = (refer : Option ℕ → Reader (State ℕ) 
 
 -- the same behind the type id of a class that passed the tests
 abbrev pub OpensSized : Tables → Flags → ℕ → Result OpenSlice ReadFault → Rest → Rest → Type 0
-OpensSized t f class (Ok o) r r' = (refer : Option ℕ → Reader (State ℕ) (Option ℕ)) (steps : ℕ) (id : List ℕ) (s : State ℕ) → f.has_size ≡ true → ends_well t (Some class) f ≡ true
-    → behind_tests refer t steps f class id s r ≡ left_open refer t steps (opened o) s r'
-OpensSized t f class (Err e) r r' = (refer : Option ℕ → Reader (State ℕ) (Option ℕ)) (steps : ℕ) (id : List ℕ) (s : State ℕ) → f.has_size ≡ true → ends_well t (Some class) f ≡ true
-    → Fails e (behind_tests refer t steps f class id s r)
+OpensSized t f class (Ok o) r r' = (refer : Option ℕ → Reader (State ℕ) (Option ℕ)) (steps : ℕ) (id : List ℕ) (s : State ℕ) → f.has_size ≡ true
+    → behind_tests refer t steps f (Some class) id s r ≡ left_open refer t steps (opened o) s r'
+OpensSized t f class (Err e) r r' = (refer : Option ℕ → Reader (State ℕ) (Option ℕ)) (steps : ℕ) (id : List ℕ) (s : State ℕ) → f.has_size ≡ true
+    → Fails e (behind_tests refer t steps f (Some class) id s r)
 
--- the same with a size or without
-abbrev pub OpensSlice : Tables → Flags → ℕ → Result Stage ReadFault → Rest → Rest → Type 0
-OpensSlice t f class (Ok stage) r r' = (inside : Inside (State ℕ)) (steps : ℕ) (id : List ℕ) (s : State ℕ) → ends_well t (Some class) f ≡ true
+-- the same of a class that is not known
+abbrev pub OpensKept : List ℕ → Flags → Result OpenSlice Fault → Rest → Rest → Type 0
+OpensKept id f (Ok o) r r' = (refer : Option ℕ → Reader (State ℕ) (Option ℕ)) (t : Tables) (steps : ℕ) (s : State ℕ) → f.has_size ≡ true
+    → behind_tests refer t steps f None id s r ≡ left_open refer t steps (opened o) s r'
+OpensKept id f (Err e) r r' = (refer : Option ℕ → Reader (State ℕ) (Option ℕ)) (t : Tables) (steps : ℕ) (s : State ℕ) → f.has_size ≡ true
+    → behind_tests refer t steps f None id s r ≡ Err e
+
+-- the same of a known class, with a size or without
+abbrev pub OpensKnown : Tables → Flags → ℕ → Result Stage ReadFault → Rest → Rest → Type 0
+OpensKnown t f class (Ok stage) r r' = (inside : Inside (State ℕ)) (steps : ℕ) (id : List ℕ) (s : State ℕ)
+    → behind_tests (refer_by inside) t steps f (Some class) id s r ≡ left_stage inside t steps stage s r'
+OpensKnown t f class (Err e) r r' = (inside : Inside (State ℕ)) (steps : ℕ) (id : List ℕ) (s : State ℕ) → Fails e (behind_tests (refer_by inside) t steps f (Some class) id s r)
+
+-- the same of a class that can be read
+abbrev pub OpensSlice : Tables → Flags → Option ℕ → List ℕ → Result Stage ReadFault → Rest → Rest → Type 0
+OpensSlice t f class id (Ok stage) r r' = (inside : Inside (State ℕ)) (steps : ℕ) (s : State ℕ) → can_be_read all_slices class f ≡ true
     → behind_tests (refer_by inside) t steps f class id s r ≡ left_stage inside t steps stage s r'
-OpensSlice t f class (Err e) r r' = (inside : Inside (State ℕ)) (steps : ℕ) (id : List ℕ) (s : State ℕ) → ends_well t (Some class) f ≡ true
+OpensSlice t f class id (Err e) r r' = (inside : Inside (State ℕ)) (steps : ℕ) (s : State ℕ) → can_be_read all_slices class f ≡ true
     → Fails e (behind_tests (refer_by inside) t steps f class id s r)
 
 -- a slice has begun, up to the entries of its table or, where it has no size, up to its members
 abbrev pub BeginsSlice : Tables → flags.Before → Result Stage ReadFault → State ℕ → Rest → State ℕ → Rest → Type 0
 BeginsSlice t before (Ok stage) s r s' r' = (inside : Inside (State ℕ)) (steps : ℕ)
-    → slices_at (refer_by inside) t known_classes (suc steps) before s r ≡ left_stage inside t steps stage s' r'
-BeginsSlice t before (Err e) s r s' r' = (inside : Inside (State ℕ)) (steps : ℕ) → Fails e (slices_at (refer_by inside) t known_classes (suc steps) before s r)
+    → slices_at (refer_by inside) t all_slices (suc steps) before s r ≡ left_stage inside t steps stage s' r'
+BeginsSlice t before (Err e) s r s' r' = (inside : Inside (State ℕ)) (steps : ℕ) → Fails e (slices_at (refer_by inside) t all_slices (suc steps) before s r)

@@ -12,7 +12,7 @@ use Rattle.ice_encoding.specs.Port.{Reader, nowhere}
 use Rattle.ice_encoding.specs.Pausing.{Inside}
 use Rattle.ice_optionals.specs.Members as defs
 use Rattle.ice_graphs.specs.Graph as graphs
-use Rattle.ice_graphs.specs.Flags.{known_classes}
+use Rattle.ice_graphs.specs.Flags.{all_slices}
 use Rattle.ice_graphs.specs.References.{State, inline_at, instance_by, with_ended}
 use Rattle.ice_graphs.specs.Instances.{most_instances, instances, misfit}
 use Rattle.ice_graphs.specs.Slices.{instance_at}
@@ -30,12 +30,12 @@ Rests = State ℕ → Rest → Result (defs.Members × State ℕ × Rest) Fault
 
 -- how references are read where so many more instances may begin in one another
 abbrev pub refer_within : Tables → ℕ → Option ℕ → Reader (State ℕ) (Option ℕ)
-refer_within t more = (instances t known_classes most_instances more).read
+refer_within t more = (instances t all_slices most_instances more).read
 
 -- an instance that begins where so many more may
 unfoldable pub instance_within : Tables → ℕ → Inside (State ℕ)
 instance_within t zero = instance_by most_instances (λ s r. nowhere r)
-instance_within t (suc more) = instance_by most_instances (instance_at (refer_within t more) t known_classes)
+instance_within t (suc more) = instance_by most_instances (instance_at (refer_within t more) t all_slices)
 
 -- the instance is read whole, and then the rest
 abbrev pub inside_then : Result (State ℕ × Rest) Fault → Rests → Result (defs.Members × State ℕ × Rest) Fault

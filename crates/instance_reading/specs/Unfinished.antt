@@ -1,5 +1,6 @@
 -- An instance that has begun and is not read whole: what is still read of it, and what reading on answers.
-use Rattle.std.specs.Prelude.{ℕ, ◌≡◌, ◌+◌, ◌*◌, ◌^◌, ◌<◌, ◌≤◌, ◌-◌, List, [], ◌∷◌, ◌++◌, length, false, Option, None, Some, Result, Ok, Err}
+use Rattle.std.specs.Prelude.{ℕ, ◌≡◌, ◌+◌, ◌*◌, ◌^◌, ◌<◌, ◌≤◌, ◌-◌, List, [], ◌∷◌, ◌++◌, length, Option, None, Some, Result, Ok, Err, Box}
+use Rattle.std.specs.declared.alloc.Global.{Global}
 use Rattle.ice_types.specs.Tables.{Tables}
 use Rattle.ice_prims.specs.declared.fault.Fault.{Fault}
 use Rattle.ice_prims.specs.declared.fault.ReadFault.{ReadFault}
@@ -9,15 +10,17 @@ use Rattle.ice_encoding.specs.Port.{Reader}
 use Rattle.ice_encoding.specs.Pausing.{Inside}
 use Rattle.ice_encoding.specs.Reading.{made}
 use Rattle.ice_graphs.specs.Graph as graphs
+use Rattle.ice_graphs.specs.Flags as flags
 use Rattle.ice_graphs.specs.References.{State}
 use Rattle.ice_graphs.specs.Instances.{most_instances}
 use Rattle.graph_arena.specs.declared.instance.Slice.{Slice}
 use Rattle.graph_arena.specs.Seen.{view_slices}
 use Rattle.instance_reading.specs.declared.slice.Before.TheVariants as befores
+use Rattle.instance_reading.specs.declared.slice.CompactSlice.{CompactSlice}
 use Rattle.instance_reading.specs.declared.slice.Stage.{Stage}
 use Rattle.instance_reading.specs.declared.slice.Stage.TheVariants as stages
 use Rattle.instance_reading.specs.declared.sized.OpenSlice.{OpenSlice}
-use Rattle.instance_reading.specs.Slices.{Open, opened, refer_by, left_bases, left_stage, stage_work}
+use Rattle.instance_reading.specs.Slices.{Open, opened, refer_by, left_next, left_stage, stage_work}
 use Rattle.instance_reading.specs.declared.unfinished.Unfinished.{Unfinished}
 use Rattle.instance_reading.specs.declared.unfinished.Advanced.{Advanced}
 use Rattle.instance_reading.specs.declared.unfinished.Advanced.TheVariants as advances
@@ -27,9 +30,9 @@ abbrev pub behind : List graphs.Slice → List graphs.Slice → List graphs.Slic
 behind had others = had ++ others
 
 module _ (inside : Inside (State ℕ)) (t : Tables) where
-  -- all slices of the instance, with these that are read, from the base of a slice without a size on
-  abbrev pub left_behind : ℕ → List Slice → Option ℕ → Reader (State ℕ) (List graphs.Slice)
-  left_behind steps had base = made (behind (view_slices had)) (left_bases (refer_by inside) t false steps base)
+  -- all slices of the instance, with these that are read, from the next one on
+  abbrev pub left_behind : ℕ → List Slice → Option flags.Before → Reader (State ℕ) (List graphs.Slice)
+  left_behind steps had next = made (behind (view_slices had)) (left_next (refer_by inside) t steps next)
 
   -- the same from a stage on
   abbrev pub left_by : Unfinished → Stage → Reader (State ℕ) (List graphs.Slice)
@@ -45,7 +48,11 @@ begun name r = record { name = name; steps = length r.bytes; slices = []; stage 
 -- the slice has one entry more in its table, and nothing else has changed
 abbrev pub Keeps : Unfinished → Unfinished → Open → ℕ → Type 0
 Keeps old new o name = (kept : OpenSlice) × (new ≡ record { name = old.name; steps = old.steps; slices = old.slices; stage = stages.Open kept })
-    × (opened kept ≡ record { class = o.class; base = o.base; content = o.content; uses = o.uses; table = o.table ++ name ∷ []; left = o.left - 1 })
+    × (opened kept ≡ record { front = o.front; next = o.next; table = o.table ++ name ∷ []; left = o.left - 1 })
+
+-- the members of the slice are left, and nothing else has changed
+abbrev pub Pauses : Unfinished → Unfinished → CompactSlice → Type 0
+Pauses old new slice = (left : Box CompactSlice Global) × (new ≡ record { name = old.name; steps = old.steps; slices = old.slices; stage = stages.Compact left }) × (left.value ≡ slice)
 
 -- The instance is read whole; or another one begins, and then this is read on; or it is the fault.
 abbrev pub Goes : Inside (State ℕ) → Tables → Unfinished → Result (Option ℕ) ReadFault → Result (List graphs.Slice × State ℕ × Rest) Fault → State ℕ → Rest → Type 0

@@ -1,7 +1,7 @@
 //! Members with the instances that begin in them, without recursion over instances.
 
 ghost use Rattle.std.specs.Prelude.{◌≡◌, ◌+◌, ◌-◌, ◌++◌, ◌∷◌, [], length, OnOk};
-ghost use Rattle.ice_graphs.specs.Flags.{known_classes};
+ghost use Rattle.ice_graphs.specs.Flags.{all_slices};
 ghost use Rattle.ice_graphs.specs.Instances.{graph_at, most_instances};
 ghost use Rattle.graph_arena.specs.Seen.{view_content};
 ghost use Rattle.ice_members.specs.Shapes.{handed, shape_seen};
@@ -42,7 +42,7 @@ pub fn read_content<'a>(
     fields: Fields<'_>,
     cursor: &mut Cursor<'a>,
 ) -> Result<Content, ReadFault>
-    ensures { ReadsGraph result (graph_at schema.now known_classes (shape_seen fields.entry) cursor.old) cursor.new }
+    ensures { ReadsGraph result (graph_at schema.now all_slices (shape_seen fields.entry) cursor.old) cursor.new }
 {
     let mut decoder = Decoder {
         roots: MembersReader::new(alloc, Optionals::ToEnd),

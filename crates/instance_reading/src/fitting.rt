@@ -3,12 +3,12 @@
 ghost use Rattle.std.specs.Prelude.{◌≡◌, map, Some};
 ghost use Rattle.ice_graphs.specs.Classes as classes;
 ghost use Rattle.ice_graphs.specs.Instances as graphs;
-ghost use Rattle.graph_arena.specs.Seen.{view_instance, view_slices};
+ghost use Rattle.graph_arena.specs.Seen.{view_instance};
 ghost use Rattle.instance_reading.specs.Seen.{view_reference, view_references};
 
 use crate::arena::Reference;
 use crate::class::base_of;
-use graph_arena::{Instance, Slice};
+use graph_arena::{Instance, class_of};
 use ice_types::Schema;
 
 /// The place of the first reference in the bytes whose class does not fit.
@@ -55,15 +55,6 @@ fn class_named(instances: &[Instance], name: u32) -> Option<u32>
     ensures { result ≡ graphs.class_of (graphs.slices_of (map view_instance instances.now) name) }
 {
     class_of(instances.get(name as usize)?.slices.as_slice())
-}
-
-/// The class of an instance is that of its first slice.
-fn class_of(slices: &[Slice]) -> Option<u32>
-    ensures { result ≡ graphs.class_of (view_slices slices.now) }
-{
-    match slices.first()? {
-        Slice::Known { class, .. } => Some(*class),
-    }
 }
 
 /// Whether a class is the other one, or derived from it.

@@ -38,7 +38,7 @@ fn may_stand(before: Before, flags: u8) -> bool
     let has_size = is_odd(flags / 16);
     match before {
         Before::First => has_id && (has_size || !has_table),
-        Before::Derived { sized: true, .. } => has_id && has_size,
+        Before::OnlyKept | Before::Derived { sized: true, .. } => has_id && has_size,
         Before::Derived { sized: false, .. } => !has_id && !has_size && !has_table,
     }
 }

@@ -1,25 +1,27 @@
-//! A slice with a size: its members, in which references are places in its table, and the size of the table.
+//! A slice with a size: its members, in which references are places in its table, or what is kept of it, and
+//! the size of the table.
 //! (Ice manual, "Data Encoding for Class and Exception Types".)
 
-ghost use Rattle.std.specs.Prelude.{[], true, false};
-ghost use Rattle.ice_prims.specs.Taking.{Takes};
-ghost use Rattle.ice_parts.specs.Skipping.{bound_behind};
+ghost use Rattle.std.specs.Prelude.{◌≡◌, [], true, false};
 ghost use Rattle.ice_optionals.specs.Members.{slice_members_at};
 ghost use Rattle.ice_graphs.specs.Classes.{own_members};
+ghost use Rattle.ice_graphs.specs.Classes as classes;
 ghost use Rattle.ice_graphs.specs.Flags.{flags_of};
 ghost use Rattle.ice_graphs.specs.References.{entry_at};
-ghost use Rattle.ice_graphs.specs.Slices.{slice_size};
-ghost use Rattle.instance_reading.specs.Seen.{view_references};
-ghost use Rattle.instance_reading.specs.Slices.{Ends, FindsOutside, OpensSized, ReadsPlaces, ReadsSized, ReadsUses, SeesTable};
+ghost use Rattle.ice_graphs.specs.TypeIds as spec;
+ghost use Rattle.instance_reading.specs.Seen.{view_before, view_next, view_references};
+ghost use Rattle.instance_reading.specs.Slices.{Ends, FindsOutside, OpensKept, OpensSized, next_by, ReadsPlaces, ReadsSized, ReadsUses, SeesTable};
 
 use crate::arena::Reference;
 use crate::class::{base_of, optionals, own_fields};
 use crate::flags::is_odd;
+use crate::slice::Before;
 use crate::table_port::{InTable, Untabled};
 use graph_arena::Members;
 use ice_members::read_members;
 use ice_prims::{Cursor, Fault, Kind, ReadFault};
-use ice_types::Schema;
+use ice_types::{List, Schema};
+use preserved::{KeptPart, skip_slice, slice_bound};
 use std::alloc::Global;
 
 /// The members of a slice, and the references that were met in them, all of which are places in the
@@ -30,27 +32,43 @@ pub(crate) struct SizedMembers {
     pub uses: Vec<Reference>,
 }
 
+/// What stands in a slice with a size before its table.
+#[derive(Drop)]
+pub(crate) enum Body<'a> {
+    /// The members of a known class, and the references that were met in them, which are places in the
+    /// slice's table.
+    Members {
+        class: u32,
+        members: Members,
+        uses: Vec<Reference>,
+    },
+    /// What is kept of a class that is not known.
+    Kept {
+        id: &'a str,
+        part: KeptPart<'a>,
+    },
+}
+
 /// A slice whose table is being read.
 #[derive(Drop)]
-pub(crate) struct OpenSlice {
-    pub class: u32,
-    pub base: Option<u32>,
-    pub members: Members,
-    pub uses: Vec<Reference>,
+pub(crate) struct OpenSlice<'a> {
+    pub body: Body<'a>,
+    /// What the next slice follows, None where this one is the last.
+    pub next: Option<Before>,
     /// The entries that are read.
-    pub table: Vec<u32>,
+    pub table: List<u32>,
     /// How many entries are left.
     pub left: u32,
 }
 
 /// A slice of a known class begins behind its type id: its size and members, and the size of its table.
-pub(crate) fn open_sized(
+pub(crate) fn open_sized<'a>(
     alloc: Global,
     schema: &Schema,
     class: u32,
     flags: u8,
     cursor: &mut Cursor<'_>,
-) -> Result<OpenSlice, ReadFault>
+) -> Result<OpenSlice<'a>, ReadFault>
     ensures { OpensSized schema.now (flags_of flags) class result cursor.old cursor.new }
 {
     let read = match read_sized(alloc, schema, class, flags, cursor) {
@@ -59,14 +77,56 @@ pub(crate) fn open_sized(
     };
     match take_table(flags, read.uses.as_slice(), cursor) {
         Ok(left) => Ok(OpenSlice {
-            class,
-            base: base_of(schema, class),
-            members: read.members,
-            uses: read.uses,
-            table: Vec::new(alloc),
+            body: Body::Members {
+                class,
+                members: read.members,
+                uses: read.uses,
+            },
+            next: next_slice(flags, before_base(schema, class, true)),
+            table: List::new(alloc),
             left,
         }),
         Err(fault) => Err(ReadFault::Broken(fault)),
+    }
+}
+
+/// A slice of a class that is not known begins behind its type id: its size and its bytes, and the size of
+/// its table.
+pub(crate) fn open_kept<'a>(
+    alloc: Global,
+    id: &'a str,
+    flags: u8,
+    cursor: &mut Cursor<'a>,
+) -> Result<OpenSlice<'a>, Fault>
+    ensures { OpensKept id.now (flags_of flags) result cursor.old cursor.new }
+{
+    let part = skip_slice(cursor, flags)?;
+    let left = take_table(flags, &[], cursor)?;
+    Ok(OpenSlice {
+        body: Body::Kept { id, part },
+        next: next_slice(flags, Before::OnlyKept),
+        table: List::new(alloc),
+        left,
+    })
+}
+
+/// What the next slice follows, None behind the last one.
+pub(crate) fn next_slice(flags: u8, before: Before) -> Option<Before>
+    ensures { view_next result ≡ next_by (flags_of flags).is_last (view_before before) }
+{
+    if is_odd(flags / 32) {
+        return None;
+    }
+    Some(before)
+}
+
+/// What stands before the slice of the base of a class.
+pub(crate) fn before_base(schema: &Schema, class: u32, sized: bool) -> Before
+    ensures { view_before result ≡ spec.before_base sized (classes.base_of schema.now class) }
+{
+    match base_of(schema, class) {
+        Some(base) => Before::Derived { sized, base },
+        None => Before::OnlyKept,
     }
 }
 
@@ -160,25 +220,6 @@ fn read_untabled(
         }),
         Err(fault) => Err(fault),
     }
-}
-
-/// What the size of a slice counts behind itself, as a cursor of its own. `BadSize` at the size where it
-/// is below 4, `Short` there where fewer bytes are left.
-fn slice_bound<'a>(cursor: &mut Cursor<'a>) -> Result<Cursor<'a>, Fault>
-    ensures { Takes (λ bound. bound) result cursor.old cursor.new (bound_behind slice_size cursor.old) }
-{
-    let mut ahead = cursor.fork();
-    let size = ahead.take_int()?;
-    if size < 4 {
-        return Err(cursor.fault(Kind::BadSize));
-    }
-    let length = (size - 4) as usize;
-    if ahead.left() < length {
-        return Err(cursor.fault(Kind::Short));
-    }
-    let bound = ahead.split(length)?;
-    *cursor = ahead;
-    Ok(bound)
 }
 
 /// The end of a bound.

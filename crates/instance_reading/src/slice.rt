@@ -5,12 +5,12 @@ ghost use Rattle.std.specs.Prelude.{◌≡◌, ◌<◌, ◌^◌, OnOk};
 ghost use Rattle.ice_graphs.specs.Flags.{flags_of};
 ghost use Rattle.ice_graphs.specs.TypeIds as spec;
 ghost use Rattle.instance_reading.specs.Seen.{view_before};
-ghost use Rattle.instance_reading.specs.Slices.{BeginsSlice, FindsId, OpensSlice, ReadsId, Tests, stage_work};
+ghost use Rattle.instance_reading.specs.Slices.{BeginsSlice, FindsId, OpensKnown, OpensSlice, ReadsId, Tests, stage_work};
 
 use crate::arena::Arena;
 use crate::class::{base_of, class_named, optionals};
 use crate::flags::{is_odd, take_flags};
-use crate::sized::{OpenSlice, open_sized};
+use crate::sized::{OpenSlice, before_base, next_slice, open_kept, open_sized};
 use ice_members::MembersReader;
 use ice_prims::{Cursor, Fault, Kind, ReadFault};
 use ice_types::Schema;
@@ -21,6 +21,8 @@ use std::alloc::Global;
 pub(crate) enum Before {
     /// Nothing: it is the first.
     First,
+    /// Slices of classes that are not known.
+    OnlyKept,
     /// A slice of a class with this base, with a size or without.
     Derived { sized: bool, base: u32 },
 }
@@ -29,7 +31,8 @@ pub(crate) enum Before {
 #[derive(Drop)]
 pub(crate) struct CompactSlice<'a> {
     pub class: u32,
-    pub base: Option<u32>,
+    /// What the next slice follows, None where this one is the last.
+    pub next: Option<Before>,
     pub members: MembersReader<'a>,
 }
 
@@ -39,9 +42,9 @@ pub(crate) enum Stage<'a> {
     /// Before the flags of a slice.
     Next(Before),
     /// In the table of a slice with a size.
-    Open(OpenSlice),
+    Open(OpenSlice<'a>),
     /// In the members of a slice without one.
-    Compact(CompactSlice<'a>),
+    Compact(Box<CompactSlice<'a>>),
 }
 
 impl<'a> Stage<'a> {
@@ -62,8 +65,8 @@ fn is_within(count: u32)
     let _ = count;
 }
 
-/// A slice begins: its flags and its type id, and then either its size, its members and the size of its
-/// table, or nothing where it has no size.
+/// A slice begins: its flags and its type id, and then its size, its members or what is kept of it, and the
+/// size of its table, or nothing where it has no size.
 pub(crate) fn begin_slice<'a>(
     alloc: Global,
     schema: &Schema,
@@ -84,33 +87,54 @@ pub(crate) fn begin_slice<'a>(
         Ok(id) => id,
         Err(fault) => return Err(fault),
     };
-    let found = class_in(schema, before, id);
-    match tested_class(schema, before, flags, flags_place, id_place, found) {
-        Ok(class) => open_slice(alloc, schema, class, flags, cursor),
+    let class = class_in(schema, before, id);
+    match test_class(schema, before, flags, flags_place, id_place, class) {
+        Ok(()) => open_slice(alloc, schema, class, id, flags, cursor),
         Err(fault) => Err(ReadFault::Broken(fault)),
     }
 }
 
-/// The same behind the type id of a known class.
+/// The same behind the type id, of a class that passed the tests. One that is not known has a size.
 fn open_slice<'a>(
+    alloc: Global,
+    schema: &Schema,
+    class: Option<u32>,
+    id: &'a str,
+    flags: u8,
+    cursor: &mut Cursor<'a>,
+) -> Result<Stage<'a>, ReadFault>
+    ensures { OpensSlice schema.now (flags_of flags) class id.now result cursor.old cursor.new }
+{
+    match class {
+        Some(class) => open_known(alloc, schema, class, flags, cursor),
+        None => match open_kept(alloc, id, flags, cursor) {
+            Ok(slice) => Ok(Stage::Open(slice)),
+            Err(fault) => Err(ReadFault::Broken(fault)),
+        },
+    }
+}
+
+/// The same of a known class.
+fn open_known<'a>(
     alloc: Global,
     schema: &Schema,
     class: u32,
     flags: u8,
     cursor: &mut Cursor<'a>,
 ) -> Result<Stage<'a>, ReadFault>
-    ensures { OpensSlice schema.now (flags_of flags) class result cursor.old cursor.new }
+    ensures { OpensKnown schema.now (flags_of flags) class result cursor.old cursor.new }
 {
     if is_odd(flags / 16) {
         let slice = open_sized(alloc, schema, class, flags, cursor)?;
         return Ok(Stage::Open(slice));
     }
     let flagged = is_odd(flags / 4);
-    Ok(Stage::Compact(CompactSlice {
+    let slice = CompactSlice {
         class,
-        base: base_of(schema, class),
+        next: next_slice(flags, before_base(schema, class, false)),
         members: MembersReader::new(alloc, optionals(flagged)),
-    }))
+    };
+    Ok(Stage::Compact(Box::new(alloc, slice)?))
 }
 
 /// The type id of a slice with these flags, which stand at `place`: a text, or the index of one.
@@ -161,20 +185,22 @@ fn class_in(schema: &Schema, before: Before, id: &str) -> Option<u32>
 {
     match before {
         Before::Derived { sized: false, base } => Some(base),
-        Before::First | Before::Derived { sized: true, .. } => class_named(schema, id),
+        Before::First | Before::OnlyKept | Before::Derived { sized: true, .. } => {
+            class_named(schema, id)
+        }
     }
 }
 
-/// The class of a slice, if it may stand here: the base of the one before it, a known one, and the last
-/// exactly where it has no base.
-fn tested_class(
+/// Whether a slice of the class may stand here: the base of the one before it; a known one, or one with a
+/// size; and of a known one the last exactly where it has no base.
+fn test_class(
     schema: &Schema,
     before: Before,
     flags: u8,
     flags_place: u64,
     id_place: u64,
     class: Option<u32>,
-) -> Result<u32, Fault>
+) -> Result<(), Fault>
     ensures { Tests schema.now (view_before before) (flags_of flags) flags_place id_place class result }
 {
     if let Before::Derived { base, .. } = before
@@ -185,17 +211,16 @@ fn tested_class(
             kind: Kind::WrongBase,
         });
     }
-    let Some(class) = class else {
-        return Err(Fault {
+    match class {
+        None if is_odd(flags / 16) => Ok(()),
+        None => Err(Fault {
             place: id_place,
             kind: Kind::UnknownClass,
-        });
-    };
-    if is_odd(flags / 32) != base_of(schema, class).is_none() {
-        return Err(Fault {
+        }),
+        Some(class) if is_odd(flags / 32) == base_of(schema, class).is_none() => Ok(()),
+        Some(_) => Err(Fault {
             place: flags_place,
             kind: Kind::BadLast,
-        });
+        }),
     }
-    Ok(class)
 }

@@ -1,24 +1,26 @@
 //! A class instance that has begun and is not read whole.
 
-ghost use Rattle.std.specs.Prelude.{ℕ, ◌≡◌, ◌<◌, ◌≤◌, ◌+◌, ◌*◌, ◌^◌, ◌++◌, ◌∷◌, [], OnOk};
+ghost use Rattle.std.specs.Prelude.{ℕ, ◌≡◌, ◌<◌, ◌≤◌, ◌+◌, ◌*◌, ◌^◌, ◌++◌, ◌∷◌, [], IfOk, OnOk};
 ghost use Rattle.ice_types.specs.Tables.{Tables};
 ghost use Rattle.ice_prims.specs.Rest.{Rest};
-ghost use Rattle.graph_arena.specs.declared.instance.Slice.TheVariants as stored;
-ghost use Rattle.instance_reading.specs.Slices.{opened};
+ghost use Rattle.graph_arena.specs.Seen.{view_slice};
+ghost use Rattle.instance_reading.specs.Seen.{view_next};
+ghost use Rattle.instance_reading.specs.Slices.{opened, slice_with, uses_of, view_body};
 ghost use Rattle.instance_reading.specs.declared.slice.Stage.TheVariants as stages;
 ghost use Rattle.ice_encoding.specs.Pausing.{Inside};
-ghost use Rattle.ice_graphs.specs.References.{State};
-ghost use Rattle.instance_reading.specs.Unfinished.{Advances, Goes, LessOnOn, NarrowsOnAdvance, NarrowsOnPause, Keeps, begun, left_behind, left_by, left_slices, room, work_left};
+ghost use Rattle.ice_graphs.specs.References.{State, resolved, with_met};
+ghost use Rattle.instance_reading.specs.Unfinished.{Advances, Goes, LessOnOn, NarrowsOnAdvance, NarrowsOnPause, Keeps, Pauses, begun, left_behind, left_by, left_slices, room, work_left};
 
 use crate::arena::Arena;
 use crate::class::own_fields;
-use crate::sized::OpenSlice;
+use crate::sized::{Body, OpenSlice};
 use crate::slice::{Before, CompactSlice, Stage, begin_slice};
-use graph_arena::{Members, Slice, resolve_members};
+use graph_arena::{Slice, resolve_members};
 use ice_members::PausedMembers;
 use ice_prims::{Cursor, Kind, ReadFault};
 use ice_types::{List, Schema};
 use ice_values::{Met, RefPort};
+use preserved::keep;
 use std::alloc::{AllocError, Global};
 use std::mem;
 
@@ -94,7 +96,7 @@ impl<'a> Unfinished<'a> {
                 if slice.left > 0 {
                     self.read_entry(schema, slice, cursor, arena)
                 } else {
-                    self.close(schema, slice, cursor, arena)
+                    self.close(alloc, schema, slice, cursor, arena)
                 }
             }
             Stage::Compact(slice) => self.read_compact(alloc, schema, slice, cursor, arena),
@@ -133,25 +135,25 @@ impl<'a> Unfinished<'a> {
     fn read_entry(
         &mut self,
         schema: &Schema,
-        slice: OpenSlice,
+        slice: OpenSlice<'a>,
         cursor: &mut Cursor<'a>,
         arena: &mut Arena<'a>,
     ) -> Result<Advanced, ReadFault>
         requires { 0 < slice.left }
-        ensures advances { (inside : Inside (State ℕ)) → Advances inside schema.now self.new result (left_by inside schema.now self.old (stages.Open slice) arena.old cursor.old) arena.new cursor.new }
+        ensures advances { (inside : Inside (State ℕ)) → Advances inside schema.now self.new result (left_by inside schema.now self.old (stages.Open slice.entry) arena.old cursor.old) arena.new cursor.new }
         ensures name { self.new.name ≡ self.old.name }
         ensures room { NarrowsOnAdvance result (room arena.old) (room arena.new) }
-        ensures less { LessOnOn result (self.old.steps * 2 ^ 33 + (1 + slice.left)) (work_left self.new) }
+        ensures less { LessOnOn result (self.old.steps * 2 ^ 33 + (1 + slice.entry.left)) (work_left self.new) }
     {
         let _ = schema;
         let no_such = cursor.fault(Kind::BadReference);
         match arena.take_ref(None, cursor) {
             Ok(Met::Known(Some(name))) => {
-                self.keep(slice, name)?;
+                self.keep_entry(slice, name)?;
                 Ok(Advanced::On)
             }
             Ok(Met::Begins(name)) => {
-                self.keep(slice, name)?;
+                self.keep_entry(slice, name)?;
                 Ok(Advanced::Begins(name))
             }
             Ok(Met::Known(None)) => Err(ReadFault::Broken(no_such)),
@@ -160,9 +162,9 @@ impl<'a> Unfinished<'a> {
     }
 
     /// The table has one entry more.
-    fn keep(&mut self, mut slice: OpenSlice, name: u32) -> Result<(), AllocError>
+    fn keep_entry(&mut self, mut slice: OpenSlice<'a>, name: u32) -> Result<(), AllocError>
         requires { 0 < slice.left }
-        ensures keeps { OnOk result (Keeps self.old self.new (opened slice) name) }
+        ensures keeps { OnOk result (Keeps self.old self.new (opened slice.entry) name) }
         ensures name { self.new.name ≡ self.old.name }
     {
         slice.table.push(name)?;
@@ -174,33 +176,22 @@ impl<'a> Unfinished<'a> {
     /// The table is read, and so the slice is.
     fn close(
         &mut self,
+        alloc: Global,
         schema: &Schema,
-        slice: OpenSlice,
+        slice: OpenSlice<'a>,
         cursor: &Cursor<'_>,
         arena: &mut Arena<'_>,
     ) -> Result<Advanced, ReadFault>
         requires { slice.left ≡ 0 }
-        ensures advances { (inside : Inside (State ℕ)) → Advances inside schema.now self.new result (left_by inside schema.now self.old (stages.Open slice) arena.old cursor.now) arena.new cursor.now }
+        ensures advances { (inside : Inside (State ℕ)) → Advances inside schema.now self.new result (left_by inside schema.now self.old (stages.Open slice.entry) arena.old cursor.now) arena.new cursor.now }
         ensures name { self.new.name ≡ self.old.name }
         ensures room { NarrowsOnAdvance result (room arena.old) (room arena.new) }
         ensures less { LessOnOn result (self.old.steps * 2 ^ 33 + 1) (work_left self.new) }
     {
         let _ = schema;
         let _ = cursor;
-        arena.meet_all(slice.uses.as_slice(), slice.table.as_slice())?;
-        let mut members = slice.members;
-        resolve_members(&mut members, slice.table.as_slice());
-        self.slices.push(Slice::Known {
-            class: slice.class,
-            members,
-        })?;
-        match slice.base {
-            Some(base) => {
-                self.stage = Stage::Next(Before::Derived { sized: true, base });
-                Ok(Advanced::On)
-            }
-            None => Ok(Advanced::Done),
-        }
+        let read = closed(alloc, slice.body, slice.table, arena)?;
+        self.complete(read, slice.next)
     }
 
     /// Reads on in the members of a slice without a size.
@@ -208,7 +199,7 @@ impl<'a> Unfinished<'a> {
         &mut self,
         alloc: Global,
         schema: &Schema,
-        mut slice: CompactSlice<'a>,
+        slice: Box<CompactSlice<'a>>,
         cursor: &mut Cursor<'a>,
         arena: &mut Arena<'a>,
     ) -> Result<Advanced, ReadFault>
@@ -217,36 +208,68 @@ impl<'a> Unfinished<'a> {
         ensures room { NarrowsOnAdvance result (room arena.old) (room arena.new) }
         ensures less { LessOnOn result (self.old.steps * 2 ^ 33 + 1) (work_left self.new) }
     {
+        let mut slice = Box::into_inner(slice);
         let fields = own_fields(schema, slice.class);
         match slice.members.go(alloc, schema, fields, cursor, arena) {
-            Ok(PausedMembers::Done(members)) => self.complete(slice.class, slice.base, members),
+            Ok(PausedMembers::Done(members)) => {
+                let class = slice.class;
+                self.complete(Slice::Known { class, members }, slice.next)
+            }
             Ok(PausedMembers::Begins(name)) => {
-                self.stage = Stage::Compact(slice);
+                self.pause(alloc, slice)?;
                 Ok(Advanced::Begins(name))
             }
             Err(fault) => Err(fault),
         }
     }
 
-    /// A slice without a size is read whole: these are its class, the base of that and its members.
-    fn complete(
-        &mut self,
-        class: u32,
-        base: Option<u32>,
-        members: Members,
-    ) -> Result<Advanced, ReadFault>
-        ensures advances { (inside : Inside (State ℕ)) (t : Tables) (s : State ℕ) (r : Rest) → Advances inside t self.new result (left_behind inside t self.old.steps (self.old.slices ++ stored.Known class members ∷ []) base s r) s r }
+    /// An instance begins in the members of a slice without a size.
+    fn pause(&mut self, alloc: Global, slice: CompactSlice<'a>) -> Result<(), AllocError>
+        ensures pauses { OnOk result (Pauses self.old self.new slice.entry) }
+        ensures name { self.new.name ≡ self.old.name }
+    {
+        self.stage = Stage::Compact(Box::new(alloc, slice)?);
+        Ok(())
+    }
+
+    /// A slice is read whole, and the next one follows this, None behind the last.
+    fn complete(&mut self, slice: Slice, next: Option<Before>) -> Result<Advanced, ReadFault>
+        ensures advances { (inside : Inside (State ℕ)) (t : Tables) (s : State ℕ) (r : Rest) → Advances inside t self.new result (left_behind inside t self.old.steps (self.old.slices ++ slice ∷ []) (view_next next) s r) s r }
         ensures name { self.new.name ≡ self.old.name }
         ensures room { (before after : ℕ) → after ≤ before → NarrowsOnAdvance result before after }
         ensures less { LessOnOn result (self.old.steps * 2 ^ 33 + 1) (work_left self.new) }
     {
-        self.slices.push(Slice::Known { class, members })?;
-        match base {
-            Some(base) => {
-                self.stage = Stage::Next(Before::Derived { sized: false, base });
+        self.slices.push(slice)?;
+        match next {
+            Some(before) => {
+                self.stage = Stage::Next(before);
                 Ok(Advanced::On)
             }
             None => Ok(Advanced::Done),
         }
+    }
+}
+
+/// The slice of which this was read, with the names in its table. Those of its references are known now.
+fn closed(
+    alloc: Global,
+    body: Body<'_>,
+    table: List<u32>,
+    arena: &mut Arena<'_>,
+) -> Result<Slice, AllocError>
+    ensures slice { IfOk result (λ slice. view_slice slice ≡ slice_with (view_body body.entry) table) }
+    ensures met { OnOk result (arena.new ≡ with_met (resolved table (uses_of (view_body body.entry))) arena.old) }
+{
+    match body {
+        Body::Members {
+            class,
+            mut members,
+            uses,
+        } => {
+            arena.meet_all(uses.as_slice(), table.as_slice())?;
+            resolve_members(&mut members, table.as_slice());
+            Ok(Slice::Known { class, members })
+        }
+        Body::Kept { id, part } => keep(alloc, id, &part, table),
     }
 }

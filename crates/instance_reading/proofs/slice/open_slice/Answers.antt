@@ -1,9 +1,7 @@
-use Rattle.std.proofs.Common.{◌∙◌, ap, sym}
 use Rattle.ice_graphs.specs.Flags.{flags_of}
-use Rattle.instance_reading.specs.Seen.{by_flag}
-use Rattle.instance_reading.proofs.Heads.{compact_opened}
+use Rattle.instance_reading.proofs.Heads.{opens_known}
 use Rattle.instance_reading.proofs.slice.open_slice.Goals as goal
 
-pub returns : goal.returns
-returns c inside steps id s ends =
-    rw (c.base_of.ensures, c.new.ensures) (compact_opened inside c.args.schema.now steps (flags_of c.args.flags) c.args.class c.optionals.result id s c.args.cursor.now (c.optionals.ensures ∙ ap by_flag c.is_odd-flagged.ensures) (sym c.if-is_odd.ensures) ends)
+pub returns-in-Some : goal.returns-in-Some
+returns-in-Some c =
+    rw c.in-Some.is (opens_known c.args.schema.now (flags_of c.args.flags) c.in-Some.class c.args.id.now c.open_known.result c.args.cursor.now c.open_known.new.cursor c.open_known.ensures)

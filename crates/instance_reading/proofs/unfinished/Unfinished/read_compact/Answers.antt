@@ -1,17 +1,37 @@
+use Rattle.std.proofs.Common.{ℕ, List, Result, sym, subst, ◌∙◌}
+use Rattle.ice_prims.specs.declared.fault.Fault.{Fault}
+use Rattle.ice_prims.specs.Rest.{Rest}
+use Rattle.ice_graphs.specs.Graph.{Slice}
+use Rattle.ice_graphs.specs.References.{State}
 use Rattle.ice_members.specs.Shapes.{handed}
-use Rattle.instance_reading.proofs.Stages.{members_whole, members_pause, members_fail}
+use Rattle.instance_reading.specs.Unfinished.{Advances}
+use Rattle.instance_reading.proofs.Places.{fault_along}
+use Rattle.instance_reading.proofs.Stages.{members_whole, members_paused, members_fail, left_same}
 use Rattle.instance_reading.proofs.unfinished.Unfinished.read_compact.Goals as goal
 
 pub returns-in-Ok-Done-clause-advances : goal.returns-in-Ok-Done-clause-advances
 returns-in-Ok-Done-clause-advances c inside =
-    members_whole inside c.args.schema.now c.args.self.now c.args.slice.class c.args.slice.base (handed c.own_fields-fields.result) c.own_fields-fields.ensures c.args.slice.members c.in-Ok-Done.members c.args.arena.now c.go.new.port c.args.cursor.now c.go.new.cursor
-    (rw c.in-Ok-Done.field-0-is at (c.in-Ok-Done.ensures.goes inside)) c.complete.new.self c.complete.result (c.complete.ensures.advances inside c.args.schema.now c.go.new.port c.go.new.cursor)
+    let t = c.args.schema.now in
+    let u = c.args.self.now in
+    let old = c.into_inner-slice.result in
+    subst (λ (read : Result (List Slice × State ℕ × Rest) Fault). Advances inside t c.complete.new.self c.complete.result read c.go.new.port c.go.new.cursor)
+    (left_same inside t u old.class old.next (handed c.own_fields-fields.result) c.own_fields-fields.ensures old.members c.args.slice.value c.args.arena.now c.args.cursor.now c.into_inner-slice.ensures)
+    (members_whole inside t u old.class old.next (handed c.own_fields-fields.result) c.own_fields-fields.ensures old.members c.in-Ok-Done.members c.args.arena.now c.go.new.port c.args.cursor.now c.go.new.cursor
+    (rw c.in-Ok-Done.field-0-is at (c.in-Ok-Done.ensures.goes inside)) c.complete.new.self c.complete.result (c.complete.ensures.advances inside t c.go.new.port c.go.new.cursor))
 
-pub returns-in-Ok-Begins-clause-advances : goal.returns-in-Ok-Begins-clause-advances
-returns-in-Ok-Begins-clause-advances c inside =
-    members_pause inside c.args.schema.now c.args.self.now c.args.slice.class c.args.slice.base (handed c.own_fields-fields.result) c.own_fields-fields.ensures c.args.slice.members c.go.new.self c.in-Ok-Begins.name c.args.arena.now c.go.new.port c.args.cursor.now c.go.new.cursor
-    (rw c.in-Ok-Begins.field-0-is at (c.in-Ok-Begins.ensures.goes inside))
+pub returns-in_ok-pause-in-Ok-Begins-clause-advances : goal.returns-in_ok-pause-in-Ok-Begins-clause-advances
+returns-in_ok-pause-in-Ok-Begins-clause-advances c inside =
+    let t = c.args.schema.now in
+    let u = c.args.self.now in
+    let old = c.into_inner-slice.result in
+    sym (left_same inside t u old.class old.next (handed c.own_fields-fields.result) c.own_fields-fields.ensures old.members c.args.slice.value c.args.arena.now c.args.cursor.now c.into_inner-slice.ensures)
+    ∙ members_paused inside t u old.class old.next (handed c.own_fields-fields.result) c.own_fields-fields.ensures old.members c.go.new.self c.in-Ok-Begins.name c.args.arena.now c.go.new.port c.args.cursor.now c.go.new.cursor
+    (rw c.in-Ok-Begins.field-0-is at (c.in-Ok-Begins.ensures.goes inside)) c.pause.new.self c.in_ok-pause-in-Ok-Begins.ensures.pauses
 
 pub returns-in-Err-clause-advances : goal.returns-in-Err-clause-advances
 returns-in-Err-clause-advances c inside =
-    members_fail inside c.args.schema.now c.args.self.now c.args.slice.class c.args.slice.base (handed c.own_fields-fields.result) c.own_fields-fields.ensures c.args.slice.members c.in-Err.fault c.args.arena.now c.args.cursor.now (c.in-Err.ensures.goes inside)
+    let t = c.args.schema.now in
+    let u = c.args.self.now in
+    let old = c.into_inner-slice.result in
+    fault_along c.in-Err.fault _ _ (left_same inside t u old.class old.next (handed c.own_fields-fields.result) c.own_fields-fields.ensures old.members c.args.slice.value c.args.arena.now c.args.cursor.now c.into_inner-slice.ensures)
+    (members_fail inside t u old.class old.next (handed c.own_fields-fields.result) c.own_fields-fields.ensures old.members c.in-Err.fault c.args.arena.now c.args.cursor.now (c.in-Err.ensures.goes inside))
