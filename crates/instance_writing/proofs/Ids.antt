@@ -1,11 +1,24 @@
 -- The places of type ids.
-use Rattle.std.proofs.Common.{◌≡◌, ℕ, suc, ◌+◌, ◌^◌, ◌<◌, Bool, true, false, if◌then◌else◌, List, [], ◌∷◌, ◌++◌, length, Option, Some, None, cond, ◌-◌, refl, sym, ap, ◌∙◌, arith, length-append}
+use Rattle.std.proofs.Common.{◌≡◌, ℕ, suc, ◌+◌, ◌^◌, ◌<◌, ◌≤◌, Bool, IsTrue, true, false, if◌then◌else◌, List, [], ◌∷◌, ◌++◌, length, Option, Some, None, cond, ◌-◌, refl, sym, ap, ◌∙◌, arith, length-append}
 use Rattle.std.specs.Option.{IfSome}
 use Rattle.std.specs.Str.{bytes_eq}
-use Rattle.std.proofs.lemmas.Bool.{false≢true}
+use Rattle.std.proofs.Math.Dec.{leb}
+use Rattle.std.proofs.lemmas.Bool.{false≢true, leb-true, le-leb}
 use Rattle.std.proofs.lemmas.Slice.Eq.{bytes_eq-Decides}
 use Rattle.ice_graphs.specs.Classes.{place_of, one_further}
+use Rattle.ice_graphs.specs.Visiting.{most}
 use Rattle.instance_writing.specs.Pens.{ArePlaced}
+
+-- ---- how many may begin
+
+most-is : most ≡ 100000000
+unfolding most
+most-is = refl
+
+pub full-is : (n m : ℕ) → n ≡ m → (IsTrue (leb 100000000 n) → most ≤ m) × (most ≤ m → IsTrue (leb 100000000 n))
+full-is n m is = (λ full. omega (arith, leb-true 100000000 n full, is, most-is), λ full. le-leb 100000000 n (omega (arith, full, is, most-is)))
+
+-- ---- where a text stands
 
 abbrev no_place : Option ℕ
 no_place = None

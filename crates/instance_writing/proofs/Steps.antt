@@ -1,45 +1,41 @@
 -- How what is still written of an instance changes with a step.
-use Rattle.std.proofs.Common.{◌≡◌, ℕ, zero, suc, ◌+◌, ◌^◌, ◌<◌, ◌≤◌, Bool, true, false, nat_lt, List, [], ◌∷◌, ◌++◌, length, drop, slice_get, Option, Some, None, Ok, refl, sym, ap, ◌∙◌, subst, arith, inl, inr, append_assoc}
-use Rattle.std.proofs.lemmas.Bool.{cases_lt, false≢true, lt-ltb, le-ltb, eq-eqb, ne_eqb}
+use Rattle.std.proofs.Common.{◌≡◌, ℕ, suc, ◌^◌, ◌<◌, ◌≤◌, Bool, true, false, List, [], ◌∷◌, ◌++◌, length, drop, slice_get, Option, Some, None, Result, Ok, Err, refl, sym, ap, ◌∙◌, subst, arith, append_assoc}
+use Rattle.std.specs.declared.alloc.AllocError.{AllocError}
+use Rattle.std.proofs.lemmas.Bool.{eq-eqb, ne_eqb, false≢true}
 use Rattle.std.specs.Bool.{◌==◌}
+use Rattle.std.specs.Prelude.{IfOk, OnOk}
 use Rattle.std.proofs.lemmas.List.{append-nil}
+use Rattle.ice_types.specs.declared.declarations.Member.{Member}
 use Rattle.ice_types.specs.Tables.{Tables}
 use Rattle.ice_encoding.specs.Writing.{Piece, exactly, ◌>>◌}
-use Rattle.ice_encoding.specs.Pausing.{Put, written_begun, written_in_place}
+use Rattle.ice_encoding.specs.Pausing.{Put, written_begun}
 use Rattle.ice_graphs.specs.Graph.{Slice, known, kept}
 use Rattle.ice_graphs.specs.Names.{names_of, slice_names, instance_names}
 use Rattle.ice_graphs.specs.Visiting.{is_listed, most}
 use Rattle.ice_graphs.specs.Slices.{slice_size}
-use Rattle.ice_graphs.specs.Canonical.{Pen, each_once, table_of, sized_bytes, is_there, flags_byte, has_optional, id_of, written_head, written_names, written_table, written_slices, sized_body, is_end}
+use Rattle.ice_graphs.specs.Canonical.{Pen, Format, sliced, compact, each_once, table_of, sized_bytes, is_there, flags_byte, has_optional, id_of, written_head, written_names, written_table, sized_body, members_bytes, written_as, is_end}
 use Rattle.graph_arena.specs.declared.instance.Slice as arena
 use Rattle.graph_arena.specs.Arena.{AreBelow}
 use Rattle.graph_arena.specs.Seen.{view_slices}
+use Rattle.ice_optionals.specs.Members.{Members, shape_of}
+use Rattle.ice_graphs.specs.Members.{written_slice_members}
+use Rattle.ice_graphs.specs.Classes.{members_in}
+use Rattle.ice_members.proofs.WritingSteps.{fits-grown, all-left}
+use Rattle.ice_members.specs.declared.ending.Ending.TheVariants.{Marked}
+use Rattle.ice_members.specs.WritingMembers.{Remaining, remaining, all_of, members_left}
 use Rattle.ice_values.specs.Putting.{InsideWritten, Written, onto}
 use Rattle.ice_values.proofs.Levels.{onto-then, onto-nothing}
-use Rattle.instance_writing.specs.Pens.{put_counted, begun_put, beginning_put}
-use Rattle.instance_writing.specs.Remains.{Left, EndsOrShrinks, all_slices, instance_left, slice_front, table_size, LeftFits}
+use Rattle.instance_writing.specs.declared.open_slice.OpenSlice.{OpenSlice}
+use Rattle.instance_writing.specs.declared.open_slice.OpenSlice.TheVariants.{Nothing, Found, Lent}
+use Rattle.instance_writing.specs.declared.open_slice.OpenSlice.TheVariants as opens
+use Rattle.instance_writing.specs.declared.unfinished.Unfinished.{Unfinished}
+use Rattle.instance_writing.specs.Pens.{put_counted}
+use Rattle.instance_writing.specs.Opened.{refer_to, entries_in, is_first, HasEntries, IsTabled, open_left, OpenFits}
+use Rattle.instance_writing.specs.Remains.{slice_front, table_size, plain_head, one_slice, others_left, instance_left, Fits, BeginsNext}
 use Rattle.instance_writing.specs.Writable.{SlicesCanBeWritten}
 use Rattle.instance_writing.proofs.Placed.{below-both}
 
 -- ---- the entries of a table
-
-abbrev nothing : Option ℕ
-nothing = None
-
-abbrev just : ℕ → Option ℕ
-just n = Some n
-
-none_some : (n : ℕ) → nothing ≡ just n → ⊥
-none_some n h = cc
-
-same_name : (m n : ℕ) → just m ≡ just n → m ≡ n
-same_name m n h = cc
-
-pub drop-at : (ns : List ℕ) (i n : ℕ) → slice_get ns i ≡ Some n → drop i ns ≡ n ∷ drop (i + 1) ns
-drop-at [] zero n is = absurd (cc)
-drop-at [] (suc i) n is = absurd (cc)
-drop-at (m ∷ ns) zero n is = ap (λ (k : ℕ). k ∷ ns) (same_name m n is)
-drop-at (m ∷ ns) (suc i) n is = let e : suc i + 1 ≡ suc (i + 1) = omega arith in drop-at ns i n is ∙ ap (λ (k : ℕ). n ∷ drop k (m ∷ ns)) (sym e)
 
 -- a reference, and what begins there
 abbrev put_on : {S : Type 0} → InsideWritten S → Option ℕ → Put S → List ℕ → Written S
@@ -58,36 +54,60 @@ put-begins {S} inside p n s' out out' bytes begun after =
     ∙ ap (λ (s : S). onto (inside n) (s, out')) after
 
 module _ (t : Tables) (inside : InsideWritten Pen) (n : ℕ) (ns all : List ℕ) (s s' : Pen) (out out' : List ℕ) (is : all ≡ n ∷ ns) (bytes : out' ≡ out ++ (put_counted (Some n) s).bytes) (after : (put_counted (Some n) s).after ≡ s') where
-  entry-first : onto (written_names t (written_in_place put_counted inside) all) (s, out) ≡ onto (written_names t (written_in_place put_counted inside) ns) (onto (written_in_place put_counted inside (Some n)) (s, out))
-  entry-first = ap (λ (l : List ℕ). onto (written_names t (written_in_place put_counted inside) l) (s, out)) is
-      ∙ onto-then (written_in_place put_counted inside (Some n)) (written_names t (written_in_place put_counted inside) ns) (s, out)
+  entry-first : onto (written_names t (refer_to inside) all) (s, out) ≡ onto (written_names t (refer_to inside) ns) (onto (refer_to inside (Some n)) (s, out))
+  entry-first = ap (λ (l : List ℕ). onto (written_names t (refer_to inside) l) (s, out)) is
+      ∙ onto-then (refer_to inside (Some n)) (written_names t (refer_to inside) ns) (s, out)
 
-  pub entry-known : (put_counted (Some n) s).begun ≡ None → onto (written_names t (written_in_place put_counted inside) all) (s, out) ≡ onto (written_names t (written_in_place put_counted inside) ns) (s', out')
-  entry-known begun = entry-first ∙ ap (onto (written_names t (written_in_place put_counted inside) ns)) (put-none inside (put_counted (Some n) s) s' out out' bytes begun after)
+  entry-known : (put_counted (Some n) s).begun ≡ None → onto (written_names t (refer_to inside) all) (s, out) ≡ onto (written_names t (refer_to inside) ns) (s', out')
+  entry-known begun = entry-first ∙ ap (onto (written_names t (refer_to inside) ns)) (put-none inside (put_counted (Some n) s) s' out out' bytes begun after)
 
-  pub entry-begins : (b : ℕ) → (put_counted (Some n) s).begun ≡ Some b → onto (written_names t (written_in_place put_counted inside) all) (s, out) ≡ onto (written_names t (written_in_place put_counted inside) ns) (onto (inside b) (s', out'))
-  entry-begins b begun = entry-first ∙ ap (onto (written_names t (written_in_place put_counted inside) ns)) (put-begins inside (put_counted (Some n) s) b s' out out' bytes begun after)
+  entry-begins : (b : ℕ) → (put_counted (Some n) s).begun ≡ Some b → onto (written_names t (refer_to inside) all) (s, out) ≡ onto (written_names t (refer_to inside) ns) (onto (inside b) (s', out'))
+  entry-begins b begun = entry-first ∙ ap (onto (written_names t (refer_to inside) ns)) (put-begins inside (put_counted (Some n) s) b s' out out' bytes begun after)
 
--- ---- how many have begun
+-- ---- what is left of a slice with a table
 
-put-by : (n : ℕ) (s : Pen) (b : Bool) → nat_lt n s.begun ≡ b → put_counted (Some n) s ≡ elim b [ true ↦ begun_put n s | false ↦ beginning_put n s ]
-put-by n s b is = ap (λ (c : Bool). elim c [ true ↦ begun_put n s | false ↦ beginning_put n s ]) is
+pub entries-left : (t : Tables) (inside : InsideWritten Pen) (o : OpenSlice) (w : Written Pen) → IsTabled o → open_left t inside o w ≡ onto (written_names t (refer_to inside) (entries_in o)) w
+entries-left t inside Nothing w h = sym (onto-nothing w)
+entries-left t inside (Found next names) w h = refl
+entries-left t inside (Lent names) w h = refl
+entries-left t inside (opens.Members m) w h = absurd h
 
-pub known-counts : (n : ℕ) (s s' : Pen) → (put_counted (Some n) s).begun ≡ None → (put_counted (Some n) s).after ≡ s' → s'.begun ≡ s.begun
-known-counts n s s' begun after = elim (cases_lt n s.begun) [
-  | inl lt ↦ ap (λ (p : Pen). p.begun) (sym after) ∙ ap (λ (p : Put Pen). p.after.begun) (put-by n s true (lt-ltb n s.begun lt))
-  | inr le ↦ absurd (none_some n (sym begun ∙ ap (λ (p : Put Pen). p.begun) (put-by n s false (le-ltb n s.begun le))))
-]
+pub entries-below : (count : ℕ) (o : OpenSlice) (out : List ℕ) → OpenFits count o out → AreBelow count (entries_in o)
+entries-below count Nothing out h = tt
+entries-below count (Found next names) out h = h.0
+entries-below count (Lent names) out h = h
+entries-below count (opens.Members m) out h = tt
 
-pub begun-counts : (n b : ℕ) (s s' : Pen) → (put_counted (Some n) s).begun ≡ Some b → (put_counted (Some n) s).after ≡ s' → (b ≡ n) × (s'.begun ≡ suc s.begun) × (s.begun ≤ n)
-begun-counts n b s s' begun after = elim (cases_lt n s.begun) [
-  | inl lt ↦ absurd (none_some b (sym (ap (λ (p : Put Pen). p.begun) (put-by n s true (lt-ltb n s.begun lt))) ∙ begun))
-  | inr le ↦ (
-      let is = put-by n s false (le-ltb n s.begun le) in
-      (sym (same_name n b (sym (ap (λ (p : Put Pen). p.begun) is) ∙ begun)), ap (λ (p : Pen). p.begun) (sym after) ∙ ap (λ (p : Put Pen). p.after.begun) is, le))
-]
+pub below-fits : (count : ℕ) (o : OpenSlice) (out : List ℕ) → IsTabled o → AreBelow count (entries_in o) → OpenFits count o out
+below-fits count Nothing out h below = tt
+below-fits count (Found next names) out h below = (below, h)
+below-fits count (Lent names) out h below = below
+below-fits count (opens.Members m) out h below = absurd h
 
--- ---- a slice
+module _ (t : Tables) (inside : InsideWritten Pen) (old now : OpenSlice) (n : ℕ) (s s' : Pen) (out out' : List ℕ) (before : IsTabled old) (tabled : IsTabled now) (is : entries_in old ≡ n ∷ entries_in now)
+    (puts : (out' ≡ out ++ (put_counted (Some n) s).bytes) × ((put_counted (Some n) s).after ≡ s')) where
+  -- an entry of one that has begun
+  pub entry-put : (put_counted (Some n) s).begun ≡ None → open_left t inside old (s, out) ≡ open_left t inside now (s', out')
+  entry-put begun = entries-left t inside old (s, out) before ∙ entry-known t inside n (entries_in now) (entries_in old) s s' out out' is puts.0 puts.1 begun ∙ sym (entries-left t inside now (s', out') tabled)
+
+  -- one begins at it
+  pub entry-goes : (b : ℕ) → (put_counted (Some n) s).begun ≡ Some b → open_left t inside old (s, out) ≡ open_left t inside now (onto (inside b) (s', out'))
+  entry-goes b begun =
+      entries-left t inside old (s, out) before ∙ entry-begins t inside n (entries_in now) (entries_in old) s s' out out' is puts.0 puts.1 b begun
+      ∙ sym (entries-left t inside now (onto (inside b) (s', out')) tabled)
+
+-- no entry is left
+pub entries-end : (t : Tables) (inside : InsideWritten Pen) (o : OpenSlice) (w : Written Pen) → IsTabled o → entries_in o ≡ [] → open_left t inside o w ≡ w
+entries-end t inside o w h ended = entries-left t inside o w h ∙ ap (λ (l : List ℕ). onto (written_names t (refer_to inside) l) w) ended ∙ onto-nothing w
+
+-- the output has grown
+pub open-grown : (count : ℕ) (o : OpenSlice) (out out' : List ℕ) → OpenFits count o out → length out ≤ length out' → OpenFits count o out'
+open-grown count Nothing out out' h longer = tt
+open-grown count (Found next names) out out' h longer = h
+open-grown count (Lent names) out out' h longer = h
+open-grown count (opens.Members m) out out' h longer = fits-grown (remaining m.value.writer) out out' h longer
+
+-- ---- a slice begins
 
 table-then : (t : Tables) (refer : Option ℕ → Piece Pen) (ns : List ℕ) (w : Written Pen) → onto (written_table t refer ns) w ≡ onto (written_names t refer ns) (onto (exactly (table_size ns)) w)
 table-then t refer [] w = sym (ap (onto (exactly [])) (onto-nothing w))
@@ -96,31 +116,32 @@ table-then t refer (n ∷ ns) w = onto-then (exactly (table_size (n ∷ ns))) (w
 exactly-then : (a b : List ℕ) (w : Written Pen) → onto (exactly (a ++ b)) w ≡ onto (exactly b) (onto (exactly a) w)
 exactly-then a b w = onto-then (exactly a) (exactly b) w
 
-slice-first : (t : Tables) (refer : Option ℕ → Piece Pen) (s : Slice) (ss : List Slice) (is_last : Bool) (w : Written Pen) → is_last ≡ is_end t refer ss
-    → onto (written_slices t refer (s ∷ ss)) w ≡ onto (written_names t refer (table_of s) >> written_slices t refer ss) (onto (slice_front t is_last s) w)
-slice-first t refer s ss is_last w last =
-    let head = written_head (λ form. flags_byte form (has_optional s) (is_there (table_of s)) true (is_end t refer ss)) (id_of t s) in
+-- in sliced format, up to the entries of its table
+slice-fronted : (t : Tables) (refer : Option ℕ → Piece Pen) (s : Slice) (first last : Bool) (w : Written Pen) → onto (one_slice t refer sliced first last s) w ≡ onto (written_names t refer (table_of s)) (onto (slice_front t last s) w)
+slice-fronted t refer s first last w =
+    let head = written_head (λ form. flags_byte form (has_optional s) (is_there (table_of s)) true last) (id_of t s) in
     let sized = slice_size.put (length (sized_bytes t s)) ++ sized_bytes t s in
-    onto-then head (sized_body t refer s >> written_slices t refer ss) w
-    ∙ onto-then (sized_body t refer s) (written_slices t refer ss) (onto head w)
-    ∙ ap (onto (written_slices t refer ss))
-    (onto-then (exactly sized) (written_table t refer (table_of s)) (onto head w)
+    onto-then head (sized_body t refer s) w
+    ∙ onto-then (exactly sized) (written_table t refer (table_of s)) (onto head w)
     ∙ table-then t refer (table_of s) (onto (exactly sized) (onto head w))
-    ∙ ap (onto (written_names t refer (table_of s))) (sym (exactly-then sized (table_size (table_of s)) (onto head w))))
-    ∙ sym (onto-then (written_names t refer (table_of s)) (written_slices t refer ss) (onto (exactly (sized ++ table_size (table_of s))) (onto head w)))
-    ∙ ap (onto (written_names t refer (table_of s) >> written_slices t refer ss)) (sym (onto-then head (exactly (sized ++ table_size (table_of s))) w))
-    ∙ ap (λ (b : Bool). onto (written_names t refer (table_of s) >> written_slices t refer ss) (onto (slice_front t b s) w)) (sym last)
+    ∙ ap (onto (written_names t refer (table_of s))) (sym (exactly-then sized (table_size (table_of s)) (onto head w)))
+    ∙ ap (onto (written_names t refer (table_of s))) (sym (onto-then head (exactly (sized ++ table_size (table_of s))) w))
 
--- the next slice is written up to the entries of its table
-pub slice-begun : (t : Tables) (refer : Option ℕ → Piece Pen) (s : Slice) (ss : List Slice) (old now : Left) (is_last : Bool) (w w' : Written Pen) → is_last ≡ is_end t refer ss → old.entries ≡ [] → old.slices ≡ s ∷ ss
-    → now.entries ≡ table_of s → now.slices ≡ ss → w' ≡ onto (slice_front t is_last s) w → onto (instance_left t refer old) w ≡ onto (instance_left t refer now) w'
-slice-begun t refer s ss old now is_last w w' last ended first entries others wrote =
-    ap (λ (l : List ℕ). onto (written_names t refer l >> written_slices t refer old.slices) w) ended
-    ∙ ap (λ (l : List Slice). onto (written_slices t refer l) w) first
-    ∙ slice-first t refer s ss is_last w last
-    ∙ ap (λ (l : List ℕ). onto (written_names t refer l >> written_slices t refer ss) (onto (slice_front t is_last s) w)) (sym entries)
-    ∙ ap (λ (l : List Slice). onto (written_names t refer now.entries >> written_slices t refer l) (onto (slice_front t is_last s) w)) (sym others)
-    ∙ ap (onto (instance_left t refer now)) (sym wrote)
+has-left : (t : Tables) (inside : InsideWritten Pen) (o : OpenSlice) (entries : List ℕ) (w : Written Pen) → HasEntries entries o → open_left t inside o w ≡ onto (written_names t (refer_to inside) entries) w
+has-left t inside Nothing entries w h = absurd h
+has-left t inside (Found next names) entries w h = ap (λ (l : List ℕ). onto (written_names t (refer_to inside) l) w) h.0
+has-left t inside (Lent names) entries w h = ap (λ (l : List ℕ). onto (written_names t (refer_to inside) l) w) h
+has-left t inside (opens.Members m) entries w h = absurd h
+
+has-fits : (count : ℕ) (o : OpenSlice) (entries out : List ℕ) → HasEntries entries o → AreBelow count entries → OpenFits count o out
+has-fits count Nothing entries out h below = absurd h
+has-fits count (Found next names) entries out h below = (subst (AreBelow count) (sym h.0) below, h.1)
+has-fits count (Lent names) entries out h below = subst (AreBelow count) (sym h) below
+has-fits count (opens.Members m) entries out h below = absurd h
+
+pub slice-begun : (t : Tables) (inside : InsideWritten Pen) (s : Slice) (first last : Bool) (o : OpenSlice) (w w' : Written Pen) → HasEntries (table_of s) o → w' ≡ onto (slice_front t last s) w → onto (one_slice t (refer_to inside) sliced first last s) w ≡ open_left t inside o w'
+slice-begun t inside s first last o w w' has wrote =
+    slice-fronted t (refer_to inside) s first last w ∙ ap (onto (written_names t (refer_to inside) (table_of s))) (sym wrote) ∙ sym (has-left t inside o (table_of s) w' has)
 
 -- names of a table are among those of its slice
 once-step : (b : Bool) (limit n : ℕ) (a c : List ℕ) → n < limit → AreBelow limit a → AreBelow limit c → AreBelow limit (elim b [ true ↦ a | false ↦ n ∷ c ])
@@ -135,25 +156,105 @@ pub table-below : (limit : ℕ) (s : Slice) → AreBelow limit (slice_names s) �
 table-below limit (known class c) h = once-below limit [] (names_of c) h
 table-below limit (kept id bytes optionals table) h = h
 
-pub first-below : (t : Tables) (count : ℕ) (l : Left) (s : Slice) (ss : List Slice) → LeftFits t count l → l.slices ≡ s ∷ ss → AreBelow count (slice_names s) × AreBelow count (instance_names ss)
-first-below t count l s ss h is = below-both count (slice_names s) (instance_names ss) (subst (λ (all : List Slice). AreBelow count (instance_names all)) is h.names)
+pub slice-fits : (count : ℕ) (s : Slice) (o : OpenSlice) (out : List ℕ) → HasEntries (table_of s) o → AreBelow count (slice_names s) → OpenFits count o out
+slice-fits count s o out has below = has-fits count o (table_of s) out has (table-below count s below)
 
-pub begun-fits : (t : Tables) (count : ℕ) (old now : Left) (s : Slice) (ss : List Slice) → LeftFits t count old → old.slices ≡ s ∷ ss → now.entries ≡ table_of s → now.slices ≡ ss → LeftFits t count now
-begun-fits t count old now s ss h is entries others =
-    let below = first-below t count old s ss h is in
-    let can = subst (SlicesCanBeWritten t) is h.slices in
-    record {
-      entries = subst (AreBelow count) (sym entries) (table-below count s below.0);
-      names = subst (λ (l : List Slice). AreBelow count (instance_names l)) (sym others) below.1;
-      slices = subst (SlicesCanBeWritten t) (sym others) can.1;
-    }
+pub sliced-begun : (t : Tables) (inside : InsideWritten Pen) (s : Slice) (f : Format) (first last : Bool) (result : Result OpenSlice AllocError) (w w' : Written Pen) → f ≡ sliced → IfOk result (HasEntries (table_of s)) → OnOk result (w' ≡ onto (slice_front t last s) w)
+    → IfOk result (λ o. onto (one_slice t (refer_to inside) f first last s) w ≡ open_left t inside o w')
+sliced-begun t inside s f first last (Ok o) w w' is has wrote = ap (λ (form : Format). onto (one_slice t (refer_to inside) form first last s) w) is ∙ slice-begun t inside s first last o w w' has wrote
+sliced-begun t inside s f first last (Err e) w w' is has wrote = tt
+
+pub sliced-fits : (count : ℕ) (s : Slice) (result : Result OpenSlice AllocError) (out : List ℕ) → IfOk result (HasEntries (table_of s)) → AreBelow count (slice_names s) → IfOk result (λ o. OpenFits count o out)
+sliced-fits count s (Ok o) out has below = slice-fits count s o out has below
+sliced-fits count s (Err e) out has below = tt
+
+-- in compact format, up to its members
+pub onto-is : (piece : Piece Pen) (p p' : Pen) (out out' : List ℕ) → (out' ≡ out ++ (piece p).0) × (p' ≡ (piece p).1) → (p', out') ≡ onto piece (p, out)
+onto-is piece p p' out out' h = ap (λ (l : List ℕ). (p', l)) h.0 ∙ ap (λ (q : Pen). (q, out ++ (piece p).0)) h.1
+
+pub plain-begun : (t : Tables) (inside : InsideWritten Pen) (s : Slice) (f : Format) (first last : Bool) (result : Result OpenSlice AllocError) (w w' : Written Pen) → f ≡ compact → w' ≡ onto (plain_head t first last s) w
+    → IfOk result (λ o. open_left t inside o w' ≡ onto (members_bytes t (refer_to inside) s) w') → IfOk result (λ o. onto (one_slice t (refer_to inside) f first last s) w ≡ open_left t inside o w')
+plain-begun t inside s f first last (Ok o) w w' is wrote opened =
+    ap (λ (form : Format). onto (one_slice t (refer_to inside) form first last s) w) is
+    ∙ onto-then (plain_head t first last s) (members_bytes t (refer_to inside) s) w
+    ∙ ap (onto (members_bytes t (refer_to inside) s)) (sym wrote) ∙ sym opened
+plain-begun t inside s f first last (Err e) w w' is wrote opened = tt
+
+pub members-open : (t : Tables) (inside : InsideWritten Pen) (class : ℕ) (c : Members) (own : List Member) (r : Remaining) (w : Written Pen) → own ≡ members_in (slice_get t.classes class) → r ≡ all_of Marked c
+    → members_left put_counted inside t own r w ≡ onto (members_bytes t (refer_to inside) (known class c)) w
+members-open t inside class c own r w is fresh =
+    ap (λ (x : Remaining). members_left put_counted inside t own x w) fresh ∙ all-left put_counted inside t own Marked c w
+    ∙ ap (λ (ms : List Member). onto (written_slice_members (refer_to inside) t (shape_of ms) c) w) is
+
+-- ---- the slices of an instance
+
+-- the first of those that have not begun, and those behind it
+pub next-slice : (t : Tables) (refer : Option ℕ → Piece Pen) (f : Format) (first : Bool) (s : Slice) (ss : List Slice) (w : Written Pen) → onto (others_left t refer f first (s ∷ ss)) w ≡ onto (others_left t refer f false ss) (onto (one_slice t refer f first (is_end t refer ss) s) w)
+next-slice t refer sliced first s ss w =
+    let head = written_head (λ form. flags_byte form (has_optional s) (is_there (table_of s)) true (is_end t refer ss)) (id_of t s) in
+    onto-then head (sized_body t refer s >> others_left t refer sliced false ss) w
+    ∙ onto-then (sized_body t refer s) (others_left t refer sliced false ss) (onto head w)
+    ∙ ap (onto (others_left t refer sliced false ss)) (sym (onto-then head (sized_body t refer s) w))
+next-slice t refer compact true s ss w =
+    let head = plain_head t true (is_end t refer ss) s in
+    onto-then head (members_bytes t refer s >> others_left t refer compact false ss) w
+    ∙ onto-then (members_bytes t refer s) (others_left t refer compact false ss) (onto head w)
+    ∙ ap (onto (others_left t refer compact false ss)) (sym (onto-then head (members_bytes t refer s) w))
+next-slice t refer compact false s ss w =
+    let head = plain_head t false (is_end t refer ss) s in
+    onto-then head (members_bytes t refer s >> others_left t refer compact false ss) w
+    ∙ onto-then (members_bytes t refer s) (others_left t refer compact false ss) (onto head w)
+    ∙ ap (onto (others_left t refer compact false ss)) (sym (onto-then head (members_bytes t refer s) w))
+
+pub all-slices : (t : Tables) (refer : Option ℕ → Piece Pen) (f : Format) (ss : List Slice) (w : Written Pen) → onto (others_left t refer f true ss) w ≡ onto (written_as t refer f ss) w
+all-slices t refer sliced ss w = refl
+all-slices t refer compact ss w = refl
+
+pub first-below : (count : ℕ) (s : Slice) (ss all : List Slice) → AreBelow count (instance_names all) → all ≡ s ∷ ss → AreBelow count (slice_names s) × AreBelow count (instance_names ss)
+first-below count s ss all h is = below-both count (slice_names s) (instance_names ss) (subst (λ (l : List Slice). AreBelow count (instance_names l)) is h)
+
+-- the next one has begun
+pub begun-next : (t : Tables) (f : Format) (inside : InsideWritten Pen) (first said last : Bool) (s : Slice) (ss all : List Slice) (o : OpenSlice) (w w' : Written Pen) → said ≡ first → all ≡ s ∷ ss → last ≡ is_end t (refer_to inside) ss → is_first o ≡ false
+    → onto (one_slice t (refer_to inside) f said last s) w ≡ open_left t inside o w'
+    → onto (others_left t (refer_to inside) f first all) w ≡ onto (others_left t (refer_to inside) f (is_first o) ss) (open_left t inside o w')
+begun-next t f inside first said last s ss all o w w' same is end begun wrote =
+    let refer = refer_to inside in
+    ap (λ (l : List Slice). onto (others_left t refer f first l) w) is
+    ∙ next-slice t refer f first s ss w
+    ∙ ap (λ (b : Bool). onto (others_left t refer f false ss) (onto (one_slice t refer f b (is_end t refer ss) s) w)) (sym same)
+    ∙ ap (λ (b : Bool). onto (others_left t refer f false ss) (onto (one_slice t refer f said b s) w)) (sym end)
+    ∙ ap (onto (others_left t refer f false ss)) wrote
+    ∙ ap (λ (b : Bool). onto (others_left t refer f b ss) (open_left t inside o w')) (sym begun)
+
+-- one is written whole
+pub slice-done : (t : Tables) (f : Format) (inside : InsideWritten Pen) (u : Unfinished) (o : OpenSlice) (w w' : Written Pen) → open_left t inside u.current w ≡ w' → is_first o ≡ is_first u.current
+    → instance_left t f inside u w ≡ onto (others_left t (refer_to inside) f (is_first o) (view_slices u.slices.now)) w'
+slice-done t f inside u o w w' done first =
+    ap (onto (others_left t (refer_to inside) f (is_first u.current) (view_slices u.slices.now))) done
+    ∙ ap (λ (b : Bool). onto (others_left t (refer_to inside) f b (view_slices u.slices.now)) w') (sym first)
+
+module _ (t : Tables) (f : Format) (inside : InsideWritten Pen) (old new : Unfinished) (w w' : Written Pen) where
+  pub next-ended : (b : Bool) → b ≡ false → BeginsNext t f inside (Ok b) old new w w' → onto (others_left t (refer_to inside) f (is_first old.current) (view_slices old.slices.now)) w ≡ w'
+  next-ended true is h = absurd (false≢true (sym is))
+  next-ended false is h = h
+
+  pub next-begun : (b : Bool) → b ≡ true → BeginsNext t f inside (Ok b) old new w w' → onto (others_left t (refer_to inside) f (is_first old.current) (view_slices old.slices.now)) w ≡ instance_left t f inside new w'
+  next-begun true is h = h
+  next-begun false is h = absurd (false≢true is)
+
+pub begun-fits : (t : Tables) (count : ℕ) (s : Slice) (ss all : List Slice) (o : OpenSlice) (u : Unfinished) (out : List ℕ) → AreBelow count (instance_names all) → SlicesCanBeWritten t all → all ≡ s ∷ ss → u.current ≡ o → view_slices u.slices.now ≡ ss → OpenFits count o out → Fits t count u out
+begun-fits t count s ss all o u out names can is current behind fits = record {
+  current = subst (λ (x : OpenSlice). OpenFits count x out) (sym current) fits;
+  names = subst (λ (l : List Slice). AreBelow count (instance_names l)) (sym behind) (first-below count s ss all names is).1;
+  slices = subst (SlicesCanBeWritten t) (sym behind) (subst (SlicesCanBeWritten t) is can).1;
+}
 
 -- whether no slice follows
 pub none-left : (t : Tables) (refer : Option ℕ → Piece Pen) (slices : List arena.Slice) (b : Bool) → b ≡ (length slices == 0) → b ≡ is_end t refer (view_slices slices)
 none-left t refer [] b is = is ∙ eq-eqb 0 0 refl
 none-left t refer (s ∷ ss) b is = is ∙ ne_eqb (suc (length ss)) 0 (λ e. absurd (omega (arith, e)))
 
--- ---- the answers of what writes entries, and of what writes an instance
+-- ---- names of instances
 
 pub most-few : (n : ℕ) → n < most → suc n < 2 ^ 31
 unfolding most
@@ -163,36 +264,8 @@ pub below-most : (count : ℕ) (ns : List ℕ) → count ≤ most → AreBelow c
 below-most count [] few h = tt
 below-most count (n ∷ ns) few h = (omega (arith, h.0, few), below-most count ns few h.1)
 
--- an instance begins at an entry
-pub begins-advances : (count n b : ℕ) (before s s' : Pen) → before.begun ≡ s.begun → (put_counted (Some n) s).begun ≡ Some b → (put_counted (Some n) s).after ≡ s' → n < count → (before.begun < s'.begun) × (s'.begun ≤ suc b) × (b < count)
-begins-advances count n b before s s' same begun after lt =
-    let h = begun-counts n b s s' begun after in
-    (omega (arith, same, h.1), omega (arith, h.1, h.2, h.0), omega (arith, h.0, lt))
-
-pub instance-entries : (t : Tables) (refer : Option ℕ → Piece Pen) (old now : Left) (w w' : Written Pen) → onto (written_names t refer old.entries) w ≡ onto (written_names t refer now.entries) w' → now.slices ≡ old.slices → onto (instance_left t refer old) w ≡ onto (instance_left t refer now) w'
-instance-entries t refer old now w w' wrote same =
-    onto-then (written_names t refer old.entries) (written_slices t refer old.slices) w
-    ∙ ap (onto (written_slices t refer old.slices)) wrote
-    ∙ ap (λ (l : List Slice). onto (written_slices t refer l) (onto (written_names t refer now.entries) w')) (sym same)
-    ∙ sym (onto-then (written_names t refer now.entries) (written_slices t refer now.slices) w')
-
-pub all-gone : (t : Tables) (refer : Option ℕ → Piece Pen) (l : Left) (w : Written Pen) → l ≡ all_slices [] → onto (instance_left t refer l) w ≡ w
-all-gone t refer l w is = ap (λ (o : Left). onto (instance_left t refer o) w) is ∙ onto-nothing w
-
-pub entries-done : (t : Tables) (refer : Option ℕ → Piece Pen) (old now : Left) (w w' : Written Pen) → onto (written_names t refer old.entries) w ≡ w' → now.entries ≡ [] → now.slices ≡ old.slices → onto (instance_left t refer old) w ≡ onto (instance_left t refer now) w'
-entries-done t refer old now w w' wrote ended same =
-    instance-entries t refer old now w w' (wrote ∙ sym (onto-nothing w') ∙ ap (λ (l : List ℕ). onto (written_names t refer l) w') (sym ended)) same
-
-pub entries-fit : (t : Tables) (count : ℕ) (old now : Left) → LeftFits t count old → AreBelow count now.entries → now.slices ≡ old.slices → LeftFits t count now
-entries-fit t count old now h below same = record {
-  entries = below;
-  names = subst (λ (l : List Slice). AreBelow count (instance_names l)) (sym same) h.names;
-  slices = subst (SlicesCanBeWritten t) (sym same) h.slices;
-}
-
-pub advances-along : (count start before after n : ℕ) → start ≤ before → (before < after) × (after ≤ suc n) × (n < count) → (start < after) × (after ≤ suc n) × (n < count)
-advances-along count start before after n le h = (omega (arith, le, h.0), h.1, h.2)
-
-pub ended-is : (b : Bool) (old new : Left) → b ≡ false → EndsOrShrinks (Ok b) old new → new ≡ all_slices []
-ended-is true old new is h = absurd (false≢true (sym is))
-ended-is false old new is h = h.0
+pub open-most : (count : ℕ) (o : OpenSlice) (out : List ℕ) → count ≤ most → OpenFits count o out → OpenFits most o out
+open-most count Nothing out few h = tt
+open-most count (Found next names) out few h = (below-most count (drop next names) few h.0, h.1)
+open-most count (Lent names) out few h = below-most count names.now few h
+open-most count (opens.Members m) out few h = h

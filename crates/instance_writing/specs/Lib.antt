@@ -1,4 +1,6 @@
+pub mod Formats
 pub mod Tabling
 pub mod Pens
 pub mod Writable
+pub mod Opened
 pub mod Remains

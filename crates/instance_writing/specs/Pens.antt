@@ -5,6 +5,7 @@ use Rattle.std.specs.Coded.{Coded, code_by, coded×, coded_ℕ, coded_list}
 use Rattle.ice_prims.specs.Bytes.{size_bytes}
 use Rattle.ice_encoding.specs.Pausing.{Put}
 use Rattle.ice_graphs.specs.Classes.{place_of}
+use Rattle.ice_graphs.specs.Visiting.{most}
 use Rattle.ice_graphs.specs.Canonical.{Pen, with_one_begun}
 use Rattle.instance_writing.specs.declared.id_places.IdPlaces.{IdPlaces}
 
@@ -22,9 +23,9 @@ abbrev pub put_counted : Option ℕ → Pen → Put Pen
 put_counted None p = record { bytes = size_bytes 0; begun = None; after = p }
 put_counted (Some n) p = elim (nat_lt n p.begun) [ true ↦ begun_put n p | false ↦ beginning_put n p ]
 
--- how many instances may still begin, by their numbers alone
+-- how many instances may still begin
 abbrev pub room : Pen → ℕ
-room p = 2 ^ 31 - p.begun
+room p = most - p.begun
 
 -- the text stands last
 abbrev pub with_text : List ℕ → Pen → Pen

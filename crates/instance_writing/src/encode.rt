@@ -1,17 +1,20 @@
 //! A graph in bytes, over an explicit stack of instances that have begun.
 
-ghost use Rattle.std.specs.Prelude.{◌≡◌, ◌+◌, ◌-◌, ◌++◌, ◌<◌, ◌≤◌, [], ◌∷◌, length, OnOk, IfOk};
+ghost use Rattle.std.specs.Prelude.{◌≡◌, ◌+◌, ◌-◌, ◌++◌, ◌<◌, ◌≤◌, [], ◌∷◌, length, OnOk};
 ghost use Rattle.ice_graphs.specs.Names.{instance_names};
 ghost use Rattle.ice_graphs.specs.Instances.{slices_of};
 ghost use Rattle.ice_graphs.specs.Visiting.{most};
-ghost use Rattle.ice_graphs.specs.Canonical.{bytes_of, sliced};
+ghost use Rattle.ice_graphs.specs.Canonical.{bytes_of};
 ghost use Rattle.graph_arena.specs.Arena.{AreBelow};
 ghost use Rattle.graph_arena.specs.Seen.{view_slices};
 ghost use Rattle.ice_values.specs.Putting.{onto};
+ghost use Rattle.instance_writing.specs.Formats.{view_format};
+ghost use Rattle.instance_writing.specs.Pens.{room};
 ghost use Rattle.instance_writing.specs.Tabling.{no_names};
-ghost use Rattle.instance_writing.specs.Remains.{AllFit, LeftFits, inside_at, left, stack_left, steps_left, with_options};
+ghost use Rattle.instance_writing.specs.Remains.{AllFit, inside_at, stack_left, steps_left, with_options};
 ghost use Rattle.instance_writing.specs.Writable.{GraphCanBeWritten};
 
+use crate::format::Format;
 use crate::pen::Pen;
 use crate::slice::Desk;
 use crate::unfinished::Unfinished;
@@ -21,20 +24,23 @@ use ice_types::{List, Member, Schema};
 use ice_values::WritePaused;
 use std::alloc::{AllocError, Global};
 
-/// Puts the canonical bytes, in sliced format, of a graph whose instances are named by the order of their
+/// Puts the canonical bytes, in the format, of a graph whose instances are named by the order of their
 /// first visits at the end of the output. Of the shape of its roots the optional members are told. Out of
 /// memory may leave a part of them there; so may a slice or an optional value of more bytes than the
-/// greatest int, which is answered as that is.
+/// greatest int, or a table of more entries, which is answered as that is. Slices that were kept of classes
+/// that are not known have no place in compact format: of each only the flags and, where it is the first,
+/// the type id are written, so ask before whether the graph has any.
 /// (Ice manual, "Data Encoding for Class and Exception Types".)
 pub fn write_numbered(
     alloc: Global,
     schema: &Schema,
     optional: &[Member],
+    format: Format,
     graph: &Graph,
     out: &mut Vec<u8>,
 ) -> Result<(), AllocError>
     requires { GraphCanBeWritten schema.now graph.now }
-    ensures { OnOk result (out.new.items ≡ out.old.items ++ bytes_of schema.now (with_options optional.now) sliced graph.now) }
+    ensures { OnOk result (out.new.items ≡ out.old.items ++ bytes_of schema.now (with_options optional.now) (view_format format) graph.now) }
 {
     let mut pen = Pen::new(alloc);
     let mut desk = Desk::new(alloc, graph.len())?;
@@ -43,7 +49,7 @@ pub fn write_numbered(
         match roots.go(alloc, schema, optional, out, &mut pen)? {
             WritePaused::Done => return Ok(()),
             WritePaused::Begins(name) => {
-                put_instance(alloc, schema, graph, name, &mut pen, &mut desk, out)?;
+                put_instance(alloc, schema, format, graph, name, &mut pen, &mut desk, out)?;
             }
         }
     }
@@ -53,6 +59,7 @@ pub fn write_numbered(
 fn put_instance<'a>(
     alloc: Global,
     schema: &'a Schema,
+    format: Format,
     graph: &'a Graph,
     name: u32,
     pen: &mut Pen<'a>,
@@ -62,15 +69,17 @@ fn put_instance<'a>(
     requires fits { GraphCanBeWritten schema.now graph.now }
     requires few { length graph.now.instances ≤ most }
     requires desk { desk.old.table ≡ no_names (length graph.now.instances) }
-    requires begun { 0 < pen.old.begun }
-    ensures writes { OnOk result ((pen.new, out.new.items) ≡ onto (inside_at schema.now graph.now most name) (pen.old, out.old.items)) }
+    requires begun { room pen.old < most }
+    ensures writes { OnOk result ((pen.new, out.new.items) ≡ onto (inside_at schema.now (view_format format) graph.now most name) (pen.old, out.old.items)) }
     ensures desk { OnOk result (desk.new.table ≡ desk.old.table) }
-    ensures begun { OnOk result (pen.old.begun ≤ pen.new.begun) }
+    ensures room { OnOk result (room pen.new ≤ room pen.old) }
 {
     let mut stack = List::new(alloc);
-    stack.push(Unfinished::new(alloc, slices_of(graph, name)))?;
+    stack.push(Unfinished::new(slices_of(graph, name)))?;
     while let Some(top) = stack.pop() {
-        put_more(alloc, schema, graph, top, &mut stack, pen, desk, out)?;
+        put_more(
+            alloc, schema, format, graph, top, &mut stack, pen, desk, out,
+        )?;
     }
     Ok(())
 }
@@ -79,6 +88,7 @@ fn put_instance<'a>(
 fn put_more<'a>(
     alloc: Global,
     schema: &'a Schema,
+    format: Format,
     graph: &'a Graph,
     mut top: Unfinished<'a>,
     stack: &mut List<Unfinished<'a>>,
@@ -89,19 +99,20 @@ fn put_more<'a>(
     requires can { GraphCanBeWritten schema.now graph.now }
     requires few { length graph.now.instances ≤ most }
     requires desk { desk.old.table ≡ no_names (length graph.now.instances) }
-    requires fits { AllFit schema.now (length graph.now.instances) (stack.old ++ top ∷ []) }
-    requires begun { length stack.old + 1 ≤ pen.old.begun }
-    ensures writes { OnOk result (stack_left schema.now graph.now (most - 1) (stack.old ++ top.entry ∷ []) (pen.old, out.old.items) ≡ stack_left schema.now graph.now (most - 1) stack.new (pen.new, out.new.items)) }
-    ensures fits { OnOk result (AllFit schema.now (length graph.now.instances) stack.new) }
+    requires fits { AllFit schema.now (length graph.now.instances) (stack.old ++ top ∷ []) out.old.items }
+    requires deep { length stack.old + 1 + room pen.old ≤ most }
+    ensures writes { OnOk result (stack_left schema.now (view_format format) graph.now (most - 1) (stack.old ++ top.entry ∷ []) (pen.old, out.old.items) ≡ stack_left schema.now (view_format format) graph.now (most - 1) stack.new (pen.new, out.new.items)) }
+    ensures fits { OnOk result (AllFit schema.now (length graph.now.instances) stack.new out.new.items) }
     ensures desk { OnOk result (desk.new.table ≡ desk.old.table) }
-    ensures begun { OnOk result ((length stack.new ≤ pen.new.begun) × (pen.old.begun ≤ pen.new.begun)) }
-    ensures less { OnOk result (steps_left (length graph.now.instances) pen.new.begun (length stack.new) < steps_left (length graph.now.instances) pen.old.begun (length stack.old + 1)) }
+    ensures deep { OnOk result (length stack.new + room pen.new ≤ most) }
+    ensures room { OnOk result (room pen.new ≤ room pen.old) }
+    ensures less { OnOk result (steps_left (room pen.new) (length stack.new) < steps_left (room pen.old) (length stack.old + 1)) }
 {
-    match top.go(alloc, schema, pen, desk, out)? {
+    match top.go(alloc, schema, format, pen, desk, out)? {
         WritePaused::Done => Ok(()),
         WritePaused::Begins(name) => {
             stack.push(top)?;
-            stack.push(Unfinished::new(alloc, slices_of(graph, name)))?;
+            stack.push(Unfinished::new(slices_of(graph, name)))?;
             Ok(())
         }
     }

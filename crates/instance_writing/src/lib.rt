@@ -1,13 +1,18 @@
-//! Slices of class instances, written: the canonical bytes of a graph in sliced format, over an explicit
+//! Slices of class instances, written: the canonical bytes of a graph in either format, over an explicit
 //! stack of instances that have begun.
 #![tactic(auto)]
 
+mod compact;
 mod encode;
+mod format;
 mod head;
 mod id_places;
+mod open_slice;
+mod parts;
 mod pen;
 mod slice;
 mod table;
 mod unfinished;
 
 pub use encode::write_numbered;
+pub use format::Format;

@@ -1,13 +1,15 @@
 //! What writing remembers: how many instances have begun, and the type ids that stand as texts.
 
-ghost use Rattle.std.specs.Prelude.{◌≡◌, ◌+◌, ◌++◌, ◌<◌, ◌^◌, suc, None, OnErr, OnOk};
+ghost use Rattle.std.specs.Prelude.{◌≡◌, ◌+◌, ◌++◌, ◌<◌, ◌^◌, ◌≤◌, ◌↔◌, suc, IsTrue, None, OnErr, OnOk};
 ghost use Rattle.std.specs.Option.{IfSome};
 ghost use Rattle.ice_prims.specs.Bytes.{size_bytes};
 ghost use Rattle.ice_graphs.specs.Canonical.{blank};
 ghost use Rattle.ice_graphs.specs.Classes.{place_of};
+ghost use Rattle.ice_graphs.specs.Visiting.{most};
 ghost use Rattle.instance_writing.specs.Pens.{put_counted, room, with_text};
 
 use crate::id_places::IdPlaces;
+use graph_arena::MOST_INSTANCES;
 use ice_prims::put_size;
 use ice_types::MOST_NUMBER;
 use ice_values::PutPort;
@@ -15,7 +17,8 @@ use std::alloc::{AllocError, Global};
 use std::marker::Model;
 
 /// How many instances have begun, and the type ids that were written as texts. As a port it puts
-/// references in place: at one to an instance that has not begun, the instance begins.
+/// references in place: at one to an instance that has not begun, the instance begins. More of them
+/// than a graph may have are answered as want of memory.
 #[derive(Drop)]
 pub(crate) struct Pen<'a> {
     begun: u32,
@@ -47,6 +50,13 @@ impl<'a> Pen<'a> {
             ids: Vec::new(alloc),
             places: IdPlaces::new(alloc),
         }
+    }
+
+    /// Whether as many instances have begun as a graph may have.
+    fn is_full(&self) -> bool
+        ensures { IsTrue result ↔ (most ≤ self.now.begun) }
+    {
+        self.begun >= MOST_INSTANCES
     }
 
     /// Where the type id stands among those that were written.
@@ -91,6 +101,9 @@ impl<'a> PutPort for Pen<'a> {
         if name < self.begun {
             put_number(out, name)?;
             return Ok(None);
+        }
+        if self.is_full() {
+            return Err(AllocError);
         }
         put_size(out, 1)?;
         self.begun += 1;

@@ -1,27 +1,32 @@
-//! A slice up to the entries of its table.
+//! A slice in sliced format, up to the entries of its table.
 
-ghost use Rattle.std.specs.Prelude.{◌≡◌, ◌++◌, ◌<◌, ◌≤◌, ◌^◌, List, ℕ, [], length, slice_get, IfOk, OnOk, OnErr};
-ghost use Rattle.ice_graphs.specs.Classes.{members_in, own_members};
+ghost use Rattle.std.specs.Prelude.{◌≡◌, ◌++◌, ◌≤◌, true, [], length, IfOk, OnOk};
+ghost use Rattle.ice_graphs.specs.Classes.{own_members};
 ghost use Rattle.ice_graphs.specs.Graph.{known};
 ghost use Rattle.ice_graphs.specs.Names.{names_of, slice_names};
 ghost use Rattle.ice_graphs.specs.Slices.{slice_size};
 ghost use Rattle.ice_graphs.specs.Visiting.{most};
-ghost use Rattle.ice_graphs.specs.Canonical.{id_in, is_there, sized_bytes, table_of};
+ghost use Rattle.ice_graphs.specs.Canonical.{is_there, sized_bytes, table_of};
+ghost use Rattle.ice_graphs.specs.Canonical as spec;
 ghost use Rattle.graph_arena.specs.Arena.{AreBelow};
 ghost use Rattle.graph_arena.specs.Seen.{view_content, view_slice};
 ghost use Rattle.ice_values.specs.Putting.{onto};
 ghost use Rattle.ice_members.specs.WritingMembers.{ContentCanBeWritten};
 ghost use Rattle.instance_writing.specs.Tabling.{HasPlaces, no_names};
+ghost use Rattle.instance_writing.specs.Opened.{HasEntries};
 ghost use Rattle.instance_writing.specs.Remains.{slice_front, table_size};
 ghost use Rattle.instance_writing.specs.Writable.{SliceCanBeWritten};
 
-use crate::head::put_head;
+use crate::head::{Flags, put_head};
+use crate::open_slice::OpenSlice;
+use crate::parts::{has_optional, id_of, own_members};
 use crate::pen::Pen;
 use crate::table::Table;
 use graph_arena::{Members, Slice};
 use ice_members::{Ending, write_members};
-use ice_prims::{put_int, put_size};
-use ice_types::{List, MOST_NUMBER, Member, Schema};
+use ice_prims::put_size;
+use ice_types::{MOST_NUMBER, Schema};
+use preserved::{put_slice_size, write_kept};
 use std::alloc::{AllocError, Global};
 
 /// Where the members of a slice are written first, since their size stands before them.
@@ -33,34 +38,62 @@ pub(crate) struct Desk {
 }
 
 /// Puts a slice up to the entries of its table, and answers these. Out of memory may leave a part of it;
-/// so may a slice of more bytes than an int can tell, which is answered as that is.
-/// (Ice manual, "Data Encoding for Class and Exception Types".)
+/// so may a slice of more bytes than an int can tell, or a table of more entries, which is answered as
+/// that is. (Ice manual, "Data Encoding for Class and Exception Types".)
 pub(crate) fn put_slice<'a>(
     alloc: Global,
     schema: &'a Schema,
-    slice: &Slice,
+    slice: &'a Slice,
     is_last: bool,
     pen: &mut Pen<'a>,
     desk: &mut Desk,
     out: &mut Vec<u8>,
-) -> Result<List<u32>, AllocError>
+) -> Result<OpenSlice<'a>, AllocError>
     requires names { AreBelow desk.old.table.count (slice_names (view_slice slice.now)) }
     requires fits { SliceCanBeWritten schema.now (view_slice slice.now) }
     requires empty { desk.old.table.names ≡ [] }
-    ensures entries { IfOk result (λ entries. entries ≡ table_of (view_slice slice.now)) }
+    ensures entries { IfOk result (λ begun. HasEntries (table_of (view_slice slice.now)) begun) }
     ensures writes { OnOk result ((pen.new, out.new.items) ≡ onto (slice_front schema.now is_last (view_slice slice.now)) (pen.old, out.old.items)) }
     ensures desk { OnOk result (desk.new.table ≡ desk.old.table) }
 {
     match slice {
         Slice::Known { class, members } => {
             desk.put_members(alloc, schema, *class, members)?;
-            let entries = desk.table.take();
-            let id = id_of(schema, *class);
-            let has_table = has_entry(entries.as_slice());
-            put_head(pen, id, has_optional(members), has_table, is_last, out)?;
-            put_behind(desk.members.as_slice(), entries.as_slice(), out)?;
-            Ok(entries)
+            let names = desk.table.take();
+            let entries = names.as_slice();
+            put_head(
+                pen,
+                id_of(schema, slice),
+                sized_flags(slice, entries, is_last),
+                out,
+            )?;
+            put_behind(desk.members.as_slice(), entries, out)?;
+            Ok(OpenSlice::Found { next: 0, names })
         }
+        Slice::Kept { table, .. } => {
+            let entries = table.as_slice();
+            put_head(
+                pen,
+                id_of(schema, slice),
+                sized_flags(slice, entries, is_last),
+                out,
+            )?;
+            write_kept(out, slice)?;
+            put_table_size(entries, out)?;
+            Ok(OpenSlice::Lent(entries))
+        }
+    }
+}
+
+/// The flags of a slice with a size and with these entries in its table.
+fn sized_flags(slice: &Slice, entries: &[u32], is_last: bool) -> Flags
+    ensures { result ≡ record { has_optional = spec.has_optional (view_slice slice.now); has_table = is_there entries.now; has_size = true; is_last = is_last } }
+{
+    Flags {
+        has_optional: has_optional(slice),
+        has_table: !entries.is_empty(),
+        has_size: true,
+        is_last,
     }
 }
 
@@ -105,69 +138,26 @@ impl Desk {
     }
 }
 
-/// The members of a class itself, none where there is no such class.
-fn own_members(schema: &Schema, class: u32) -> &[Member]
-    ensures { result.now ≡ members_in (slice_get schema.now.classes class) }
-{
-    match schema.classes().get(class as usize) {
-        Some(decl) => decl.members.as_slice(),
-        None => &[],
-    }
-}
-
-/// The type id of a class, empty where there is no such class.
-fn id_of(schema: &Schema, class: u32) -> &str
-    ensures { result.now ≡ id_in (slice_get schema.now.classes class) }
-{
-    match schema.classes().get(class as usize) {
-        Some(decl) => decl.id.as_str(),
-        None => "",
-    }
-}
-
-/// Whether an optional member is present.
-fn has_optional(members: &Members) -> bool
-    ensures { result ≡ is_there (view_content members.now).optional }
-{
-    !members.optional.as_slice().is_empty()
-}
-
-/// Whether the table has an entry.
-fn has_entry(entries: &[u32]) -> bool
-    ensures { result ≡ is_there entries.now }
-{
-    !entries.is_empty()
-}
-
 /// The members behind their size, and the size of the table.
 fn put_behind(members: &[u8], entries: &[u32], out: &mut Vec<u8>) -> Result<(), AllocError>
-    requires { length entries.now < 2 ^ 31 }
     ensures { OnOk result (out.new.items ≡ out.old.items ++ ((slice_size.put (length members.now) ++ members.now) ++ table_size entries.now)) }
 {
-    put_sized(members, out)?;
+    put_slice_size(out, members.len())?;
+    out.extend_from_slice(members)?;
     put_table_size(entries, out)
 }
 
-/// Bytes behind their size, which counts its own four bytes. More than an int can tell are answered as
+/// The size of a table, nothing where it has no entry. More entries than a size can tell are answered as
 /// want of memory.
-fn put_sized(bytes: &[u8], out: &mut Vec<u8>) -> Result<(), AllocError>
-    ensures { OnOk result (out.new.items ≡ out.old.items ++ (slice_size.put (length bytes.now) ++ bytes.now)) }
-{
-    let length = bytes.len();
-    if length > MOST_NUMBER as usize - 4 {
-        return Err(AllocError);
-    }
-    put_int(out, (length + 4) as i32)?;
-    out.extend_from_slice(bytes)
-}
-
-/// The size of a table, nothing where it has no entry.
 fn put_table_size(entries: &[u32], out: &mut Vec<u8>) -> Result<(), AllocError>
-    requires { length entries.now < 2 ^ 31 }
     ensures { OnOk result (out.new.items ≡ out.old.items ++ table_size entries.now) }
 {
-    if entries.is_empty() {
+    let count = entries.len();
+    if count == 0 {
         return Ok(());
     }
-    put_size(out, entries.len() as u32)
+    if count > MOST_NUMBER as usize {
+        return Err(AllocError);
+    }
+    put_size(out, count as u32)
 }

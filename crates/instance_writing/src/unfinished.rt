@@ -1,131 +1,115 @@
 //! Instances that are being written.
 
-ghost use Rattle.std.specs.Prelude.{◌≡◌, ◌<◌, ◌≤◌, ℕ, [], Option, MatchOption, OnOk, slice_get};
-ghost use Rattle.ice_types.specs.Tables.{Tables};
-ghost use Rattle.ice_encoding.specs.Writing.{Piece};
-ghost use Rattle.ice_encoding.specs.Pausing.{written_in_place};
+ghost use Rattle.std.specs.Prelude.{◌≡◌, ◌≤◌, false, [], length, OnOk, ℕ, IfOk};
 ghost use Rattle.ice_graphs.specs.Visiting.{most};
-ghost use Rattle.ice_graphs.specs.Canonical.{Pen, written_names};
+ghost use Rattle.ice_graphs.specs.Names.{slice_names};
+ghost use Rattle.ice_graphs.specs.Canonical.{Pen};
 ghost use Rattle.graph_arena.specs.Arena.{AreBelow};
-ghost use Rattle.graph_arena.specs.Seen.{view_slices};
-ghost use Rattle.ice_values.specs.Putting.{Goes, InsideWritten, onto};
-ghost use Rattle.instance_writing.specs.Pens.{put_counted};
-ghost use Rattle.instance_writing.specs.Remains.{Advances, AllOnDone, EndsOrShrinks, LeftFits, all_slices, instance_left, left, with_entry};
+ghost use Rattle.graph_arena.specs.Seen.{view_slice};
+ghost use Rattle.ice_values.specs.Putting.{InsideWritten, NarrowsOnPause, onto};
+ghost use Rattle.ice_members.specs.WritingMembers.{GoesOn};
+ghost use Rattle.instance_writing.specs.declared.open_slice.OpenSlice.TheVariants as opens;
+ghost use Rattle.instance_writing.specs.Formats.{view_format};
+ghost use Rattle.instance_writing.specs.Pens.{room};
+ghost use Rattle.instance_writing.specs.Opened.{OpenFits, open_left, refer_to};
+ghost use Rattle.instance_writing.specs.Opened as spec;
+ghost use Rattle.instance_writing.specs.Remains.{BeginsNext, Fits, LessOnNext, instance_left, one_slice};
+ghost use Rattle.instance_writing.specs.Writable.{SliceCanBeWritten};
 
+use crate::compact::{open_members, put_plain_head};
+use crate::format::Format;
+use crate::open_slice::OpenSlice;
 use crate::pen::Pen;
 use crate::slice::{Desk, put_slice};
 use graph_arena::Slice;
-use ice_types::{List, Schema};
-use ice_values::{PutPort, WritePaused};
+use ice_types::Schema;
+use ice_values::WritePaused;
 use std::alloc::{AllocError, Global};
+use std::mem::size_of;
 
 /// What is left of an instance that has begun.
 #[derive(Drop)]
 pub(crate) struct Unfinished<'a> {
-    /// The table of the slice that has begun.
-    entries: List<u32>,
-    /// The place in it of the entry that is written next.
-    next: usize,
+    /// The slice that has begun.
+    current: OpenSlice<'a>,
     /// The slices behind that one.
     slices: &'a [Slice],
 }
 
+/// The stack has one for each instance that has begun.
+const _: () = prove!(size_of::<Unfinished<'static>>() == 48);
+
 impl<'a> Unfinished<'a> {
     /// Before the first of these slices.
-    pub(crate) fn new(alloc: Global, slices: &'a [Slice]) -> Unfinished<'a>
-        ensures { left result ≡ all_slices (view_slices slices.now) }
+    pub(crate) fn new(slices: &'a [Slice]) -> Unfinished<'a>
+        ensures current { result.current ≡ opens.Nothing }
+        ensures slices { result.slices.now ≡ slices.now }
     {
         Unfinished {
-            entries: List::new(alloc),
-            next: 0,
+            current: OpenSlice::Nothing,
             slices,
         }
     }
 
-    /// Writes on, up to the end or to the next entry of a table at which an instance begins. Out of memory
-    /// may leave a part of what was to be written; so may a slice that is too large.
+    /// Writes on, up to the end or to the next instance that begins in this one. Out of memory may leave a
+    /// part of what was to be written; so may a slice that is too large.
     /// (Ice manual, "Data Encoding for Class and Exception Types".)
     pub(crate) fn go(
         &mut self,
         alloc: Global,
         schema: &'a Schema,
+        format: Format,
         pen: &mut Pen<'a>,
         desk: &mut Desk,
         out: &mut Vec<u8>,
     ) -> Result<WritePaused, AllocError>
-        requires fits { LeftFits schema.now desk.old.table.count (left self.old) }
+        requires fits { Fits schema.now desk.old.table.count self.old out.old.items }
         requires few { desk.old.table.count ≤ most }
         requires empty { desk.old.table.names ≡ [] }
-        ensures goes { (inside : InsideWritten Pen) → Goes inside (instance_left schema.now (written_in_place put_counted inside) (left self.new)) result (onto (instance_left schema.now (written_in_place put_counted inside) (left self.old)) (pen.old, out.old.items)) (pen.new, out.new.items) }
-        ensures fits { OnOk result (LeftFits schema.now desk.old.table.count (left self.new)) }
-        ensures begun { Advances desk.old.table.count result pen.old.begun pen.new.begun }
+        ensures goes { (inside : InsideWritten Pen) → GoesOn inside (instance_left schema.now (view_format format) inside self.new) result (instance_left schema.now (view_format format) inside self.old (pen.old, out.old.items)) (pen.new, out.new.items) }
+        ensures fits { OnOk result (Fits schema.now desk.old.table.count self.new out.new.items) }
+        ensures room { NarrowsOnPause result (room pen.old) (room pen.new) }
+        ensures longer { OnOk result (length out.old.items ≤ length out.new.items) }
         ensures desk { OnOk result (desk.new.table ≡ desk.old.table) }
     {
         loop {
-            match self.put_entries(pen, out)? {
+            match self.current.go(alloc, schema, pen, out)? {
                 WritePaused::Done => {}
                 WritePaused::Begins(name) => return Ok(WritePaused::Begins(name)),
             }
-            if !self.put_next_slice(alloc, schema, pen, desk, out)? {
+            if !self.begin_next(alloc, schema, format, pen, desk, out)? {
                 return Ok(WritePaused::Done);
             }
         }
     }
 
-    /// Writes entries, up to the last or to one at which an instance begins.
-    fn put_entries(
-        &mut self,
-        pen: &mut Pen<'a>,
-        out: &mut Vec<u8>,
-    ) -> Result<WritePaused, AllocError>
-        requires { AreBelow most (left self.old).entries }
-        ensures goes { (t : Tables) (inside : InsideWritten Pen) → Goes inside (written_names t (written_in_place put_counted inside) (left self.new).entries) result (onto (written_names t (written_in_place put_counted inside) (left self.old).entries) (pen.old, out.old.items)) (pen.new, out.new.items) }
-        ensures begun { (count : ℕ) → AreBelow count (left self.old).entries → Advances count result pen.old.begun pen.new.begun }
-        ensures below { OnOk result ((count : ℕ) → AreBelow count (left self.old).entries → AreBelow count (left self.new).entries) }
-        ensures ends { AllOnDone result (left self.new).entries }
-        ensures slices { (left self.new).slices ≡ (left self.old).slices }
-    {
-        while let Some(name) = self.take_entry() {
-            if let Some(begun) = pen.put_ref(out, Some(name))? {
-                return Ok(WritePaused::Begins(begun));
-            }
-        }
-        Ok(WritePaused::Done)
-    }
-
-    /// Takes the next entry of the table off.
-    fn take_entry(&mut self) -> Option<u32>
-        ensures { MatchOption result (((left self.old).entries ≡ []) × (left self.new ≡ left self.old)) (λ name. left self.old ≡ with_entry name (left self.new)) }
-    {
-        let name = name_at(self.entries.as_slice(), self.next)?;
-        self.next += 1;
-        Some(name)
-    }
-
-    /// Writes the next slice up to the entries of its table. False where there is none.
-    fn put_next_slice(
+    /// Begins the next slice. False where there is none.
+    fn begin_next(
         &mut self,
         alloc: Global,
         schema: &'a Schema,
+        format: Format,
         pen: &mut Pen<'a>,
         desk: &mut Desk,
         out: &mut Vec<u8>,
     ) -> Result<bool, AllocError>
-        requires fits { LeftFits schema.now desk.old.table.count (left self.old) }
+        requires fits { Fits schema.now desk.old.table.count self.old out.old.items }
         requires empty { desk.old.table.names ≡ [] }
-        requires ended { (left self.old).entries ≡ [] }
-        ensures writes { (refer : Option ℕ → Piece Pen) → OnOk result (onto (instance_left schema.now refer (left self.old)) (pen.old, out.old.items) ≡ onto (instance_left schema.now refer (left self.new)) (pen.new, out.new.items)) }
-        ensures fits { OnOk result (LeftFits schema.now desk.old.table.count (left self.new)) }
-        ensures ends { EndsOrShrinks result (left self.old) (left self.new) }
+        ensures writes { (inside : InsideWritten Pen) → BeginsNext schema.now (view_format format) inside result self.old self.new (pen.old, out.old.items) (pen.new, out.new.items) }
+        ensures fits { OnOk result (Fits schema.now desk.old.table.count self.new out.new.items) }
+        ensures less { LessOnNext result (length self.old.slices.now) (length self.new.slices.now) }
         ensures desk { OnOk result (desk.new.table ≡ desk.old.table) }
         ensures begun { OnOk result (pen.new.begun ≡ pen.old.begun) }
+        ensures longer { OnOk result (length out.old.items ≤ length out.new.items) }
     {
         match self.slices.split_first() {
             None => Ok(false),
             Some((slice, others)) => {
+                let is_first = self.current.is_first();
                 let is_last = others.is_empty();
-                self.entries = put_slice(alloc, schema, slice, is_last, pen, desk, out)?;
-                self.next = 0;
+                self.current = begin_slice(
+                    alloc, schema, format, slice, is_first, is_last, pen, desk, out,
+                )?;
                 self.slices = others;
                 Ok(true)
             }
@@ -133,9 +117,33 @@ impl<'a> Unfinished<'a> {
     }
 }
 
-/// The entry at a place.
-fn name_at(entries: &[u32], at: usize) -> Option<u32>
-    ensures { result ≡ slice_get entries.now at }
+/// Writes a slice in the format, up to the entries of its table or to its members.
+fn begin_slice<'a>(
+    alloc: Global,
+    schema: &'a Schema,
+    format: Format,
+    slice: &'a Slice,
+    is_first: bool,
+    is_last: bool,
+    pen: &mut Pen<'a>,
+    desk: &mut Desk,
+    out: &mut Vec<u8>,
+) -> Result<OpenSlice<'a>, AllocError>
+    requires names { AreBelow desk.old.table.count (slice_names (view_slice slice.now)) }
+    requires fits { SliceCanBeWritten schema.now (view_slice slice.now) }
+    requires empty { desk.old.table.names ≡ [] }
+    ensures writes { (inside : InsideWritten Pen) → IfOk result (λ begun. onto (one_slice schema.now (refer_to inside) (view_format format) is_first is_last (view_slice slice.now)) (pen.old, out.old.items) ≡ open_left schema.now inside begun (pen.new, out.new.items)) }
+    ensures fits { IfOk result (λ begun. OpenFits desk.old.table.count begun out.new.items) }
+    ensures first { IfOk result (λ begun. spec.is_first begun ≡ false) }
+    ensures desk { OnOk result (desk.new.table ≡ desk.old.table) }
+    ensures begun { OnOk result (pen.new.begun ≡ pen.old.begun) }
+    ensures longer { OnOk result (length out.old.items ≤ length out.new.items) }
 {
-    entries.get(at).copied()
+    match format {
+        Format::Sliced => put_slice(alloc, schema, slice, is_last, pen, desk, out),
+        Format::Compact => {
+            put_plain_head(schema, slice, is_first, is_last, pen, out)?;
+            open_members(alloc, schema, slice)
+        }
+    }
 }
