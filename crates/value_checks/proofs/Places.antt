@@ -14,7 +14,7 @@ use Rattle.value_checks.specs.First.{AreFine, AreMarkedFine, IsEarlier, IsFine, 
 -- ---- where a place stands in a list
 
 -- what is listed stands there
-place-found : (ns : List ℕ) (n : ℕ) → place ns n < length ns → slice_index ns (place ns n) ≡ n
+pub place-found : (ns : List ℕ) (n : ℕ) → place ns n < length ns → slice_index ns (place ns n) ≡ n
 place-found [] n lt = absurd (omega (arith, lt))
 place-found (m ∷ ns) n lt = elim (cases_eq m n) [
   | inl e ↦ ap (slice_index (m ∷ ns)) (place-head m ns n e) ∙ e
@@ -22,7 +22,7 @@ place-found (m ∷ ns) n lt = elim (cases_eq m n) [
 ]
 
 -- and no later than where it is found
-place-first : (ns : List ℕ) (n i : ℕ) → i < length ns → slice_index ns i ≡ n → place ns n ≤ i
+pub place-first : (ns : List ℕ) (n i : ℕ) → i < length ns → slice_index ns i ≡ n → place ns n ≤ i
 place-first [] n i lt e = absurd (omega (arith, lt))
 place-first (m ∷ ns) n zero lt e = omega (arith, place-head m ns n e)
 place-first (m ∷ ns) n (suc i) lt e = elim (cases_eq m n) [

@@ -1,10 +1,11 @@
 -- The first part of a graph that is not of its type. (Ice manual, "Classes".)
-use Rattle.std.specs.Prelude.{ℕ, ◌<◌, ◌≡◌, ◌⊎◌, Bool, true, false, List, length, Option, None, Some, slice_index, slice_index_or}
+use Rattle.std.specs.Prelude.{ℕ, ◌<◌, ◌≡◌, ◌⊎◌, Bool, true, false, List, [], ◌∷◌, length, Option, None, Some, slice_index, slice_index_or}
 use Rattle.ice_types.specs.declared.declarations.Shape.{Shape}
 use Rattle.ice_types.specs.Tables.{Tables}
+use Rattle.ice_graphs.specs.Classes.{base_of}
 use Rattle.ice_graphs.specs.Graph.{Graph, Slice, known, kept}
 use Rattle.ice_graphs.specs.Instances.{slices_of}
-use Rattle.ice_graphs.specs.Typed.{AreMembers, IsInstance, IsKnown, RefersIn}
+use Rattle.ice_graphs.specs.Typed.{AreBases, AreMembers, IsInstance, IsKept, IsKnown, RefersIn}
 use Rattle.ice_graphs.specs.Visiting.{order, place}
 
 -- the one is listed before the other, or neither is listed and the one is less
@@ -16,6 +17,17 @@ module _ (t : Tables) (g : Graph) where
   abbrev pub IsSlice : ℕ → Slice → Type 0
   IsSlice class (known other content) = (other ≡ class) × IsKnown t (RefersIn t g.instances) class content
   IsSlice class (kept id bytes optionals table) = ⊥
+
+  -- a slice of a class that the tables lack
+  abbrev pub IsKeptSlice : Slice → Type 0
+  IsKeptSlice (known class content) = ⊥
+  IsKeptSlice (kept id bytes optionals table) = IsKept t (RefersIn t g.instances) id table
+
+  -- kept slices, and then a known class with all its bases, or none
+  abbrev pub AreSlices : List Slice → Type 0
+  AreSlices [] = Unit {0}
+  AreSlices (kept id bytes optionals table ∷ ss) = IsKept t (RefersIn t g.instances) id table × AreSlices ss
+  AreSlices (known class content ∷ ss) = IsKnown t (RefersIn t g.instances) class content × AreBases t (RefersIn t g.instances) (base_of t class) ss
 
   -- the instance at a place is one
   abbrev pub IsFine : ℕ → Type 0

@@ -4,10 +4,9 @@ ghost use Rattle.std.specs.Prelude.{◌≡◌, ◌↔◌, IsTrue, true};
 ghost use Rattle.ice_graphs.specs.Classes as classes;
 ghost use Rattle.ice_graphs.specs.Instances as graphs;
 ghost use Rattle.ice_graphs.specs.Typed.{RefersIn};
-ghost use Rattle.graph_arena.specs.Seen.{view_instance};
 ghost use Rattle.value_checks.specs.References.{MayStand};
 
-use graph_arena::{Graph, Instance, Slice};
+use graph_arena::{Graph, class_of};
 use ice_types::Schema;
 
 /// Which references may stand in a value.
@@ -40,18 +39,14 @@ fn may_refer(schema: &Schema, graph: &Graph, declared: Option<u32>, name: Option
 {
     match name {
         Some(name) => {
-            name < graph.len() && class_fits(schema, declared, class_of(graph.instance(name)))
+            name < graph.len()
+                && class_fits(
+                    schema,
+                    declared,
+                    class_of(graph.instance(name).slices.as_slice()),
+                )
         }
         None => true,
-    }
-}
-
-/// The class of an instance is that of its first slice.
-fn class_of(instance: &Instance) -> Option<u32>
-    ensures { result ≡ graphs.class_of (view_instance instance.now) }
-{
-    match instance.slices.as_slice().first()? {
-        Slice::Known { class, .. } => Some(*class),
     }
 }
 
