@@ -1,3 +1,4 @@
+pub mod Encoded
+pub mod FirstKept
 pub mod Sound
 pub mod Writable
-pub mod Encoded

@@ -1,31 +1,59 @@
 -- What comes of a graph that is encoded.
-use Rattle.std.specs.Prelude.{ℕ, ◌≡◌, ◌<◌, ◌≤◌, length, Result, Ok, Err, Vec}
+use Rattle.std.specs.Prelude.{ℕ, ◌≡◌, ◌<◌, ◌≤◌, List, [], ◌∷◌, length, Result, Ok, Err, Vec}
 use Rattle.std.specs.declared.alloc.Global.{Global}
 use Rattle.ice_types.specs.declared.declarations.Shape.{Shape}
 use Rattle.ice_types.specs.Tables.{Tables}
-use Rattle.ice_graphs.specs.Graph.{Graph}
+use Rattle.ice_graphs.specs.Graph.{Slice, known, kept, Graph}
+use Rattle.ice_graphs.specs.Instances.{slices_of}
 use Rattle.ice_graphs.specs.Typed.{OfType}
-use Rattle.ice_graphs.specs.Canonical.{sliced, graph_bytes}
+use Rattle.ice_graphs.specs.Visiting.{place, order}
+use Rattle.ice_graphs.specs.Canonical.{Format, sliced, compact, graph_bytes, IsWritable}
 use Rattle.value_checks.specs.First.{IsFirstIll}
 use Rattle.class_slices.specs.declared.write_fault.WriteFault.{WriteFault}
 use Rattle.class_slices.specs.declared.write_fault.WriteFault.TheVariants as write_faults
 use Rattle.class_slices.specs.declared.encode_fault.EncodeFault.{EncodeFault}
 use Rattle.class_slices.specs.declared.encode_fault.EncodeFault.TheVariants as encode_faults
 
--- the canonical encapsulation, where it is not longer than the limit; else its length
-abbrev pub Writes : Tables → Shape → Graph → ℕ → Result (Vec ℕ Global) WriteFault → Type 0
-Writes t shape g limit (Ok out) = (out.items ≡ graph_bytes t shape sliced g) × (length out.items ≤ limit)
-Writes t shape g limit (Err (write_faults.TooLong n)) = (n ≡ length (graph_bytes t shape sliced g)) × (limit < n)
-Writes t shape g limit (Err write_faults.Memory) = Unit {0}
+-- ---- kept slices, which stand before the known ones of an instance
+
+abbrev pub BeginsKept : List Slice → Type 0
+BeginsKept [] = ⊥
+BeginsKept (known class content ∷ ss) = ⊥
+BeginsKept (kept id bytes optionals table ∷ ss) = Unit {0}
+
+-- the instance at this place is reached, and has one
+abbrev pub ReachesKept : Graph → ℕ → Type 0
+ReachesKept g n = (place (order g) n < length (order g)) × BeginsKept (slices_of g.instances n)
+
+-- compact format cannot carry one
+abbrev pub NeedsSliced : Format → Graph → Type 0
+NeedsSliced sliced g = ⊥
+NeedsSliced compact g = (n : ℕ) × ReachesKept g n
+
+-- the first that is reached and has one, in the order of first visits
+abbrev pub IsFirstKept : Graph → ℕ → Type 0
+IsFirstKept g n = ReachesKept g n × ((m : ℕ) → place (order g) m < place (order g) n → BeginsKept (slices_of g.instances m) → ⊥)
+
+-- ---- what comes of writing
+
+-- the canonical encapsulation in the format, where the graph can be written in that and it is not longer than the limit;
+-- else the first instance that has a kept slice, or the length
+abbrev pub Writes : Tables → Shape → Format → Graph → ℕ → Result (Vec ℕ Global) WriteFault → Type 0
+Writes t shape f g limit (Ok out) = IsWritable f g × (out.items ≡ graph_bytes t shape f g) × (length out.items ≤ limit)
+Writes t shape f g limit (Err (write_faults.UnknownNeedsSliced n)) = NeedsSliced f g × IsFirstKept g n
+Writes t shape f g limit (Err (write_faults.TooLong n)) = IsWritable f g × (n ≡ length (graph_bytes t shape f g)) × (limit < n)
+Writes t shape f g limit (Err write_faults.Memory) = Unit {0}
 
 -- what writing comes to
 abbrev pub of_write : WriteFault → EncodeFault
+of_write (write_faults.UnknownNeedsSliced n) = encode_faults.UnknownNeedsSliced n
 of_write (write_faults.TooLong n) = encode_faults.TooLong n
 of_write write_faults.Memory = encode_faults.Memory
 
 -- the same of a graph of the type, and of any other its first part that is not of its type
-abbrev pub Encodes : Tables → Shape → Graph → ℕ → Result (Vec ℕ Global) EncodeFault → Type 0
-Encodes t shape g limit (Ok out) = OfType t shape g × Writes t shape g limit (Ok out)
-Encodes t shape g limit (Err (encode_faults.IllTyped at)) = IsFirstIll t g shape at
-Encodes t shape g limit (Err (encode_faults.TooLong n)) = OfType t shape g × Writes t shape g limit (Err (write_faults.TooLong n))
-Encodes t shape g limit (Err encode_faults.Memory) = Unit {0}
+abbrev pub Encodes : Tables → Shape → Format → Graph → ℕ → Result (Vec ℕ Global) EncodeFault → Type 0
+Encodes t shape f g limit (Ok out) = OfType t shape g × Writes t shape f g limit (Ok out)
+Encodes t shape f g limit (Err (encode_faults.IllTyped at)) = IsFirstIll t g shape at
+Encodes t shape f g limit (Err (encode_faults.UnknownNeedsSliced n)) = OfType t shape g × Writes t shape f g limit (Err (write_faults.UnknownNeedsSliced n))
+Encodes t shape f g limit (Err (encode_faults.TooLong n)) = OfType t shape g × Writes t shape f g limit (Err (write_faults.TooLong n))
+Encodes t shape f g limit (Err encode_faults.Memory) = Unit {0}

@@ -12,6 +12,9 @@ use std::alloc::AllocError;
 pub enum EncodeFault {
     /// The first part that is not of its type: an instance by its place, or the roots, which are None.
     IllTyped(Option<u32>),
+    /// Compact format has no place for a slice of a class that is not known: the first instance that has one,
+    /// by its place, of those that the roots lead to, in the order of their first visits.
+    UnknownNeedsSliced(u32),
     /// Its encapsulation has so many bytes, which is more than the limit.
     TooLong(u64),
     /// Out of memory, which may come in place of any other answer.
@@ -23,6 +26,7 @@ impl From<WriteFault> for EncodeFault {
 
     fn from(fault: WriteFault) -> EncodeFault {
         match fault {
+            WriteFault::UnknownNeedsSliced(place) => EncodeFault::UnknownNeedsSliced(place),
             WriteFault::TooLong(length) => EncodeFault::TooLong(length),
             WriteFault::Memory => EncodeFault::Memory,
         }

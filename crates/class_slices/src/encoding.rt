@@ -1,6 +1,7 @@
 //! The encapsulation of any graph, or why there is none.
 
 ghost use Rattle.ice_members.specs.Shapes.{shape_seen};
+ghost use Rattle.instance_writing.specs.Formats.{view_format};
 ghost use Rattle.class_slices.specs.Encoding.{Encodes};
 
 use crate::encode_fault::EncodeFault;
@@ -8,23 +9,26 @@ use crate::writing::encode_typed;
 use graph_arena::Graph;
 use ice_members::Fields;
 use ice_types::Schema;
+use instance_writing::Format;
 use std::alloc::Global;
 use value_checks::first_ill_typed;
 
-/// The canonical encapsulation of the graph in sliced format, where the graph is of the type and the
-/// encapsulation is not longer than the limit; else the first part that is not of its type, or the length.
+/// The canonical encapsulation of the graph in the format, where the graph is of the type, the format can
+/// carry it, and the encapsulation is not longer than the limit; else the first part that is not of its type,
+/// the first instance that compact format cannot carry, or the length, in this order.
 /// (Ice manual, "Data Encoding for Class and Exception Types".)
 pub fn encode(
     alloc: Global,
     schema: &Schema,
     fields: Fields<'_>,
     graph: Graph,
+    format: Format,
     limit: u32,
 ) -> Result<Vec<u8>, EncodeFault>
-    ensures { Encodes schema.now (shape_seen fields.entry) graph limit result }
+    ensures { Encodes schema.now (shape_seen fields.entry) (view_format format) graph limit result }
 {
     if let Some(at) = first_ill_typed(alloc, schema, fields, &graph)? {
         return Err(EncodeFault::IllTyped(at));
     }
-    Ok(encode_typed(alloc, schema, fields, graph, limit)?)
+    Ok(encode_typed(alloc, schema, fields, graph, format, limit)?)
 }

@@ -4,7 +4,7 @@ ghost use Rattle.std.specs.Prelude.{◌≡◌, IfOk};
 ghost use Rattle.ice_prims.specs.Rest.{whole, IsBytes};
 ghost use Rattle.ice_prims.specs.Taking.{GivesUnlessMemory, TakesUnlessMemory};
 ghost use Rattle.ice_encoding.specs.Encapsulation.{encapsulated_at};
-ghost use Rattle.ice_graphs.specs.Flags.{known_classes};
+ghost use Rattle.ice_graphs.specs.Flags.{all_slices};
 ghost use Rattle.ice_graphs.specs.Instances.{graph_at, numbered_at};
 ghost use Rattle.ice_graphs.specs.Typed.{OfType};
 ghost use Rattle.ice_members.specs.Shapes.{shape_seen};
@@ -28,7 +28,7 @@ pub fn decode(
     input: &[u8],
 ) -> Result<Graph, ReadFault>
     ensures reads { GivesUnlessMemory (λ graph. graph) result
-        (numbered_at schema.now known_classes (shape_seen fields.entry) (whole input.now)) }
+        (numbered_at schema.now all_slices (shape_seen fields.entry) (whole input.now)) }
     ensures typed { IfOk result (λ graph. OfType schema.now (shape_seen fields.entry) graph) }
 {
     decode_rest(alloc, schema, fields, Cursor::new(input))
@@ -42,7 +42,7 @@ pub fn decode_rest(
     mut cursor: Cursor<'_>,
 ) -> Result<Graph, ReadFault>
     ensures reads { GivesUnlessMemory (λ graph. graph) result
-        (numbered_at schema.now known_classes (shape_seen fields.entry) cursor.entry) }
+        (numbered_at schema.now all_slices (shape_seen fields.entry) cursor.entry) }
     ensures typed { IfOk result (λ graph. OfType schema.now (shape_seen fields.entry) graph) }
 {
     let graph = take_graph(alloc, schema, fields, &mut cursor)?;
@@ -59,7 +59,7 @@ pub fn take_graph(
     cursor: &mut Cursor<'_>,
 ) -> Result<Graph, ReadFault>
     ensures reads { TakesUnlessMemory (λ graph. graph) result cursor.old cursor.new
-        (encapsulated_at (graph_at schema.now known_classes (shape_seen fields.entry)) cursor.old) }
+        (encapsulated_at (graph_at schema.now all_slices (shape_seen fields.entry)) cursor.old) }
     ensures typed { IfOk result (λ graph. OfType schema.now (shape_seen fields.entry) graph) }
 {
     // A text is of its type since what is read are bytes.

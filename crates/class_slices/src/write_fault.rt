@@ -8,6 +8,9 @@ use std::alloc::AllocError;
 /// Why a graph of a type is not written.
 #[derive(Clone, Copy, Debug, PartialEq, Eq)]
 pub enum WriteFault {
+    /// Compact format has no place for a slice of a class that is not known: the first instance that has one,
+    /// by its place, of those that the roots lead to, in the order of their first visits.
+    UnknownNeedsSliced(u32),
     /// Its encapsulation has so many bytes, which is more than the limit.
     TooLong(u64),
     /// Out of memory, which may come in place of any other answer.
