@@ -28,12 +28,12 @@ use Rattle.graph_canonicity.proofs.Upto.{upto, length-upto, place-upto, unlisted
 
 -- ---- places of the names themselves
 
-get_or-upto : (j i : ℕ) → i < j → get_or (upto j) i 0 ≡ i
+pub get_or-upto : (j i : ℕ) → i < j → get_or (upto j) i 0 ≡ i
 get_or-upto j i lt =
     let at = place-upto j i lt in
     ap (λ (k : ℕ). get_or (upto j) k 0) (sym at) ∙ get-place (upto j) i 0 (omega (arith, at, length-upto j))
 
-places-upto : (ns : List ℕ) → HasEachOnce ns → map (place ns) ns ≡ upto (length ns)
+pub places-upto : (ns : List ℕ) → HasEachOnce ns → map (place ns) ns ≡ upto (length ns)
 places-upto ns once = ext_get_or 0 (map (place ns) ns) (upto (length ns)) (length-map {A = ℕ} {B = ℕ} ns (place ns) ∙ sym (length-upto (length ns)))
     (λ i lt. let i-in : i < length ns = omega (arith, length-map {A = ℕ} {B = ℕ} ns (place ns)) in
     get_or-map (place ns) ns i 0 0 i-in ∙ place-get ns i once i-in ∙ sym (get_or-upto (length ns) i i-in))
@@ -63,7 +63,7 @@ module _ (t : Tables) (f : ℕ → ℕ) (ns : List ℕ) (Refer Other : Refers) (
   instance-typed (known class content ∷ ss) listed h =
       (known-renamed class content (AreListed-left ns (names_of content) (instance_names ss) listed) h.0, bases-renamed (base_of t class) ss (AreListed-right ns (names_of content) (instance_names ss) listed) h.1)
 
-class-renamed : (f : ℕ → ℕ) (ss : List Slice) → class_of (map (renamed_slice f) ss) ≡ class_of ss
+pub class-renamed : (f : ℕ → ℕ) (ss : List Slice) → class_of (map (renamed_slice f) ss) ≡ class_of ss
 class-renamed f [] = refl
 class-renamed f (known class content ∷ ss) = refl
 class-renamed f (kept id bytes optionals table ∷ ss) = class-renamed f ss
@@ -124,7 +124,7 @@ below-places ns [] listed = tt
 below-places ns (x ∷ xs) listed = (listed.0, below-places ns xs listed.1)
 
 -- names that were replaced by their places
-placed-below : (ns ms xs : List ℕ) (count : ℕ) → count ≡ length ns → ms ≡ map (place ns) xs → AreListed ns xs → AreBelow count ms
+pub placed-below : (ns ms xs : List ℕ) (count : ℕ) → count ≡ length ns → ms ≡ map (place ns) xs → AreListed ns xs → AreBelow count ms
 placed-below ns ms xs count size is listed = subst (λ (c : ℕ). AreBelow c ms) (sym size) (subst (AreBelow (length ns)) (sym is) (below-places ns xs listed))
 
 pub form-in_order : (g : Graph) → Reached g → InOrder (numbered (order g) g)
@@ -191,15 +191,15 @@ form-typed t shape reach format g reached h asked =
 
 -- ---- the form is the same graph
 
-once-upto : (n : ℕ) → HasEachOnce (upto n)
+pub once-upto : (n : ℕ) → HasEachOnce (upto n)
 once-upto zero = tt
 once-upto (suc n) = once-end (upto n) n (once-upto n) (unlisted-upto n n (omega arith))
 
-upto-listed : (count : ℕ) (ms : List ℕ) → AreBelow count ms → AreListed (upto count) ms
+pub upto-listed : (count : ℕ) (ms : List ℕ) → AreBelow count ms → AreListed (upto count) ms
 upto-listed count [] below = tt
 upto-listed count (m ∷ ms) below = (omega (arith, place-upto count m below.0, below.0, length-upto count), upto-listed count ms below.1)
 
-listed-upto : (count n : ℕ) → place (upto count) n < length (upto count) → n < count
+pub listed-upto : (count n : ℕ) → place (upto count) n < length (upto count) → n < count
 listed-upto count n lt = elim (cases_lt n count) [ inl less ↦ less | inr le ↦ absurd (omega (arith, lt, unlisted-upto count n le)) ]
 
 upto-holds : (k : Graph) → InOrder k → Holds (upto (length k.instances)) k

@@ -32,7 +32,7 @@ row_text : (row : Option ClassDecl) → ((d : ClassDecl) → row ≡ Some d → 
 row_text None texts = IsUtf8-nil
 row_text (Some d) texts = texts d refl
 
-utf8_texts : (t : Tables) → IsSchema t → (ss : List Slice) → HaveTexts t ss
+pub utf8_texts : (t : Tables) → IsSchema t → (ss : List Slice) → HaveTexts t ss
 utf8_texts t rules [] = tt
 utf8_texts t rules (known class content ∷ ss) = (row_text (slice_get t.classes class) (λ d is. (rules.type_ids d.id (rows.Class class) (id_of_row t.classes class d is)).1), utf8_texts t rules ss)
 utf8_texts t rules (kept id bytes optionals table ∷ ss) = utf8_texts t rules ss
@@ -45,7 +45,7 @@ equal_is_same t shape format g h rules g-typed h-typed g-can h-can g-few h-few s
   same_bytes t shape format g h,
 )
 
-few-enough : (n : ℕ) → n ≤ most_instances → n < most
+pub few-enough : (n : ℕ) → n ≤ most_instances → n < most
 unfolding most_instances most
 few-enough n le = omega (arith, le)
 

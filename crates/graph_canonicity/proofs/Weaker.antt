@@ -102,7 +102,7 @@ module _ {R S : Type 0} (port other : Port R S) (t : Tables) (refers : (declared
   slice_goes flagged shape bytes c from to (required, a, b, mid, parts, each, (optional, is, h)) =
       (required, a, b, mid, parts, each_goes (SpellsValue port t MOST_DEPTH) (SpellsValue other t MOST_DEPTH) (value_goes MOST_DEPTH) (required_kinds shape) a required from mid each, (optional, is, flagged_goes flagged shape.optional b optional mid to h))
 
-  content_goes : (shape : Shape) → Goes (SpellsContent port t shape) (SpellsContent other t shape)
+  pub content_goes : (shape : Shape) → Goes (SpellsContent port t shape) (SpellsContent other t shape)
   content_goes shape bytes c from to (required, a, b, mid, parts, each, (optional, is, h)) =
       (required, a, b, mid, parts, each_goes (SpellsValue port t MOST_DEPTH) (SpellsValue other t MOST_DEPTH) (value_goes MOST_DEPTH) (required_kinds shape) a required from mid each, (optional, is, all_goes false shape.optional b optional mid to h))
 
@@ -133,7 +133,7 @@ module _ (t : Tables) (reach : Reach) where
     behind_goes Next Next' next true ahead bytes ss from to h = h
     behind_goes Next Next' next false ahead bytes ss from to h = next ahead bytes ss from to h
 
-    slices_go : (n : ℕ) (ahead : Before) → Goes (SpellsSlices port t reach n ahead) (SpellsSlices other t all_slices n ahead)
+    pub slices_go : (n : ℕ) (ahead : Before) → Goes (SpellsSlices port t reach n ahead) (SpellsSlices other t all_slices n ahead)
     slices_go zero ahead bytes ss from to h = h
     slices_go (suc n) ahead bytes ss from to (f, a, b, mid, parts, flags, (id, c, d, next, cut, is_id, (base, (read, (ends, (slice, g, h, end, pieces, body, (others, is, rest))))))) =
         let class = class_in t ahead id in (
@@ -163,7 +163,7 @@ module _ (t : Tables) (reach : Reach) where
           ),
         )
 
-  inline_goes : (limit : ℕ) (Slices Slices' : Speller Spelled (List Slice)) → Goes Slices Slices' → (declared : Option ℕ) → Goes (SpellsInline limit Slices declared) (SpellsInline limit Slices' declared)
+  pub inline_goes : (limit : ℕ) (Slices Slices' : Speller Spelled (List Slice)) → Goes Slices Slices' → (declared : Option ℕ) → Goes (SpellsInline limit Slices declared) (SpellsInline limit Slices' declared)
   inline_goes limit Slices Slices' one declared bytes None from to h = h
   inline_goes limit Slices Slices' one declared bytes (Some n) from to (inl (ss, front, rest, end, parts, size, number, room, h, ends)) = inl (ss, front, rest, end, parts, size, number, room, one rest ss _ end h, ends)
   inline_goes limit Slices Slices' one declared bytes (Some n) from to (inr h) = inr h

@@ -2,6 +2,7 @@
 use Rattle.std.proofs.Common.{ℕ, zero, suc, ◌<◌, ◌≡◌, Bool, true, false, List, [], ◌∷◌, length, map, refl, subst, arith, Option, Some, None}
 use Rattle.std.specs.Prelude.{IsTrue, slice_get, option_and_then, if◌then◌else◌}
 use Rattle.std.specs.Str.{bytes_eq}
+use Rattle.std.proofs.lemmas.Slice.Eq.{bytes_eq-Decides}
 use Rattle.ice_types.specs.declared.declarations.ClassDecl.{ClassDecl}
 use Rattle.ice_types.specs.Tables.{Tables, is_defined}
 use Rattle.ice_types.specs.Rules.{IsSchema}
@@ -16,16 +17,20 @@ further_some : {C : Type 0} (o : Option ℕ) (i : ℕ) → one_further o ≡ Som
 further_some None i e go = absurd cc
 further_some (Some j) i e go = go j refl cc
 
-pub row_named : (ds : List ClassDecl) (id : List ℕ) (c : ℕ) → place_of (map (λ d. d.id) ds) id ≡ Some c → IsRow ds c
-row_named [] id c e = absurd cc
-row_named (d ∷ ds) id c e = by_test (row_named ds id) (bytes_eq d.id id) e
+pub row_of_id : (ds : List ClassDecl) (id : List ℕ) (c : ℕ) → place_of (map (λ d. d.id) ds) id ≡ Some c → (d : ClassDecl) × (slice_get ds c ≡ Some d) × (d.id ≡ id)
+row_of_id [] id c e = absurd cc
+row_of_id (d ∷ ds) id c e = by_test (row_of_id ds id) (bytes_eq d.id id) refl e
   where
-    by_test : ((j : ℕ) → place_of (map (λ d. d.id) ds) id ≡ Some j → IsRow ds j) → (b : Bool) → (if b then Some 0 else one_further (place_of (map (λ d. d.id) ds) id)) ≡ Some c → IsRow (d ∷ ds) c
-    by_test later true e = let zero_is : 0 ≡ c = cc in subst (IsRow (d ∷ ds)) zero_is (d, refl)
-    by_test later false e =
+    by_test : ((j : ℕ) → place_of (map (λ d. d.id) ds) id ≡ Some j → (x : ClassDecl) × (slice_get ds j ≡ Some x) × (x.id ≡ id)) → (b : Bool) → bytes_eq d.id id ≡ b
+        → (if b then Some 0 else one_further (place_of (map (λ d. d.id) ds) id)) ≡ Some c → (x : ClassDecl) × (slice_get (d ∷ ds) c ≡ Some x) × (x.id ≡ id)
+    by_test later true same e = let zero_is : 0 ≡ c = cc in subst (λ (k : ℕ). (x : ClassDecl) × (slice_get (d ∷ ds) k ≡ Some x) × (x.id ≡ id)) zero_is (d, refl, (bytes_eq-Decides d.id id).0 same)
+    by_test later false same e =
         further_some (place_of (map (λ d. d.id) ds) id) c e λ j at next.
         let rest = later j at in
-        subst (IsRow (d ∷ ds)) next (rest.0, rest.1)
+        subst (λ (k : ℕ). (x : ClassDecl) × (slice_get (d ∷ ds) k ≡ Some x) × (x.id ≡ id)) next (rest.0, rest.1, rest.2)
+
+pub row_named : (ds : List ClassDecl) (id : List ℕ) (c : ℕ) → place_of (map (λ d. d.id) ds) id ≡ Some c → IsRow ds c
+row_named ds id c e = let r = row_of_id ds id c e in (r.0, r.1)
 
 row_within : (ds : List ClassDecl) (at : ℕ) → at < length ds → IsRow ds at
 row_within [] at lt = absurd (omega (arith, lt))

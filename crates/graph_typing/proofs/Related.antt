@@ -95,7 +95,7 @@ or_more false b e = e
 leads_on : (t : Tables) (steps base class next : ℕ) → base_of t class ≡ Some next → leads_to t steps base next ≡ true → leads_to t (suc steps) base class ≡ true
 leads_on t steps base class next is on = or_more (nat_eq class base) (holds_of (base_of t class) (leads_to t steps base)) (ap (λ o. holds_of o (leads_to t steps base)) is ∙ on)
 
-to_base : (t : Tables) (steps base class : ℕ) → leads_to t steps base class ≡ true → IsA t.classes class base
+pub to_base : (t : Tables) (steps base class : ℕ) → leads_to t steps base class ≡ true → IsA t.classes class base
 to_base t zero base class e = absurd cc
 to_base t (suc steps) base class e = by_test (λ next. to_base t steps base next) (nat_eq class base) refl e
   where

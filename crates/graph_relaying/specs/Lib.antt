@@ -1,0 +1,5 @@
+pub mod Sized
+pub mod Seeing
+pub mod Readable
+pub mod Relaying
+pub mod Sample
