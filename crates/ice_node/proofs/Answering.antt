@@ -4,7 +4,7 @@ use Rattle.ice_relay.specs.Streams.{TakesTwoFrugally}
 use Rattle.ice_node.specs.declared.words.Task.TheVariants as tasks
 use Rattle.ice_node.specs.Words.{Word, Command, values}
 use Rattle.ice_node.specs.Outside.{Files, Failures}
-use Rattle.ice_node.specs.Answers.{Answer, done, denied, usage, no_such_name, slice_refused, input_refused, too_long, text_refused, read_failed, write_failed, no_memory, refused_after, read_failed_after, no_memory_after}
+use Rattle.ice_node.specs.Answers.{Answer, done, denied, usage, no_such_name, slice_refused, input_refused, too_long, needs_sliced, text_refused, read_failed, write_failed, no_memory, refused_after, read_failed_after, no_memory_after}
 use Rattle.ice_node.specs.Decided.{Decides}
 use Rattle.ice_node.specs.Causes.{Causes}
 use Rattle.ice_node.proofs.Telling.{to_be_written}
@@ -39,6 +39,7 @@ takes_nothing asked old none (no_such_name word) = keeps_itself old
 takes_nothing asked old none (slice_refused broken) = keeps_itself old
 takes_nothing asked old none (input_refused fault) = none
 takes_nothing asked old none (too_long length) = none
+takes_nothing asked old none needs_sliced = none
 takes_nothing asked old none (text_refused place) = keeps_itself old
 takes_nothing asked old none read_failed = none
 takes_nothing asked old none (write_failed bytes) = none
@@ -55,6 +56,7 @@ outputs_nothing old outcomes.Usage = keeps_itself old
 outputs_nothing old (outcomes.NoSuchName word) = keeps_itself old
 outputs_nothing old (outcomes.SliceRefused file place kind) = keeps_itself old
 outputs_nothing old (outcomes.InputRefused fault) = keeps_itself old
+outputs_nothing old outcomes.NeedsSliced = keeps_itself old
 outputs_nothing old (outcomes.TooLong length) = keeps_itself old
 outputs_nothing old (outcomes.TextRefused place) = keeps_itself old
 outputs_nothing old outcomes.ReadFailed = keeps_itself old

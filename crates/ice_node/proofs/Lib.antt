@@ -5,3 +5,4 @@ pub mod Telling
 pub mod Relaying
 pub mod Answering
 pub mod OneAnswer
+pub mod Carrying

@@ -1,12 +1,16 @@
 -- At most one answer is decided where the outside tells what it holds.
-use Rattle.std.proofs.Common.{◌≡◌, ℕ, List, Option, None, Some, Err, refl, sym, ap, subst, ◌∙◌, inl, inr, ◌⊎◌, arith, Ok}
+use Rattle.std.proofs.Common.{◌≡◌, ℕ, List, [], ◌∷◌, Option, None, Some, Err, refl, sym, ap, subst, ◌∙◌, inl, inr, ◌⊎◌, arith, Ok}
 use Rattle.ice_types.specs.declared.kind.TypeRef.{TypeRef}
 use Rattle.ice_types.specs.Tables.{Tables}
 use Rattle.ice_prims.specs.declared.fault.Fault.{Fault}
 use Rattle.ice_prims.proofs.Parts.{ok_is}
-use Rattle.ice_graphs.specs.Graph.{Graph}
-use Rattle.ice_graphs.specs.Flags.{known_classes}
+use Rattle.ice_graphs.specs.Graph.{Slice, known, kept, Graph}
+use Rattle.ice_graphs.specs.Instances.{slices_of}
+use Rattle.ice_graphs.specs.Canonical.{Format, sliced, compact, Compact, IsWritable}
+use Rattle.instance_writing.specs.Formats.{view_format}
+use Rattle.ice_graphs.specs.Flags.{all_slices}
 use Rattle.ice_graphs.proofs.Graphs.{numbered_only, numbered_apart}
+use Rattle.class_slices.specs.Encoding.{BeginsKept, NeedsSliced}
 use Rattle.ice_relay.specs.Relaying.{one_value, Holds, held, canonical_bytes}
 use Rattle.ice_relay.specs.Comparing.{HoldTwo, two_held, CanBeCompared, IsFirstLong}
 use Rattle.ice_relay.proofs.Compared.{two_only}
@@ -15,8 +19,8 @@ use Rattle.ice_node.specs.declared.words.Task.TheVariants as tasks
 use Rattle.slice_meaning.proofs.Loads.{one_meaning, one_break, never_both}
 use Rattle.ice_node.specs.Words.{Word, Command, values, check, proxy, messages, help, version, Asks}
 use Rattle.ice_node.specs.Outside.{Files, Failures, Outside}
-use Rattle.ice_node.specs.Answers.{Answer, done, denied, usage, no_such_name, slice_refused, input_refused, too_long, text_refused, read_failed, write_failed, no_memory, refused_after, read_failed_after, no_memory_after, status}
-use Rattle.ice_node.specs.Decided.{WithSchema, WithType, WithGraph, WithinLimit, WithTwo, IsVerdict, WithinBoth, Relays, Compares, Does, DoesTask, Checks, Decides, Decided}
+use Rattle.ice_node.specs.Answers.{Answer, done, denied, usage, no_such_name, slice_refused, input_refused, too_long, needs_sliced, text_refused, read_failed, write_failed, no_memory, refused_after, read_failed_after, no_memory_after, status}
+use Rattle.ice_node.specs.Decided.{WithSchema, WithType, WithGraph, WithFormat, WithinLimit, WithTwo, IsVerdict, WithinBoth, Relays, Compares, Does, DoesTask, Checks, Decides, Decided}
 use Rattle.ice_node.specs.Causes.{Causes}
 use Rattle.ice_node.specs.Statuses.{Answered, IsFailure, Ends}
 use Rattle.ice_node.proofs.CommandForms.{asks_apart}
@@ -41,7 +45,7 @@ one_fault input t kind a b p q = cc (p, q)
 
 -- an input that has a fault holds no graph
 no_fault : (input : List ℕ) (t : Tables) (kind : TypeRef) (a : Fault) (g : Graph) → held t kind input ≡ Err a → Holds t kind input g → ⊥
-no_fault input t kind a g p h = never (sym p ∙ numbered_only t known_classes (one_value kind) input g h)
+no_fault input t kind a g p h = never (sym p ∙ numbered_only t all_slices (one_value kind) input g h)
   where
     never : {X E : Type 0} {x : X} {e : E} → Err e ≡ Ok x → ⊥
     never e = cc
@@ -50,7 +54,7 @@ graph_apart : (input : List ℕ) (t : Tables) (kind : TypeRef) (a b : Answer) (N
 graph_apart input t kind a b Next Other one (inl p) (inl q) = p.2 ∙ ap input_refused (one_fault input t kind p.0 q.0 p.1 q.1) ∙ sym q.2
 graph_apart input t kind a b Next Other one (inl p) (inr q) = absurd (no_fault input t kind p.0 q.0 p.1 q.1)
 graph_apart input t kind a b Next Other one (inr p) (inl q) = absurd (no_fault input t kind q.0 p.0 q.1 p.1)
-graph_apart input t kind a b Next Other one (inr p) (inr q) = one q.0 (subst Next (numbered_apart t known_classes (one_value kind) input p.0 q.0 p.1 q.1) p.2) q.2
+graph_apart input t kind a b Next Other one (inr p) (inr q) = one q.0 (subst Next (numbered_apart t all_slices (one_value kind) input p.0 q.0 p.1 q.1) p.2) q.2
 
 -- bytes are within the limit or above it
 length_apart : (bytes : List ℕ) (a b : Answer) → WithinLimit bytes a → WithinLimit bytes b → a ≡ b
@@ -110,14 +114,30 @@ both_apart t kind g h a b (inr p) (inr q) = p.2 ∙ ap too_long (long_apart t ki
 
 -- ---- the commands
 
-relays_apart : (input : List ℕ) (t : Tables) (kind : TypeRef) (a b : Answer) → Relays (Some input) t kind a → Relays (Some input) t kind b → a ≡ b
-relays_apart input t kind a b = graph_apart input t kind a b _ _ (λ g. length_apart (canonical_bytes t kind g) a b)
+-- what begins with a kept slice cannot be written in compact format
+never_kept : (slices : List Slice) → BeginsKept slices → Compact slices → ⊥
+never_kept [] begins fits = begins
+never_kept (known class content ∷ ss) begins fits = begins
+never_kept (kept id bytes optionals table ∷ ss) begins fits = fits
+
+never_both_formats : (f : Format) (g : Graph) → NeedsSliced f g → IsWritable f g → ⊥
+never_both_formats sliced g needs fits = needs
+never_both_formats compact g (n, (reached, begins)) fits = never_kept (slices_of g.instances n) begins (fits n reached)
+
+format_apart : (f : Format) (g : Graph) (a b : Answer) (Next Other : Type 0) → (Next → Other → a ≡ b) → WithFormat f g a Next → WithFormat f g b Other → a ≡ b
+format_apart f g a b Next Other one (inl p) (inl q) = p.1 ∙ sym q.1
+format_apart f g a b Next Other one (inl p) (inr q) = absurd (never_both_formats f g p.0 q.0)
+format_apart f g a b Next Other one (inr p) (inl q) = absurd (never_both_formats f g q.0 p.0)
+format_apart f g a b Next Other one (inr p) (inr q) = one p.1 q.1
+
+relays_apart : (f : Format) (input : List ℕ) (t : Tables) (kind : TypeRef) (a b : Answer) → Relays f (Some input) t kind a → Relays f (Some input) t kind b → a ≡ b
+relays_apart f input t kind a b = graph_apart input t kind a b _ _ (λ g. format_apart f g a b _ _ (length_apart (canonical_bytes t kind f g) a b))
 
 compares_apart : (input : List ℕ) (t : Tables) (kind : TypeRef) (a b : Answer) → Compares (Some input) t kind a → Compares (Some input) t kind b → a ≡ b
 compares_apart input t kind a b = two_apart input t kind a b _ _ (λ g h. both_apart t kind g h a b)
 
 does_apart : (task : Task) (input : List ℕ) (t : Tables) (kind : TypeRef) (a b : Answer) → Does task (Some input) t kind a → Does task (Some input) t kind b → a ≡ b
-does_apart tasks.Relay input t kind a b = relays_apart input t kind a b
+does_apart (tasks.Relay format) input t kind a b = relays_apart (view_format format) input t kind a b
 does_apart tasks.Same input t kind a b = compares_apart input t kind a b
 
 tasks_apart : (task : Task) (files : Files) (input : List ℕ) (file word : Word) (a b : Answer) → DoesTask task (Some files) (Some input) file word a → DoesTask task (Some files) (Some input) file word b → a ≡ b
@@ -151,6 +171,7 @@ came_as_decided words files input b n asked (no_such_name word) answer asks c d 
 came_as_decided words files input b n asked (slice_refused broken) answer asks c d = inl (answers_apart words files input (slice_refused broken) answer (asked, asks, c.0) d)
 came_as_decided words files input b n asked (input_refused fault) answer asks c d = inl (answers_apart words files input (input_refused fault) answer (asked, asks, c.0) d)
 came_as_decided words files input b n asked (too_long length) answer asks c d = inl (answers_apart words files input (too_long length) answer (asked, asks, c.0) d)
+came_as_decided words files input b n asked needs_sliced answer asks c d = inl (answers_apart words files input needs_sliced answer (asked, asks, c.0) d)
 came_as_decided words files input b n asked (text_refused place) answer asks c d = inl (answers_apart words files input (text_refused place) answer (asked, asks, c.0) d)
 came_as_decided words files input b n asked read_failed answer asks c d = inr (inl refl)
 came_as_decided words files input b n asked (write_failed bytes) answer asks c d = inr (inr (inl refl))

@@ -15,6 +15,8 @@ use Rattle.ice_relay.proofs.Holding.{claims_length}
 use Rattle.ice_relay.proofs.Decided.{read_decides}
 use Rattle.ice_relay.proofs.Twice.{two_decides}
 use Rattle.ice_relay.proofs.Compared.{never_decided}
+use Rattle.instance_writing.specs.Formats.{view_format}
+use Rattle.instance_writing.specs.declared.format.Format.{Format}
 use Rattle.ice_node.specs.declared.words.Task.{Task}
 use Rattle.ice_node.specs.declared.words.Task.TheVariants as tasks
 use Rattle.ice_node.specs.Words.{Word, values, check}
@@ -27,7 +29,7 @@ use Rattle.ice_relay.proofs.Inputs.{nothing_is_frugal}
 use Rattle.ice_relay.proofs.TwoInputs.{nothing_of_two}
 use Rattle.ice_node.proofs.Keeping.{keeps_itself}
 use Rattle.ice_node.specs.Outside.{Files, Failures, NoneFailed, counts}
-use Rattle.ice_node.specs.Answers.{Answer, done, denied, usage, no_such_name, slice_refused, input_refused, too_long, text_refused, read_failed, write_failed, no_memory, refused_after, read_failed_after, no_memory_after}
+use Rattle.ice_node.specs.Answers.{Answer, done, denied, usage, no_such_name, slice_refused, input_refused, too_long, needs_sliced, text_refused, read_failed, write_failed, no_memory, refused_after, read_failed_after, no_memory_after}
 use Rattle.ice_node.specs.Decided.{IsSchema, IsNamed, WithType, IsHeld, IsInputFault, AreHeld, IsFaultOfTwo, IsVerdict, Decides}
 use Rattle.ice_node.specs.Causes.{Causes}
 use Rattle.ice_node.specs.Effects.{TakesInput, Takes}
@@ -46,6 +48,7 @@ task_unloaded files input task file word before after source sink (denied bytes)
 task_unloaded files input task file word before after source sink usage h = absurd h
 task_unloaded files input task file word before after source sink (no_such_name name) h = absurd h
 task_unloaded files input task file word before after source sink (too_long length) h = absurd h
+task_unloaded files input task file word before after source sink needs_sliced h = absurd h
 task_unloaded files input task file word before after source sink (input_refused fault) h = absurd h
 task_unloaded files input task file word before after source sink (text_refused place) h = absurd h
 task_unloaded files input task file word before after source sink (write_failed bytes) h = absurd h
@@ -62,6 +65,7 @@ check_unloaded files input file before after source sink (denied bytes) h = absu
 check_unloaded files input file before after source sink usage h = absurd h
 check_unloaded files input file before after source sink (no_such_name name) h = absurd h
 check_unloaded files input file before after source sink (too_long length) h = absurd h
+check_unloaded files input file before after source sink needs_sliced h = absurd h
 check_unloaded files input file before after source sink (input_refused fault) h = absurd h
 check_unloaded files input file before after source sink (text_refused place) h = absurd h
 check_unloaded files input file before after source sink (write_failed bytes) h = absurd h
@@ -71,7 +75,7 @@ check_unloaded files input file before after source sink (no_memory_after writte
 
 -- nothing was taken of the input by then
 nothing_taken : (task : Task) (file word : Word) (old : Option (List ℕ)) → TakesInput (Some (values task file word)) old old
-nothing_taken tasks.Relay file word old = nothing_is_frugal old old (keeps_itself old)
+nothing_taken (tasks.Relay format) file word old = nothing_is_frugal old old (keeps_itself old)
 nothing_taken tasks.Same file word old = nothing_of_two old old (keeps_itself old)
 
 pub unloaded_takes : (files : Option Files) (task : Task) (file word : Word) (before after : ℕ) (old : Option (List ℕ)) (answer : Answer) → GivesNoSchema files file before after answer → Takes (Some (values task file word)) old old answer
@@ -83,6 +87,7 @@ unloaded_takes files task file word before after old (denied bytes) h = absurd h
 unloaded_takes files task file word before after old usage h = absurd h
 unloaded_takes files task file word before after old (no_such_name name) h = absurd h
 unloaded_takes files task file word before after old (too_long length) h = absurd h
+unloaded_takes files task file word before after old needs_sliced h = absurd h
 unloaded_takes files task file word before after old (input_refused fault) h = absurd h
 unloaded_takes files task file word before after old (text_refused place) h = absurd h
 unloaded_takes files task file word before after old (write_failed bytes) h = absurd h
@@ -114,6 +119,7 @@ unread_takes task file word old now ports.Memory outcome from taken = rw from ta
 
 pub unfound_takes : (task : Task) (file word : Word) (old now : Option (List ℕ)) (fault : RelayFault) (outcome : Outcome) → outcome ≡ of_relay fault → TakesInput (Some (values task file word)) old now → Takes (Some (values task file word)) old now (answer_of outcome [])
 unfound_takes task file word old now (faults.Broken fault) outcome from taken = rw from taken
+unfound_takes task file word old now faults.NeedsSliced outcome from taken = rw from taken
 unfound_takes task file word old now (faults.TooLong length) outcome from taken = rw from taken
 unfound_takes task file word old now faults.Memory outcome from taken = rw from taken
 
@@ -133,11 +139,12 @@ module _ (t : Tables) (kind : TypeRef) where
   fault_read (Some known) now got fault r e = sym (read_decides t kind known got now r) ∙ e
 
 -- an input that has a fault, or a graph whose encapsulation is too long, or for which memory ran out
-pub input_gives_none : (files : Option Files) (input now : Option (List ℕ)) (file word : Word) (t : Tables) (kind : TypeRef) (got : List ℕ) (before after : Failures) (fault : RelayFault) (outcome : Outcome) → outcome ≡ of_relay fault
-    → IsSchema files file t → IsNamed t word kind → ReadsInput input now got → Canonicalizes t kind got (Err fault) → NoneFailed before after → Causes (Some (values tasks.Relay file word)) files input before after (answer_of outcome [])
-input_gives_none files input now file word t kind got before after (faults.Broken fault) outcome from schema named read refused counts = rw from (inr (t, schema, inr (kind, named, inl (fault, fault_read t kind input now got fault read refused, refl))), counts)
-input_gives_none files input now file word t kind got before after (faults.TooLong n) outcome from schema named read (g, holds, is, above) counts = rw (from, is) (inr (t, schema, inr (kind, named, inr (g, graph_read t kind input now got g read holds, inr (subst (λ (m : ℕ). 1048576 < m) is above, refl)))), counts)
-input_gives_none files input now file word t kind got before after faults.Memory outcome from schema named read refused counts = rw from (tt, counts)
+pub input_gives_none : (format : Format) (files : Option Files) (input now : Option (List ℕ)) (file word : Word) (t : Tables) (kind : TypeRef) (got : List ℕ) (before after : Failures) (fault : RelayFault) (outcome : Outcome) → outcome ≡ of_relay fault
+    → IsSchema files file t → IsNamed t word kind → ReadsInput input now got → Canonicalizes t kind (view_format format) got (Err fault) → NoneFailed before after → Causes (Some (values (tasks.Relay format) file word)) files input before after (answer_of outcome [])
+input_gives_none format files input now file word t kind got before after (faults.Broken fault) outcome from schema named read refused counts = rw from (inr (t, schema, inr (kind, named, inl (fault, fault_read t kind input now got fault read refused, refl))), counts)
+input_gives_none format files input now file word t kind got before after (faults.TooLong n) outcome from schema named read (g, holds, writable, is, above) counts = rw (from, is) (inr (t, schema, inr (kind, named, inr (g, graph_read t kind input now got g read holds, inr (writable, inr (subst (λ (m : ℕ). 1048576 < m) is above, refl))))), counts)
+input_gives_none format files input now file word t kind got before after faults.NeedsSliced outcome from schema named read (g, holds, needs) counts = rw from (inr (t, schema, inr (kind, named, inr (g, graph_read t kind input now got g read holds, inl (needs, refl)))), counts)
+input_gives_none format files input now file word t kind got before after faults.Memory outcome from schema named read refused counts = rw from (tt, counts)
 
 -- ---- two graphs
 
@@ -158,6 +165,7 @@ module _ (t : Tables) (kind : TypeRef) where
 pub two_give_none : (files : Option Files) (input now : Option (List ℕ)) (file word : Word) (t : Tables) (kind : TypeRef) (got : List ℕ) (before after : Failures) (fault : RelayFault) (outcome : Outcome) → outcome ≡ of_relay fault
     → IsSchema files file t → IsNamed t word kind → ReadsTwo input now got → Compares t kind got (Err fault) → NoneFailed before after → Causes (Some (values tasks.Same file word)) files input before after (answer_of outcome [])
 two_give_none files input now file word t kind got before after (faults.Broken fault) outcome from schema named read refused counts = rw from (inr (t, schema, inr (kind, named, inl (fault, fault_of_two t kind input now got fault read refused, refl))), counts)
+two_give_none files input now file word t kind got before after faults.NeedsSliced outcome from schema named read never counts = absurd never
 two_give_none files input now file word t kind got before after (faults.TooLong n) outcome from schema named read (g, h, both, long) counts = rw from (inr (t, schema, inr (kind, named, inr (g, h, two_read t kind input now got g h read both, inr (n, long, refl)))), counts)
 two_give_none files input now file word t kind got before after faults.Memory outcome from schema named read refused counts = rw from (tt, counts)
 

@@ -57,7 +57,7 @@ whole_is_first (Some known) bytes lines end (told_lines, Some fault, d, e) = abs
 -- what is decided is to be written
 pub to_be_written : (asked : Option Command) (files : Option Files) (input : Option (List ℕ)) (bytes : List ℕ) → Decides asked files input (done bytes) → IsToBeWritten asked files input bytes
 to_be_written (Some messages) files input bytes d = whole_is_first input bytes [] None d
-to_be_written (Some (values tasks.Relay file word)) files input bytes d = d
+to_be_written (Some (values (tasks.Relay format) file word)) files input bytes d = d
 to_be_written (Some (values tasks.Same file word)) files input bytes d = inl d
 to_be_written (Some (check file)) files input bytes d = d
 to_be_written (Some (proxy text)) files input bytes d = d

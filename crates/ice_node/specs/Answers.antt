@@ -19,6 +19,8 @@ pub data Answer : Type 0 where
   slice_refused : LoadBreak → Answer
   -- the input has this fault
   input_refused : Fault → Answer
+  -- an instance has a kept slice, which compact format cannot carry
+  needs_sliced : Answer
   -- the bytes to be written are so many, which is more than the limit
   too_long : ℕ → Answer
   -- the word that begins here cannot stand in the text of a proxy
@@ -40,6 +42,7 @@ status (no_such_name word) = 2
 status (slice_refused broken) = 3
 status (input_refused fault) = 4
 status (too_long length) = 4
+status needs_sliced = 4
 status (text_refused place) = 4
 status read_failed = 5
 status (write_failed bytes) = 6
@@ -69,6 +72,7 @@ error_line (no_such_name word) = codes "ice: no such name " ++ (word ++ codes "\
 error_line (slice_refused broken) = codes "ice: " ++ (fault_text broken ++ codes "\n")
 error_line (input_refused fault) = refusal fault
 error_line (too_long length) = codes "ice: answer too long: " ++ (decimal length ++ codes "\n")
+error_line needs_sliced = codes "ice: kept slice needs sliced format\n"
 error_line (text_refused place) = codes "ice: text refused at " ++ (decimal place ++ codes "\n")
 error_line read_failed = codes "ice: read failed\n"
 error_line (write_failed bytes) = codes "ice: write failed\n"

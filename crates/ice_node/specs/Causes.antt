@@ -6,7 +6,7 @@ use Rattle.message_dump.specs.Sources.{TellsSome}
 use Rattle.ice_node.specs.Words.{Word, Command, values, check, proxy, messages, help, version}
 use Rattle.ice_node.specs.declared.words.Task.TheVariants as tasks
 use Rattle.ice_node.specs.Outside.{Files, Failures, NoneFailed, ShelfFailed, SourceFailed, SinkFailed}
-use Rattle.ice_node.specs.Answers.{Answer, done, denied, usage, no_such_name, slice_refused, input_refused, too_long, text_refused, read_failed, write_failed, no_memory, refused_after, read_failed_after, no_memory_after}
+use Rattle.ice_node.specs.Answers.{Answer, done, denied, usage, no_such_name, slice_refused, input_refused, too_long, needs_sliced, text_refused, read_failed, write_failed, no_memory, refused_after, read_failed_after, no_memory_after}
 use Rattle.ice_node.specs.Decided.{IsSchema, IsNamed, Decides}
 
 -- FILE means a schema in which the word names a type: only then is the input read
@@ -42,7 +42,7 @@ TellsFirst input lines = IfSome input (λ known. TellsSome known lines)
 -- These bytes were to be written: the whole answer, or of messages the lines that are known, since each is written by itself.
 abbrev pub IsToBeWritten : Option Command → Option Files → Option (List ℕ) → List ℕ → Type 0
 IsToBeWritten (Some messages) files input bytes = TellsFirst input bytes
-IsToBeWritten (Some (values tasks.Relay file word)) files input bytes = Decides (Some (values tasks.Relay file word)) files input (done bytes)
+IsToBeWritten (Some (values (tasks.Relay format) file word)) files input bytes = Decides (Some (values (tasks.Relay format) file word)) files input (done bytes)
 IsToBeWritten (Some (values tasks.Same file word)) files input bytes = Decides (Some (values tasks.Same file word)) files input (done bytes)
     ⊎ Decides (Some (values tasks.Same file word)) files input (denied bytes)
 IsToBeWritten (Some (check file)) files input bytes = Decides (Some (check file)) files input (done bytes)
@@ -78,6 +78,8 @@ Causes asked files input before after (input_refused fault) =
     Decides asked files input (input_refused fault) × NoneFailed before after
 Causes asked files input before after (too_long length) =
     Decides asked files input (too_long length) × NoneFailed before after
+Causes asked files input before after needs_sliced =
+    Decides asked files input needs_sliced × NoneFailed before after
 Causes asked files input before after (text_refused place) =
     Decides asked files input (text_refused place) × NoneFailed before after
 Causes asked files input before after read_failed =

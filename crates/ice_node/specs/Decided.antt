@@ -8,7 +8,10 @@ use Rattle.ice_types.specs.Tables.{Tables}
 use Rattle.ice_prims.specs.declared.fault.Fault.{Fault}
 use Rattle.ice_parts.specs.declared.limits.TheConstants.{LARGEST}
 use Rattle.ice_graphs.specs.Graph.{Graph}
+use Rattle.ice_graphs.specs.Canonical.{Format, IsWritable}
 use Rattle.ice_graphs.specs.Same.{Same}
+use Rattle.instance_writing.specs.Formats.{view_format}
+use Rattle.class_slices.specs.Encoding.{NeedsSliced}
 use Rattle.ice_relay.specs.Relaying.{Holds, held, canonical_bytes}
 use Rattle.ice_relay.specs.Comparing.{HoldTwo, two_held, CanBeCompared, IsFirstLong}
 use Rattle.ice_types.specs.declared.proxy.Proxy.{Proxy}
@@ -25,7 +28,7 @@ use Rattle.ice_node.specs.declared.words.Task.{Task}
 use Rattle.ice_node.specs.declared.words.Task.TheVariants as tasks
 use Rattle.ice_node.specs.TypeWords.{IsTypeWord}
 use Rattle.ice_node.specs.Outside.{Files}
-use Rattle.ice_node.specs.Answers.{Answer, done, denied, usage, no_such_name, slice_refused, input_refused, too_long, text_refused, refused_after}
+use Rattle.ice_node.specs.Answers.{Answer, done, denied, usage, no_such_name, slice_refused, input_refused, too_long, needs_sliced, text_refused, refused_after}
 
 -- ---- the steps
 
@@ -68,6 +71,10 @@ WithGraph input t kind answer Next =
     ((fault : Fault) × IsInputFault input t kind fault × (answer ≡ input_refused fault))
     ⊎ ((g : Graph) × IsHeld input t kind g × Next g)
 
+-- in this format the graph can be written, from where it goes on; or an instance that it reaches has a kept slice
+abbrev pub WithFormat : Format → Graph → Answer → Type 0 → Type 0
+WithFormat f g answer Next = (NeedsSliced f g × (answer ≡ needs_sliced)) ⊎ (IsWritable f g × Next)
+
 -- the encapsulation is written, or refused with its length, where that is above the limit
 abbrev pub WithinLimit : List ℕ → Answer → Type 0
 WithinLimit bytes answer = ((length bytes ≤ LARGEST) × (answer ≡ done bytes))
@@ -99,10 +106,11 @@ WithinBoth t kind g h answer = (CanBeCompared t kind g h × IsVerdict g h answer
 
 -- ---- the commands
 
--- `relay`: the canonical encapsulation of the graph
-abbrev pub Relays : Option (List ℕ) → Tables → TypeRef → Answer → Type 0
-Relays input t kind answer =
-    WithGraph input t kind answer (λ g. WithinLimit (canonical_bytes t kind g) answer)
+-- `relay`: the canonical encapsulation of the graph, in the format
+abbrev pub Relays : Format → Option (List ℕ) → Tables → TypeRef → Answer → Type 0
+Relays f input t kind answer =
+    WithGraph input t kind answer (λ g.
+    WithFormat f g answer (WithinLimit (canonical_bytes t kind f g) answer))
 
 -- `same`: whether the two graphs are the same
 abbrev pub Compares : Option (List ℕ) → Tables → TypeRef → Answer → Type 0
@@ -111,10 +119,10 @@ Compares input t kind answer =
 
 -- what a task comes to
 abbrev pub Does : Task → Option (List ℕ) → Tables → TypeRef → Answer → Type 0
-Does tasks.Relay input t kind answer = Relays input t kind answer
+Does (tasks.Relay format) input t kind answer = Relays (view_format format) input t kind answer
 Does tasks.Same input t kind answer = Compares input t kind answer
 
--- `relay FILE TYPE`, `same FILE TYPE`
+-- `relay [--compact] FILE TYPE`, `same FILE TYPE`
 abbrev pub DoesTask : Task → Option Files → Option (List ℕ) → Word → Word → Answer → Type 0
 DoesTask task files input file word answer =
     WithSchema files file answer (λ t.

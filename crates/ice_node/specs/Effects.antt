@@ -7,12 +7,12 @@ use Rattle.ice_node.specs.Words.{Command, values, check, proxy, messages, help, 
 use Rattle.sink_writes.specs.Writing.{AppendsPrefix}
 use Rattle.ice_relay.specs.Streams.{TakesFrugally, TakesTwoFrugally}
 use Rattle.ice_node.specs.declared.words.Task.TheVariants as tasks
-use Rattle.ice_node.specs.Answers.{Answer, done, denied, usage, no_such_name, slice_refused, input_refused, too_long, text_refused, read_failed, write_failed, no_memory, refused_after, read_failed_after, no_memory_after, error_line}
+use Rattle.ice_node.specs.Answers.{Answer, done, denied, usage, no_such_name, slice_refused, input_refused, too_long, needs_sliced, text_refused, read_failed, write_failed, no_memory, refused_after, read_failed_after, no_memory_after, error_line}
 
 -- No more of the input than is wanted: for `relay` the encapsulation that it claims and one byte, for `same` two encapsulations and one
 -- byte; for `messages` another piece only where all messages that were whole are told.
 abbrev pub TakesInput : Option Command → Option (List ℕ) → Option (List ℕ) → Type 0
-TakesInput (Some (values tasks.Relay file word)) old new = TakesFrugally old new
+TakesInput (Some (values (tasks.Relay format) file word)) old new = TakesFrugally old new
 TakesInput (Some (values tasks.Same file word)) old new = TakesTwoFrugally old new
 TakesInput (Some (check file)) old new = Keeps old new
 TakesInput (Some (proxy text)) old new = Keeps old new
@@ -30,6 +30,7 @@ Takes asked old new (no_such_name word) = Keeps old new
 Takes asked old new (slice_refused broken) = Keeps old new
 Takes asked old new (input_refused fault) = TakesInput asked old new
 Takes asked old new (too_long length) = TakesInput asked old new
+Takes asked old new needs_sliced = TakesInput asked old new
 Takes asked old new (text_refused place) = Keeps old new
 Takes asked old new read_failed = TakesInput asked old new
 Takes asked old new (write_failed bytes) = TakesInput asked old new
@@ -47,6 +48,7 @@ Outputs old new (no_such_name word) = Keeps old new
 Outputs old new (slice_refused broken) = Keeps old new
 Outputs old new (input_refused fault) = Keeps old new
 Outputs old new (too_long length) = Keeps old new
+Outputs old new needs_sliced = Keeps old new
 Outputs old new (text_refused place) = Keeps old new
 Outputs old new read_failed = Keeps old new
 Outputs old new (write_failed bytes) = AppendsPrefix old new bytes

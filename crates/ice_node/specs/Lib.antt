@@ -7,3 +7,4 @@ pub mod Causes
 pub mod Effects
 pub mod Statuses
 pub mod Outcomes
+pub mod Carrying

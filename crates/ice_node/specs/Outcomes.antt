@@ -18,7 +18,7 @@ use Rattle.ice_node.specs.declared.outcome.Outcome.{Outcome}
 use Rattle.ice_node.specs.declared.outcome.Outcome.TheVariants as outcomes
 use Rattle.ice_node.specs.Words.{Word, Command}
 use Rattle.ice_node.specs.Outside.{Files, Failures, NoneFailed}
-use Rattle.ice_node.specs.Answers.{Answer, done, denied, usage, no_such_name, slice_refused, input_refused, too_long, text_refused, read_failed, write_failed, no_memory, refused_after, read_failed_after, no_memory_after}
+use Rattle.ice_node.specs.Answers.{Answer, done, denied, usage, no_such_name, slice_refused, input_refused, too_long, needs_sliced, text_refused, read_failed, write_failed, no_memory, refused_after, read_failed_after, no_memory_after}
 use Rattle.ice_node.specs.Decided.{IsSchema, IsFault, IsNamed, WithType, Decides}
 use Rattle.ice_node.specs.Causes.{Causes}
 use Rattle.ice_node.specs.Effects.{TakesInput, Takes}
@@ -32,6 +32,7 @@ answer_of (outcomes.NoSuchName word) bytes = no_such_name word.now
 answer_of (outcomes.SliceRefused file place kind) bytes =
     slice_refused (record { file = file; place = place; kind = kind })
 answer_of (outcomes.InputRefused fault) bytes = input_refused fault
+answer_of outcomes.NeedsSliced bytes = needs_sliced
 answer_of (outcomes.TooLong length) bytes = too_long length
 answer_of (outcomes.TextRefused place) bytes = text_refused place
 answer_of outcomes.ReadFailed bytes = read_failed
@@ -54,6 +55,7 @@ of_load load_faults.Memory = outcomes.Memory
 
 abbrev pub of_relay : RelayFault → Outcome
 of_relay (relay_faults.Broken fault) = outcomes.InputRefused fault
+of_relay relay_faults.NeedsSliced = outcomes.NeedsSliced
 of_relay (relay_faults.TooLong length) = outcomes.TooLong length
 of_relay relay_faults.Memory = outcomes.Memory
 
@@ -102,6 +104,7 @@ GivesNoSchema files file before after usage = ⊥
 GivesNoSchema files file before after (no_such_name word) = ⊥
 GivesNoSchema files file before after (input_refused fault) = ⊥
 GivesNoSchema files file before after (too_long length) = ⊥
+GivesNoSchema files file before after needs_sliced = ⊥
 GivesNoSchema files file before after (text_refused place) = ⊥
 GivesNoSchema files file before after (write_failed bytes) = ⊥
 GivesNoSchema files file before after (refused_after written fault) = ⊥

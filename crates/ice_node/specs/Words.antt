@@ -1,7 +1,8 @@
 -- What the words of the command line ask for.
-use Rattle.std.specs.Prelude.{ℕ, ◌≡◌, ◌≤◌, List, [], ◌∷◌, length, map, codes, Option, Some, None, String, string_bytes}
+use Rattle.std.specs.Prelude.{ℕ, ◌≡◌, ◌≢◌, ◌≤◌, List, [], ◌∷◌, ◌++◌, length, map, codes, Option, Some, None, String, string_bytes}
 use Rattle.std.specs.declared.alloc.Global.{Global}
 use Rattle.ice_node.specs.declared.words.TheConstants.{MOST_OF_A_WORD}
+use Rattle.instance_writing.specs.declared.format.Format.TheVariants as formats
 use Rattle.ice_node.specs.declared.words.Task.{Task}
 use Rattle.ice_node.specs.declared.words.Task.TheVariants as tasks
 use Rattle.ice_node.specs.declared.words.Command.{Command as Written}
@@ -25,15 +26,21 @@ pub data Command : Type 0 where
 abbrev pub IsWord : Word → Type 0
 IsWord word = length word ≤ MOST_OF_A_WORD
 
--- the word for the task
-abbrev pub task_word : Task → Word
-task_word tasks.Relay = codes "relay"
-task_word tasks.Same = codes "same"
+-- the word for the task, and its options
+abbrev pub task_words : Task → List Word
+task_words (tasks.Relay formats.Sliced) = codes "relay" ∷ []
+task_words (tasks.Relay formats.Compact) = codes "relay" ∷ codes "--compact" ∷ []
+task_words tasks.Same = codes "same" ∷ []
+
+-- where an option may stand, FILE is none
+abbrev pub IsNoOption : Task → Word → Type 0
+IsNoOption (tasks.Relay format) word = word ≢ codes "--compact"
+IsNoOption tasks.Same word = Unit {0}
 
 -- The listed forms. Words that are none of them are a faulty command line.
 abbrev pub Form : List Word → Command → Type 0
 Form words (values task file kind) =
-    (words ≡ task_word task ∷ file ∷ kind ∷ []) × IsWord file × IsWord kind
+    (words ≡ task_words task ++ file ∷ kind ∷ []) × IsWord file × IsWord kind × IsNoOption task file
 Form words (check file) = (words ≡ codes "check" ∷ file ∷ []) × IsWord file
 Form words (proxy text) = (words ≡ codes "proxy" ∷ text ∷ []) × IsWord text
 Form words messages = words ≡ codes "messages" ∷ []

@@ -4,8 +4,10 @@
 pub const HELP: &str = "\
 usage: ice COMMAND
 
-  relay FILE TYPE  reads one encapsulation of a value of TYPE from standard input, and writes the
-                   canonical encapsulation of the same value to standard output
+  relay [--compact] FILE TYPE
+                   reads one encapsulation of a value of TYPE from standard input, and writes the
+                   canonical encapsulation of the same value to standard output: in sliced format,
+                   or with --compact in compact format
   same FILE TYPE   reads two encapsulations of values of TYPE, one after the other, from standard
                    input, and writes same or different: whether both are the same value, with all
                    instances that it leads to, however these are named
@@ -34,6 +36,8 @@ the words, FILE and what it includes, TYPE, the input, the output.
                                  the input is not one encapsulation of a value of TYPE, or of same
                                  not two, or a message is none: the first byte of the part with the
                                  first fault, counted from 0 through the whole input, and its kind
+  4  ice: kept slice needs sliced format
+                                 with --compact, an instance has a slice of a class that FILE lacks
   4  ice: answer too long: LENGTH
                                  the canonical encapsulation has LENGTH bytes, more than 1,048,576,
                                  or of same more than 2,147,483,647

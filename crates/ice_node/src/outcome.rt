@@ -32,6 +32,8 @@ pub enum Outcome<'a> {
     SliceRefused { file: Name, place: u32, kind: Name },
     /// The input is no encapsulation of a value of the type: its first fault.
     InputRefused(Fault),
+    /// An instance has a kept slice, which compact format cannot carry.
+    NeedsSliced,
     /// The bytes to be written are so many, which is more than the limit.
     TooLong(u64),
     /// The text is that of no proxy: the place of the first word that cannot stand.
@@ -64,6 +66,7 @@ impl<'a> Outcome<'a> {
             Outcome::Usage | Outcome::NoSuchName(_) => 2,
             Outcome::SliceRefused { .. } => 3,
             Outcome::InputRefused(_)
+            | Outcome::NeedsSliced
             | Outcome::TooLong(_)
             | Outcome::TextRefused(_)
             | Outcome::RefusedAfter(_) => 4,
@@ -99,6 +102,7 @@ impl<'a> Outcome<'a> {
                 let kind = word_of(fault.kind);
                 ["ice: input refused at ", place, ": ", kind, "\n", "", ""]
             }
+            Outcome::NeedsSliced => one("ice: kept slice needs sliced format\n"),
             Outcome::TooLong(length) => {
                 let length = digits.format(*length);
                 ["ice: answer too long: ", length, "\n", "", "", "", ""]
@@ -173,6 +177,7 @@ impl From<RelayFault> for Outcome<'_> {
     fn from(fault: RelayFault) -> Self {
         match fault {
             RelayFault::Broken(fault) => Outcome::InputRefused(fault),
+            RelayFault::NeedsSliced => Outcome::NeedsSliced,
             RelayFault::TooLong(length) => Outcome::TooLong(length),
             RelayFault::Memory => Outcome::Memory,
         }

@@ -1,5 +1,5 @@
-//! `relay FILE TYPE`: one encapsulation in, the canonical one out; and `same FILE TYPE`: two in, and whether they
-//! hold the same value.
+//! `relay [--compact] FILE TYPE`: one encapsulation in, the canonical one out; and `same FILE TYPE`: two in, and
+//! whether they hold the same value.
 
 ghost use Rattle.std.specs.Prelude.{ℕ};
 ghost use Rattle.ice_node.specs.Words.{values};
@@ -10,30 +10,32 @@ ghost use Rattle.ice_node.specs.Outcomes.{FindsType, FindsBytes, FindsVerdict, T
 use crate::loading::load_schema;
 use crate::outcome::Outcome;
 use crate::type_words::type_of_word;
+use class_slices::Format;
 use ice_ports::{Shelf, Source};
 use ice_relay::{are_same, canonical_of, read_input, read_two};
 use ice_types::{Schema, TypeRef};
 use std::alloc::Global;
 
-/// The canonical encapsulation of the value of the type that the source holds, or why there is
-/// none. Only a source of which a value is asked is read.
+/// The canonical encapsulation, in the format, of the value of the type that the source holds, or why there
+/// is none. Only a source of which a value is asked is read.
 pub fn relay<'a, H: Shelf, S: Source>(
     alloc: Global,
+    format: Format,
     file: &str,
     word: &'a str,
     shelf: &mut H,
     source: &mut S,
 ) -> Result<Vec<u8>, Outcome<'a>>
     ensures found { (sink : ℕ)
-        → FindsBytes (values tasks.Relay file.now word.now) (H.files shelf.old) (S.left source.old)
+        → FindsBytes (values (tasks.Relay format) file.now word.now) (H.files shelf.old) (S.left source.old)
         (counts (H.failures shelf.old) (S.failures source.old) sink)
         (counts (H.failures shelf.new) (S.failures source.new) sink) (bytes_found result) }
-    ensures taken { TakesFound (values tasks.Relay file.now word.now) (S.left source.old) (S.left source.new) result }
+    ensures taken { TakesFound (values (tasks.Relay format) file.now word.now) (S.left source.old) (S.left source.new) result }
 {
     let schema = load_schema(alloc, file, shelf)?;
     let kind = named_type(&schema, word)?;
     let input = read_input(alloc, source)?;
-    Ok(canonical_of(alloc, &schema, kind, input.as_slice())?)
+    Ok(canonical_of(alloc, &schema, kind, format, input.as_slice())?)
 }
 
 /// Whether the two values of the type that the source holds are the same, or why that is not told.

@@ -1,6 +1,9 @@
 //! All that the program does.
 
 ghost use Rattle.std.specs.Prelude.{◌≡◌, List, ℕ, Option, Some};
+ghost use Rattle.std.specs.Io.KnownBytes.{Appends};
+ghost use Rattle.ice_prims.specs.Rest.{IsBytes};
+ghost use Rattle.ice_node.specs.Carrying.{Carries};
 ghost use Rattle.ice_node.specs.Words.{Word, Command as Asked, Asks, words_of};
 ghost use Rattle.ice_node.specs.Outside.{Files, outside, counts};
 ghost use Rattle.ice_node.specs.Answers.{Answer};
@@ -49,6 +52,15 @@ pub fn node<H: Shelf, S: Source, K: Sink, E: Sink>(
         (files : Files) (input : List ℕ) (answer : Answer)
         → before.files ≡ Some files → before.input ≡ Some input
         → Decided (words_of words.now) files input answer → Ends (words_of words.now) before after result answer }
+
+    // Where the outside tells what it holds, `relay` in sliced format has written, with status 0, the graph that
+    // the input is for whoever knows the classes that FILE lacks.
+    ensures carried { let before = outside (H.files shelf.old) (S.left source.old) (K.taken sink.old) (E.taken errors.old)
+        (counts (H.failures shelf.old) (S.failures source.old) (K.failures sink.old)) (E.failures errors.old) in
+        let after = outside (H.files shelf.new) (S.left source.new) (K.taken sink.new) (E.taken errors.new)
+        (counts (H.failures shelf.new) (S.failures source.new) (K.failures sink.new)) (E.failures errors.new) in
+        (files : Files) (input : List ℕ) → before.files ≡ Some files → before.input ≡ Some input → IsBytes input
+        → result ≡ 0 → (out : List ℕ) × Appends before.output after.output out × Carries (words_of words.now) files input out }
 {
     let outcome = run(alloc, words, shelf, source, sink);
     report(outcome, errors)
@@ -78,7 +90,7 @@ fn run<'a, H: Shelf, S: Source, K: Sink>(
 {
     match command_of(words) {
         Some(Command::Values { task, file, kind }) => match task {
-            Task::Relay => match relay(alloc, file, kind, shelf, source) {
+            Task::Relay(format) => match relay(alloc, format, file, kind, shelf, source) {
                 Ok(bytes) => print(bytes.as_slice(), sink),
                 Err(outcome) => outcome,
             },

@@ -3,14 +3,19 @@
 ghost use Rattle.std.specs.Prelude.{◌≡◌, List, [], ◌∷◌};
 ghost use Rattle.ice_node.specs.Words.{Word, Command as Asked, Form, Asks, asked_of, words_of};
 
+use class_slices::Format;
+
 /// The most bytes of a word that is the file, the type or the text of a listed form.
 pub(crate) const MOST_OF_A_WORD: usize = 8192;
+
+/// The option for compact format.
+const COMPACT: &str = "--compact";
 
 /// What is done with values that are read.
 #[derive(Clone, Copy, Debug, PartialEq, Eq)]
 pub enum Task {
-    /// To relay one.
-    Relay,
+    /// To relay one, in the format.
+    Relay(Format),
     /// To tell whether two are the same.
     Same,
 }
@@ -48,6 +53,12 @@ pub fn command_of(words: &[String]) -> Option<Command<'_>>
         [word] => of_one_word(word.as_str()),
         [command, word] => of_two_words(command.as_str(), word.as_str()),
         [task, file, kind] => of_three_words(task.as_str(), file.as_str(), kind.as_str()),
+        [task, option, file, kind] => of_four_words(
+            task.as_str(),
+            option.as_str(),
+            file.as_str(),
+            kind.as_str(),
+        ),
         _ => None,
     }
 }
@@ -83,10 +94,28 @@ fn of_three_words<'a>(word: &'a str, file: &'a str, kind: &'a str) -> Option<Com
         return None;
     }
     let task = match word {
-        "relay" => Task::Relay,
+        "relay" if file != COMPACT => Task::Relay(Format::Sliced),
         "same" => Task::Same,
         _ => return None,
     };
+    Some(Command::Values { task, file, kind })
+}
+
+fn of_four_words<'a>(
+    word: &'a str,
+    option: &'a str,
+    file: &'a str,
+    kind: &'a str,
+) -> Option<Command<'a>>
+    ensures { Asks (word.now ∷ option.now ∷ file.now ∷ kind.now ∷ []) (asked_of result) }
+{
+    if file.len() > MOST_OF_A_WORD || kind.len() > MOST_OF_A_WORD {
+        return None;
+    }
+    if word != "relay" || option != COMPACT || file == COMPACT {
+        return None;
+    }
+    let task = Task::Relay(Format::Compact);
     Some(Command::Values { task, file, kind })
 }
 

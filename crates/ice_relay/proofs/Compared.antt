@@ -18,7 +18,7 @@ use Rattle.ice_parts.specs.declared.limits.TheConstants.{SMALLEST}
 use Rattle.ice_encoding.proofs.Encapsulations.{encapsulated_length}
 use Rattle.ice_encoding.specs.Encapsulation.{encapsulated_at}
 use Rattle.ice_graphs.specs.Graph.{Graph}
-use Rattle.ice_graphs.specs.Flags.{known_classes}
+use Rattle.ice_graphs.specs.Flags.{all_slices}
 use Rattle.ice_graphs.specs.Instances.{graph_at, numbered_at}
 use Rattle.ice_graphs.specs.Canonical.{sliced}
 use Rattle.ice_graphs.specs.Same.{Same}
@@ -40,12 +40,12 @@ use Rattle.ice_relay.proofs.Twice.{claims_front}
 module _ (t : Tables) (kind : TypeRef) (input : List ℕ) where
   -- ---- the graphs
 
-  pub two_found : (g h : Graph) (behind : Rest) → IsBytes input → next_held t kind (whole input) ≡ Ok (g, behind) → numbered_at t known_classes (one_value kind) behind ≡ Ok h → HoldTwo t kind input g h
+  pub two_found : (g h : Graph) (behind : Rest) → IsBytes input → next_held t kind (whole input) ≡ Ok (g, behind) → numbered_at t all_slices (one_value kind) behind ≡ Ok h → HoldTwo t kind input g h
   two_found g h behind fits first second =
-      let found = next_found t known_classes (one_value kind) (whole input) (g, behind) fits first in
+      let found = next_found t all_slices (one_value kind) (whole input) (g, behind) fits first in
       let parts : input ≡ found.0 ++ behind.bytes = found.1.parts in
       let later : IsBytes behind.bytes = IsBytes-rest found.0 behind.bytes (subst IsBytes parts fits) in
-      (found.0, behind.bytes, parts, found.2, last_found t known_classes (one_value kind) behind h later second)
+      (found.0, behind.bytes, parts, found.2, last_found t all_slices (one_value kind) behind h later second)
 
   -- ---- why there are none
 
@@ -53,28 +53,30 @@ module _ (t : Tables) (kind : TypeRef) (input : List ℕ) where
   first_fails read_faults.Memory e = tt
   first_fails (read_faults.Broken fault) e = rw e refl
 
-  second_fails : (g : Graph) (behind : Rest) (fault : ReadFault) → next_held t kind (whole input) ≡ Ok (g, behind) → Fails fault (numbered_at t known_classes (one_value kind) behind) → Compares t kind input (Err (of_read fault))
+  second_fails : (g : Graph) (behind : Rest) (fault : ReadFault) → next_held t kind (whole input) ≡ Ok (g, behind) → Fails fault (numbered_at t all_slices (one_value kind) behind) → Compares t kind input (Err (of_read fault))
   second_fails g behind read_faults.Memory first e = tt
   second_fails g behind (read_faults.Broken fault) first e = rw (first, e) refl
 
   -- ---- their canonical encapsulations
 
   module _ (g h : Graph) (both : HoldTwo t kind input g h) where
-    first_unwritten : (fault : WriteFault) → Writes t (one_value kind) g MOST_COMPARED (Err fault) → Compares t kind input (Err (of_write fault))
+    first_unwritten : (fault : WriteFault) → Writes t (one_value kind) sliced g MOST_COMPARED (Err fault) → Compares t kind input (Err (of_write fault))
     first_unwritten write_faults.Memory e = tt
-    first_unwritten (write_faults.TooLong n) e = (g, h, both, (e.1, inl e.0))
+    first_unwritten (write_faults.UnknownNeedsSliced n) e = absurd e.0
+    first_unwritten (write_faults.TooLong n) e = (g, h, both, (e.2, inl e.1))
 
-    second_unwritten : (a : Vec ℕ Global) (fault : WriteFault) → Writes t (one_value kind) g MOST_COMPARED (Ok a) → Writes t (one_value kind) h MOST_COMPARED (Err fault) → Compares t kind input (Err (of_write fault))
+    second_unwritten : (a : Vec ℕ Global) (fault : WriteFault) → Writes t (one_value kind) sliced g MOST_COMPARED (Ok a) → Writes t (one_value kind) sliced h MOST_COMPARED (Err fault) → Compares t kind input (Err (of_write fault))
     second_unwritten a write_faults.Memory first e = tt
-    second_unwritten a (write_faults.TooLong n) first e = (g, h, both, (e.1, inr (omega (arith, ap length first.0, first.1), e.0)))
+    second_unwritten a (write_faults.UnknownNeedsSliced n) first e = absurd e.0
+    second_unwritten a (write_faults.TooLong n) first e = (g, h, both, (e.2, inr (omega (arith, ap length first.1, first.2), e.1)))
 
-    compared : (a b : Vec ℕ Global) (same : Bool) → IsSchema t → IsBytes input → Writes t (one_value kind) g MOST_COMPARED (Ok a) → Writes t (one_value kind) h MOST_COMPARED (Ok b) → (IsTrue same ↔ (a.items ≡ b.items)) → Compares t kind input (Ok same)
+    compared : (a b : Vec ℕ Global) (same : Bool) → IsSchema t → IsBytes input → Writes t (one_value kind) sliced g MOST_COMPARED (Ok a) → Writes t (one_value kind) sliced h MOST_COMPARED (Ok b) → (IsTrue same ↔ (a.items ≡ b.items)) → Compares t kind input (Ok same)
     compared a b same rules fits first second test =
         let all : IsBytes (both.0 ++ both.1) = subst IsBytes both.2 fits in
-        let small : size_of t kind g ≤ MOST_COMPARED = omega (arith, ap length first.0, first.1) in
-        let other : size_of t kind h ≤ MOST_COMPARED = omega (arith, ap length second.0, second.1) in
-        let tell : (canonical_bytes t kind g ≡ canonical_bytes t kind h) ↔ Same g h = read_equal_is_same t known_classes (one_value kind) sliced both.0 both.1 g h rules (IsBytes-front both.0 both.1 all) (IsBytes-rest both.0 both.1 all) both.3 both.4 (λ n lt. tt) (λ n lt. tt) (omega (arith, small)) in
-        (g, h, both, (small, other), (λ yes. tell.0 (sym first.0 ∙ test.0 yes ∙ second.0), λ s. test.1 (first.0 ∙ tell.1 s ∙ sym second.0)))
+        let small : size_of t kind g ≤ MOST_COMPARED = omega (arith, ap length first.1, first.2) in
+        let other : size_of t kind h ≤ MOST_COMPARED = omega (arith, ap length second.1, second.2) in
+        let tell : (canonical_bytes t kind sliced g ≡ canonical_bytes t kind sliced h) ↔ Same g h = read_equal_is_same t all_slices (one_value kind) sliced both.0 both.1 g h rules (IsBytes-front both.0 both.1 all) (IsBytes-rest both.0 both.1 all) both.3 both.4 (λ n lt. tt) (λ n lt. tt) (omega (arith, small)) in
+        (g, h, both, (small, other), (λ yes. tell.0 (sym first.1 ∙ test.0 yes ∙ second.1), λ s. test.1 (first.1 ∙ tell.1 s ∙ sym second.1)))
 
 -- ---- what two encapsulations are
 
@@ -89,8 +91,8 @@ module _ (t : Tables) (kind : TypeRef) where
   pub two_only : (input : List ℕ) (g h : Graph) → HoldTwo t kind input g h → two_held t kind input ≡ Ok (g, h)
   two_only input g h (first, second, parts, one, other) =
       let behind = left (0 + length first) second in
-      let read : next_held t kind (whole input) ≡ Ok (g, behind) = next_only t known_classes (one_value kind) (whole input) behind first g (record { parts = parts; moved = refl }) one in
-      rw (read, last_only t known_classes (one_value kind) behind h other) refl
+      let read : next_held t kind (whole input) ≡ Ok (g, behind) = next_only t all_slices (one_value kind) (whole input) behind first g (record { parts = parts; moved = refl }) one in
+      rw (read, last_only t all_slices (one_value kind) behind h other) refl
 
   -- and no first fault is decided
   pub never_decided : (got : List ℕ) (g h : Graph) → HoldTwo t kind got g h → AreDecided got → ⊥
@@ -117,7 +119,7 @@ module _ (t : Tables) (kind : TypeRef) (root : Member) (is : root ≡ root_of ki
   by_shape P = subst P (ap shape_of is)
 
   abbrev next_at : Shape → Rest → Result (Graph × Rest) Fault
-  next_at shape = encapsulated_at (graph_at t known_classes shape)
+  next_at shape = encapsulated_at (graph_at t all_slices shape)
 
   first_is : (g : Graph) (behind : Rest) → next_at (shape_of root) start ≡ Ok (g, behind) → next_held t kind (whole input) ≡ Ok (g, behind)
   first_is g behind e = subst (λ (r : Rest). next_held t kind r ≡ Ok (g, behind)) from (by_shape (λ s. next_at s start ≡ Ok (g, behind)) e)
@@ -125,21 +127,21 @@ module _ (t : Tables) (kind : TypeRef) (root : Member) (is : root ≡ root_of ki
   pub first_broken : (fault : ReadFault) → Fails fault (next_at (shape_of root) start) → Compares t kind input (Err (of_read fault))
   first_broken fault e = first_fails t kind input fault (subst (λ (r : Rest). Fails fault (next_held t kind r)) from (by_shape (λ s. Fails fault (next_at s start)) e))
 
-  pub second_broken : (g : Graph) (behind : Rest) (fault : ReadFault) → next_at (shape_of root) start ≡ Ok (g, behind) → Fails fault (numbered_at t known_classes (shape_of root) behind) → Compares t kind input (Err (of_read fault))
-  second_broken g behind fault first e = second_fails t kind input g behind fault (first_is g behind first) (by_shape (λ s. Fails fault (numbered_at t known_classes s behind)) e)
+  pub second_broken : (g : Graph) (behind : Rest) (fault : ReadFault) → next_at (shape_of root) start ≡ Ok (g, behind) → Fails fault (numbered_at t all_slices (shape_of root) behind) → Compares t kind input (Err (of_read fault))
+  second_broken g behind fault first e = second_fails t kind input g behind fault (first_is g behind first) (by_shape (λ s. Fails fault (numbered_at t all_slices s behind)) e)
 
-  module _ (fits : IsBytes input) (g h : Graph) (behind : Rest) (first : next_at (shape_of root) start ≡ Ok (g, behind)) (second : numbered_at t known_classes (shape_of root) behind ≡ Ok h) where
+  module _ (fits : IsBytes input) (g h : Graph) (behind : Rest) (first : next_at (shape_of root) start ≡ Ok (g, behind)) (second : numbered_at t all_slices (shape_of root) behind ≡ Ok h) where
     held : HoldTwo t kind input g h
-    held = two_found t kind input g h behind fits (first_is g behind first) (by_shape (λ s. numbered_at t known_classes s behind ≡ Ok h) second)
+    held = two_found t kind input g h behind fits (first_is g behind first) (by_shape (λ s. numbered_at t all_slices s behind ≡ Ok h) second)
 
-    written : (k : Graph) (result : Result (Vec ℕ Global) WriteFault) → Writes t (shape_of root) k MOST_COMPARED result → Writes t (one_value kind) k MOST_COMPARED result
-    written k result = by_shape (λ s. Writes t s k MOST_COMPARED result)
+    written : (k : Graph) (result : Result (Vec ℕ Global) WriteFault) → Writes t (shape_of root) sliced k MOST_COMPARED result → Writes t (one_value kind) sliced k MOST_COMPARED result
+    written k result = by_shape (λ s. Writes t s sliced k MOST_COMPARED result)
 
-    pub first_long : (fault : WriteFault) → Writes t (shape_of root) g MOST_COMPARED (Err fault) → Compares t kind input (Err (of_write fault))
+    pub first_long : (fault : WriteFault) → Writes t (shape_of root) sliced g MOST_COMPARED (Err fault) → Compares t kind input (Err (of_write fault))
     first_long fault e = first_unwritten t kind input g h held fault (written g (Err fault) e)
 
-    pub second_long : (a : Vec ℕ Global) (fault : WriteFault) → Writes t (shape_of root) g MOST_COMPARED (Ok a) → Writes t (shape_of root) h MOST_COMPARED (Err fault) → Compares t kind input (Err (of_write fault))
+    pub second_long : (a : Vec ℕ Global) (fault : WriteFault) → Writes t (shape_of root) sliced g MOST_COMPARED (Ok a) → Writes t (shape_of root) sliced h MOST_COMPARED (Err fault) → Compares t kind input (Err (of_write fault))
     second_long a fault e f = second_unwritten t kind input g h held a fault (written g (Ok a) e) (written h (Err fault) f)
 
-    pub both_written : (a b : Vec ℕ Global) (same : Bool) → IsSchema t → Writes t (shape_of root) g MOST_COMPARED (Ok a) → Writes t (shape_of root) h MOST_COMPARED (Ok b) → (IsTrue same ↔ (a.items ≡ b.items)) → Compares t kind input (Ok same)
+    pub both_written : (a b : Vec ℕ Global) (same : Bool) → IsSchema t → Writes t (shape_of root) sliced g MOST_COMPARED (Ok a) → Writes t (shape_of root) sliced h MOST_COMPARED (Ok b) → (IsTrue same ↔ (a.items ≡ b.items)) → Compares t kind input (Ok same)
     both_written a b same rules e f test = compared t kind input g h held a b same rules fits (written g (Ok a) e) (written h (Ok b) f) test

@@ -15,7 +15,7 @@ use Rattle.ice_parts.specs.Bounds.{claimed, ended, filled}
 use Rattle.ice_parts.specs.Encapsulation.{encoding}
 use Rattle.ice_parts.proofs.Bounded.{claimed_ok}
 use Rattle.ice_encoding.specs.Encapsulation.{encapsulated_at}
-use Rattle.ice_graphs.specs.Flags.{known_classes}
+use Rattle.ice_graphs.specs.Flags.{all_slices}
 use Rattle.ice_graphs.specs.Instances.{graph_at}
 use Rattle.ice_relay.specs.Relaying.{one_value, held}
 use Rattle.ice_relay.specs.Streams.{GoesOn, IsDecided, ReadsInput}
@@ -194,4 +194,4 @@ read_decides t kind known got (Some rest) (all, inl end, frugal) =
     let same : got ≡ known = sym (all ∙ ap (λ (l : List ℕ). got ++ l) end ∙ append-nil got) in
     ap (held t kind) same
 read_decides t kind known got (Some rest) (all, inr decided, frugal) =
-    read_alike (graph_at t known_classes (one_value kind)) 0 got rest decided ∙ ap (held t kind) (sym all)
+    read_alike (graph_at t all_slices (one_value kind)) 0 got rest decided ∙ ap (held t kind) (sym all)

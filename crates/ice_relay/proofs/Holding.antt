@@ -14,7 +14,8 @@ use Rattle.ice_prims.proofs.Spelled.{int_exact}
 use Rattle.ice_parts.specs.declared.limits.TheConstants.{LARGEST, SMALLEST}
 use Rattle.ice_encoding.proofs.Encapsulations.{encapsulated_length}
 use Rattle.ice_graphs.specs.Graph.{Graph}
-use Rattle.ice_graphs.specs.Flags.{known_classes}
+use Rattle.ice_graphs.specs.Flags.{all_slices}
+use Rattle.ice_graphs.specs.Canonical.{Format}
 use Rattle.ice_graphs.specs.Instances.{numbered_at}
 use Rattle.ice_graphs.proofs.Graphs.{numbered_found}
 use Rattle.ice_members.specs.Shapes.{told_apart}
@@ -48,16 +49,17 @@ module _ (t : Tables) (kind : TypeRef) where
     asked_is : asked ≡ one_value kind
     asked_is = ap (λ (m : Member). told_apart (record { required = m ∷ []; optional = [] })) is
 
-    holds : (input : List ℕ) (g : Graph) → IsBytes input → numbered_at t known_classes asked (whole input) ≡ Ok g → Holds t kind input g
-    holds input g fits read = numbered_found t known_classes (one_value kind) input g fits (subst (λ (s : Shape). numbered_at t known_classes s (whole input) ≡ Ok g) asked_is read)
+    holds : (input : List ℕ) (g : Graph) → IsBytes input → numbered_at t all_slices asked (whole input) ≡ Ok g → Holds t kind input g
+    holds input g fits read = numbered_found t all_slices (one_value kind) input g fits (subst (λ (s : Shape). numbered_at t all_slices s (whole input) ≡ Ok g) asked_is read)
 
-    writes : (g : Graph) (result : Result (Vec ℕ Global) WriteFault) → Writes t asked g LARGEST result → Writes t (one_value kind) g LARGEST result
-    writes g result = subst (λ (s : Shape). Writes t s g LARGEST result) asked_is
+    writes : (f : Format) (g : Graph) (result : Result (Vec ℕ Global) WriteFault) → Writes t asked f g LARGEST result → Writes t (one_value kind) f g LARGEST result
+    writes f g result = subst (λ (s : Shape). Writes t s f g LARGEST result) asked_is
 
-    pub relayed : (input : List ℕ) (g : Graph) (out : Vec ℕ Global) → IsBytes input → numbered_at t known_classes asked (whole input) ≡ Ok g → Writes t asked g LARGEST (Ok out) → Canonicalizes t kind input (Ok out)
-    relayed input g out fits read e = let written = writes g (Ok out) e in (g, holds input g fits read, written.0, written.1)
+    pub relayed : (f : Format) (input : List ℕ) (g : Graph) (out : Vec ℕ Global) → IsBytes input → numbered_at t all_slices asked (whole input) ≡ Ok g → Writes t asked f g LARGEST (Ok out) → Canonicalizes t kind f input (Ok out)
+    relayed f input g out fits read e = let written = writes f g (Ok out) e in (g, holds input g fits read, written.0, written.1, written.2)
 
-    -- its length, unless memory ran out
-    pub unwritten : (input : List ℕ) (g : Graph) (fault : WriteFault) → IsBytes input → numbered_at t known_classes asked (whole input) ≡ Ok g → Writes t asked g LARGEST (Err fault) → Canonicalizes t kind input (Err (of_write fault))
-    unwritten input g write_faults.Memory fits read e = tt
-    unwritten input g (write_faults.TooLong n) fits read e = let told = writes g (Err (write_faults.TooLong n)) e in (g, holds input g fits read, told.0, told.1)
+    -- a kept slice, or its length, unless memory ran out
+    pub unwritten : (f : Format) (input : List ℕ) (g : Graph) (fault : WriteFault) → IsBytes input → numbered_at t all_slices asked (whole input) ≡ Ok g → Writes t asked f g LARGEST (Err fault) → Canonicalizes t kind f input (Err (of_write fault))
+    unwritten f input g write_faults.Memory fits read e = tt
+    unwritten f input g (write_faults.UnknownNeedsSliced n) fits read e = (g, holds input g fits read, e.0)
+    unwritten f input g (write_faults.TooLong n) fits read e = let told = writes f g (Err (write_faults.TooLong n)) e in (g, holds input g fits read, told.0, told.1, told.2)

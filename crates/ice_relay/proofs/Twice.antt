@@ -14,7 +14,7 @@ use Rattle.ice_parts.specs.Encapsulation.{encoding}
 use Rattle.ice_parts.proofs.Bounded.{claimed_ok}
 use Rattle.ice_encoding.specs.Encapsulation.{encapsulated_at}
 use Rattle.ice_graphs.specs.Graph.{Graph}
-use Rattle.ice_graphs.specs.Flags.{known_classes}
+use Rattle.ice_graphs.specs.Flags.{all_slices}
 use Rattle.ice_graphs.specs.Instances.{graph_at}
 use Rattle.ice_relay.specs.Relaying.{one_value}
 use Rattle.ice_relay.specs.Comparing.{next_held, and_last, two_of, two_held}
@@ -133,11 +133,11 @@ two_decides t kind known got (Some rest) (all, inl end, frugal) =
     let same : got ≡ known = sym (all ∙ ap (λ (l : List ℕ). got ++ l) end ∙ append-nil got) in
     ap (two_held t kind) same
 two_decides t kind known got (Some rest) (all, inr (inl refused), frugal) =
-    ap (λ (e : Result (Graph × Rest) Fault). e >>= and_last (next_held t kind)) (refused_alike (graph_at t known_classes (one_value kind)) got rest refused) ∙ ap (two_held t kind) (sym all)
+    ap (λ (e : Result (Graph × Rest) Fault). e >>= and_last (next_held t kind)) (refused_alike (graph_at t all_slices (one_value kind)) got rest refused) ∙ ap (two_held t kind) (sym all)
 two_decides t kind known got (Some rest) (all, inr (inr (n, begins, decided)), frugal) =
     let long : n ≤ length got = omega (arith, decided_some (drop n got) decided, length-drop n got) in
     let cut = cut_first got n long begins in
     let parts : take n got ++ drop n got ≡ got = take-append-drop n got in
     ap (two_held t kind) (sym parts)
-    ∙ two_alike (graph_at t known_classes (one_value kind)) (take n got) (drop n got) rest cut.0 decided
+    ∙ two_alike (graph_at t all_slices (one_value kind)) (take n got) (drop n got) rest cut.0 decided
     ∙ ap (two_held t kind) (sym (append_assoc (take n got) (drop n got) rest) ∙ ap (λ (l : List ℕ). l ++ rest) parts ∙ sym all)

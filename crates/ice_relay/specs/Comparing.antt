@@ -7,8 +7,9 @@ use Rattle.ice_prims.specs.Rest.{Rest, whole, ◌>>=◌}
 use Rattle.ice_parts.specs.Bounds.{filled}
 use Rattle.ice_encoding.specs.Encapsulation.{encapsulated_at}
 use Rattle.ice_graphs.specs.Graph.{Graph}
-use Rattle.ice_graphs.specs.Flags.{known_classes}
+use Rattle.ice_graphs.specs.Flags.{all_slices}
 use Rattle.ice_graphs.specs.Instances.{graph_at}
+use Rattle.ice_graphs.specs.Canonical.{sliced}
 use Rattle.ice_graphs.specs.Same.{Same}
 use Rattle.ice_relay.specs.declared.comparing.TheConstants.{MOST_COMPARED}
 use Rattle.ice_relay.specs.declared.fault.RelayFault.{RelayFault}
@@ -24,7 +25,7 @@ HoldTwo t kind input g h = (first second : List ℕ) × (input ≡ first ++ seco
 
 -- the graph of the encapsulation that begins here, and what follows it
 abbrev pub next_held : Tables → TypeRef → Rest → Result (Graph × Rest) Fault
-next_held t kind = encapsulated_at (graph_at t known_classes (one_value kind))
+next_held t kind = encapsulated_at (graph_at t all_slices (one_value kind))
 
 -- one of these that was read, and then another, and nothing after it
 abbrev pub and_last : {A : Type 0} → (Rest → Result (A × Rest) Fault) → A × Rest → Result (A × A) Fault
@@ -39,9 +40,9 @@ two_held t kind input = two_of (next_held t kind) (whole input)
 
 -- ---- what comes of it
 
--- how long the canonical encapsulation is
+-- how long the canonical encapsulation is, in sliced format
 abbrev pub size_of : Tables → TypeRef → Graph → ℕ
-size_of t kind g = length (canonical_bytes t kind g)
+size_of t kind g = length (canonical_bytes t kind sliced g)
 
 -- the canonical encapsulation of the first has so many bytes, or, where it can be compared, that of the second
 abbrev pub IsFirstLong : Tables → TypeRef → Graph → Graph → ℕ → Type 0
@@ -58,5 +59,6 @@ abbrev pub Compares : Tables → TypeRef → List ℕ → Result Bool RelayFault
 Compares t kind input (Ok same) = (g h : Graph) × HoldTwo t kind input g h × CanBeCompared t kind g h
     × (IsTrue same ↔ Same g h)
 Compares t kind input (Err (faults.Broken fault)) = two_held t kind input ≡ Err fault
+Compares t kind input (Err faults.NeedsSliced) = ⊥
 Compares t kind input (Err (faults.TooLong n)) = (g h : Graph) × HoldTwo t kind input g h × IsFirstLong t kind g h n
 Compares t kind input (Err faults.Memory) = Unit {0}

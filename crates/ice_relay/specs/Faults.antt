@@ -11,5 +11,6 @@ of_read (read_faults.Broken fault) = faults.Broken fault
 of_read read_faults.Memory = faults.Memory
 
 abbrev pub of_write : WriteFault → RelayFault
+of_write (write_faults.UnknownNeedsSliced at) = faults.NeedsSliced
 of_write (write_faults.TooLong n) = faults.TooLong n
 of_write write_faults.Memory = faults.Memory

@@ -4,7 +4,7 @@ ghost use Rattle.ice_relay.specs.Comparing.{Compares};
 
 use crate::fault::RelayFault;
 use crate::relay::root_of;
-use class_slices::{decode_rest, encode_typed, take_graph};
+use class_slices::{Format, decode_rest, encode_typed, take_graph};
 use ice_members::Fields;
 use ice_prims::Cursor;
 use ice_types::{Schema, TypeRef};
@@ -34,7 +34,21 @@ pub fn are_same(
     let first = take_graph(alloc, schema, fields, &mut cursor)?;
     let second = decode_rest(alloc, schema, fields, cursor)?;
     schema.rules();
-    let first = encode_typed(alloc, schema, fields, first, MOST_COMPARED as u32)?;
-    let second = encode_typed(alloc, schema, fields, second, MOST_COMPARED as u32)?;
+    let first = encode_typed(
+        alloc,
+        schema,
+        fields,
+        first,
+        Format::Sliced,
+        MOST_COMPARED as u32,
+    )?;
+    let second = encode_typed(
+        alloc,
+        schema,
+        fields,
+        second,
+        Format::Sliced,
+        MOST_COMPARED as u32,
+    )?;
     Ok(first.as_slice() == second.as_slice())
 }

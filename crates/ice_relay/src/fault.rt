@@ -13,6 +13,8 @@ use std::alloc::AllocError;
 pub enum RelayFault {
     /// The input is no encapsulation of a value of the type: its first fault.
     Broken(Fault),
+    /// An instance has a kept slice, which only sliced format can carry.
+    NeedsSliced,
     /// The canonical encapsulation has so many bytes, which is more than the limit.
     TooLong(u64),
     /// Out of memory, which may come in place of any other answer.
@@ -35,6 +37,7 @@ impl From<WriteFault> for RelayFault {
 
     fn from(fault: WriteFault) -> RelayFault {
         match fault {
+            WriteFault::UnknownNeedsSliced(_) => RelayFault::NeedsSliced,
             WriteFault::TooLong(length) => RelayFault::TooLong(length),
             WriteFault::Memory => RelayFault::Memory,
         }

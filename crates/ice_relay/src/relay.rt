@@ -1,25 +1,27 @@
 //! From the bytes that came in to those that go out.
 
 ghost use Rattle.std.specs.Prelude.{◌≡◌, IfOk};
+ghost use Rattle.instance_writing.specs.Formats.{view_format};
 ghost use Rattle.ice_relay.specs.Relaying.{Canonicalizes, root_of};
 
 use crate::fault::RelayFault;
-use class_slices::{decode, encode_typed};
+use class_slices::{Format, decode, encode_typed};
 use ice_members::Fields;
 use ice_parts::LARGEST;
 use ice_types::{Member, Name, Schema, TypeRef};
 use std::alloc::{AllocError, Global};
 
-/// The canonical encapsulation, in sliced format, of the value that the whole input holds, with all
-/// instances that it leads to; or the first fault from the left; or the length of the encapsulation,
-/// where it is more than 1,048,576 bytes. (Ice manual, "Data Encoding for Class and Exception Types".)
+/// The canonical encapsulation, in the format, of the value that the whole input holds, with all
+/// instances that it leads to; or the first fault from the left; or that one of these has a kept slice
+/// and the format is compact; or the length of the encapsulation, where it is more than 1,048,576 bytes. (Ice manual, "Data Encoding for Class and Exception Types".)
 pub fn canonical_of(
     alloc: Global,
     schema: &Schema,
     kind: TypeRef,
+    format: Format,
     input: &[u8],
 ) -> Result<Vec<u8>, RelayFault>
-    ensures { Canonicalizes schema.now kind input.now result }
+    ensures { Canonicalizes schema.now kind (view_format format) input.now result }
 {
     let root = [root_of(alloc, kind)?];
     let fields = Fields {
@@ -27,7 +29,7 @@ pub fn canonical_of(
         optional: &[],
     };
     let graph = decode(alloc, schema, fields, input)?;
-    Ok(encode_typed(alloc, schema, fields, graph, LARGEST as u32)?)
+    Ok(encode_typed(alloc, schema, fields, graph, format, LARGEST as u32)?)
 }
 
 /// The member that stands for a value which is no member of anything.

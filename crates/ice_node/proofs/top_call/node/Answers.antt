@@ -1,5 +1,6 @@
 use Rattle.ice_node.specs.Words.{words_of}
 use Rattle.ice_node.specs.Outcomes.{answer_of}
+use Rattle.ice_node.proofs.Carrying.{answer_carries}
 use Rattle.ice_node.proofs.OneAnswer.{ends}
 use Rattle.ice_node.proofs.top_call.node.Goals as goal
 
@@ -12,3 +13,6 @@ returns-clause-answered g c =
 
 pub returns-clause-exactly : goal.returns-clause-exactly
 returns-clause-exactly g c = let answered = returns-clause-answered g c in ends (words_of c.args.words.now) _ _ c.report.result answered.0 answered.1
+
+pub returns-clause-carried : goal.returns-clause-carried
+returns-clause-carried g c = let answered = returns-clause-answered g c in answer_carries (words_of c.args.words.now) _ _ c.report.result answered.0 answered.1

@@ -11,7 +11,7 @@ use Rattle.ice_node.proofs.top_call.run.Goals as goal
 pub returns-in-Ok : goal.returns-in-Ok
 returns-in-Ok g c =
     let found = c.in-Ok.ensures.found (g.K.Sink.failures c.args.sink.now) in
-    let asked = Some (values tasks.Relay c.in-Some-Values.file.now c.in-Some-Values.kind.now) in
+    let asked = Some (values (tasks.Relay c.in-Relay.format) c.in-Some-Values.file.now c.in-Some-Values.kind.now) in
     let came = printed asked (g.H.Shelf.files c.args.shelf.now) (g.S.Source.left c.args.source.now) (g.S.Source.left c.relay.new.source)
     (record { shelf = g.H.Shelf.failures c.args.shelf.now; source = g.S.Source.failures c.args.source.now; sink = g.K.Sink.failures c.args.sink.now })
     (record { shelf = g.H.Shelf.failures c.relay.new.shelf; source = g.S.Source.failures c.relay.new.source; sink = g.K.Sink.failures c.print.new.sink })
@@ -20,7 +20,7 @@ returns-in-Ok g c =
 
 pub returns-in-Err : goal.returns-in-Err
 returns-in-Err g c =
-    ([], Some (values tasks.Relay c.in-Some-Values.file.now c.in-Some-Values.kind.now), (rw (c.in-Some-Values.field-0-is, c.in-Relay.is) at c.in-Some-Values.ensures), c.in-Err.ensures.found (g.K.Sink.failures c.args.sink.now), c.in-Err.ensures.taken, outputs_nothing (g.K.Sink.taken c.args.sink.now) c.in-Err.outcome)
+    ([], Some (values (tasks.Relay c.in-Relay.format) c.in-Some-Values.file.now c.in-Some-Values.kind.now), (rw (c.in-Some-Values.field-0-is, c.in-Relay.is) at c.in-Some-Values.ensures), c.in-Err.ensures.found (g.K.Sink.failures c.args.sink.now), c.in-Err.ensures.taken, outputs_nothing (g.K.Sink.taken c.args.sink.now) c.in-Err.outcome)
 
 pub returns-in-Ok-same : goal.returns-in-Ok-same
 returns-in-Ok-same g c =
