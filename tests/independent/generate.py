@@ -17,7 +17,8 @@ class Trial:
     text: bytes  # of FILE
     word: str  # TYPE
     data: bytes  # the input
-    canonical: bytes | None = None  # where the input is known to be good
+    canonical: bytes | None = None  # what is written, where the input is known to be good
+    is_compact: bool = False  # whether compact format is to be written
 
 
 # Slice texts

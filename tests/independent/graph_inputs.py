@@ -9,10 +9,12 @@ import graphs
 import kinds
 import values
 from generate import ODD_BYTES, ODD_NUMBERS, Trial
-from graphs import Known, Ref
+from graphs import Kept, Known, Ref
 
 TAGS = [0, 0, 1, 1, 2, 3, 7, 28, 29, 30, 31, 254, 255, 256, 2**31 - 1]
 ANY = [("Object", kinds.ANY_CLASS), ("Value", kinds.ANY_CLASS)]
+# Type ids that no class has, but by chance.
+UNKNOWN_IDS = ["::Gone::Fishing", "::Gone::Fishing", "::Gone::Sailing", "::Ice::Object", "::x", "x", "", "é", "::" + "Long" * 70]
 
 
 class ClassMaker(generate.SchemaMaker):
@@ -70,9 +72,11 @@ class ClassMaker(generate.SchemaMaker):
 
 
 def schema(chance, maker):
+    """Adds some classes, which may speak of one another, and other types among them."""
+    there = list(maker.rows)
     for _ in range(chance.choice([1, 2, 3, 4, 5])):
         maker.declare()
-    names = list(maker.rows)
+    names = [it for it in maker.rows if it not in there]
     chance.shuffle(names)
     for name in names:
         for _ in range(chance.choice([0, 0, 1, 1, 2])):
@@ -81,6 +85,11 @@ def schema(chance, maker):
     for _ in range(chance.choice([0, 1, 1, 2])):
         maker.add()
     return maker
+
+
+def fits(row, declared):
+    """Says whether an instance of a class, None for one of no known class, may stand where this one is declared."""
+    return declared is None or row is not None and row.is_a(declared)
 
 
 class GraphMaker(generate.ValueMaker):
@@ -101,10 +110,10 @@ class GraphMaker(generate.ValueMaker):
             return None
         if self.chance.random() < self.wrong:
             declared = None
-        there = [at for at, row in enumerate(self.made) if declared is None or row.is_a(declared)]
+        there = [at for at, row in enumerate(self.made) if fits(row, declared)]
         if there and (len(self.made) >= self.most or self.chance.random() < self.sharing):
             return Ref(self.chance.choice(there))
-        fitting = [it for it in self.rows if declared is None or it.is_a(declared)]
+        fitting = [it for it in self.rows if fits(it, declared)]
         if not fitting or len(self.made) >= self.most:
             return None
         return self.begun(self.chance.choice(fitting))
@@ -119,9 +128,14 @@ class GraphMaker(generate.ValueMaker):
         while self.waiting:
             number = self.waiting.pop() if self.is_deep else self.waiting.popleft()
             row, self.room = self.made[number], 6
+            self.instances[number] += self.kept(row)
             while row:
                 self.instances[number].append(Known(row, [self.value(it) for it in row.required], self.options(row)))
                 row = row.base
+
+    def kept(self, row):
+        """Returns the kept slices of an instance of a class."""
+        return []
 
     def options(self, row):
         rate = self.chance.choice([0, 0.5, 1])
@@ -137,6 +151,45 @@ class GraphMaker(generate.ValueMaker):
         return graphs.Graph(root, self.instances)
 
 
+class KeepingMaker(GraphMaker):
+    """Makes graphs with kept slices: one or several before the known ones, or alone, with tables of any instances, some of them
+    named more than once."""
+
+    def __init__(self, chance, rows, most, module, wrong=0.0):
+        super().__init__(chance, [*rows, None], most, wrong)
+        names = [*UNKNOWN_IDS, f"::{module}", f"::{module}::Unknown", *(it.type_id.decode().swapcase() for it in rows)]
+        taken = {it.type_id for it in rows}
+        self.ids = [it.encode() for it in names if it.encode() not in taken]
+        self.keeping, self.few = chance.choice([0.2, 0.5, 1]), chance.sample(self.ids, 2)
+
+    def kept(self, row):
+        count = self.chance.choice([1, 1, 1, 2, 3]) if row is None or self.chance.random() < self.keeping else 0
+        return [self.kept_slice() for _ in range(count)]
+
+    def kept_slice(self):
+        data = self.chance.randbytes(self.chance.choice([0, 0, 1, 2, 5, 9])) + self.chance.choice([b"", b"", b"", b"\xff"])
+        table = [it for it in (self.ref(None) for _ in range(self.chance.choice([0, 0, 1, 1, 2, 3]))) if it]
+        while table and self.chance.random() < 0.3:
+            table.insert(self.chance.randrange(len(table) + 1), self.chance.choice(table))
+        ids = self.few if self.chance.random() < 0.7 else self.ids
+        return Kept(self.chance.choice(ids), data, self.chance.random() < 0.4, table)
+
+
+def other_slices(graph, chance):
+    """Returns a graph in which one instance has its slices in another order, or one slice less or more, so that it may be none."""
+    number = chance.randrange(len(graph.instances))
+    slices = list(graph.instances[number])
+    at, other = chance.randrange(len(slices)), chance.choice(chance.choice(graph.instances))
+    way = chance.choice(["drop", "put", "put", "move"])
+    if way == "put":
+        slices.insert(chance.randrange(len(slices) + 1), other)
+    elif way == "move" or len(slices) == 1:
+        slices.insert(chance.randrange(len(slices)), slices.pop(at))
+    else:
+        del slices[at]
+    return graphs.Graph(graph.root, [*graph.instances[:number], slices, *graph.instances[number + 1 :]])
+
+
 # What is spelled otherwise
 
 
@@ -150,13 +203,14 @@ class Style:
 
 class VariedWriter(graphs.Writer):
     """Writes a graph in any way that is read as that graph: dictionaries in any order, type ids as strings again, members of
-    unknown tags, tables in any order with entries that come twice or that nothing uses, instances without sizes. With `at` the part
-    of that number is changed, and what counts it fits."""
+    unknown tags, tables in any order with entries that come twice or that nothing uses, instances without sizes as far as they have
+    no kept slice. With `at` the part of that number is changed, and what counts it fits."""
 
-    def __init__(self, graph, seed, at=None, changed=None):
+    def __init__(self, graph, seed, at=None, changed=None, is_sized=False):
         super().__init__(graph)
         self.chance, self.at, self.changed = random.Random(seed), at, changed
         self.style, self.parts, self.ids = Style(self.chance), [], []
+        self.style.compact *= not is_sized
 
     def is_so(self, rate):
         return self.chance.random() < rate
@@ -173,25 +227,9 @@ class VariedWriter(graphs.Writer):
         return values.spelled(value, kind, order, values.EMPTY_FACET if self.is_so(self.style.order) else values.NO_FACET)
 
     def instance(self, number):
-        if not self.is_so(self.style.compact):
-            yield from super().instance(number)
-            return
         slices = self.graph.instances[number]
-        for at, it in enumerate(slices):
-            yield from self.compact(it, at == 0, at == len(slices) - 1)
-
-    def compact(self, it, is_first, is_last):
-        """Writes a slice without a size, in which references stand as they do outside of slices."""
-        form, type_id = self.type_id(it.row.type_id) if is_first else (0, b"")
-        has_optional = self.has_optional(it)
-        self.put(bytes([form | has_optional * graphs.OPTIONAL | is_last * graphs.LAST]), "flags")
-        if is_first:
-            self.put(type_id, "type id" if form == graphs.AS_TEXT else "index")
-        for value, kind in zip(it.required, it.row.required):
-            yield from self.value(value, kind, self.inline)
-        if has_optional:
-            self.entries = range(len(self.graph.instances))
-            yield from self.options(it.optional, it.row, self.inline)
+        is_known = not any(isinstance(it, Kept) for it in slices)
+        yield from self.unsized(slices) if is_known and self.is_so(self.style.compact) else super().instance(number)
 
     def type_id(self, it):
         there = [at for at, other in enumerate(self.ids, 1) if other == it]
@@ -228,7 +266,8 @@ class VariedWriter(graphs.Writer):
         return place
 
     def options(self, optional, row, refer):
-        yield from self.mixed(optional, row.optional, refer, [Ref(it) for it in self.entries])
+        entries = range(len(self.graph.instances)) if refer == self.inline else self.entries
+        yield from self.mixed(optional, row.optional, refer, [Ref(it) for it in entries])
         self.put(bytes([graphs.END_MARKER]), "end")
 
     def content(self, value, kind):
@@ -311,7 +350,12 @@ def other_tags(data, chance):
         yield bytes([0xF0 | leading & 7]) + values.spelled_size(it)
 
 
-OTHERS = {"flags": other_flags, "type id": other_ids, "tag": other_tags, "slice size": other_ints, "int prefix": other_ints}
+def other_bytes(data, chance):
+    yield from (data[:-1], data + b"\xff", data + bytes([chance.randrange(256)]), chance.randbytes(300))
+
+
+OTHERS = {"flags": other_flags, "kept flags": other_flags, "type id": other_ids, "tag": other_tags}
+OTHERS |= {"slice size": other_ints, "int prefix": other_ints, "kept bytes": other_bytes}
 OTHERS |= {it: other_sizes for it in ("size", "reference", "place", "index", "table size", "prefix")}
 
 
@@ -351,6 +395,43 @@ def spelled_graphs(graph, kind, chance, count):
 # Lots
 
 
+def graph_trials(text, word, kind, graph, chance, spelled, broken):
+    """Yields a graph in so many spellings, in each format that it can have, and so many broken inputs of it."""
+    canonical, compact = graphs.encode(graph, kind), graphs.encode_compact(graph, kind) or b""
+    what = "kept" if graphs.has_kept(graph, kind) else "classes"
+    for how, data in spelled_graphs(graph, kind, chance, spelled):
+        yield Trial(f"{what}, {how}", text, word, data, canonical)
+        yield Trial(f"{what}, {how}, to compact format", text, word, data, compact, True)
+    if compact:
+        yield Trial("from compact format", text, word, compact, canonical)
+        yield Trial("in compact format", text, word, compact, compact, True)
+    for how, data in broken_graphs(graph, kind, chance, broken):
+        yield Trial(f"{what}, another {how}", text, word, data, None, chance.random() < 0.2)
+
+
+def short_trials(text, word, short, chance):
+    """Yields a short input with bytes changed."""
+    if short:
+        broken = list(generate.broken_inputs(chance.choice(short), chance))
+        for what, data in chance.sample(broken, min(25, len(broken))):
+            yield Trial(f"classes, {what}", text, word, data, None, chance.random() < 0.2)
+
+
+def odd_trials(text, word, kind, maker, chance):
+    """Yields graphs whose instances may be of classes that do not fit, or may have other slices than an instance has."""
+    rows = list(maker.rows.values())
+    for _ in range(3):
+        count = chance.choice([3, 6, 12])
+        for made in GraphMaker(chance, rows, count, 0.3), KeepingMaker(chance, rows, count, maker.module, 0.1):
+            graph = made.graph(kind)
+            data = graphs.encode(graph, kind, VariedWriter(graph, chance.random()))
+            yield Trial("classes, of any class", text, word, data, None, chance.random() < 0.2)
+            if graph.instances:
+                graph = other_slices(made.graph(kind), chance)
+                data = graphs.encode(graph, kind, VariedWriter(graph, chance.random(), is_sized=True))
+                yield Trial("classes, other slices", text, word, data)
+
+
 def lot(seed, number, types=6, most=(3, 9, 25)):
     """Returns the trials of one schema."""
     chance = random.Random(f"classes {seed} {number}")
@@ -359,20 +440,11 @@ def lot(seed, number, types=6, most=(3, 9, 25)):
     named = list(maker.types().items())
     trials = []
     for word, kind in chance.sample(named, min(types, len(named))):
-        short = []
+        first = len(trials)
         for count in (*most, chance.choice([60, 300])):
-            graph = GraphMaker(chance, rows, count).graph(kind)
-            canonical = graphs.encode(graph, kind)
-            for what, data in spelled_graphs(graph, kind, chance, 4):
-                trials.append(Trial(f"classes, {what}", text, word, data, canonical))
-                short += [data] if len(data) <= 80 else []
-            for what, data in broken_graphs(graph, kind, chance, 20):
-                trials.append(Trial(f"classes, another {what}", text, word, data))
-        for _ in range(3):
-            graph = GraphMaker(chance, rows, chance.choice([3, 6, 12]), 0.3).graph(kind)
-            trials.append(Trial("classes, of any class", text, word, graphs.encode(graph, kind, VariedWriter(graph, chance.random()))))
-        if short:
-            broken = list(generate.broken_inputs(chance.choice(short), chance))
-            for what, data in chance.sample(broken, min(25, len(broken))):
-                trials.append(Trial(f"classes, {what}", text, word, data))
+            trials += graph_trials(text, word, kind, GraphMaker(chance, rows, count).graph(kind), chance, 3, 16)
+            trials += graph_trials(text, word, kind, KeepingMaker(chance, rows, count, maker.module).graph(kind), chance, 3, 16)
+        short = [it.data for it in trials[first:] if it.canonical is not None and len(it.data) <= 80]
+        trials += odd_trials(text, word, kind, maker, chance)
+        trials += short_trials(text, word, short, chance)
     return trials

@@ -1,4 +1,5 @@
-"""Reads one encapsulation of a type as a graph of instances, or finds its first fault, and writes the canonical one of a graph.
+"""Reads one encapsulation of a type as a graph of instances, or finds its first fault, and writes the canonical one of a graph, with
+the sizes of slices or without.
 
 A value is one as in `values.py`, or a `Ref` to an instance, None where it is null. No function calls itself over instances: each
 is read, and written, by a generator of its own, which yields where another instance begins, and goes on where that has ended.
@@ -17,14 +18,8 @@ END_MARKER = 255
 # From this tag on, a tag has a size of its own behind its leading byte.
 LONG_TAG = 30
 FIXED_FORMATS = {kinds.F1: 1, kinds.F2: 2, kinds.F4: 4, kinds.F8: 8}
-
-
-@dataclass(frozen=True)
-class Reach:
-    """What is read beside slices of a known class, with a size or without, and how many instances may begin."""
-
-    has_kept: bool = False  # slices with a size of an unknown class; else they are `UnknownClass`
-    most: int = 100_000
+# How many instances may begin.
+MOST_INSTANCES = 100_000
 
 
 class Ref:
@@ -45,6 +40,8 @@ class Known:
 
 @dataclass(eq=False)
 class Kept:
+    """A slice with a size, of a class that is not known."""
+
     type_id: bytes
     data: bytes  # without the end marker
     has_optional: bool
@@ -80,8 +77,8 @@ def finished(first, begun):
 
 
 class Reader:
-    def __init__(self, classes, reach):
-        self.classes, self.reach = {it.type_id: it for it in classes}, reach
+    def __init__(self, classes):
+        self.classes = {it.type_id: it for it in classes}
         self.instances, self.type_ids = [], []
         self.met = []  # place, declared class and Ref of all that is not null
 
@@ -91,7 +88,7 @@ class Reader:
         number = cursor.size()
         if number == 0:
             return None
-        if number == 1 and len(self.instances) >= self.reach.most:
+        if number == 1 and len(self.instances) >= MOST_INSTANCES:
             raise Fault(first, "TooMany")
         if number > 1 + len(self.instances):
             raise Fault(first, "BadReference")
@@ -193,7 +190,7 @@ class Reader:
             row = self.classes.get(type_id) if flags & TYPE_ID else base
             if base and row is not base:
                 raise Fault(id_place, "WrongBase")
-            if not row and not (is_sized and self.reach.has_kept):
+            if not row and not is_sized:
                 raise Fault(id_place, "UnknownClass")
             if row and has_more != (row.base is not None):
                 raise Fault(flags_place, "BadLast")
@@ -322,13 +319,13 @@ def prefixed(cursor, format_):
     return inside
 
 
-def take_graph(input_, kind, classes, reach):
+def take_graph(input_, kind, classes):
     """Returns the graph of the encapsulation where a cursor is, and leaves that behind it, or raises the first `Fault` in it."""
     inside = input_.encapsulation()
     first = inside.at
     if inside.version() != values.VERSION:
         raise Fault(first, "BadVersion")
-    reader = Reader(classes, reach)
+    reader = Reader(classes)
     root = finished(reader.content(inside, kind), reader.instance)
     misfits = list(reader.misfits())
     if misfits:
@@ -336,22 +333,22 @@ def take_graph(input_, kind, classes, reach):
     return Graph(root, reader.instances)
 
 
-def decode_all(data, count, kind, classes=(), reach=Reach()):
+def decode_all(data, count, kind, classes=()):
     """Returns the graphs of an input that is so many encapsulations, one after the other, or raises its first `Fault`. `classes`
     are all of the schema."""
     input_ = Cursor(data, 0, len(data))
-    found = [take_graph(input_, kind, classes, reach) for _ in range(count)]
+    found = [take_graph(input_, kind, classes) for _ in range(count)]
     # What is wrong inside of the encapsulations comes before what follows them.
     input_.left_over()
     return found
 
 
-def decode(data, kind, classes=(), reach=Reach()):
+def decode(data, kind, classes=()):
     """Returns the graph that an input is the encapsulation of, or raises its first `Fault`."""
-    return decode_all(data, 1, kind, classes, reach)[0]
+    return decode_all(data, 1, kind, classes)[0]
 
 
-# Writing
+# What a graph leads to
 
 
 def refs_in(value, kind):
@@ -379,6 +376,27 @@ def refs_of(slice_):
         yield from refs_in(it, kind)
     for tag, it in slice_.optional:
         yield from refs_in(it, slice_.row.optional[tag])
+
+
+def reached(graph, kind):
+    """Returns the numbers of the instances that the root leads to."""
+    found, waiting = [], [it.number for it in refs_in(graph.root, kind)]
+    seen = set()
+    while waiting:
+        number = waiting.pop()
+        if number not in seen:
+            seen.add(number)
+            found.append(number)
+            waiting += [ref.number for slice_ in graph.instances[number] for ref in refs_of(slice_)]
+    return found
+
+
+def has_kept(graph, kind):
+    """Says whether the root leads to an instance that has a kept slice: such a graph cannot be written without sizes."""
+    return any(isinstance(it, Kept) for number in reached(graph, kind) for it in graph.instances[number])
+
+
+# Writing
 
 
 def spelled_tag(tag, format_):
@@ -472,12 +490,15 @@ class Writer:
             yield from self.slice(it, at == len(slices) - 1)
 
     def slice(self, it, is_last):
-        table = self.table([ref.number for ref in refs_of(it)]) if isinstance(it, Known) else [ref.number for ref in it.table]
-        form, type_id = self.type_id(it.row.type_id if isinstance(it, Known) else it.type_id)
-        has_optional = self.has_optional(it)
+        is_kept = isinstance(it, Kept)
+        used = [ref.number for ref in refs_of(it)]
+        table = used if is_kept else self.table(used)
+        form, type_id = self.type_id(it.type_id if is_kept else it.row.type_id)
+        has_optional = it.has_optional if is_kept else self.has_optional(it)
         inside = self.apart(self.body(it, table, has_optional))
         has_table = self.has_table(it, table)
-        self.put(bytes([form | has_optional * OPTIONAL | has_table * TABLE | SIZED | is_last * LAST]), "flags")
+        flags = form | has_optional * OPTIONAL | has_table * TABLE | SIZED | is_last * LAST
+        self.put(bytes([flags]), "kept flags" if is_kept else "flags")
         self.put(type_id, "type id" if form == AS_TEXT else "index")
         self.put(values.spelled_number(4 + len(inside), "int"), "slice size")
         self.out += inside
@@ -485,6 +506,19 @@ class Writer:
             self.put_size(len(table), "table size")
             for number in table:
                 yield from self.inline(Ref(number))
+
+    def unsized(self, slices):
+        """Writes the slices of an instance without sizes. References in them stand as they do outside of slices."""
+        for at, it in enumerate(slices):
+            form, type_id = (0, b"") if at else self.type_id(it.row.type_id)
+            has_optional = self.has_optional(it)
+            self.put(bytes([form | has_optional * OPTIONAL | (at == len(slices) - 1) * LAST]), "flags")
+            if form:
+                self.put(type_id, "type id" if form == AS_TEXT else "index")
+            for value, kind in zip(it.required, it.row.required):
+                yield from self.value(value, kind, self.inline)
+            if has_optional:
+                yield from self.options(it.optional, it.row, self.inline)
 
     def table(self, used):
         """Returns the entries of the table of a slice, of which all of these are used, in this order."""
@@ -494,7 +528,7 @@ class Writer:
         return bool(table)
 
     def has_optional(self, it):
-        return bool(it.optional) if isinstance(it, Known) else it.has_optional
+        return bool(it.optional)
 
     def type_id(self, it):
         """Returns in which form a type id stands, and its bytes."""
@@ -516,7 +550,9 @@ class Writer:
 
     def body(self, it, table, has_optional):
         if isinstance(it, Kept):
-            self.put(it.data + bytes([END_MARKER] * it.has_optional), "value")
+            self.put(it.data, "kept bytes")
+            if has_optional:
+                self.put(bytes([END_MARKER]), "kept end")
             return
         place = self.places(table)
         for value, kind in zip(it.required, it.row.required):
@@ -530,3 +566,15 @@ def encode(graph, kind, writer=None):
     writer = writer or Writer(graph)
     finished(writer.content(graph.root, kind), writer.instance)
     return values.encapsulated(bytes(writer.out))
+
+
+class CompactWriter(Writer):
+    """Writes a graph canonically without the sizes of slices."""
+
+    def instance(self, number):
+        yield from self.unsized(self.graph.instances[number])
+
+
+def encode_compact(graph, kind):
+    """Returns the canonical encapsulation of a graph without the sizes of slices; None where it leads to a kept slice."""
+    return None if has_kept(graph, kind) else encode(graph, kind, CompactWriter(graph))

@@ -1,5 +1,5 @@
-"""The answers that `ice check FILE`, `ice relay FILE TYPE`, `ice same FILE TYPE` and `ice proxy TEXT` have to give: status, standard
-output, and the line on standard error."""
+"""The answers that `ice check FILE`, `ice relay [--compact] FILE TYPE`, `ice same FILE TYPE` and `ice proxy TEXT` have to give: status,
+standard output, and the line on standard error."""
 import graphs
 import kinds
 import loading
@@ -58,13 +58,15 @@ def read(schema, word, data, count):
         raise Unread((4, b"", f"ice: input refused at {why.place}: {why.kind}\n".encode()), str(why)) from None
 
 
-def relay(shelf, file, word, data):
+def relay(shelf, file, word, data, is_compact=False):
     """Returns the answer for the shelf, for FILE, for TYPE and for the input, and where one is refused, why."""
     try:
         kind, (graph,) = read(schema_of(shelf, file), word, data, 1)
     except Unread as unread:
         return unread.args
-    written = graphs.encode(graph, kind)
+    written = graphs.encode_compact(graph, kind) if is_compact else graphs.encode(graph, kind)
+    if written is None:
+        return (4, b"", b"ice: kept slice needs sliced format\n"), "kept slice"
     if len(written) > values.MOST_BYTES:
         return (4, b"", f"ice: answer too long: {len(written)}\n".encode()), "too long"
     return (0, written, b""), ""

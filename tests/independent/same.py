@@ -1,12 +1,15 @@
 """Says whether two graphs are the same but for the naming of their instances, by looking for the renaming.
 
 Two graphs are the same where a renaming, which gives each instance that the root of the one leads to an instance of the other, one
-to one, makes the one root the other and what each instance holds what its partner holds. Dictionaries are sets of pairs. Instances
-that a root does not lead to count for nothing.
+to one, makes the one root the other and what each instance holds what its partner holds. Dictionaries are sets of pairs. Kept slices are
+equal by their type ids, bytes and flags, and by their tables, entry by entry. Instances that a root does not lead to count for
+nothing.
 """
 import itertools
 
 import graphs
+import kinds
+from graphs import Kept, reached
 
 # The most reached instances for which each renaming is tried in turn.
 MOST_SEARCHED = 6
@@ -41,17 +44,26 @@ def joined(values):
     return found
 
 
+def pairs_of_slices(it, its):
+    """Returns likewise what has to be paired where two slices stand at the same place."""
+    if isinstance(it, Kept) or isinstance(its, Kept):
+        if type(it) is not type(its) or (it.type_id, it.data, it.has_optional) != (its.type_id, its.data, its.has_optional):
+            return None
+        return pairs_of(it.table, its.table, kinds.sequence(kinds.ANY_CLASS))
+    if it.row is not its.row or [tag for tag, _ in it.optional] != [tag for tag, _ in its.optional]:
+        return None
+    members = [*zip(it.required, its.required, it.row.required)]
+    members += [(value, its_, it.row.optional[tag]) for (tag, value), (_, its_) in zip(it.optional, its.optional)]
+    return joined(members)
+
+
 def pairs_of_instances(one, other):
     """Returns likewise what has to be paired where two instances, lists of slices, are to be partners."""
-    if [it.row for it in one] != [it.row for it in other]:
+    if len(one) != len(other):
         return None
     found = []
     for it, its in zip(one, other):
-        if [tag for tag, _ in it.optional] != [tag for tag, _ in its.optional]:
-            return None
-        members = [*zip(it.required, its.required, it.row.required)]
-        members += [(value, its_, it.row.optional[tag]) for (tag, value), (_, its_) in zip(it.optional, its.optional)]
-        some = joined(members)
+        some = pairs_of_slices(it, its)
         if some is None:
             return None
         found += some
@@ -82,19 +94,6 @@ def is_same(one, other, kind):
             return False
         waiting += found
     return True
-
-
-def reached(graph, kind):
-    """Returns the numbers of the instances that the root leads to."""
-    found, waiting = [], [it.number for it in graphs.refs_in(graph.root, kind)]
-    seen = set()
-    while waiting:
-        number = waiting.pop()
-        if number not in seen:
-            seen.add(number)
-            found.append(number)
-            waiting += [ref.number for slice_ in graph.instances[number] for ref in graphs.refs_of(slice_)]
-    return found
 
 
 def fits(renaming, pairs):

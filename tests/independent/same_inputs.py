@@ -5,10 +5,12 @@ from dataclasses import dataclass
 import generate
 import graph_inputs
 import graphs
-import same
+import kinds
 from graph_inputs import VariedWriter
-from graphs import Graph, Known, Ref
+from graphs import Graph, Kept, Known, Ref
 
+# What stands in the table of a kept slice: any instance, but not null.
+ENTRY = kinds.Kind("class", has_classes=True)
 # Bytes behind the second encapsulation.
 BEHIND = [b"\0", b"\7\0\0\0\1\1\0", b"\xff" * 5, b"\0" * 5_000]
 
@@ -38,19 +40,30 @@ class TwinMaker(graph_inputs.ClassMaker):
         self.definitions.append(["class", name, *tokens[2:]])
 
 
-class UniformMaker(graph_inputs.GraphMaker):
-    """Makes graphs in which all values of one type without references are equal, so that the references alone tell instances apart."""
+class Uniform:
+    """Makes graphs in which all values of one type without references are equal, and all kept slices but for their tables, so that
+    the references alone tell instances apart."""
 
-    def __init__(self, chance, rows, most):
-        super().__init__(chance, rows, most)
-        self.held = {}
+    held = None
 
     def value(self, kind):
+        self.held = self.held or {}
         if kind.has_classes:
             return super().value(kind)
         if kind not in self.held:
             self.held[kind] = super().value(kind)
         return self.held[kind]
+
+    def kept_slice(self):
+        return Kept(self.few[0], b"", False, super().kept_slice().table)
+
+
+class UniformMaker(Uniform, graph_inputs.GraphMaker):
+    pass
+
+
+class UniformKeepingMaker(Uniform, graph_inputs.KeepingMaker):
+    pass
 
 
 # Graphs made of another one
@@ -65,11 +78,13 @@ class Rebuilt:
     def graph(self, graph, kind):
         root = self.value(graph.root, kind)
         instances = list(graph.instances)
-        for number in same.reached(graph, kind):
+        for number in graphs.reached(graph, kind):
             instances[number] = [self.slice(it) for it in graph.instances[number]]
         return Graph(root, instances)
 
     def slice(self, it):
+        if isinstance(it, Kept):
+            return Kept(it.type_id, it.data, it.has_optional, [self.value(ref, ENTRY) for ref in it.table])
         required = [self.value(value, kind) for value, kind in zip(it.required, it.row.required)]
         return Known(it.row, required, [(tag, self.value(value, it.row.optional[tag])) for tag, value in it.optional])
 
@@ -130,11 +145,10 @@ def one_reference_changed(graph, kind, chance):
     if not found:
         return None
     at, ref, part = chance.choice(found)
-    there, is_fitting = [None, *range(len(graph.instances))], chance.random() < 0.8
+    there, is_fitting = list(range(len(graph.instances))), chance.random() < 0.8
     if is_fitting:
-        rows = [graphs.class_of(it) for it in graph.instances]
-        there = [it for it in there if it is None or part.class_ is None or rows[it].is_a(part.class_)]
-    number = chance.choice(there)
+        there = [it for it in there if graph_inputs.fits(graphs.class_of(graph.instances[it]), part.class_)]
+    number = chance.choice(there if part is ENTRY else [None, *there])
     if number == (ref and ref.number):
         return None
     is_same = False if is_fitting and (number is None or ref is None) else None
@@ -171,16 +185,63 @@ def two_swapped(graph, kind, chance):
     return Rebuilt(lambda number, value, _: given.get(number, value)).graph(graph, kind), None
 
 
+def slices_of(graph, kind):
+    """Yields the slices that the root leads to, each with the number of its instance and its place in that."""
+    for number in graphs.reached(graph, kind):
+        for at, it in enumerate(graph.instances[number]):
+            yield number, at, it
+
+
+def with_slices(graph, number, slices):
+    return Graph(graph.root, [*graph.instances[:number], slices, *graph.instances[number + 1 :]])
+
+
+def other_kept(it, chance):
+    """Returns slices in the place of a kept one: none, two, or one with another type id, other bytes, flag or table."""
+    table = list(it.table)
+    if table and chance.random() < 0.6:
+        at = chance.randrange(len(table))
+        table[at : at + 1] = chance.choice([[], [table[at], table[at]]])
+        return [Kept(it.type_id, it.data, it.has_optional, table)]
+    data = chance.choice([it.data + b"\0", it.data + b"\xff", it.data[:-1] or b"\0"])
+    others = [[Kept(it.type_id + b"x", it.data, it.has_optional, table)], [Kept(it.type_id, data, it.has_optional, table)]]
+    return chance.choice([*others, [Kept(it.type_id, it.data, not it.has_optional, table)], [it, it], []])
+
+
+def one_kept_changed(graph, kind, chance):
+    found = [it for it in slices_of(graph, kind) if isinstance(it[2], Kept)]
+    if not found:
+        return None
+    number, at, it = chance.choice(found)
+    slices = list(graph.instances[number])
+    slices[at : at + 1] = other_kept(it, chance)
+    return (with_slices(graph, number, slices), False) if slices else None
+
+
+def two_kept_swapped(graph, kind, chance):
+    """Two slices of an instance, of which both are kept, or two entries of a table change places."""
+    found = [it for it in slices_of(graph, kind) if isinstance(it[2], Kept)]
+    if not found:
+        return None
+    number, at, it = chance.choice(found)
+    slices = list(graph.instances[number])
+    if isinstance(slices[at - 1], Kept) and chance.random() < 0.5:
+        slices[at - 1], slices[at] = it, slices[at - 1]
+    else:
+        slices[at] = Kept(it.type_id, it.data, it.has_optional, it.table[1:] + it.table[:1])
+    return with_slices(graph, number, slices), None
+
+
 def one_option_dropped(graph, kind, chance):
-    found = [(number, at) for number in same.reached(graph, kind) for at, it in enumerate(graph.instances[number]) if it.optional]
+    found = [(number, at) for number, at, it in slices_of(graph, kind) if isinstance(it, Known) and it.optional]
     if not found:
         return None
     number, at = chance.choice(found)
-    instances = [list(it) for it in graph.instances]
-    it = instances[number][at]
+    slices = list(graph.instances[number])
+    it = slices[at]
     dropped = chance.randrange(len(it.optional))
-    instances[number][at] = Known(it.row, it.required, it.optional[:dropped] + it.optional[dropped + 1 :])
-    return Graph(graph.root, instances), False
+    slices[at] = Known(it.row, it.required, it.optional[:dropped] + it.optional[dropped + 1 :])
+    return with_slices(graph, number, slices), False
 
 
 def one_element_dropped(graph, kind, chance):
@@ -192,16 +253,15 @@ def one_element_dropped(graph, kind, chance):
 def another_class(graph, kind, rows, chance):
     """One instance is of a class with the same members, as far as there is one."""
     found = []
-    for number in same.reached(graph, kind):
-        row = graph.instances[number][0].row
-        found += [(number, it) for it in rows if it is not row and it.required is row.required]
+    for number, at, it in slices_of(graph, kind):
+        if isinstance(it, Known) and it.row is graphs.class_of(graph.instances[number]):
+            found += [(number, at, row) for row in rows if row is not it.row and row.required is it.row.required]
     if not found:
         return None
-    number, row = chance.choice(found)
-    instances = list(graph.instances)
-    first, *others = instances[number]
-    instances[number] = [Known(row, first.required, first.optional), *others]
-    return Graph(graph.root, instances), None
+    number, at, row = chance.choice(found)
+    slices = list(graph.instances[number])
+    slices[at] = Known(row, slices[at].required, slices[at].optional)
+    return with_slices(graph, number, slices), None
 
 
 def renamed(graph, kind, chance):
@@ -217,6 +277,7 @@ def renamed(graph, kind, chance):
 
 WAYS = [one_value_changed, one_reference_changed, one_reference_changed, one_copied, all_copied, two_swapped]
 WAYS += [one_option_dropped, one_element_dropped, renamed]
+KEPT_WAYS = [one_kept_changed, one_kept_changed, two_kept_swapped]
 
 
 # Pairs
@@ -231,7 +292,7 @@ def pairs_of(word, kind, graph, rows, chance):
     """Yields pairs of a graph with itself, and with what is made of it, in either order."""
     for _ in range(3):
         yield Pair("spelled twice", word, spelled(graph, kind, chance) + spelled(graph, kind, chance), True, (graph, graph))
-    others = [(way.__name__, way(graph, kind, chance)) for way in WAYS] + [("another_class", another_class(graph, kind, rows, chance))]
+    others = [(way.__name__, way(graph, kind, chance)) for way in WAYS + KEPT_WAYS] + [("another_class", another_class(graph, kind, rows, chance))]
     for name, made in others:
         if made:
             both = [graph, made[0]] if chance.random() < 0.5 else [made[0], graph]
@@ -270,6 +331,15 @@ def values_of(word, kind, chance):
         yield Pair(f"values: {what}", word, data[-1] + changed)
 
 
+def graph_of(maker, rows, kind, count, chance):
+    """Returns a graph of at most so many instances, in some of which slices are kept."""
+    is_uniform = chance.random() < 0.6
+    if chance.random() < 0.5:
+        return (UniformMaker if is_uniform else graph_inputs.GraphMaker)(chance, rows, count).graph(kind)
+    keeping = UniformKeepingMaker if is_uniform else graph_inputs.KeepingMaker
+    return keeping(chance, rows, count, maker.module).graph(kind)
+
+
 def lot(seed, number, types=5, most=(1, 2, 3, 4, 6)):
     """Returns the text of one schema, and the pairs of values of some of its types."""
     chance = random.Random(f"same {seed} {number}")
@@ -279,12 +349,11 @@ def lot(seed, number, types=5, most=(1, 2, 3, 4, 6)):
     pairs = []
     for word, kind in chance.sample(named, min(types, len(named))):
         for count in (*most, chance.choice([10, 30, 300])):
-            maker_of = UniformMaker if chance.random() < 0.6 else graph_inputs.GraphMaker
-            graph = maker_of(chance, rows, count).graph(kind)
+            graph = graph_of(maker, rows, kind, count, chance)
             pairs += pairs_of(word, kind, graph, rows, chance)
             if count in (2, 4):
                 pairs += broken_pairs(word, kind, graph, chance)
-        one, other = [maker_of(chance, rows, 2).graph(kind) for _ in range(2)]
+        one, other = [graph_of(maker, rows, kind, 2, chance) for _ in range(2)]
         pairs.append(Pair("two graphs", word, spelled(one, kind, chance) + spelled(other, kind, chance), None, (one, other)))
     plain = [(f"::{maker.module}::{name}", it) for name, it in maker.kinds.items() if not it.has_classes and not name.endswith("*")]
     for word, kind in chance.sample(plain, min(2, len(plain))):
