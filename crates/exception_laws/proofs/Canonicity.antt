@@ -4,7 +4,6 @@ use Rattle.std.proofs.lemmas.List.{length-map, ext_get_or}
 use Rattle.ice_types.specs.Tables.{Tables}
 use Rattle.ice_types.specs.Rules.{IsSchema}
 use Rattle.ice_parts.specs.declared.limits.TheConstants.{LARGEST}
-use Rattle.ice_parts.specs.Encapsulation.{encapsulated_bytes}
 use Rattle.ice_encoding.specs.Pausing.{written_in_place}
 use Rattle.ice_graphs.specs.Canonical.{Format, compact, put_inline, written_instance, blank}
 use Rattle.ice_graphs.specs.Exceptions.{of_exceptions, Raised, RaisedSlices, SpellsRaised, SpellsException}
@@ -17,17 +16,18 @@ use Rattle.ice_graphs.specs.Typed.{IsInstance, RefersIn}
 use Rattle.ice_graphs.specs.Visiting.{place, visit_each, visit_at, most, order}
 use Rattle.ice_graphs.proofs.Exceptions.{exception_apart}
 use Rattle.graph_arena.specs.Arena.{AreBelow}
-use Rattle.graph_canonicity.proofs.Formed.{Asked, EachAsked, Reached, InOrder, form-in_order, form-typed}
+use Rattle.graph_canonicity.proofs.Canonicity.{six_more}
+use Rattle.graph_canonicity.proofs.Formed.{Asked, EachAsked, Reached, InOrder, form-in_order, form-typed, asked-renamed}
 use Rattle.graph_canonicity.proofs.Named.{AreNamed, are_named}
 use Rattle.graph_canonicity.proofs.Once.{once-run}
 use Rattle.graph_canonicity.proofs.Reached.{reached-few}
 use Rattle.graph_canonicity.proofs.Schemas.{utf8_texts, few-enough}
 use Rattle.graph_canonicity.proofs.TypeIds.{Spelled, HaveTexts}
 use Rattle.graph_canonicity.proofs.Upto.{upto, visit-grows}
-use Rattle.exception_laws.specs.Typed.{OfRaised}
-use Rattle.exception_laws.specs.Written.{graph_of, order_of, numbered_raised, form_of, SameRaised, SpellsSame, raised_bytes, canonical_raised, exception_bytes, CanBeWritten}
-use Rattle.exception_laws.proofs.RaisedForms.{exceptions_named, exception_texts, root_names, graph_numbered, shape_of, graph_typed, asked-renamed, slices_typed, form_same}
-use Rattle.exception_laws.proofs.WrittenInstances.{rising, refer_long, inline_instances}
+use Rattle.ice_graphs.specs.RaisedTyped.{OfRaised}
+use Rattle.ice_graphs.specs.RaisedWritten.{graph_of, order_of, numbered_raised, form_of, SameRaised, SpellsSame, raised_bytes, canonical_raised, exception_bytes, CanBeWritten}
+use Rattle.exception_laws.proofs.RaisedForms.{exceptions_named, exception_texts, root_names, graph_numbered, shape_of, graph_typed, slices_typed, form_same}
+use Rattle.graph_canonicity.proofs.WrittenGraphs.{rising, refer_long, inline_instances}
 use Rattle.exception_laws.proofs.WrittenRaised.{raised_good}
 
 -- ---- an exception whose names are numbers by first visit
@@ -57,9 +57,6 @@ module _ (t : Tables) (named : AreNamed t) (named_raised : AreNamed (of_exceptio
 small_enough : (a b : ℕ) → a ≡ b → b ≤ most_instances → a + 2 < 2 ^ 31
 unfolding most_instances
 small_enough a b e le = omega (arith, e, le)
-
-six_more : (content : List ℕ) → length (encapsulated_bytes content) ≡ 6 + length content
-six_more content = omega arith
 
 module _ (t : Tables) (rules : IsSchema t) (reach : Reach) (format : Format) (x : Raised) (typed : OfRaised t x) (can : Asked reach format x.slices) (asked : (n : ℕ) → place (order_of x) n < length (order_of x) → Asked reach format (slices_of x.instances n))
     (few : length (order_of x) ≤ most_instances) where

@@ -1,9 +1,7 @@
-pub mod Agreeing
 pub mod RaisedTexts
 pub mod RaisedStates
 pub mod Sound
 pub mod Samples
-pub mod WrittenInstances
 pub mod WrittenRaised
 pub mod RaisedForms
 pub mod Canonicity

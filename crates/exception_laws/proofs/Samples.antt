@@ -12,7 +12,7 @@ use Rattle.ice_graphs.specs.Exceptions.{Raised}
 use Rattle.ice_graphs.specs.Graph.{Slice, known, kept}
 use Rattle.ice_graphs.specs.Visiting.{order, most}
 use Rattle.ice_graphs.proofs.Samples.{always, tagged, classes, node_id, values, to, node}
-use Rattle.exception_laws.specs.Written.{form_of, canonical_raised, exception_bytes}
+use Rattle.ice_graphs.specs.RaisedWritten.{form_of, canonical_raised, exception_bytes}
 
 -- exception Bad {} exception F { int code; } exception G extends F { string why; } exception H { N held; } exception I { optional(1) int more; }
 abbrev exceptions : List ExceptionDecl

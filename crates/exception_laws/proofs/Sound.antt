@@ -12,8 +12,9 @@ use Rattle.ice_graphs.specs.Flags.{Reach, first}
 use Rattle.ice_graphs.specs.References.{opening}
 use Rattle.ice_graphs.specs.Instances.{most_instances, instances, AllFit}
 use Rattle.graph_typing.proofs.Carried.{rest_fits}
-use Rattle.exception_laws.specs.Typed.{OfRaised}
-use Rattle.exception_laws.proofs.RaisedTexts.{instances_texts, raised_texts}
+use Rattle.ice_graphs.specs.RaisedTyped.{OfRaised}
+use Rattle.graph_typing.proofs.Texts.{instances_texts}
+use Rattle.exception_laws.proofs.RaisedTexts.{raised_texts}
 use Rattle.exception_laws.proofs.RaisedStates.{exception_typed}
 
 module _ (t : Tables) (reach : Reach) (rules : IsSchema t) where
@@ -21,7 +22,7 @@ module _ (t : Tables) (reach : Reach) (rules : IsSchema t) where
   unfolding SpellsRaised
   content_of bytes x fits (end, n, h, same, fit) =
       let fit_x : AllFit t x.instances end.met = subst (λ (is : List (List Slice)). AllFit t is end.met) same fit in
-      let utf8 = raised_texts reach (of_exceptions t) (instances t reach most_instances most_instances) (instances_texts reach t most_instances most_instances) n first bytes x.slices opening end fits h tt in
+      let utf8 = raised_texts reach (of_exceptions t) (instances t reach most_instances most_instances) (instances_texts t reach most_instances most_instances) n first bytes x.slices opening end fits h tt in
       let r = exception_typed t rules reach x.instances most_instances most_instances n bytes x.slices end fits h same fit_x utf8 in
       (record { slices = r.0; instances = r.1 }, r.2)
 

@@ -9,8 +9,8 @@ ghost use Rattle.ice_graphs.specs.Canonical.{Format, compact};
 ghost use Rattle.ice_graphs.specs.Exceptions.{Raised, SpellsException};
 ghost use Rattle.ice_graphs.specs.Flags.{Reach, all_slices, known_classes};
 ghost use Rattle.ice_graphs.specs.Instances.{most_instances};
-ghost use Rattle.exception_laws.specs.Typed.{OfRaised};
-ghost use Rattle.exception_laws.specs.Written.{order_of, exception_bytes, CanBeWritten, SameRaised, SpellsSame};
+ghost use Rattle.ice_graphs.specs.RaisedTyped.{OfRaised};
+ghost use Rattle.ice_graphs.specs.RaisedWritten.{order_of, exception_bytes, CanBeWritten, SameRaised, SpellsSame};
 
 /// An exception that is read is of its type, and its instances are within the limit.
 pub fn exceptions_typed()

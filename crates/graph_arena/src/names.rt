@@ -19,8 +19,8 @@ pub(crate) fn push_members(names: &mut List<u32>, members: &Members) -> Result<(
     push_present(names, members.optional.as_slice())
 }
 
-/// Those of an instance, slice by slice.
-pub(crate) fn push_slices(names: &mut List<u32>, slices: &[Slice]) -> Result<(), AllocError>
+/// Puts the names that occur in slices last, slice by slice in order. Out of memory leaves some of them put.
+pub fn push_slices(names: &mut List<u32>, slices: &[Slice]) -> Result<(), AllocError>
     ensures { OnOk result (names.new ≡ names.old ++ instance_names (view_slices slices.now)) }
 {
     for slice in slices {

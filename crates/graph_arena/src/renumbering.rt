@@ -36,7 +36,8 @@ impl Graph {
 }
 
 /// For each of so many names its place in the list; for a name that is not in the list, the list's length.
-fn index_of(alloc: Global, count: u32, names: &[u32]) -> Result<Vec<u32>, AllocError>
+/// Out of memory leaves nothing.
+pub fn index_of(alloc: Global, count: u32, names: &[u32]) -> Result<Vec<u32>, AllocError>
     requires few { length names.now ≤ count }
     requires in_range { AreBelow count names.now }
     ensures { IfOk result (λ index. IsIndex count names.now index.items) }
@@ -70,8 +71,8 @@ fn in_order(
     Ok(taken)
 }
 
-/// Puts for each name in the slices what the table has for it.
-fn resolve_slices(slices: &mut [Slice], table: &[u32])
+/// Puts for each name in the slices what the table has for it; a name past its end becomes 0.
+pub fn resolve_slices(slices: &mut [Slice], table: &[u32])
     ensures { view_slices slices.new ≡ map (renamed_slice (entry_in table.now)) (view_slices slices.old) }
 {
     for slice in slices.iter_mut() {

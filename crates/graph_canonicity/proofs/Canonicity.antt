@@ -53,7 +53,7 @@ module _ (t : Tables) (reach : Reach) (shape : Shape) (room more : ℕ) where
 
 -- ---- graphs that are the same have one form
 
-six_more : (content : List ℕ) → length (encapsulated_bytes content) ≡ 6 + length content
+pub six_more : (content : List ℕ) → length (encapsulated_bytes content) ≡ 6 + length content
 six_more content = omega arith
 
 inside_is : (a b : List ℕ) → encapsulated_bytes a ≡ encapsulated_bytes b → a ≡ b

@@ -55,7 +55,7 @@ module _ (t : Tables) (f : ℕ → ℕ) (ns : List ℕ) (Refer Other : Refers) (
   referred-renamed [] listed h = tt
   referred-renamed (n ∷ table) listed h = (moves None (Some n) (h.0, (listed.0, tt)), referred-renamed table listed.1 h.1)
 
-  instance-typed : (ss : List Slice) → AreListed ns (instance_names ss) → IsInstance t Refer ss → IsInstance t Other (map (renamed_slice f) ss)
+  pub instance-typed : (ss : List Slice) → AreListed ns (instance_names ss) → IsInstance t Refer ss → IsInstance t Other (map (renamed_slice f) ss)
   instance-typed [] listed h = absurd h
   instance-typed (kept id bytes optionals table ∷ []) listed h = (h.0, h.1, referred-renamed table (AreListed-left ns table [] listed) h.2)
   instance-typed (kept id bytes optionals table ∷ s ∷ ss) listed h =
@@ -89,7 +89,7 @@ compact-renamed f [] h = h
 compact-renamed f (known class content ∷ ss) h = tt
 compact-renamed f (kept id bytes optionals table ∷ ss) h = h
 
-asked-renamed : (reach : Reach) (format : Format) (f : ℕ → ℕ) (ss : List Slice) → Asked reach format ss → Asked reach format (map (renamed_slice f) ss)
+pub asked-renamed : (reach : Reach) (format : Format) (f : ℕ → ℕ) (ss : List Slice) → Asked reach format ss → Asked reach format (map (renamed_slice f) ss)
 asked-renamed all_slices sliced f ss h = tt
 asked-renamed all_slices compact f ss h = compact-renamed f ss h
 asked-renamed known_classes format f ss h = compact-renamed f ss h
@@ -152,7 +152,7 @@ listed-below limit (m ∷ ns) n below lt = elim (cases_eq m n) [
 ]
 
 -- a class fits under the other name
-form-moves : (t : Tables) (g : Graph) → Moves (place (order g)) (Narrow (RefersIn t g.instances) (order g)) (RefersIn t (numbered (order g) g).instances)
+pub form-moves : (t : Tables) (g : Graph) → Moves (place (order g)) (Narrow (RefersIn t g.instances) (order g)) (RefersIn t (numbered (order g) g).instances)
 form-moves t g declared None h = tt
 form-moves t g declared (Some n) h =
     let ns : List ℕ = order g in
@@ -202,7 +202,7 @@ upto-listed count (m ∷ ms) below = (omega (arith, place-upto count m below.0, 
 pub listed-upto : (count n : ℕ) → place (upto count) n < length (upto count) → n < count
 listed-upto count n lt = elim (cases_lt n count) [ inl less ↦ less | inr le ↦ absurd (omega (arith, lt, unlisted-upto count n le)) ]
 
-upto-holds : (k : Graph) → InOrder k → Holds (upto (length k.instances)) k
+pub upto-holds : (k : Graph) → InOrder k → Holds (upto (length k.instances)) k
 upto-holds k in_order = record {
   once = once-upto (length k.instances);
   roots = upto-listed (length k.instances) (names_of k.roots) in_order.roots;

@@ -13,6 +13,7 @@ pub mod Formed
 pub mod TableRules
 pub mod FlagBytes
 pub mod InlineRules
+pub mod WrittenBodies
 pub mod WrittenSlices
 pub mod WrittenGraphs
 pub mod Reached

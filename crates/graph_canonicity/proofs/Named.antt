@@ -11,7 +11,7 @@ use Rattle.ice_types.specs.Rules.{IsSchema}
 use Rattle.ice_graphs.specs.Classes.{one_further, place_of, class_named}
 
 -- no two rows have one id
-abbrev Apart : List ClassDecl → Type 0
+abbrev pub Apart : List ClassDecl → Type 0
 Apart ds = (a b : ℕ) (c d : ClassDecl) → slice_get ds a ≡ Some c → slice_get ds b ≡ Some d → c.id ≡ d.id → a ≡ b
 
 less : (a b : ℕ) → suc a ≡ suc b → a ≡ b
@@ -23,7 +23,7 @@ place_by c d ds apart later true same class is = ap Some (apart 0 class c d refl
 place_by c d ds apart later false other zero is = let same : c ≡ d = cc in absurd (false≢true (sym other ∙ (bytes_eq-Decides c.id d.id).1 (ap (λ (x : ClassDecl). x.id) same)))
 place_by c d ds apart later false other (suc class) is = ap one_further (later class is)
 
-own_place : (ds : List ClassDecl) → Apart ds → (class : ℕ) (d : ClassDecl) → slice_get ds class ≡ Some d → place_of (map (λ c. c.id) ds) d.id ≡ Some class
+pub own_place : (ds : List ClassDecl) → Apart ds → (class : ℕ) (d : ClassDecl) → slice_get ds class ≡ Some d → place_of (map (λ c. c.id) ds) d.id ≡ Some class
 own_place [] apart class d is = absurd cc
 own_place (c ∷ ds) apart class d is =
     place_by c d ds apart (λ at at_is. own_place ds (λ a b x y x_is y_is same. less a b (apart (suc a) (suc b) x y x_is y_is same)) at d at_is) (bytes_eq c.id d.id) refl class is

@@ -28,7 +28,7 @@ use Rattle.graph_canonicity.proofs.Canonicity.{same_bytes, same_from_bytes, read
 
 -- ---- type ids of a schema are UTF-8
 
-row_text : (row : Option ClassDecl) → ((d : ClassDecl) → row ≡ Some d → IsUtf8 d.id) → IsUtf8 (id_in row)
+pub row_text : (row : Option ClassDecl) → ((d : ClassDecl) → row ≡ Some d → IsUtf8 d.id) → IsUtf8 (id_in row)
 row_text None texts = IsUtf8-nil
 row_text (Some d) texts = texts d refl
 

@@ -1,4 +1,4 @@
--- The content of a sized slice: places in its table as references.
+-- The content of a sized slice, of the tables u: places in its table as references.
 use Rattle.std.proofs.Common.{ℕ, suc, ◌<◌, ◌^◌, ◌≡◌, true, List, [], ◌∷◌, ◌++◌, length, refl, ap, ◌∙◌, arith, Some, None}
 use Rattle.std.proofs.lemmas.List.{length-append}
 use Rattle.ice_types.specs.declared.declarations.Shape.{Shape}
@@ -77,10 +77,10 @@ module _ (t : Tables) (is : List (List Slice)) (table : List ℕ) where
   )
 
   -- the members of a sized slice, with places as references
-  pub placed_members : length table < 2 ^ 31 → (shape : Shape) (c : Members) → AreMembers t RefersTo shape c → length (written_slice_members by_size t shape c tt).0 < 2 ^ 31
-      → (end : Uses) × SpellsSliceMembers (in_table (is_there table)) t (is_there c.optional) shape (written_slice_members by_size t shape c tt).0 c [] end × AreWithin (length table) end × AllFit t is (resolved table end)
-  placed_members few shape c h lt =
-      let g = members_good table_rules t (in_table (is_there table)) by_size RefersTo (entry_good few) shape c h tt [] lt (tt, tt) in
+  placed_members : (u : Tables) → length table < 2 ^ 31 → (shape : Shape) (c : Members) → AreMembers u RefersTo shape c → length (written_slice_members by_size u shape c tt).0 < 2 ^ 31
+      → (end : Uses) × SpellsSliceMembers (in_table (is_there table)) u (is_there c.optional) shape (written_slice_members by_size u shape c tt).0 c [] end × AreWithin (length table) end × AllFit t is (resolved table end)
+  placed_members u few shape c h lt =
+      let g = members_good table_rules u (in_table (is_there table)) by_size RefersTo (entry_good few) shape c h tt [] lt (tt, tt) in
       (g.0, g.1, g.2.0, g.2.1)
 
   -- from names to their places
@@ -91,10 +91,10 @@ module _ (t : Tables) (is : List (List Slice)) (table : List ℕ) where
       (h.1.0, ap (λ (m : ℕ). class_fits t declared (class_of (slices_of is m))) back ∙ h.0.1)
 
 -- the members of a slice with the places of their names, each name once
-pub sized_members : (t : Tables) (is : List (List Slice)) (shape : Shape) (c : Members) (table : List ℕ) → AreListed table (names_of c) → length table < 2 ^ 31 → AreMembers t (RefersIn t is) shape c
-    → length (written_slice_members by_size t shape (renamed_members (place table) c) tt).0 < 2 ^ 31
-    → (end : Uses) × SpellsSliceMembers (in_table (is_there table)) t (is_there (renamed_members (place table) c).optional) shape (written_slice_members by_size t shape (renamed_members (place table) c) tt).0 (renamed_members (place table) c) [] end
+pub sized_members : (u t : Tables) (is : List (List Slice)) (shape : Shape) (c : Members) (table : List ℕ) → AreListed table (names_of c) → length table < 2 ^ 31 → AreMembers u (RefersIn t is) shape c
+    → length (written_slice_members by_size u shape (renamed_members (place table) c) tt).0 < 2 ^ 31
+    → (end : Uses) × SpellsSliceMembers (in_table (is_there table)) u (is_there (renamed_members (place table) c).optional) shape (written_slice_members by_size u shape (renamed_members (place table) c) tt).0 (renamed_members (place table) c) [] end
     × AreWithin (length table) end × AllFit t is (resolved table end)
-sized_members t is shape c table listed few h lt =
-    placed_members t is table few shape (renamed_members (place table) c)
-    (members-renamed t (place table) (Narrow (RefersIn t is) table) (RefersTo t is table) (to_places t is table) shape c (members-narrowed t table (RefersIn t is) shape c listed h)) lt
+sized_members u t is shape c table listed few h lt =
+    placed_members t is table u few shape (renamed_members (place table) c)
+    (members-renamed u (place table) (Narrow (RefersIn t is) table) (RefersTo t is table) (to_places t is table) shape c (members-narrowed u table (RefersIn t is) shape c listed h)) lt

@@ -21,6 +21,7 @@ use Rattle.ice_graphs.specs.Visiting.{visit_each, visit_at, most}
 use Rattle.ice_graphs.specs.Typed.{AreMembers, IsInstance, RefersIn}
 use Rattle.ice_graphs.specs.Canonical.{Pen, Format, written_as, put_inline, written_instance, with_one_begun, blank, bytes_of}
 use Rattle.graph_arena.specs.Arena.{AreBelow}
+pub use Rattle.graph_typing.proofs.TypedGraphs.{replaced_length, replaced_at, replaced_else}
 use Rattle.graph_canonicity.proofs.TypeIds.{Spelled, HaveTexts, null_at, back_at}
 use Rattle.graph_canonicity.proofs.Named.{AreNamed}
 use Rattle.graph_canonicity.proofs.Formed.{Asked}
@@ -30,25 +31,6 @@ use Rattle.graph_canonicity.proofs.WrittenValues.{Relation, size_spelled}
 use Rattle.graph_canonicity.proofs.WrittenMembers.{content_good}
 use Rattle.graph_canonicity.proofs.InlineRules.{Goes, Stands, inline_rules, all_fit_more}
 use Rattle.graph_canonicity.proofs.WrittenSlices.{as_good}
-
--- ---- an item in the place of another
-
-pub replaced_length : {A : Type 0} (n : ℕ) (x : A) (l : List A) → length (replaced n x l) ≡ length l
-replaced_length n x [] = refl
-replaced_length zero x (y ∷ l) = refl
-replaced_length (suc n) x (y ∷ l) = ap suc (replaced_length n x l)
-
-pub replaced_at : (n : ℕ) (x : List Slice) (l : List (List Slice)) → n < length l → slices_of (replaced n x l) n ≡ x
-replaced_at n x [] lt = absurd (omega (arith, lt))
-replaced_at zero x (y ∷ l) lt = refl
-replaced_at (suc n) x (y ∷ l) lt = replaced_at n x l (omega (arith, lt))
-
-pub replaced_else : (n m : ℕ) (x : List Slice) (l : List (List Slice)) → (n ≡ m → ⊥) → slices_of (replaced n x l) m ≡ slices_of l m
-replaced_else n m x [] apart = refl
-replaced_else zero zero x (y ∷ l) apart = absurd (apart refl)
-replaced_else zero (suc m) x (y ∷ l) apart = refl
-replaced_else (suc n) zero x (y ∷ l) apart = refl
-replaced_else (suc n) (suc m) x (y ∷ l) apart = replaced_else n m x l (λ e. apart (ap suc e))
 
 size_long : (n : ℕ) → 1 ≤ length (size_bytes n)
 size_long n = by_test (ltb n 255)
@@ -80,17 +62,17 @@ module _ (t : Tables) (named : AreNamed t) (reach : Reach) (format : Format) (k 
     (typed : (n : ℕ) → n < length k.instances → IsInstance t (RefersIn t k.instances) (slices_of k.instances n)) (asked : (n : ℕ) → n < length k.instances → Asked reach format (slices_of k.instances n) × HaveTexts t (slices_of k.instances n))
     (range : (n : ℕ) → n < length k.instances → AreBelow (length k.instances) (instance_names (slices_of k.instances n)))
     (ports : ℕ → Port (State ℕ) Spelled) (stand : Inline t reach format room ports) where
-  abbrev limit : ℕ
+  abbrev pub limit : ℕ
   limit = length k.instances
 
   -- as deep as instances may still begin
-  abbrev Ready : ℕ → ℕ → ℕ → Type 0
+  abbrev pub Ready : ℕ → ℕ → ℕ → Type 0
   Ready depth more i = (limit ≤ depth + i) × (limit ≤ more + i)
 
-  ready : (depth more i j : ℕ) → Ready depth more i → i ≤ j → Ready depth more j
+  pub ready : (depth more i j : ℕ) → Ready depth more i → i ≤ j → Ready depth more j
   ready depth more i j h le = (omega (arith, h.0, le), omega (arith, h.1, le))
 
-  abbrev refer : ℕ → Option ℕ → Piece Pen
+  abbrev pub refer : ℕ → Option ℕ → Piece Pen
   refer depth = written_in_place put_inline (written_instance t format k depth)
 
   -- what is written for a name, by whether the instance has begun
@@ -103,18 +85,18 @@ module _ (t : Tables) (named : AreNamed t) (reach : Reach) (format : Format) (k 
   abbrev put_named : Bool → ℕ → ℕ → Piece Pen
   put_named begun depth n p = let q = put_by begun n p in let b = written_begun (written_instance t format k depth) q.begun q.after in (q.bytes ++ b.0, b.1)
 
-  abbrev GoesAt : ℕ → ℕ → Option ℕ → Option ℕ → Type 0
+  abbrev pub GoesAt : ℕ → ℕ → Option ℕ → Option ℕ → Type 0
   GoesAt depth more declared n = (from : Spelled) (p : Pen) (j : ℕ) → Stands t k from p → Ready depth more p.begun → visit_each (visit_at depth k) (listed_name n) (upto p.begun) ≡ upto j → length p.ids + length (refer depth n p).0 < 2 ^ 31
       → Goes t k (λ b from to. (ports more).Spells declared b n from to) from p (refer depth n p) j
 
-  abbrev Rising : ℕ → ℕ → Type 0
+  abbrev pub Rising : ℕ → ℕ → Type 0
   Rising depth more = (declared n : Option ℕ) → RefersIn t k.instances declared n → GoesAt depth more declared n
 
   named_long : (b : Bool) (depth n : ℕ) (p : Pen) → 1 ≤ length (put_named b depth n p).0
   named_long true depth n p = omega (arith, size_long (suc (suc n)), length-append (size_bytes (suc (suc n))) [])
   named_long false depth n p = omega (arith, length-append (size_bytes 1) (written_instance t format k depth n p).0)
 
-  refer_long : (depth n : ℕ) (p : Pen) → 1 ≤ length (refer depth (Some n) p).0
+  pub refer_long : (depth n : ℕ) (p : Pen) → 1 ≤ length (refer depth (Some n) p).0
   refer_long depth n p = named_long (ltb n p.begun) depth n p
 
   -- one that has begun
@@ -173,7 +155,7 @@ module _ (t : Tables) (named : AreNamed t) (reach : Reach) (format : Format) (k 
   by_begun R from p j depth n true small f g = f refl
   by_begun R from p j depth n false small f g = g refl small
 
-  rising : (depth more : ℕ) → Rising depth more
+  pub rising : (depth more : ℕ) → Rising depth more
   rising depth more declared None refers from p j stands is_ready run small =
       let j_is = upto-one p.begun j run in
       record {
@@ -206,7 +188,7 @@ module _ (t : Tables) (named : AreNamed t) (reach : Reach) (format : Format) (k 
       (g.end, g.spelled, ext_get_or [] g.end.instances k.instances g.count (λ n lt. g.inside n (omega arith) (omega (arith, g.count, lt))), g.fit tt)
 
 -- instances as they are in either format
-inline_instances : (t : Tables) (reach : Reach) (format : Format) (room : ℕ) → Inline t reach format room (instances t reach room)
+pub inline_instances : (t : Tables) (reach : Reach) (format : Format) (room : ℕ) → Inline t reach format room (instances t reach room)
 inline_instances t reach format room = record {
   null = null_at t reach room;
   again = back_at t reach room;

@@ -1,32 +1,23 @@
 -- What is written for slices spells them, in both formats.
-use Rattle.std.proofs.Common.{ℕ, pos, suc, ◌+◌, ◌<◌, ◌≤◌, ◌^◌, ◌≡◌, Bool, true, false, ◌&&◌, List, [], ◌∷◌, ◌++◌, length, refl, sym, ap, ◌∙◌, subst, arith, Option, Some, None}
+use Rattle.std.proofs.Common.{ℕ, suc, ◌≤◌, ◌≡◌, Bool, true, false, ◌&&◌, List, [], ◌∷◌, ◌++◌, length, refl, sym, ap, ◌∙◌, subst, Option, Some, None}
 use Rattle.std.specs.Prelude.{is_none}
-use Rattle.std.specs.Int.{w32}
 use Rattle.std.specs.Str.{IsUtf8}
-use Rattle.std.proofs.lemmas.Bool.{eq-eqb, le-leb}
-use Rattle.std.proofs.lemmas.Int.{fits_signed_from_abs}
-use Rattle.std.proofs.lemmas.List.{length-append}
-use Rattle.ice_types.specs.declared.declarations.Shape.{Shape}
+use Rattle.std.proofs.lemmas.Bool.{eq-eqb}
 use Rattle.ice_types.specs.Tables.{Tables}
-use Rattle.ice_prims.specs.Number.{SpellsSize}
-use Rattle.ice_prims.specs.Bytes.{size_bytes}
 use Rattle.ice_encoding.specs.Port.{Port}
 use Rattle.ice_encoding.specs.Writing.{Piece, exactly, ◌>>◌}
-use Rattle.ice_optionals.specs.Optionals.{Present}
-use Rattle.ice_optionals.specs.Members.{Members, SpellsSliceMembers}
-use Rattle.ice_graphs.specs.Classes.{class_named, base_of, own_members}
+use Rattle.ice_optionals.specs.Members.{Members}
+use Rattle.ice_graphs.specs.Classes.{class_named, base_of}
 use Rattle.ice_graphs.specs.Graph.{Slice, known, kept, Graph}
-use Rattle.ice_graphs.specs.Names.{names_of, instance_names, renamed_present, renamed_members}
-use Rattle.ice_graphs.specs.References.{State, in_table, resolved, AreWithin, SpellsEntries, SpellsTable, with_met}
+use Rattle.ice_graphs.specs.Names.{names_of, instance_names}
+use Rattle.ice_graphs.specs.References.{State}
 use Rattle.ice_graphs.specs.Flags.{IdForm, no_id, Flags, Reach, all_slices, known_classes, is_all, Before, first, only_kept, derived, has_id, may_stand, SpellsFlags}
 use Rattle.ice_graphs.specs.TypeIds.{class_in, is_base, can_be_read, same_bool, ends_well, before_base, before_next}
-use Rattle.ice_graphs.specs.Slices.{slice_size, kept_bytes, by_table, SpellsBody, FromId, SpellsSlices, SpellsInstance}
+use Rattle.ice_graphs.specs.Slices.{SpellsBody, FromId, SpellsSlices, SpellsInstance}
 use Rattle.ice_graphs.specs.Slices.{Behind as Others}
-use Rattle.ice_graphs.specs.Instances.{AllFit}
-use Rattle.ice_graphs.specs.Visiting.{place, visit_each}
+use Rattle.ice_graphs.specs.Visiting.{visit_each}
 use Rattle.ice_graphs.specs.Typed.{IsKnown, AreBases, IsKept, IsInstance, RefersIn}
-use Rattle.ice_graphs.specs.Canonical.{Pen, is_there, each_once, table_of, sized_bytes, flags_byte, id_in, id_of, written_head, written_names, written_table, is_end, sized_body, written_slices, members_bytes, written_bases, written_plain, Format, sliced, compact, written_as, Compact}
-use Rattle.ice_graphs.proofs.Sizes.{slice_size_lawful}
+use Rattle.ice_graphs.specs.Canonical.{Pen, is_there, each_once, flags_byte, id_in, id_of, written_head, is_end, sized_body, written_slices, members_bytes, written_bases, written_plain, Format, sliced, compact, written_as, Compact}
 use Rattle.graph_arena.specs.Arena.{AreBelow}
 use Rattle.graph_arena.proofs.Agreeing.{below-left, below-right}
 use Rattle.graph_canonicity.proofs.TypeIds.{Spelled, HaveTexts}
@@ -34,19 +25,9 @@ use Rattle.graph_canonicity.proofs.Named.{AreNamed}
 use Rattle.graph_canonicity.proofs.Formed.{Asked}
 use Rattle.graph_canonicity.proofs.FlagBytes.{flags_back, flags_small}
 use Rattle.graph_canonicity.proofs.Upto.{upto, Grows}
-use Rattle.graph_canonicity.proofs.Once.{once-listed, once-below}
-use Rattle.graph_canonicity.proofs.Places.{members-back}
-use Rattle.graph_canonicity.proofs.WrittenValues.{Relation, Chain, ReferGood, size_spelled}
-use Rattle.graph_canonicity.proofs.WrittenMembers.{members_good}
-use Rattle.graph_canonicity.proofs.TableRules.{Uses, sized_members}
-use Rattle.graph_canonicity.proofs.InlineRules.{Good, inline_rules, exact_good, joined_good, mapped_good, noted_good, Head, HasId, head_good, IsNone, bare_good}
-
-still_there : (f : ℕ → ℕ) (os : Present) → is_there (renamed_present f os) ≡ is_there os
-still_there f [] = refl
-still_there f (o ∷ os) = refl
-
-slice_size_spelled : (n : ℕ) → n + 4 < 2 ^ 31 → slice_size.Spells (slice_size.put n) n
-slice_size_spelled n lt = slice_size_lawful.put n ((((fits_signed_from_abs w32 (pos (n + 4)) lt, refl), refl), le-leb 4 (n + 4) (omega arith)), omega arith)
+use Rattle.graph_canonicity.proofs.WrittenValues.{Relation, Chain, ReferGood}
+use Rattle.graph_canonicity.proofs.WrittenBodies.{IsOpen, open_base, with_size, KnownBody, KeptBody, PlainBody, known_good, kept_good, plain_body}
+use Rattle.graph_canonicity.proofs.InlineRules.{Good, inline_rules, exact_good, joined_good, mapped_good, Head, HasId, head_good, IsNone, bare_good}
 
 module _ (t : Tables) (found : AreNamed t) (reach : Reach) (k : Graph) (visit : ℕ → List ℕ → List ℕ) (grows : Grows visit) (Ready : ℕ → Type 0) (ready : (i j : ℕ) → Ready i → i ≤ j → Ready j) (P : Port (State ℕ) (State (Unit {0}))) (refer : Option ℕ → Piece Pen)
     (port_good : ReferGood (inline_rules t k visit grows Ready ready) t P refer (RefersIn t k.instances)) (refer_long : (n : ℕ) (p : Pen) → 1 ≤ length (refer (Some n) p).0)
@@ -65,88 +46,6 @@ module _ (t : Tables) (found : AreNamed t) (reach : Reach) (k : Graph) (visit : 
 
   abbrev mapped : (w : Piece Pen) (ns : List ℕ) (R R' : Relation Spelled) → ((bytes : List ℕ) (from to : Spelled) → R bytes from to → R' bytes from to) → Ends w ns R → Ends w ns R'
   mapped = mapped_good t k visit grows Ready ready
-
-  -- ---- tables
-
-  names_good : (ns : List ℕ) → AreBelow limit ns → Ends (written_names t refer ns) ns (λ b from to. SpellsEntries P (length ns) b ns from to)
-  names_good [] below = exact [] (λ b from to. SpellsEntries P 0 b [] from to) (λ s. (refl, refl, refl))
-  names_good (n ∷ ns) below =
-      mapped (refer (Some n) >> written_names t refer ns) (n ∷ ns) (Chain (λ b from to. P.Spells None b (Some n) from to) (λ b from to. SpellsEntries P (length ns) b ns from to)) (λ b from to. SpellsEntries P (suc (length ns)) b (n ∷ ns) from to)
-      (λ b from to z. (n, ns, z.0, z.1, z.2, refl, z.3, z.4, z.5))
-      (joined (refer (Some n)) (written_names t refer ns) (n ∷ []) ns (λ b from to. P.Spells None b (Some n) from to) (λ b from to. SpellsEntries P (length ns) b ns from to) (port_good None (Some n) (below.0, refl)) (names_good ns below.1))
-
-  names_long : (ns : List ℕ) (p : Pen) → length ns ≤ length (written_names t refer ns p).0
-  names_long [] p = omega arith
-  names_long (n ∷ ns) p = omega (arith, refer_long n p, names_long ns (refer (Some n) p).1, length-append (refer (Some n) p).0 (written_names t refer ns (refer (Some n) p).1).0)
-
-  table_long : (ns : List ℕ) (p : Pen) → length ns ≤ length (written_table t refer ns p).0
-  table_long [] p = omega arith
-  table_long (n ∷ ns) p = omega (arith, names_long (n ∷ ns) p, length-append (size_bytes (length (n ∷ ns))) (written_names t refer (n ∷ ns) p).0)
-
-  table_good : (ns : List ℕ) (uses : Uses) → length ns < 2 ^ 31 → AreBelow limit ns → AreWithin (length ns) uses → AllFit t k.instances (resolved ns uses) → Ends (written_table t refer ns) ns (λ b from to. SpellsTable P (is_there ns) uses b ns from to)
-  table_good [] uses few below within fit = exact [] (λ b from to. SpellsTable P false uses b [] from to) (λ s. (refl, refl, refl))
-  table_good (n ∷ ns) uses few below within fit =
-      let all : List ℕ = n ∷ ns in
-      let Size : Relation Spelled = λ b from to. SpellsSize b (length all) × (to ≡ from) in
-      let Names : Relation Spelled = λ b from to. SpellsEntries P (length all) b all from to in
-      mapped (exactly (size_bytes (length all)) >> written_names t refer all) all (λ b from to. (end : Spelled) × Chain Size Names b from end × (to ≡ with_met (resolved all uses) end)) (λ b from to. SpellsTable P true uses b all from to)
-      (λ b from to z. (length all, z.1.0, z.1.1, z.0, z.1.3, z.1.4.0, within, subst (λ (s : Spelled). SpellsEntries P (length all) z.1.1 all s z.0) z.1.4.1 z.1.5, z.2))
-      (noted_good t k visit grows Ready ready (exactly (size_bytes (length all)) >> written_names t refer all) all (Chain Size Names) (resolved all uses) fit
-      (joined (exactly (size_bytes (length all))) (written_names t refer all) [] all Size Names (exact (size_bytes (length all)) Size (λ s. (size_spelled (length all) few, refl))) (names_good all below)))
-
-  -- ---- the bodies of sized slices
-
-  abbrev size_part : ℕ → List ℕ
-  size_part n = slice_size.put n
-
-  sized_parts : (s : Slice) (p : Pen) → length (sized_body t refer s p).0 ≡ suc (suc (suc (suc (length (sized_bytes t s))))) + length (written_table t refer (table_of s) p).0
-  sized_parts s p = length-append (size_part (length (sized_bytes t s)) ++ sized_bytes t s) (written_table t refer (table_of s) p).0
-
-  -- a size and what it counts, and then the table
-  abbrev Counted : List ℕ → Relation Spelled
-  Counted content b from to = (b ≡ size_part (length content) ++ content) × (to ≡ from)
-
-  abbrev KnownBody : ℕ → Members → Relation Spelled
-  KnownBody class content b from to = SpellsBody P t (record { id = no_id; has_optional = is_there content.optional; has_table = is_there (each_once [] (names_of content)); has_size = true; is_last = true }) [] true (Some class) b (known class content) from to
-
-  known_good : (class : ℕ) (content : Members) → IsKnown t (RefersIn t k.instances) class content → AreBelow limit (names_of content) → Ends (sized_body t refer (known class content)) (names_of content) (KnownBody class content)
-  known_good class content (d, row, h) below from p j stands is_ready run small =
-      let s : Slice = known class content in
-      let ns : List ℕ = names_of content in
-      let table : List ℕ = each_once [] ns in
-      let raw : Members = renamed_members (place table) content in
-      let bytes : List ℕ = sized_bytes t s in
-      let parts = sized_parts s p in
-      let few : length table < 2 ^ 31 = omega (arith, small, parts, table_long table p) in
-      let fits : length bytes + 4 < 2 ^ 31 = omega (arith, small, parts) in
-      let shape : Shape = own_members t class in
-      let m = sized_members t k.instances shape content table (once-listed ns) few h (omega (arith, fits)) in
-      let spelled : SpellsSliceMembers (in_table (is_there table)) t (is_there content.optional) shape bytes raw [] m.0 =
-      subst (λ (o : Bool). SpellsSliceMembers (in_table (is_there table)) t o shape bytes raw [] m.0) (still_there (place table) content.optional) m.1 in
-      let back : known class content ≡ by_table class raw table = ap (known class) (sym (members-back table content (once-listed ns))) in
-      let Table : Relation Spelled = λ b u v. SpellsTable P (is_there table) m.0 b table u v in
-      mapped (sized_body t refer s) table (Chain (Counted bytes) Table) (KnownBody class content)
-      (λ b u v z. (raw, m.0, z.0, z.1, z.3, (size_part (length bytes), bytes, z.4.0, slice_size_spelled (length bytes) fits, spelled), (table, back, subst (λ (x : Spelled). SpellsTable P (is_there table) m.0 z.1 table x v) z.4.1 z.5)))
-      (joined (exactly (size_part (length bytes) ++ bytes)) (written_table t refer table) [] table (Counted bytes) Table
-      (exact (size_part (length bytes) ++ bytes) (Counted bytes) (λ u. (refl, refl))) (table_good table m.0 few (once-below limit [] ns below) m.2 m.3))
-      from p j stands is_ready (once ns p.begun j is_ready below run) small
-
-  abbrev KeptBody : List ℕ → List ℕ → Bool → List ℕ → Relation Spelled
-  KeptBody id bytes optionals table b from to = SpellsBody P t (record { id = no_id; has_optional = optionals; has_table = is_there table; has_size = true; is_last = true }) id true None b (kept id bytes optionals table) from to
-
-  kept_good : (id bytes : List ℕ) (optionals : Bool) (table : List ℕ) → AreBelow limit table → Ends (sized_body t refer (kept id bytes optionals table)) table (KeptBody id bytes optionals table)
-  kept_good id bytes optionals table below from p j stands is_ready run small =
-      let s : Slice = kept id bytes optionals table in
-      let all : List ℕ = kept_bytes optionals bytes in
-      let parts = sized_parts s p in
-      let few : length table < 2 ^ 31 = omega (arith, small, parts, table_long table p) in
-      let fits : length all + 4 < 2 ^ 31 = omega (arith, small, parts) in
-      let Table : Relation Spelled = λ b u v. SpellsTable P (is_there table) [] b table u v in
-      mapped (sized_body t refer s) table (Chain (Counted all) Table) (KeptBody id bytes optionals table)
-      (λ b u v z. (bytes, z.0, z.1, u, z.3, ((size_part (length all), z.4.0, slice_size_spelled (length all) fits), refl), (table, refl, subst (λ (x : Spelled). SpellsTable P (is_there table) [] z.1 table x v) z.4.1 z.5)))
-      (joined (exactly (size_part (length all) ++ all)) (written_table t refer table) [] table (Counted all) Table
-      (exact (size_part (length all) ++ all) (Counted all) (λ u. (refl, refl))) (table_good table [] few below tt tt))
-      from p j stands is_ready run small
 
   -- ---- one slice, and those behind it
 
@@ -213,17 +112,14 @@ module _ (t : Tables) (found : AreNamed t) (reach : Reach) (k : Graph) (visit : 
       let id_is : id ≡ d.id = ap id_in known_class.1 in
       let own = found class d known_class.1 in
       let tabled = is_there (each_once [] (names_of content)) in
-      step_good ahead (before_base true (base_of t class)) s ss (is_there content.optional) tabled true (is_end t refer ss) (HasId t k visit grows Ready ready) id (Some class) (KnownBody class content)
+      step_good ahead (before_base true (base_of t class)) s ss (is_there content.optional) tabled true (is_end t refer ss) (HasId t k visit grows Ready ready) id (Some class) (KnownBody t t k visit grows Ready ready P refer port_good class content)
       may (named id ∙ ap (class_named t) id_is ∙ own) based (λ form. refl) (λ form. ends_as class ss bases) (λ form. refl) (λ form b from to z. z)
       (written_head (λ form. flags_byte form (is_there content.optional) tabled true (is_end t refer ss)) id) (sized_body t refer s) (written_slices t refer ss) (names_of content) (instance_names ss)
       (head_good t k visit grows Ready ready (λ form. flags_byte form (is_there content.optional) tabled true (is_end t refer ss)) id text)
-      (known_good class content known_class below) rest
+      (known_good t t k visit grows Ready ready P refer port_good refer_long once class content known_class below) rest
 
   with_id : (b c : Bool) → b ≡ true → c ≡ true → (b && c) ≡ true
   with_id b c p q = rw (p, q) refl
-
-  with_size : (b : Bool) → b ≡ true → (b && true) ≡ true
-  with_size b p = rw p refl
 
   bases_good : (base : Option ℕ) (ss : List Slice) → HaveTexts t ss → AreBases t (RefersIn t k.instances) base ss → AreBelow limit (instance_names ss) → Ends (written_slices t refer ss) (instance_names ss) (Later (is_end t refer ss) (before_base true base) ss)
   bases_good None ss texts are below = subst (λ (l : List Slice). Ends (written_slices t refer l) (instance_names l) (Later (is_end t refer l) only_kept l)) (sym are) (last_later only_kept)
@@ -235,21 +131,10 @@ module _ (t : Tables) (found : AreNamed t) (reach : Reach) (k : Graph) (visit : 
       (subst (λ (c : ℕ). IsKnown t (RefersIn t k.instances) c content) (sym same) known_class) bases (below-left limit (names_of content) (instance_names ss) below)
       (bases_good (base_of t other) ss texts.1 bases (below-right limit (names_of content) (instance_names ss) below))
 
-  -- only kept slices, or nothing, stand before
-  abbrev IsOpen : Before → Type 0
-  IsOpen first = Unit {0}
-  IsOpen only_kept = Unit {0}
-  IsOpen (derived sized base) = ⊥
-
   open_class : (ahead : Before) → IsOpen ahead → (id : List ℕ) → class_in t ahead id ≡ class_named t id
   open_class first free id = refl
   open_class only_kept free id = refl
   open_class (derived sized base) free id = absurd free
-
-  open_base : (ahead : Before) → IsOpen ahead → (class : Option ℕ) → is_base ahead class ≡ true
-  open_base first free class = refl
-  open_base only_kept free class = refl
-  open_base (derived sized base) free class = absurd free
 
   open_may : (ahead : Before) → IsOpen ahead → (opt tabled last : Bool) (form : IdForm) → has_id form ≡ true → may_stand ahead (flags_with opt tabled true last form) ≡ true
   open_may first free opt tabled last form ok = with_id (has_id form) true ok refl
@@ -261,10 +146,10 @@ module _ (t : Tables) (found : AreNamed t) (reach : Reach) (k : Graph) (visit : 
       → Ends (written_slices t refer (kept id bytes optionals table ∷ ss)) (instance_names (kept id bytes optionals table ∷ ss)) (Slices ahead (kept id bytes optionals table ∷ ss))
   kept_step all ahead free id bytes optionals table ss lacks below rest =
       let s : Slice = kept id bytes optionals table in
-      step_good ahead only_kept s ss optionals (is_there table) true (is_end t refer ss) (HasId t k visit grows Ready ready) id None (KeptBody id bytes optionals table)
+      step_good ahead only_kept s ss optionals (is_there table) true (is_end t refer ss) (HasId t k visit grows Ready ready) id None (KeptBody t t k visit grows Ready ready P refer port_good id bytes optionals table)
       (open_may ahead free optionals (is_there table) (is_end t refer ss)) (open_class ahead free id ∙ lacks.0) (open_base ahead free None) (λ form. with_size (is_all reach) all) (λ form. refl) (λ form. refl) (λ form b from to z. z)
       (written_head (λ form. flags_byte form optionals (is_there table) true (is_end t refer ss)) id) (sized_body t refer s) (written_slices t refer ss) table (instance_names ss)
-      (head_good t k visit grows Ready ready (λ form. flags_byte form optionals (is_there table) true (is_end t refer ss)) id lacks.1) (kept_good id bytes optionals table below) rest
+      (head_good t k visit grows Ready ready (λ form. flags_byte form optionals (is_there table) true (is_end t refer ss)) id lacks.1) (kept_good t t k visit grows Ready ready P refer port_good refer_long once id bytes optionals table below) rest
 
   known_good_first : (ahead : Before) → IsOpen ahead → (class : ℕ) (content : Members) (ss : List Slice) → HaveTexts t (known class content ∷ ss) → IsInstance t (RefersIn t k.instances) (known class content ∷ ss) → AreBelow limit (instance_names (known class content ∷ ss))
       → Ends (written_slices t refer (known class content ∷ ss)) (instance_names (known class content ∷ ss)) (Slices ahead (known class content ∷ ss))
@@ -287,15 +172,6 @@ module _ (t : Tables) (found : AreNamed t) (reach : Reach) (k : Graph) (visit : 
 
   -- ---- without sizes
 
-  abbrev PlainBody : ℕ → Members → Relation Spelled
-  PlainBody class content b from to = SpellsBody P t (flags_with (is_there content.optional) false false true no_id) [] false (Some class) b (known class content) from to
-
-  plain_body : (class : ℕ) (content : Members) → IsKnown t (RefersIn t k.instances) class content → Ends (members_bytes t refer (known class content)) (names_of content) (PlainBody class content)
-  plain_body class content (d, row, h) =
-      let shape : Shape = own_members t class in
-      mapped (members_bytes t refer (known class content)) (names_of content) (λ b from to. SpellsSliceMembers P t (is_there content.optional) shape b content from to) (PlainBody class content) (λ b from to z. (content, refl, z))
-      (members_good (inline_rules t k visit grows Ready ready) t P refer (RefersIn t k.instances) port_good shape content h)
-
   bare_may : (base : ℕ) (opt last : Bool) (form : IdForm) → form ≡ no_id → may_stand (derived false base) (flags_with opt false false last form) ≡ true
   bare_may base opt last form ok = rw ok refl
 
@@ -305,11 +181,11 @@ module _ (t : Tables) (found : AreNamed t) (reach : Reach) (k : Graph) (visit : 
   plain_bases (Some base) (kept id bytes optionals table ∷ ss) are below = absurd are
   plain_bases (Some base) (known other content ∷ ss) (same, known_class, more) below =
       let bases = subst (λ (c : ℕ). AreBases t (RefersIn t k.instances) (base_of t c) ss) (sym same) more in
-      step_good (derived false base) (before_base false (base_of t other)) (known other content) ss (is_there content.optional) false false (is_end t refer ss) (IsNone t k visit grows Ready ready) [] (Some other) (PlainBody other content)
+      step_good (derived false base) (before_base false (base_of t other)) (known other content) ss (is_there content.optional) false false (is_end t refer ss) (IsNone t k visit grows Ready ready) [] (Some other) (PlainBody t t k visit grows Ready ready P refer port_good other content)
       (bare_may base (is_there content.optional) (is_end t refer ss)) (ap Some (sym same)) (eq-eqb other base same) (λ form. refl) (λ form. ends_as other ss bases) (λ form. refl) (λ form b from to z. z)
       (exactly (flags_byte no_id (is_there content.optional) false false (is_end t refer ss) ∷ [])) (members_bytes t refer (known other content)) (written_bases t refer ss) (names_of content) (instance_names ss)
       (bare_good t k visit grows Ready ready (λ form. flags_byte form (is_there content.optional) false false (is_end t refer ss)))
-      (plain_body other content (subst (λ (c : ℕ). IsKnown t (RefersIn t k.instances) c content) (sym same) known_class))
+      (plain_body t t k visit grows Ready ready P refer port_good other content (subst (λ (c : ℕ). IsKnown t (RefersIn t k.instances) c content) (sym same) known_class))
       (plain_bases (base_of t other) ss bases (below-right limit (names_of content) (instance_names ss) below))
 
   plain_good : (ss : List Slice) → Compact ss → HaveTexts t ss → IsInstance t (RefersIn t k.instances) ss → AreBelow limit (instance_names ss) → Ends (written_plain t refer ss) (instance_names ss) (Slices first ss)
@@ -321,11 +197,11 @@ module _ (t : Tables) (found : AreNamed t) (reach : Reach) (k : Graph) (visit : 
       let id : List ℕ = id_of t s in
       let id_is : id ≡ d.id = ap id_in known_class.1 in
       let own = found class d known_class.1 in
-      step_good first (before_base false (base_of t class)) s ss (is_there content.optional) false false (is_end t refer ss) (HasId t k visit grows Ready ready) id (Some class) (PlainBody class content)
+      step_good first (before_base false (base_of t class)) s ss (is_there content.optional) false false (is_end t refer ss) (HasId t k visit grows Ready ready) id (Some class) (PlainBody t t k visit grows Ready ready P refer port_good class content)
       (λ form ok. with_id (has_id form) true ok refl) (ap (class_named t) id_is ∙ own) refl (λ form. refl) (λ form. ends_as class ss bases) (λ form. refl) (λ form b from to z. z)
       (written_head (λ form. flags_byte form (is_there content.optional) false false (is_end t refer ss)) id) (members_bytes t refer s) (written_bases t refer ss) (names_of content) (instance_names ss)
       (head_good t k visit grows Ready ready (λ form. flags_byte form (is_there content.optional) false false (is_end t refer ss)) id texts.0)
-      (plain_body class content known_class) (plain_bases (base_of t class) ss bases (below-right limit (names_of content) (instance_names ss) below))
+      (plain_body t t k visit grows Ready ready P refer port_good class content known_class) (plain_bases (base_of t class) ss bases (below-right limit (names_of content) (instance_names ss) below))
 
   -- in either format
   as_asked : (r : Reach) → reach ≡ r → (format : Format) (ss : List Slice) → Asked r format ss → HaveTexts t ss → IsInstance t (RefersIn t k.instances) ss → AreBelow limit (instance_names ss) → Ends (written_as t refer format ss) (instance_names ss) (λ b from to. SpellsInstance P t reach b ss from to)

@@ -1,6 +1,7 @@
 pub mod Carried
 pub mod Texts
 pub mod Bases
+pub mod ExceptionRows
 pub mod Renamed
 pub mod TypedMembers
 pub mod Ranged

@@ -30,17 +30,7 @@ below_both : (limit : ℕ) (a b : List ℕ) → AreBelow limit a → AreBelow li
 below_both limit [] b p q = q
 below_both limit (n ∷ a) b p q = (p.0, below_both limit a b p.1 q)
 
-module _ (t : Tables) (is : List (List Slice)) where
-  abbrev limit : ℕ
-  limit = length is
-
-  abbrev Refer : Refers
-  Refer = RefersIn t is
-
-  bounded : (declared n : Option ℕ) → Refer declared n → AreBelow limit (listed_name n)
-  bounded declared None h = tt
-  bounded declared (Some n) h = (h.0, tt)
-
+module _ (t : Tables) (limit : ℕ) (Refer : Refers) (bounded : (declared n : Option ℕ) → Refer declared n → AreBelow limit (listed_name n)) where
   -- ---- in values
 
   all_below : (One : Tree → Type 0) → ((v : Tree) → One v → AreBelow limit (names v)) → (vs : Trees) → AllOf One vs → AreBelow limit (names_each vs)
@@ -86,7 +76,7 @@ module _ (t : Tables) (is : List (List Slice)) where
 
   table_below : (table : List ℕ) → AreReferred Refer table → AreBelow limit table
   table_below [] h = tt
-  table_below (n ∷ table) h = (h.0.0, table_below table h.1)
+  table_below (n ∷ table) h = ((bounded None (Some n) h.0).0, table_below table h.1)
 
   known_below : (class : ℕ) (content : Members) → IsKnown t Refer class content → AreBelow limit (names_of content)
   known_below class content h = members_below (own_members t class) content h.2
@@ -97,14 +87,22 @@ module _ (t : Tables) (is : List (List Slice)) where
   bases_below (Some class) (kept id bytes optionals table ∷ ss) h = absurd h
   bases_below (Some class) (known other content ∷ ss) h = below_both limit (names_of content) (instance_names ss) (known_below class content h.1) (bases_below (base_of t class) ss h.2)
 
-  instance_below : (ss : List Slice) → IsInstance t Refer ss → AreBelow limit (instance_names ss)
+  pub instance_below : (ss : List Slice) → IsInstance t Refer ss → AreBelow limit (instance_names ss)
   instance_below [] h = absurd h
   instance_below (kept id bytes optionals table ∷ []) h = below_both limit table [] (table_below table h.2) tt
   instance_below (kept id bytes optionals table ∷ s ∷ ss) h = below_both limit table (instance_names (s ∷ ss)) (table_below table h.0.2) (instance_below (s ∷ ss) h.1)
   instance_below (known class content ∷ ss) h = below_both limit (names_of content) (instance_names ss) (known_below class content h.0) (bases_below (base_of t class) ss h.1)
 
+pub in_instances : (t : Tables) (is : List (List Slice)) (declared n : Option ℕ) → RefersIn t is declared n → AreBelow (length is) (listed_name n)
+in_instances t is declared None h = tt
+in_instances t is declared (Some n) h = (h.0, tt)
+
 pub in_range : (t : Tables) (shape : Shape) (g : Graph) → OfType t shape g → InRange g
-in_range t shape g h = record {
-  roots = members_below t g.instances shape g.roots h.roots;
-  instances = λ n lt. instance_below t g.instances (slices_of g.instances n) (h.instances n lt);
-}
+in_range t shape g h =
+    let limit : ℕ = length g.instances in
+    let Refer : Refers = RefersIn t g.instances in
+    let bounded = in_instances t g.instances in
+    record {
+      roots = members_below t limit Refer bounded shape g.roots h.roots;
+      instances = λ n lt. instance_below t limit Refer bounded (slices_of g.instances n) (h.instances n lt);
+    }

@@ -25,7 +25,7 @@ all_more : (ids : List (List ℕ)) (id : List ℕ) → AllUtf8 ids → IsUtf8 id
 all_more [] id h utf8 = (utf8, tt)
 all_more (i ∷ ids) id h utf8 = (h.0, all_more ids id h.1 utf8)
 
-abbrev Spelled : Type 0
+abbrev pub Spelled : Type 0
 Spelled = State (Unit {0})
 
 abbrev pub Texts : Spelled → Spelled → Type 0
@@ -37,7 +37,7 @@ text_steps = record { Fine = λ s. Unit {0}; Step = Texts; same = λ s h. h; joi
 abbrev any_reference : Refers
 any_reference declared n = Unit {0}
 
-stay : (from to : Spelled) → to ≡ from → Texts from to
+pub stay : (from to : Spelled) → to ≡ from → Texts from to
 stay from to e u = subst (λ (s : Spelled). AllUtf8 s.ids) (sym e) u
 
 module _ (t : Tables) (reach : Reach) where
@@ -55,7 +55,7 @@ module _ (t : Tables) (reach : Reach) where
     refers : (declared n : Option ℕ) (bytes : List ℕ) (from to : Spelled) → IsBytes bytes → port.Spells declared bytes n from to → Unit {0} → Texts from to × any_reference declared n
     refers declared n bytes from to fits h fine = (port_texts declared n bytes from to fits h, tt)
 
-    body_texts : (f : Flags) (id : List ℕ) (sized : Bool) (class : Option ℕ) (bytes : List ℕ) (s : Slice) (from to : Spelled) → IsBytes bytes → SpellsBody port t f id sized class bytes s from to → Texts from to
+    pub body_texts : (f : Flags) (id : List ℕ) (sized : Bool) (class : Option ℕ) (bytes : List ℕ) (s : Slice) (from to : Spelled) → IsBytes bytes → SpellsBody port t f id sized class bytes s from to → Texts from to
     body_texts f id true (Some class) bytes s from to fits (raw, uses, a, b, parts, members, (table, is, h)) u = table_texts f.has_table uses b table from to (rest_fits bytes a b parts fits) h u
     body_texts f id true None bytes s from to fits (content, a, b, mid, parts, (kept, still), (table, is, h)) u = table_texts f.has_table [] b table mid to (rest_fits bytes a b parts fits) h (stay from mid still u)
     body_texts f id false (Some class) bytes s from to fits (content, is, h) u =
@@ -87,7 +87,7 @@ module _ (t : Tables) (reach : Reach) where
       subst (λ (s : Spelled). AllUtf8 s.ids) (sym ends) (one rest ss (beginning tt declared from) end (rest_fits bytes front rest parts fits) h u)
   inline_texts limit Slices one declared (Some n) bytes from to fits (inr h) u = subst (λ (s : Spelled). AllUtf8 s.ids) (sym h.2) u
 
-  instances_texts : (limit more : ℕ) (declared n : Option ℕ) (bytes : List ℕ) (from to : Spelled) → IsBytes bytes → (instances t reach limit more).Spells declared bytes n from to → Texts from to
+  pub instances_texts : (limit more : ℕ) (declared n : Option ℕ) (bytes : List ℕ) (from to : Spelled) → IsBytes bytes → (instances t reach limit more).Spells declared bytes n from to → Texts from to
   instances_texts limit zero declared n bytes from to fits h u = inline_texts limit (λ bytes slices from to. ⊥) (λ bytes ss from to fits h. absurd h) declared n bytes from to fits h u
   instances_texts limit (suc more) declared n bytes from to fits h u =
       inline_texts limit (SpellsInstance (instances t reach limit more) t reach) (λ bytes ss from to fits h. slices_texts (instances t reach limit more) (instances_texts limit more) h.0 first bytes ss from to fits h.1) declared n bytes from to fits h u

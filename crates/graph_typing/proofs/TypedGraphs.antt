@@ -12,7 +12,7 @@ use Rattle.ice_prims.specs.Rest.{IsBytes}
 use Rattle.ice_encoding.specs.Port.{Port, Speller}
 use Rattle.ice_encoding.specs.Typed.{Refers}
 use Rattle.ice_optionals.specs.Members.{Members, SpellsSliceMembers, SpellsContent}
-use Rattle.ice_graphs.specs.Classes.{base_of, own_members}
+use Rattle.ice_graphs.specs.Classes.{class_named, base_of, own_members}
 use Rattle.ice_graphs.specs.Graph.{Slice, known, kept}
 use Rattle.ice_graphs.specs.Names.{renamed_members}
 use Rattle.ice_graphs.specs.References.{State, Reference, met_at, SpellsEntry, in_table, entry_in, resolved, AreWithin, SpellsEntries, SpellsTable, SpellsInline, with_met, with_ended, replaced, beginning, opening}
@@ -29,25 +29,25 @@ use Rattle.graph_typing.proofs.Carried.{Steps, front_fits, rest_fits}
 use Rattle.graph_typing.proofs.Renamed.{Moves, members-renamed}
 use Rattle.graph_typing.proofs.TypedMembers.{slice_typed, content_typed}
 
-abbrev Spelled : Type 0
+abbrev pub Spelled : Type 0
 Spelled = State (Unit {0})
 
-abbrev Uses : Type 0
+abbrev pub Uses : Type 0
 Uses = List (Reference (Unit {0}))
 
 -- ---- the item at a place is another
 
-replaced_length : {A : Type 0} (n : ℕ) (x : A) (l : List A) → length (replaced n x l) ≡ length l
+pub replaced_length : {A : Type 0} (n : ℕ) (x : A) (l : List A) → length (replaced n x l) ≡ length l
 replaced_length n x [] = refl
 replaced_length zero x (y ∷ l) = refl
 replaced_length (suc n) x (y ∷ l) = ap suc (replaced_length n x l)
 
-replaced_at : (n : ℕ) (x : List Slice) (l : List (List Slice)) → n < length l → slices_of (replaced n x l) n ≡ x
+pub replaced_at : (n : ℕ) (x : List Slice) (l : List (List Slice)) → n < length l → slices_of (replaced n x l) n ≡ x
 replaced_at n x [] lt = absurd (omega (arith, lt))
 replaced_at zero x (y ∷ l) lt = refl
 replaced_at (suc n) x (y ∷ l) lt = replaced_at n x l (omega (arith, lt))
 
-replaced_else : (n m : ℕ) (x : List Slice) (l : List (List Slice)) → (n ≡ m → ⊥) → slices_of (replaced n x l) m ≡ slices_of l m
+pub replaced_else : (n m : ℕ) (x : List Slice) (l : List (List Slice)) → (n ≡ m → ⊥) → slices_of (replaced n x l) m ≡ slices_of l m
 replaced_else n m x [] apart = refl
 replaced_else zero zero x (y ∷ l) apart = absurd (apart refl)
 replaced_else zero (suc m) x (y ∷ l) apart = refl
@@ -66,10 +66,10 @@ utf8_front [] b h = tt
 utf8_front (x ∷ a) b h = (h.0, utf8_front a b h.1)
 
 module _ (t : Tables) (rules : IsSchema t) (reach : Reach) (is : List (List Slice)) (room : ℕ) where
-  abbrev limit : ℕ
+  abbrev pub limit : ℕ
   limit = length is
 
-  abbrev Refer : Refers
+  abbrev pub Refer : Refers
   Refer = RefersIn t is
 
   fit_front : (a b : Uses) → AllFit t is (a ++ b) → AllFit t is a
@@ -120,22 +120,22 @@ module _ (t : Tables) (rules : IsSchema t) (reach : Reach) (is : List (List Slic
 
   -- ---- states
 
-  record Fine (s : Spelled) : Type 0 where
-    met : AllFit t is s.met
-    many : length s.instances ≤ limit
-    ids : AllUtf8 s.ids
+  pub record Fine (s : Spelled) : Type 0 where
+    pub met : AllFit t is s.met
+    pub many : length s.instances ≤ limit
+    pub ids : AllUtf8 s.ids
 
-  abbrev Done : List Slice → Type 0
+  abbrev pub Done : List Slice → Type 0
   Done ss = IsInstance t Refer ss
 
   -- what has begun between two states has ended, and is of its type
-  record Step (from to : Spelled) : Type 0 where
-    longer : length from.instances ≤ length to.instances
-    fewer : length from.instances ≤ room → length to.instances ≤ room
-    met : (ms : Uses) × (to.met ≡ from.met ++ ms)
-    ids : (more : List (List ℕ)) × (to.ids ≡ from.ids ++ more)
-    earlier : (m : ℕ) → m < length from.instances → slices_of to.instances m ≡ slices_of from.instances m
-    done : (m : ℕ) → length from.instances ≤ m → m < length to.instances → Done (slices_of to.instances m)
+  pub record Step (from to : Spelled) : Type 0 where
+    pub longer : length from.instances ≤ length to.instances
+    pub fewer : length from.instances ≤ room → length to.instances ≤ room
+    pub met : (ms : Uses) × (to.met ≡ from.met ++ ms)
+    pub ids : (more : List (List ℕ)) × (to.ids ≡ from.ids ++ more)
+    pub earlier : (m : ℕ) → m < length from.instances → slices_of to.instances m ≡ slices_of from.instances m
+    pub done : (m : ℕ) → length from.instances ≤ m → m < length to.instances → Done (slices_of to.instances m)
 
   none_behind : {A : Type 0} (l : List A) → l ≡ l ++ []
   none_behind [] = refl
@@ -148,7 +148,7 @@ module _ (t : Tables) (rules : IsSchema t) (reach : Reach) (is : List (List Slic
   same_step : (s : Spelled) → Step s s
   same_step s = record { longer = omega arith; fewer = λ h. h; met = ([], none_behind s.met); ids = ([], none_behind s.ids); earlier = λ m lt. refl; done = λ m le lt. absurd (omega (arith, le, lt)) }
 
-  joined_step : (a b c : Spelled) → Step a b → Step b c → Step a c
+  pub joined_step : (a b c : Spelled) → Step a b → Step b c → Step a c
   joined_step a b c p q = record {
     longer = omega (arith, p.longer, q.longer);
     fewer = λ h. q.fewer (p.fewer h);
@@ -161,7 +161,7 @@ module _ (t : Tables) (rules : IsSchema t) (reach : Reach) (is : List (List Slic
     ];
   }
 
-  back_step : (a b : Spelled) → Step a b → Fine b → Fine a
+  pub back_step : (a b : Spelled) → Step a b → Fine b → Fine a
   back_step a b p f = record {
     met = fit_front a.met p.met.0 (subst (AllFit t is) p.met.1 f.met);
     many = omega (arith, p.longer, f.many);
@@ -171,11 +171,59 @@ module _ (t : Tables) (rules : IsSchema t) (reach : Reach) (is : List (List Slic
   abbrev state_steps : Steps Spelled
   state_steps = record { Fine = Fine; Step = Step; same = same_step; joined = joined_step; back = back_step }
 
-  stays : (from to : Spelled) → to ≡ from → Step from to
+  pub stays : (from to : Spelled) → to ≡ from → Step from to
   stays from to e = subst (λ (s : Spelled). Step from s) (sym e) (same_step from)
 
   noted : (s : Spelled) (ms : Uses) → Step s (with_met ms s)
   noted s ms = record { longer = omega arith; fewer = λ h. h; met = (ms, refl); ids = ([], none_behind s.ids); earlier = λ m lt. refl; done = λ m le lt. absurd (omega (arith, le, lt)) }
+
+  -- ---- what slices are of, by the tables of their classes
+
+  module _ (u : Tables) where
+    -- what a body is
+    abbrev pub BodyIs : List ℕ → Option ℕ → Slice → Type 0
+    BodyIs id (Some class) s = (content : Members) × (s ≡ known class content) × AreMembers u Refer (own_members u class) content
+    BodyIs id None s = (bytes : List ℕ) × (optionals : Bool) × (table : List ℕ) × (s ≡ kept id bytes optionals table) × AreBelow limit table
+
+    -- what the slices are, by what stands before them
+    abbrev pub Come : Before → List Slice → Type 0
+    Come first ss = IsInstance u Refer ss
+    Come only_kept ss = IsInstance u Refer ss
+    Come (derived sized base) ss = AreBases u Refer (Some base) ss
+
+    -- what follows a kept slice, or one of a class
+    abbrev pub After : Option ℕ → List Slice → Type 0
+    After None others = (others ≡ []) ⊎ IsInstance u Refer others
+    After (Some class) others = AreBases u Refer (base_of u class) others
+
+    referred : (table : List ℕ) → AreBelow limit table → AreReferred Refer table
+    referred [] below = tt
+    referred (n ∷ ns) below = ((below.0, refl), referred ns below.1)
+
+    kept_comes : (id bytes : List ℕ) (optionals : Bool) (table : List ℕ) (others : List Slice) → IsKept u Refer id table → After None others → IsInstance u Refer (kept id bytes optionals table ∷ others)
+    kept_comes id bytes optionals table [] k (inl e) = k
+    kept_comes id bytes optionals table [] k (inr h) = absurd h
+    kept_comes id bytes optionals table (s ∷ ss) k (inl e) = absurd cc
+    kept_comes id bytes optionals table (s ∷ ss) k (inr h) = (k, h)
+
+    known_comes : (ahead : Before) (class : ℕ) (content : Members) (others : List Slice) → is_base ahead (Some class) ≡ true → IsKnown u Refer class content → AreBases u Refer (base_of u class) others → Come ahead (known class content ∷ others)
+    known_comes first class content others based k bases = (k, bases)
+    known_comes only_kept class content others based k bases = (k, bases)
+    known_comes (derived sized base) class content others based k bases =
+        let same : class ≡ base = eqb-true class base based in
+        (same, subst (λ (c : ℕ). IsKnown u Refer c content) same k, subst (λ (c : ℕ). AreBases u Refer (base_of u c) others) same bases)
+
+    pub one_comes : (ahead : Before) (id : List ℕ) (class : Option ℕ) (slice : Slice) (others : List Slice) → (class ≡ None → class_named u id ≡ None) → ((c : ℕ) → class ≡ Some c → IsRow u.classes c) → IsUtf8 id → is_base ahead class ≡ true → BodyIs id class slice
+        → After class others → Come ahead (slice ∷ others)
+    one_comes first id None slice others lacks row utf8 based (bytes, optionals, table, s_is, below) after =
+        subst (λ (s : Slice). Come first (s ∷ others)) (sym s_is) (kept_comes id bytes optionals table others (lacks refl, utf8, referred table below) after)
+    one_comes only_kept id None slice others lacks row utf8 based (bytes, optionals, table, s_is, below) after =
+        subst (λ (s : Slice). Come only_kept (s ∷ others)) (sym s_is) (kept_comes id bytes optionals table others (lacks refl, utf8, referred table below) after)
+    one_comes (derived sized base) id None slice others lacks row utf8 based body after = absurd cc
+    one_comes ahead id (Some class) slice others lacks row utf8 based (content, s_is, h) after =
+        let d = row class refl in
+        let k : IsKnown u Refer class content = (d.0, d.1, h) in
+        subst (λ (s : Slice). Come ahead (s ∷ others)) (sym s_is) (known_comes ahead class content others based k after)
 
   -- ---- slices, by what references refer to
 
@@ -209,29 +257,30 @@ module _ (t : Tables) (rules : IsSchema t) (reach : Reach) (is : List (List Slic
     below_at (n ∷ ns) h zero lt = h.0
     below_at (n ∷ ns) h (suc place) lt = below_at ns h.1 place (omega (arith, lt))
 
-    -- what a body is
-    abbrev BodyIs : List ℕ → Option ℕ → Slice → Type 0
-    BodyIs id (Some class) s = (content : Members) × (s ≡ known class content) × AreMembers t Refer (own_members t class) content
-    BodyIs id None s = (bytes : List ℕ) × (optionals : Bool) × (table : List ℕ) × (s ≡ kept id bytes optionals table) × AreBelow limit table
+    -- the values of members in the tables u are as in t
+    pub record Alike (u : Tables) : Type 0 where
+      pub placed : (tabled flagged : Bool) (shape : Shape) (bytes : List ℕ) (c : Members) (from to : Uses) → SpellsSliceMembers (in_table tabled) u flagged shape bytes c from to → SpellsSliceMembers (in_table tabled) t flagged shape bytes c from to
+      pub inline : (flagged : Bool) (shape : Shape) (bytes : List ℕ) (c : Members) (from to : Spelled) → SpellsSliceMembers port u flagged shape bytes c from to → SpellsSliceMembers port t flagged shape bytes c from to
+      pub members : (shape : Shape) (c : Members) → AreMembers t Refer shape c → AreMembers u Refer shape c
 
-    body_typed : (f : Flags) (id : List ℕ) (sized : Bool) (class : Option ℕ) (bytes : List ℕ) (s : Slice) (from to : Spelled) → IsBytes bytes → SpellsBody port t f id sized class bytes s from to → Fine to → Step from to × BodyIs id class s
-    body_typed f id true (Some class) bytes s from to fits (raw, uses, a, b, parts, (front, body, cut, size, members), (table, s_is, h)) fine =
+    pub body_typed : (u : Tables) → Alike u → (f : Flags) (id : List ℕ) (sized : Bool) (class : Option ℕ) (bytes : List ℕ) (s : Slice) (from to : Spelled) → IsBytes bytes → SpellsBody port u f id sized class bytes s from to → Fine to → Step from to × BodyIs u id class s
+    body_typed u alike f id true (Some class) bytes s from to fits (raw, uses, a, b, parts, (front, body, cut, size, members), (table, s_is, h)) fine =
         let tb = table_typed f.has_table uses b table from to (rest_fits bytes a b parts fits) h fine in
         let inner = rest_fits a front body cut (front_fits bytes a b parts fits) in
-        (tb.step, (renamed_members (entry_in table) raw, s_is, sized_typed table f.has_table (below_at table tb.below) f.has_optional (own_members t class) body raw uses inner members tb.placed))
-    body_typed f id true None bytes s from to fits (content, a, b, mid, parts, (is_kept, still), (table, s_is, h)) fine =
+        let shape : Shape = own_members u class in
+        let content : Members = renamed_members (entry_in table) raw in
+        let typed = sized_typed table f.has_table (below_at table tb.below) f.has_optional shape body raw uses inner (alike.placed f.has_table f.has_optional shape body raw [] uses members) tb.placed in
+        (tb.step, (content, s_is, alike.members shape content typed))
+    body_typed u alike f id true None bytes s from to fits (content, a, b, mid, parts, (is_kept, still), (table, s_is, h)) fine =
         let tb = table_typed f.has_table [] b table mid to (rest_fits bytes a b parts fits) h fine in
         (joined_step from mid to (stays from mid still) tb.step, (content, f.has_optional, table, s_is, tb.below))
-    body_typed f id false (Some class) bytes s from to fits (content, s_is, h) fine =
-        let m = slice_typed port t rules state_steps Refer refers f.has_optional (own_members t class) bytes content from to fits h fine in
-        (m.0, (content, s_is, m.1))
-    body_typed f id false None bytes s from to fits h fine = absurd h
+    body_typed u alike f id false (Some class) bytes s from to fits (content, s_is, h) fine =
+        let shape : Shape = own_members u class in
+        let m = slice_typed port t rules state_steps Refer refers f.has_optional shape bytes content from to fits (alike.inline f.has_optional shape bytes content from to h) fine in
+        (m.0, (content, s_is, alike.members shape content m.1))
+    body_typed u alike f id false None bytes s from to fits h fine = absurd h
 
-    -- what the slices are, by what stands before them
-    abbrev Come : Before → List Slice → Type 0
-    Come first ss = IsInstance t Refer ss
-    Come only_kept ss = IsInstance t Refer ss
-    Come (derived sized base) ss = AreBases t Refer (Some base) ss
+    -- ---- the slices of an instance
 
     -- a base that is awaited is a class of the tables
     abbrev InTable : Before → Type 0
@@ -248,21 +297,11 @@ module _ (t : Tables) (rules : IsSchema t) (reach : Reach) (is : List (List Slic
 
     -- what is known of the slices behind
     abbrev Rest : Bool → Before → List Slice → Type 0
-    Rest last next others = (last ≡ true → others ≡ []) × (last ≡ false → Come next others)
+    Rest last next others = (last ≡ true → others ≡ []) × (last ≡ false → Come t next others)
 
-    ended_or : (last : Bool) (next : Before) (others : List Slice) → Rest last next others → (others ≡ []) ⊎ Come next others
-    ended_or true next others r = inl (r.0 refl)
-    ended_or false next others r = inr (r.1 refl)
-
-    referred : (table : List ℕ) → AreBelow limit table → AreReferred Refer table
-    referred [] below = tt
-    referred (n ∷ ns) below = ((below.0, refl), referred ns below.1)
-
-    kept_comes : (id bytes : List ℕ) (optionals : Bool) (table : List ℕ) (others : List Slice) → IsKept t Refer id table → (others ≡ []) ⊎ Come only_kept others → IsInstance t Refer (kept id bytes optionals table ∷ others)
-    kept_comes id bytes optionals table [] k (inl e) = k
-    kept_comes id bytes optionals table [] k (inr h) = absurd h
-    kept_comes id bytes optionals table (s ∷ ss) k (inl e) = absurd cc
-    kept_comes id bytes optionals table (s ∷ ss) k (inr h) = (k, h)
+    ended_or : (last : Bool) (others : List Slice) → Rest last only_kept others → After t None others
+    ended_or true others r = inl (r.0 refl)
+    ended_or false others r = inr (r.1 refl)
 
     -- the bases of a class are behind it
     bases_behind : (base : Option ℕ) (sized last : Bool) (others : List Slice) → same_bool last (is_none base) ≡ true → Rest last (before_base sized base) others → AreBases t Refer base others
@@ -270,6 +309,16 @@ module _ (t : Tables) (rules : IsSchema t) (reach : Reach) (is : List (List Slic
     bases_behind None sized false others e r = absurd cc
     bases_behind (Some base) sized true others e r = absurd cc
     bases_behind (Some base) sized false others e r = r.1 refl
+
+    after_of : (class : Option ℕ) (f : Flags) (others : List Slice) → ends_well t class f ≡ true → Rest f.is_last (before_next t class f) others → After t class others
+    after_of None f others ends rest = ended_or f.is_last others rest
+    after_of (Some class) f others ends rest = bases_behind (base_of t class) f.has_size f.is_last others ends rest
+
+    lacks_in : (ahead : Before) (id : List ℕ) → class_in t ahead id ≡ None → class_named t id ≡ None
+    lacks_in first id e = e
+    lacks_in only_kept id e = e
+    lacks_in (derived true base) id e = e
+    lacks_in (derived false base) id e = absurd cc
 
     class_is_known : (ahead : Before) → InTable ahead → (id : List ℕ) (class : ℕ) → class_in t ahead id ≡ Some class → IsRow t.classes class
     class_is_known first in_table id class e = row_named t.classes id class e
@@ -279,26 +328,8 @@ module _ (t : Tables) (rules : IsSchema t) (reach : Reach) (is : List (List Slic
         let same : base ≡ class = cc in
         subst (IsRow t.classes) same in_table
 
-    known_comes : (ahead : Before) (class : ℕ) (content : Members) (others : List Slice) → is_base ahead (Some class) ≡ true → IsKnown t Refer class content → AreBases t Refer (base_of t class) others → Come ahead (known class content ∷ others)
-    known_comes first class content others based k bases = (k, bases)
-    known_comes only_kept class content others based k bases = (k, bases)
-    known_comes (derived sized base) class content others based k bases =
-        let same : class ≡ base = eqb-true class base based in
-        (same, subst (λ (c : ℕ). IsKnown t Refer c content) same k, subst (λ (c : ℕ). AreBases t Refer (base_of t c) others) same bases)
-
-    one_comes : (ahead : Before) → InTable ahead → (f : Flags) (id : List ℕ) (class : Option ℕ) (slice : Slice) (others : List Slice) → class_in t ahead id ≡ class → IsUtf8 id → is_base ahead class ≡ true → ends_well t class f ≡ true → BodyIs id class slice
-        → Rest f.is_last (before_next t class f) others → Come ahead (slice ∷ others)
-    one_comes first in_table f id None slice others class_is utf8 based ends (bytes, optionals, table, s_is, below) rest =
-        let o = ended_or f.is_last only_kept others rest in
-        subst (λ (s : Slice). Come first (s ∷ others)) (sym s_is) (kept_comes id bytes optionals table others (class_is, utf8, referred table below) o)
-    one_comes only_kept in_table f id None slice others class_is utf8 based ends (bytes, optionals, table, s_is, below) rest =
-        let o = ended_or f.is_last only_kept others rest in
-        subst (λ (s : Slice). Come only_kept (s ∷ others)) (sym s_is) (kept_comes id bytes optionals table others (class_is, utf8, referred table below) o)
-    one_comes (derived sized base) in_table f id None slice others class_is utf8 based ends body rest = absurd cc
-    one_comes ahead in_table f id (Some class) slice others class_is utf8 based ends (content, s_is, h) rest =
-        let d = class_is_known ahead in_table id class class_is in
-        let k : IsKnown t Refer class content = (d.0, d.1, h) in
-        subst (λ (s : Slice). Come ahead (s ∷ others)) (sym s_is) (known_comes ahead class content others based k (bases_behind (base_of t class) f.has_size f.is_last others ends rest))
+    own : Alike t
+    own = record { placed = λ tabled flagged shape bytes c from to h. h; inline = λ flagged shape bytes c from to h. h; members = λ shape c h. h }
 
     base_in_table : (sized : Bool) (class : ℕ) (base : Option ℕ) → base_of t class ≡ base → InTable (before_base sized base)
     base_in_table sized class None e = tt
@@ -309,7 +340,7 @@ module _ (t : Tables) (rules : IsSchema t) (reach : Reach) (is : List (List Slic
     next_in_table (Some class) f = base_in_table f.has_size class (base_of t class) refl
 
     abbrev SlicesTyped : (Before → Speller Spelled (List Slice)) → Type 0
-    SlicesTyped Next = (ahead : Before) → InTable ahead → (bytes : List ℕ) (ss : List Slice) (from to : Spelled) → IsBytes bytes → Next ahead bytes ss from to → Fine to → Step from to × Come ahead ss
+    SlicesTyped Next = (ahead : Before) → InTable ahead → (bytes : List ℕ) (ss : List Slice) (from to : Spelled) → IsBytes bytes → Next ahead bytes ss from to → Fine to → Step from to × Come t ahead ss
 
     behind_typed : (Next : Before → Speller Spelled (List Slice)) → SlicesTyped Next → (last : Bool) (ahead : Before) → InTable ahead → (bytes : List ℕ) (ss : List Slice) (from to : Spelled) → IsBytes bytes → Others port t Next last ahead bytes ss from to → Fine to → Step from to × Rest last ahead ss
     behind_typed Next next true ahead in_table bytes ss from to fits h fine = (stays from to h.2, ((λ e. h.1), λ e. absurd cc))
@@ -322,11 +353,11 @@ module _ (t : Tables) (rules : IsSchema t) (reach : Reach) (is : List (List Slic
         let fits_d = rest_fits b c d cut (rest_fits bytes a b parts fits) in
         let more = behind_typed (SpellsSlices port t reach n) (slices_typed n) f.is_last (before_next t class f) (next_in_table class f) h others end to (rest_fits d g h pieces fits_d) rest fine in
         let fine_end = back_step end to more.0 fine in
-        let one = body_typed f id f.has_size class g slice next end (front_fits d g h pieces fits_d) body fine_end in
+        let one = body_typed t own f id f.has_size class g slice next end (front_fits d g h pieces fits_d) body fine_end in
         let fine_next = back_step next end one.0 fine_end in
         let head = id_typed f.id c id mid next is_id in
         let step = joined_step from mid to (stays from mid first_is) (joined_step mid next to head.0 (joined_step next end to one.0 more.0)) in
-        (step, subst (Come ahead) (sym is_list) (one_comes ahead in_table f id class slice others refl (head.1 fine_next.ids) base ends one.1 more.1))
+        (step, subst (Come t ahead) (sym is_list) (one_comes t ahead id class slice others (lacks_in ahead id) (class_is_known ahead in_table id) (head.1 fine_next.ids) base one.1 (after_of class f others ends more.1)))
 
     all_typed : (bytes : List ℕ) (ss : List Slice) (from to : Spelled) → IsBytes bytes → SpellsInstance port t reach bytes ss from to → Fine to → Step from to × Done ss
     all_typed bytes ss from to fits h fine = slices_typed h.0 first tt bytes ss from to fits h.1 fine
@@ -371,7 +402,7 @@ module _ (t : Tables) (rules : IsSchema t) (reach : Reach) (is : List (List Slic
         let last : Fine (with_met (m ∷ []) from) = subst Fine to_is fine in
         (subst (λ (s : Spelled). Step from s) (sym to_is) (noted from (m ∷ [])), (omega (arith, there, last.many), (fit_rest from.met (m ∷ []) last.met).0))
 
-  instances_typed : (more : ℕ) (declared n : Option ℕ) (bytes : List ℕ) (from to : Spelled) → IsBytes bytes → (instances t reach room more).Spells declared bytes n from to → Fine to → Step from to × Refer declared n
+  pub instances_typed : (more : ℕ) (declared n : Option ℕ) (bytes : List ℕ) (from to : Spelled) → IsBytes bytes → (instances t reach room more).Spells declared bytes n from to → Fine to → Step from to × Refer declared n
   instances_typed zero declared n bytes from to fits h fine = inline_typed (λ bytes slices from to. ⊥) (λ bytes ss from to fits h fine. absurd h) declared n bytes from to fits h fine
   instances_typed (suc more) declared n bytes from to fits h fine =
       inline_typed (SpellsInstance (instances t reach room more) t reach) (all_typed (instances t reach room more) (instances_typed more)) declared n bytes from to fits h fine

@@ -6,5 +6,6 @@ pub mod Slices
 pub mod Graphs
 pub mod Exceptions
 pub mod Reopening
+pub mod Agreeing
 pub mod Samples
 mod RaisedSamples

@@ -1,6 +1,6 @@
 -- Values and members are the same in the tables whose classes are the exceptions: no type of a value says which classes there are.
 use Rattle.std.proofs.Common.{ℕ, zero, suc, ◌+◌, ◌==◌, ◌<◌, ◌^◌, ◌≡◌, Bool, true, false, ◌&&◌, List, [], ◌∷◌, ◌++◌, map, refl, sym, ap, ◌∙◌, subst, Option, Some, None}
-use Rattle.std.specs.Prelude.{slice_get, if◌then◌else◌, IsTrue}
+use Rattle.std.specs.Prelude.{length, slice_get, if◌then◌else◌, IsTrue}
 use Rattle.std.specs.Option.{is_some}
 use Rattle.ice_types.specs.declared.kind.TypeRef.{TypeRef}
 use Rattle.ice_types.specs.declared.kind.TypeRef.TheVariants as kinds
@@ -15,17 +15,20 @@ use Rattle.ice_types.specs.declared.schema.TheConstants.{MOST_DEPTH}
 use Rattle.ice_types.specs.Tables.{Tables}
 use Rattle.ice_types.specs.Measures.{measure, measured, measure_members, with_member, sequence_of, dictionary_of, struct_of, fixed_size}
 use Rattle.ice_types.specs.Formats.{of_parts, optional_format}
-use Rattle.ice_parts.specs.Tags.{tag, rises}
+use Rattle.ice_prims.specs.declared.fault.Kind.TheVariants.{BadFormat}
+use Rattle.ice_prims.specs.Rest.{◌>>=◌}
+use Rattle.ice_parts.specs.Tags.{tag, rises, next_tag_at}
 use Rattle.ice_encoding.specs.Tree.{Tree, sequence, dictionary, struct, Trees, tree_count, Entries, entry_count}
 use Rattle.ice_encoding.specs.Order.{IsRising}
-use Rattle.ice_encoding.specs.Port.{Port, Speller}
+use Rattle.ice_encoding.specs.Port.{Port, Reader, Speller, nowhere}
 use Rattle.ice_encoding.specs.Spelling.{Made, Each, SpellsParts, SpellsValue}
+use Rattle.ice_encoding.specs.Reading.{made, each_at, value_step, value_at}
 use Rattle.ice_encoding.specs.Writing.{Writer, exactly, ◌>>◌, written, written_each}
 use Rattle.ice_encoding.specs.Typed.{AllOf, EachOf, PairsOf, Refers, no_reference, HasType}
-use Rattle.ice_optionals.specs.Steps.{Followed, Where}
-use Rattle.ice_optionals.specs.Prefixes.{is_one, counts_itself, prefix_by, prefix_of, Framed}
-use Rattle.ice_optionals.specs.Optionals.{Present, with_option, kind_tagged, SkippedBy, Tagged, Options, AllOptions}
-use Rattle.ice_optionals.specs.Members.{Members, with_optional, required_kinds, IfFlagged, SpellsSliceMembers}
+use Rattle.ice_optionals.specs.Steps.{followed, tested, Followed, Where}
+use Rattle.ice_optionals.specs.Prefixes.{is_one, counts_itself, prefix_by, prefix_of, framed, Framed}
+use Rattle.ice_optionals.specs.Optionals.{Present, with_option, kind_tagged, skipped_by, tagged, option_then, options_at, all_options, SkippedBy, Tagged, Options, AllOptions}
+use Rattle.ice_optionals.specs.Members.{Members, with_optional, required_kinds, if_flagged, slice_members_at, IfFlagged, SpellsSliceMembers}
 use Rattle.ice_graphs.specs.Exceptions.{of_exceptions}
 use Rattle.ice_graphs.specs.Members.{framing, written_option, written_options, marked_options, written_slice_members}
 use Rattle.ice_graphs.specs.Typed.{AreOptions, AreMembers}
@@ -148,6 +151,53 @@ module _ (t : Tables) where
   pub prefix_same : (kind : TypeRef) → prefix_of u kind ≡ prefix_of t kind
   prefix_same kind = λ i. prefix_by (counts_same kind i) (format_same kind i)
 
+  -- ---- what is read
+
+  module _ {R : Type 0} (refer : Option ℕ → Reader R (Option ℕ)) where
+    step_same : (one two : TypeRef → Reader R Tree) → one ≡ two → (kind : TypeRef) → value_step refer u one kind ≡ value_step refer t two kind
+    step_same one two e kinds.Bool = refl
+    step_same one two e kinds.Byte = refl
+    step_same one two e kinds.Short = refl
+    step_same one two e kinds.Int = refl
+    step_same one two e kinds.Long = refl
+    step_same one two e kinds.Text = refl
+    step_same one two e (kinds.Seq at) = ap (λ (x : TypeRef → Reader R Tree). value_step refer t x (kinds.Seq at)) e
+    step_same one two e (kinds.Dict at) = ap (λ (x : TypeRef → Reader R Tree). value_step refer t x (kinds.Dict at)) e
+    step_same one two e (kinds.Struct at) = ap (λ (x : TypeRef → Reader R Tree). value_step refer t x (kinds.Struct at)) e
+    step_same one two e (kinds.Enum at) = refl
+    step_same one two e (kinds.Proxy at) = refl
+    step_same one two e (kinds.Class at) = refl
+
+    value_read_same : (levels : ℕ) → value_at refer u levels ≡ value_at refer t levels
+    value_read_same zero = λ i kind s r. nowhere r
+    value_read_same (suc levels) = λ i kind. step_same (value_at refer u levels) (value_at refer t levels) (value_read_same levels) kind i
+
+    passed_same : (reference : Bool) (format : ℕ) → skipped_by refer u reference format ≡ skipped_by refer t reference format
+    passed_same true format = refl
+    passed_same false format = refl
+
+    tagged_read_same : (place : ℕ) (kind : Option TypeRef) (format : ℕ) → tagged refer u place kind format ≡ tagged refer t place kind format
+    tagged_read_same place None format = passed_same (format == FORMAT_CLASS) format
+    tagged_read_same place (Some kind) format = λ i. tested (format == format_same kind i) place BadFormat (made Some (framed (prefix_same kind i) (value_read_same MOST_DEPTH i kind)))
+
+    module _ (marked : Bool) (members : List Member) where
+      then_same : (one two : Option ℕ → Reader R Present) → ((last : Option ℕ) → one last ≡ two last) → (place : ℕ) (it : Option (ℕ × ℕ))
+          → option_then refer u marked members one place it ≡ option_then refer t marked members two place it
+      then_same one two e place None = refl
+      then_same one two e place (Some it) = λ i. followed (tagged_read_same place (kind_tagged it.0 members) it.1 i) (λ v. made (with_option it.0 v) (e (Some it.0) i))
+
+      options_read_same : (steps : ℕ) (last : Option ℕ) → options_at refer u marked members steps last ≡ options_at refer t marked members steps last
+      options_read_same zero last = λ i s r. nowhere r
+      options_read_same (suc steps) last = λ i s r. next_tag_at last marked r
+          >>= λ next. then_same (options_at refer u marked members steps) (options_at refer t marked members steps) (options_read_same steps) r.place next.0 i s next.1
+
+    flagged_read_same : (flagged : Bool) (members : List Member) → if_flagged refer u flagged (all_options refer u true members) ≡ if_flagged refer t flagged (all_options refer t true members)
+    flagged_read_same true members = λ i s r. options_read_same true members (suc (length r.bytes)) None i s r
+    flagged_read_same false members = refl
+
+    pub read_same : (flagged : Bool) (shape : Shape) → slice_members_at refer u flagged shape ≡ slice_members_at refer t flagged shape
+    read_same flagged shape = λ i. followed (each_at (value_read_same MOST_DEPTH i) (required_kinds shape)) (λ required. made (with_optional required) (flagged_read_same flagged shape.optional i))
+
   -- ---- what bytes spell
 
   module _ {R S : Type 0} (port : Port R S) where
@@ -213,7 +263,7 @@ module _ (t : Tables) where
 
   -- ---- what is of a type
 
-  typed_same : (levels : ℕ) (Refer : Refers) (kind : TypeRef) (v : Tree) → HasType u Refer levels kind v ≡ HasType t Refer levels kind v
+  pub typed_same : (levels : ℕ) (Refer : Refers) (kind : TypeRef) (v : Tree) → HasType u Refer levels kind v ≡ HasType t Refer levels kind v
   typed_same zero Refer kind v = refl
   typed_same (suc levels) Refer kinds.Bool v = refl
   typed_same (suc levels) Refer kinds.Byte v = refl
@@ -232,12 +282,12 @@ module _ (t : Tables) where
   typed_same (suc levels) Refer (kinds.Proxy at) v = refl
   typed_same (suc levels) Refer (kinds.Class declared) v = refl
 
-  present_same : (Refer : Refers) (members : List Member) (last : Option ℕ) (os : Present) → AreOptions u Refer members last os ≡ AreOptions t Refer members last os
+  pub present_same : (Refer : Refers) (members : List Member) (last : Option ℕ) (os : Present) → AreOptions u Refer members last os ≡ AreOptions t Refer members last os
   present_same Refer members last [] = refl
   present_same Refer members last (o ∷ os) = λ i. IsTrue (rises last o.0) × (o.0 < 2 ^ 31) × (kind : TypeRef) × (kind_tagged o.0 members ≡ Some kind) × typed_same MOST_DEPTH Refer kind o.1 i
       × present_same Refer members (Some o.0) os i
 
-  required_same : (Refer : Refers) (kinds : List TypeRef) (vs : Trees) → EachOf (HasType u Refer MOST_DEPTH) kinds vs ≡ EachOf (HasType t Refer MOST_DEPTH) kinds vs
+  pub required_same : (Refer : Refers) (kinds : List TypeRef) (vs : Trees) → EachOf (HasType u Refer MOST_DEPTH) kinds vs ≡ EachOf (HasType t Refer MOST_DEPTH) kinds vs
   required_same Refer kinds vs = λ i. EachOf (λ kind w. typed_same MOST_DEPTH Refer kind w i) kinds vs
 
   pub members_to : (Refer : Refers) (shape : Shape) (c : Members) → AreMembers t Refer shape c → AreMembers u Refer shape c
