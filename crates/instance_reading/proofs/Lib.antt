@@ -2,6 +2,8 @@ pub mod Arenas
 pub mod Naming
 pub mod Places
 pub mod Heads
+pub mod Reopened
 pub mod Stages
 pub mod Stack
+pub mod Wholes
 pub mod Chains

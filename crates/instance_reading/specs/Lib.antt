@@ -1,4 +1,6 @@
 pub mod Seen
+pub mod Sorts
 pub mod Slices
+pub mod Reopened
 pub mod Unfinished
 pub mod Stacked

@@ -1,5 +1,6 @@
 -- What reading remembers, without where it lies in memory.
 use Rattle.std.specs.Prelude.{ℕ, Bool, true, false, List, map, Option, None, Some, Result, Ok, refl, slice_get}
+use Rattle.ice_types.specs.declared.declarations.Member.{Member}
 use Rattle.ice_types.specs.declared.declarations.Shape.{Shape}
 use Rattle.ice_types.specs.Tables.{Tables}
 use Rattle.ice_prims.specs.declared.fault.Fault.{Fault}
@@ -48,8 +49,11 @@ view_next None = None
 view_next (Some before) = Some (view_before before)
 
 -- the members that a class declares itself, as they are handed over to be read
+abbrev pub members_of : Tables → ℕ → List Member
+members_of t class = members_in (slice_get t.classes class)
+
 abbrev pub own_fields : Tables → ℕ → Shape
-own_fields t class = let members = members_in (slice_get t.classes class) in record { required = members; optional = members }
+own_fields t class = record { required = members_of t class; optional = members_of t class }
 
 -- where the optional members of a slice stand, by its flag
 abbrev pub by_flag : Bool → Optionals

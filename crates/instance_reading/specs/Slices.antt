@@ -1,9 +1,9 @@
 -- A slice that has begun, and what the calls that begin one answer.
-use Rattle.std.specs.Prelude.{ℕ, suc, ◌≡◌, ◌+◌, Bool, true, false, List, [], ◌∷◌, ◌++◌, Option, None, Some, Result, Ok, Err, slice_get}
+use Rattle.std.specs.Prelude.{ℕ, suc, ◌≡◌, ◌+◌, Bool, true, false, List, [], ◌∷◌, ◌++◌, Option, None, Some, Result, Ok, Err, nat_lt, slice_get, if◌then◌else◌}
 use Rattle.std.specs.Borrow.{Bor}
 use Rattle.ice_types.specs.Tables.{Tables}
 use Rattle.ice_prims.specs.declared.fault.Fault.{Fault}
-use Rattle.ice_prims.specs.declared.fault.Kind.TheVariants.{UnknownClass, WrongBase, BadLast, BadReference, BadTypeId, LeftOver}
+use Rattle.ice_prims.specs.declared.fault.Kind.TheVariants.{UnknownClass, WrongBase, BadLast, BadTypeId, LeftOver}
 use Rattle.ice_prims.specs.declared.fault.ReadFault.{ReadFault}
 use Rattle.ice_prims.specs.declared.fault.ReadFault.TheVariants as faults
 use Rattle.ice_prims.specs.Rest.{Rest, fault, ◌>>=◌}
@@ -18,16 +18,18 @@ use Rattle.ice_optionals.specs.Members as defs
 use Rattle.ice_graphs.specs.Classes.{own_members}
 use Rattle.ice_graphs.specs.Graph.{known, kept}
 use Rattle.ice_graphs.specs.Graph as graphs
-use Rattle.ice_graphs.specs.Flags.{Flags, flags_of, all_slices, may_stand, flags_at}
+use Rattle.ice_graphs.specs.Flags.{Flags, flags_of, all_slices, flags_at}
 use Rattle.ice_graphs.specs.Flags as flags
-use Rattle.ice_graphs.specs.TypeIds.{id_at, id_indexed, is_base, can_be_read, ends_well, before_next}
+use Rattle.ice_graphs.specs.TypeIds.{id_indexed, is_base, can_be_read}
 use Rattle.ice_graphs.specs.Instances.{most_instances}
-use Rattle.ice_graphs.specs.References.{State, inline_at, entry_at, entries_at, table_at, within, resolved, with_met}
+use Rattle.ice_graphs.specs.References.{State, inline_at, entry_at, entries_at, table_at, resolved, with_met}
 use Rattle.ice_graphs.specs.References as refs
-use Rattle.ice_graphs.specs.Slices.{slice_size, by_table, one_more, body_at, next_slices, slices_at}
+use Rattle.ice_graphs.specs.Slices.{slice_size, by_table, one_more, body_at}
 use Rattle.graph_arena.specs.Seen.{view_content}
 use Rattle.ice_members.specs.Unread.{left_of_members}
 use Rattle.instance_reading.specs.Seen.{own_fields, view_before, view_next, view_references}
+use Rattle.instance_reading.specs.Sorts.{rows_of, may_begin, id_by, ends_by, behind_slice, slices_by, slices_from}
+use Rattle.instance_reading.specs.declared.sort.Sort.{Sort}
 use Rattle.instance_reading.specs.declared.sized.SizedMembers.{SizedMembers}
 use Rattle.instance_reading.specs.declared.sized.Body.{Body}
 use Rattle.instance_reading.specs.declared.sized.Body.TheVariants as bodies
@@ -67,47 +69,43 @@ pub record Open : Type 0 where
 abbrev pub opened : OpenSlice → Open
 opened o = record { front = view_body o.body; next = view_next o.next; table = o.table; left = o.left }
 
--- what the next slice follows, by whether this one is the last
-abbrev pub next_by : Bool → flags.Before → Option flags.Before
-next_by true before = None
-next_by false before = Some before
+-- the slice, when these further entries of its table are read
+abbrev pub with_entries : Open → List ℕ × State ℕ × Rest → Result (graphs.Slice × State ℕ × Rest) Fault
+with_entries o x = let table = o.table ++ x.0 in Ok (slice_with o.front table, with_met (resolved table (uses_of o.front)) x.1, x.2)
 
-module _ (refer : Option ℕ → Reader (State ℕ) (Option ℕ)) (t : Tables) where
-  -- the slice, when these further entries of its table are read
-  abbrev pub with_entries : Open → List ℕ × State ℕ × Rest → Result (graphs.Slice × State ℕ × Rest) Fault
-  with_entries o x = let table = o.table ++ x.0 in Ok (slice_with o.front table, with_met (resolved table (uses_of o.front)) x.1, x.2)
-
+module _ (refer : Option ℕ → Reader (State ℕ) (Option ℕ)) where
   -- the entries that are left, and the slice
   abbrev pub left_table : Open → Reader (State ℕ) graphs.Slice
   left_table o s r = entries_at refer o.left s r >>= with_entries o
 
-  -- the slices that follow
-  abbrev pub left_next : ℕ → Option flags.Before → Reader (State ℕ) (List graphs.Slice)
-  left_next steps None = given []
-  left_next steps (Some before) = slices_at refer t all_slices steps before
+  module _ (sort : Sort) (t : Tables) (steps : ℕ) where
+    -- the slices that follow
+    abbrev pub left_next : Option flags.Before → Reader (State ℕ) (List graphs.Slice)
+    left_next None = given []
+    left_next (Some before) = slices_from refer sort t steps before
 
-  abbrev pub left_open : ℕ → Open → Reader (State ℕ) (List graphs.Slice)
-  left_open steps o = followed (left_table o) (λ slice. made (one_more slice) (left_next steps o.next))
+    abbrev pub left_open : Open → Reader (State ℕ) (List graphs.Slice)
+    left_open o = followed (left_table o) (λ slice. made (one_more slice) (left_next o.next))
 
-  -- what is read behind the tests of a class
-  abbrev pub behind_tests : ℕ → Flags → Option ℕ → List ℕ → Reader (State ℕ) (List graphs.Slice)
-  behind_tests steps f class id = followed (body_at refer t f id f.has_size class) (λ slice. made (one_more slice) (next_slices refer t (slices_at refer t all_slices steps) f.is_last (before_next t class f)))
+    -- what is read behind the tests of a class
+    abbrev pub behind_tests : Flags → Option ℕ → List ℕ → Reader (State ℕ) (List graphs.Slice)
+    behind_tests f class id = followed (body_at refer (rows_of sort t) f id f.has_size class) (λ slice. made (one_more slice) (left_next (behind_slice (rows_of sort t) class f)))
 
 -- a reference, with the instance that begins at it
 abbrev pub refer_by : Inside (State ℕ) → Option ℕ → Reader (State ℕ) (Option ℕ)
 refer_by inside = in_place (inline_at most_instances) inside
 
-module _ (inside : Inside (State ℕ)) (t : Tables) where
+module _ (inside : Inside (State ℕ)) (sort : Sort) (t : Tables) where
   -- the slice without a size, when the rest of its members is read
   unfoldable pub left_members : CompactSlice → Reader (State ℕ) graphs.Slice
-  left_members c = made (known c.class) (left_of_members (inline_at most_instances) t inside (own_fields t c.class) c.members)
+  left_members c = made (known c.class) (left_of_members (inline_at most_instances) t inside (own_fields (rows_of sort t) c.class) c.members)
 
   abbrev pub left_compact : ℕ → CompactSlice → Reader (State ℕ) (List graphs.Slice)
-  left_compact steps c = followed (left_members c) (λ slice. made (one_more slice) (left_next (refer_by inside) t steps (view_next c.next)))
+  left_compact steps c = followed (left_members c) (λ slice. made (one_more slice) (left_next (refer_by inside) sort t steps (view_next c.next)))
 
   abbrev pub left_stage : ℕ → Stage → Reader (State ℕ) (List graphs.Slice)
-  left_stage steps (stages.Next before) = slices_at (refer_by inside) t all_slices steps (view_before before)
-  left_stage steps (stages.Open o) = left_open (refer_by inside) t steps (opened o)
+  left_stage steps (stages.Next before) = slices_from (refer_by inside) sort t steps (view_before before)
+  left_stage steps (stages.Open o) = left_open (refer_by inside) sort t steps (opened o)
   left_stage steps (stages.Compact c) = left_compact steps c.value
 
 -- entries of the table, and then slices
@@ -119,35 +117,37 @@ stage_work (stages.Compact c) = 1
 -- ---- what calls answer
 
 -- flags that may stand
-abbrev pub SeesFlags : flags.Before → Result ℕ Fault → Rest → Rest → Type 0
-SeesFlags before (Ok b) r r' = flags_at (may_stand before) r ≡ Ok (flags_of b, r')
-SeesFlags before (Err e) r r' = flags_at (may_stand before) r ≡ Err e
+abbrev pub SeesFlags : Sort → flags.Before → Result ℕ Fault → Rest → Rest → Type 0
+SeesFlags sort before (Ok b) r r' = flags_at (may_begin sort before) r ≡ Ok (flags_of b, r')
+SeesFlags sort before (Err e) r r' = flags_at (may_begin sort before) r ≡ Err e
 
-abbrev pub ReadsId : ℕ → ℕ → Result (Bor (List ℕ)) ReadFault → State ℕ → Rest → State ℕ → Rest → Type 0
-ReadsId place b (Ok id) s r s' r' = id_at place (flags_of b).id s r ≡ Ok (id.now, s', r')
-ReadsId place b (Err e) s r s' r' = Fails e (id_at place (flags_of b).id s r)
+abbrev pub ReadsId : Sort → ℕ → ℕ → Result (Bor (List ℕ)) ReadFault → State ℕ → Rest → State ℕ → Rest → Type 0
+ReadsId sort place b (Ok id) s r s' r' = id_by sort place (flags_of b).id s r ≡ Ok (id.now, s', r')
+ReadsId sort place b (Err e) s r s' r' = Fails e (id_by sort place (flags_of b).id s r)
 
 abbrev pub FindsId : Fault → ℕ → List (List ℕ) → Result (Bor (List ℕ)) ReadFault → Type 0
 FindsId unknown index ids (Ok id) = (i : ℕ) × (index ≡ suc i) × (slice_get ids i ≡ Some id.now)
 FindsId unknown index ids (Err e) = (e ≡ faults.Broken unknown) × ((s : State ℕ) (r : Rest) → s.ids ≡ ids → id_indexed unknown.place index s r ≡ fault unknown.place BadTypeId)
 
 -- the class passes the tests behind a type id, or the first that fails is the fault
-abbrev pub Tests : {X : Type 0} → Tables → flags.Before → Flags → ℕ → ℕ → Option ℕ → Result X Fault → Type 0
-Tests t before f flags_place id_place class (Ok x) = (is_base before class ≡ true) × (can_be_read all_slices class f ≡ true) × (ends_well t class f ≡ true)
-Tests t before f flags_place id_place class (Err e) = (read : Reader (State ℕ) (List graphs.Slice)) (s : State ℕ) (r : Rest)
-    → tested (is_base before class) id_place WrongBase (tested (can_be_read all_slices class f) id_place UnknownClass (tested (ends_well t class f) flags_place BadLast read)) s r ≡ Err e
+abbrev pub Tests : {X : Type 0} → Sort → Tables → flags.Before → Flags → ℕ → ℕ → Option ℕ → Result X Fault → Type 0
+Tests sort t before f flags_place id_place class (Ok x) = (is_base before class ≡ true) × (can_be_read all_slices class f ≡ true) × (ends_by sort (rows_of sort t) class f ≡ true)
+Tests sort t before f flags_place id_place class (Err e) = (read : Reader (State ℕ) (List graphs.Slice)) (s : State ℕ) (r : Rest)
+    → tested (is_base before class) id_place WrongBase (tested (can_be_read all_slices class f) id_place UnknownClass (tested (ends_by sort (rows_of sort t) class f) flags_place BadLast read)) s r ≡ Err e
 
--- the members of a class in a slice, with places as references; what was met is of no use without a table
-abbrev pub uses_in : Bool → List (refs.Reference ℕ) → List (refs.Reference ℕ) → Type 0
-uses_in true uses met = uses ≡ met
-uses_in false uses met = uses ≡ []
+-- without a table nothing is met
+abbrev pub uses_in : Bool → List (refs.Reference ℕ) → Type 0
+uses_in true uses = Unit {0}
+uses_in false uses = uses ≡ []
 
+-- the members of a class in a slice, with places as references
 abbrev pub ReadsUses : Bool → Result SizedMembers ReadFault → Result (defs.Members × List (refs.Reference ℕ) × Rest) Fault → Rest → Type 0
-ReadsUses tabled (Ok x) read r' = (met : List (refs.Reference ℕ)) × (read ≡ Ok (view_content x.members, met, r')) × uses_in tabled (view_references x.uses.items) met
+ReadsUses tabled (Ok x) read r' = (read ≡ Ok (view_content x.members, view_references x.uses.items, r')) × uses_in tabled (view_references x.uses.items)
 ReadsUses tabled (Err e) read r' = Fails e read
 
-abbrev pub ReadsPlaces : Tables → ℕ → Bool → Bool → Result SizedMembers ReadFault → Rest → Rest → Type 0
-ReadsPlaces t class tabled flagged result r r' = ReadsUses tabled result (slice_members_at (entry_at tabled) t flagged (own_members t class) [] r) r'
+abbrev pub ReadsPlaces : Sort → Tables → ℕ → Bool → Bool → Result SizedMembers ReadFault → Rest → Rest → Type 0
+ReadsPlaces sort t class tabled flagged result r r' = let rows = rows_of sort t in
+    ReadsUses tabled result (slice_members_at (entry_at tabled) rows flagged (own_members rows class) [] r) r'
 
 -- nothing is left, or the first byte that is left is one too many
 abbrev pub Ends : {X : Type 0} → Result X Fault → Rest → Type 0
@@ -155,49 +155,50 @@ Ends (Ok x) r = r.bytes ≡ []
 Ends (Err e) r = (byte : ℕ) × (bytes : List ℕ) × (r.bytes ≡ byte ∷ bytes) × (e ≡ record { place = r.place; kind = LeftOver })
 
 -- the size of a slice, and its members with places as references
-abbrev pub ReadsSized : Tables → ℕ → Bool → Bool → Result SizedMembers ReadFault → Rest → Rest → Type 0
-ReadsSized t class tabled flagged result r r' = ReadsUses tabled result (prefixed slice_size (slice_members_at (entry_at tabled) t flagged (own_members t class)) [] r) r'
+abbrev pub ReadsSized : Sort → Tables → ℕ → Bool → Bool → Result SizedMembers ReadFault → Rest → Rest → Type 0
+ReadsSized sort t class tabled flagged result r r' = let rows = rows_of sort t in
+    ReadsUses tabled result (prefixed slice_size (slice_members_at (entry_at tabled) rows flagged (own_members rows class)) [] r) r'
 
--- whether each place is within a table, or which reference is the first that is not
-abbrev pub FindsOutside : ℕ → List (refs.Reference ℕ) → Option ℕ → Type 0
-FindsOutside limit uses None = (next : Result (List ℕ × State ℕ × Rest) Fault) → within limit uses next ≡ next
-FindsOutside limit uses (Some place) = (next : Result (List ℕ × State ℕ × Rest) Fault) → within limit uses next ≡ fault place BadReference
+-- the place of the first reference that is not within a table of so many entries
+abbrev pub first_outside : ℕ → List (refs.Reference ℕ) → Option ℕ
+first_outside limit [] = None
+first_outside limit (u ∷ us) = if nat_lt u.name limit then first_outside limit us else Some u.place
 
 -- how many entries the table of a slice has; each place that was met is among them
 abbrev pub SeesTable : Bool → List (refs.Reference ℕ) → Result ℕ Fault → Rest → Rest → Type 0
-SeesTable tabled uses (Ok n) r r' = (refer : Option ℕ → Reader (State ℕ) (Option ℕ)) (s : State ℕ) → uses_in tabled uses uses
+SeesTable tabled uses (Ok n) r r' = (refer : Option ℕ → Reader (State ℕ) (Option ℕ)) (s : State ℕ) → uses_in tabled uses
     → table_at refer tabled uses s r ≡ (entries_at refer n s r' >>= λ x. Ok (x.0, with_met (resolved x.0 uses) x.1, x.2))
 SeesTable tabled uses (Err e) r r' = (refer : Option ℕ → Reader (State ℕ) (Option ℕ)) (s : State ℕ) → table_at refer tabled uses s r ≡ Err e
 
 -- the same behind the type id of a class that passed the tests
-abbrev pub OpensSized : Tables → Flags → ℕ → Result OpenSlice ReadFault → Rest → Rest → Type 0
-OpensSized t f class (Ok o) r r' = (refer : Option ℕ → Reader (State ℕ) (Option ℕ)) (steps : ℕ) (id : List ℕ) (s : State ℕ) → f.has_size ≡ true
-    → behind_tests refer t steps f (Some class) id s r ≡ left_open refer t steps (opened o) s r'
-OpensSized t f class (Err e) r r' = (refer : Option ℕ → Reader (State ℕ) (Option ℕ)) (steps : ℕ) (id : List ℕ) (s : State ℕ) → f.has_size ≡ true
-    → Fails e (behind_tests refer t steps f (Some class) id s r)
+abbrev pub OpensSized : Sort → Tables → Flags → ℕ → Result OpenSlice ReadFault → Rest → Rest → Type 0
+OpensSized sort t f class (Ok o) r r' = (refer : Option ℕ → Reader (State ℕ) (Option ℕ)) (steps : ℕ) (id : List ℕ) (s : State ℕ) → f.has_size ≡ true
+    → behind_tests refer sort t steps f (Some class) id s r ≡ left_open refer sort t steps (opened o) s r'
+OpensSized sort t f class (Err e) r r' = (refer : Option ℕ → Reader (State ℕ) (Option ℕ)) (steps : ℕ) (id : List ℕ) (s : State ℕ) → f.has_size ≡ true
+    → Fails e (behind_tests refer sort t steps f (Some class) id s r)
 
 -- the same of a class that is not known
 abbrev pub OpensKept : List ℕ → Flags → Result OpenSlice Fault → Rest → Rest → Type 0
-OpensKept id f (Ok o) r r' = (refer : Option ℕ → Reader (State ℕ) (Option ℕ)) (t : Tables) (steps : ℕ) (s : State ℕ) → f.has_size ≡ true
-    → behind_tests refer t steps f None id s r ≡ left_open refer t steps (opened o) s r'
-OpensKept id f (Err e) r r' = (refer : Option ℕ → Reader (State ℕ) (Option ℕ)) (t : Tables) (steps : ℕ) (s : State ℕ) → f.has_size ≡ true
-    → behind_tests refer t steps f None id s r ≡ Err e
+OpensKept id f (Ok o) r r' = (refer : Option ℕ → Reader (State ℕ) (Option ℕ)) (sort : Sort) (t : Tables) (steps : ℕ) (s : State ℕ) → f.has_size ≡ true
+    → behind_tests refer sort t steps f None id s r ≡ left_open refer sort t steps (opened o) s r'
+OpensKept id f (Err e) r r' = (refer : Option ℕ → Reader (State ℕ) (Option ℕ)) (sort : Sort) (t : Tables) (steps : ℕ) (s : State ℕ) → f.has_size ≡ true
+    → behind_tests refer sort t steps f None id s r ≡ Err e
 
 -- the same of a known class, with a size or without
-abbrev pub OpensKnown : Tables → Flags → ℕ → Result Stage ReadFault → Rest → Rest → Type 0
-OpensKnown t f class (Ok stage) r r' = (inside : Inside (State ℕ)) (steps : ℕ) (id : List ℕ) (s : State ℕ)
-    → behind_tests (refer_by inside) t steps f (Some class) id s r ≡ left_stage inside t steps stage s r'
-OpensKnown t f class (Err e) r r' = (inside : Inside (State ℕ)) (steps : ℕ) (id : List ℕ) (s : State ℕ) → Fails e (behind_tests (refer_by inside) t steps f (Some class) id s r)
+abbrev pub OpensKnown : Sort → Tables → Flags → ℕ → Result Stage ReadFault → Rest → Rest → Type 0
+OpensKnown sort t f class (Ok stage) r r' = (inside : Inside (State ℕ)) (steps : ℕ) (id : List ℕ) (s : State ℕ)
+    → behind_tests (refer_by inside) sort t steps f (Some class) id s r ≡ left_stage inside sort t steps stage s r'
+OpensKnown sort t f class (Err e) r r' = (inside : Inside (State ℕ)) (steps : ℕ) (id : List ℕ) (s : State ℕ) → Fails e (behind_tests (refer_by inside) sort t steps f (Some class) id s r)
 
 -- the same of a class that can be read
-abbrev pub OpensSlice : Tables → Flags → Option ℕ → List ℕ → Result Stage ReadFault → Rest → Rest → Type 0
-OpensSlice t f class id (Ok stage) r r' = (inside : Inside (State ℕ)) (steps : ℕ) (s : State ℕ) → can_be_read all_slices class f ≡ true
-    → behind_tests (refer_by inside) t steps f class id s r ≡ left_stage inside t steps stage s r'
-OpensSlice t f class id (Err e) r r' = (inside : Inside (State ℕ)) (steps : ℕ) (s : State ℕ) → can_be_read all_slices class f ≡ true
-    → Fails e (behind_tests (refer_by inside) t steps f class id s r)
+abbrev pub OpensSlice : Sort → Tables → Flags → Option ℕ → List ℕ → Result Stage ReadFault → Rest → Rest → Type 0
+OpensSlice sort t f class id (Ok stage) r r' = (inside : Inside (State ℕ)) (steps : ℕ) (s : State ℕ) → can_be_read all_slices class f ≡ true
+    → behind_tests (refer_by inside) sort t steps f class id s r ≡ left_stage inside sort t steps stage s r'
+OpensSlice sort t f class id (Err e) r r' = (inside : Inside (State ℕ)) (steps : ℕ) (s : State ℕ) → can_be_read all_slices class f ≡ true
+    → Fails e (behind_tests (refer_by inside) sort t steps f class id s r)
 
 -- a slice has begun, up to the entries of its table or, where it has no size, up to its members
-abbrev pub BeginsSlice : Tables → flags.Before → Result Stage ReadFault → State ℕ → Rest → State ℕ → Rest → Type 0
-BeginsSlice t before (Ok stage) s r s' r' = (inside : Inside (State ℕ)) (steps : ℕ)
-    → slices_at (refer_by inside) t all_slices (suc steps) before s r ≡ left_stage inside t steps stage s' r'
-BeginsSlice t before (Err e) s r s' r' = (inside : Inside (State ℕ)) (steps : ℕ) → Fails e (slices_at (refer_by inside) t all_slices (suc steps) before s r)
+abbrev pub BeginsSlice : Sort → Tables → flags.Before → Result Stage ReadFault → State ℕ → Rest → State ℕ → Rest → Type 0
+BeginsSlice sort t before (Ok stage) s r s' r' = (inside : Inside (State ℕ)) (steps : ℕ)
+    → slices_by (refer_by inside) sort t (suc steps) before s r ≡ left_stage inside sort t steps stage s' r'
+BeginsSlice sort t before (Err e) s r s' r' = (inside : Inside (State ℕ)) (steps : ℕ) → Fails e (slices_by (refer_by inside) sort t (suc steps) before s r)

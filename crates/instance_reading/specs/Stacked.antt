@@ -1,32 +1,29 @@
--- What is still read where instances have begun in one another.
-use Rattle.std.specs.Prelude.{ℕ, zero, suc, ◌≡◌, ◌+◌, ◌*◌, ◌<◌, ◌≤◌, List, [], ◌∷◌, length, map, Option, None, Some, Result, Ok, Err}
+-- What is still read where instances have begun in one another, and what reading a whole content or exception answers.
+use Rattle.std.specs.Prelude.{ℕ, zero, suc, ◌≡◌, ◌+◌, ◌*◌, ◌≤◌, List, [], ◌∷◌, length, map, Option, None, Some, Result, Ok, Err}
 use Rattle.ice_types.specs.declared.declarations.Shape.{Shape}
 use Rattle.ice_types.specs.Tables.{Tables}
 use Rattle.ice_prims.specs.declared.fault.Fault.{Fault}
 use Rattle.ice_prims.specs.declared.fault.ReadFault.{ReadFault}
-use Rattle.ice_prims.specs.declared.fault.ReadFault.TheVariants as faults
 use Rattle.ice_prims.specs.declared.fault.Kind.TheVariants.{WrongClass}
 use Rattle.ice_prims.specs.Rest.{Rest, ◌>>=◌}
 use Rattle.ice_prims.specs.Taking.{Fails}
 use Rattle.ice_encoding.specs.Port.{Reader, nowhere}
 use Rattle.ice_encoding.specs.Pausing.{Inside}
 use Rattle.ice_optionals.specs.Members as defs
+use Rattle.ice_graphs.specs.Exceptions.{Raised, of_exceptions, raised_slices}
 use Rattle.ice_graphs.specs.Graph as graphs
-use Rattle.ice_graphs.specs.Flags.{all_slices}
-use Rattle.ice_graphs.specs.References.{State, inline_at, instance_by, with_ended}
-use Rattle.ice_graphs.specs.Instances.{most_instances, instances, misfit}
+use Rattle.ice_graphs.specs.Flags.{first, all_slices}
+use Rattle.ice_graphs.specs.References.{State, instance_by, with_ended}
+use Rattle.ice_graphs.specs.Instances.{most_instances, instances, misfit, references}
 use Rattle.ice_graphs.specs.Slices.{instance_at}
-use Rattle.ice_members.specs.declared.reader.MembersReader.{MembersReader}
-use Rattle.ice_members.specs.Unread.{left_of_members}
 use Rattle.graph_arena.specs.declared.instance.Members.{Members}
-use Rattle.graph_arena.specs.Seen.{view_content, view_instance}
+use Rattle.graph_arena.specs.declared.instance.Slice.{Slice}
+use Rattle.graph_arena.specs.Seen.{view_content, view_instance, view_slices}
 use Rattle.instance_reading.specs.declared.unfinished.Unfinished.{Unfinished}
 use Rattle.instance_reading.specs.declared.decoder.Content.{Content}
-use Rattle.instance_reading.specs.declared.decoder.Decoder.{Decoder}
+use Rattle.instance_reading.specs.declared.exception.RaisedContent.{RaisedContent}
+use Rattle.instance_reading.specs.declared.sort.Sort.TheVariants as sorts
 use Rattle.instance_reading.specs.Unfinished.{left_slices, room}
-
-abbrev pub Rests : Type 0
-Rests = State ℕ → Rest → Result (defs.Members × State ℕ × Rest) Fault
 
 -- how references are read where so many more instances may begin in one another
 abbrev pub refer_within : Tables → ℕ → Option ℕ → Reader (State ℕ) (Option ℕ)
@@ -37,44 +34,47 @@ unfoldable pub instance_within : Tables → ℕ → Inside (State ℕ)
 instance_within t zero = instance_by most_instances (λ s r. nowhere r)
 instance_within t (suc more) = instance_by most_instances (instance_at (refer_within t more) t all_slices)
 
--- the instance is read whole, and then the rest
-abbrev pub inside_then : Result (State ℕ × Rest) Fault → Rests → Result (defs.Members × State ℕ × Rest) Fault
-inside_then read next = read >>= λ x. next x.0 x.1
-
 -- what is left of an instance, which has ended then
 abbrev pub left_instance : Tables → ℕ → Unfinished → State ℕ → Rest → Result (State ℕ × Rest) Fault
-left_instance t more u s r = left_slices (instance_within t more) t u s r >>= λ x. Ok (with_ended u.name x.0 x.1, x.2)
+left_instance t more u s r = left_slices (instance_within t more) sorts.Class t u s r >>= λ x. Ok (with_ended u.name x.0 x.1, x.2)
 
--- What is read once the instances on the stack are read whole, and then the last. The outermost stands first; so many more may
--- begin in one another.
-abbrev pub onward : Tables → ℕ → Rests → List Unfinished → Rests
-onward t more last [] = last
-onward t zero last (u ∷ us) = λ s r. nowhere r
-onward t (suc more) last (u ∷ us) = onward t more (λ s r. inside_then (left_instance t more u s r) last) us
+-- What is left of the instances on the stack, where so many more may begin in one another. The outermost stands first.
+abbrev pub left_stack : Tables → ℕ → List Unfinished → State ℕ → Rest → Result (State ℕ × Rest) Fault
+left_stack t more [] s r = Ok (s, r)
+left_stack t zero (u ∷ us) s r = nowhere r
+left_stack t (suc more) (u ∷ us) s r = left_stack t more us s r >>= λ x. left_instance t more u x.0 x.1
 
-unfoldable pub content_left : Tables → Shape → ℕ → MembersReader → List Unfinished → Rests
-content_left t handed more roots stack = onward t more (left_of_members (inline_at most_instances) t (instance_within t more) handed roots) stack
+unfoldable pub stack_left : Tables → List Unfinished → State ℕ → Rest → Result (State ℕ × Rest) Fault
+stack_left t stack = left_stack t most_instances stack
 
 -- ---- what a step answers
 
-abbrev pub Steps : Tables → Shape → ℕ → Decoder → Result (Option Members) ReadFault → Result (defs.Members × State ℕ × Rest) Fault → Rest → Type 0
-Steps t handed more now (Ok None) read r = read ≡ content_left t handed more now.roots now.stack now.arena r
-Steps t handed more now (Ok (Some members)) read r = read ≡ Ok (view_content members, now.arena, r)
-Steps t handed more now (Err e) read r = Fails e read
+-- what is then left, or the fault
+abbrev pub Steps : {X : Type 0} → Tables → Result X ReadFault → Result (State ℕ × Rest) Fault → List Unfinished → State ℕ → Rest → Type 0
+Steps t (Ok x) read stack s r = read ≡ stack_left t stack s r
+Steps t (Err e) read stack s r = Fails e read
 
--- the instances that have not ended, and those that may still begin, are no more than this
-abbrev pub is_within : List Unfinished → State ℕ → ℕ → Type 0
-is_within stack s most = length stack + room s ≤ most
+-- an instance is read whole, or it is the fault
+abbrev pub ReadsInstance : {X : Type 0} → Result X ReadFault → Result (State ℕ × Rest) Fault → State ℕ → Rest → Type 0
+ReadsInstance (Ok x) read s r = read ≡ Ok (s, r)
+ReadsInstance (Err e) read s r = Fails e read
+
+-- the instances that have not ended, and those that may still begin, are no more than there may be
+abbrev pub is_within : List Unfinished → State ℕ → Type 0
+is_within stack s = length stack + room s ≤ most_instances
 
 abbrev pub steps_left : List Unfinished → State ℕ → ℕ
 steps_left stack s = 2 * room s + length stack
 
-abbrev pub LessOnNone : Result (Option Members) ReadFault → ℕ → ℕ → Type 0
-LessOnNone (Ok None) before after = after < before
-LessOnNone (Ok (Some members)) before after = Unit {0}
-LessOnNone (Err e) before after = Unit {0}
-
 -- ---- a whole content
+
+-- the members and what was met, or the fault
+abbrev pub ReadsRoots : Result Members ReadFault → Result (defs.Members × State ℕ × Rest) Fault → State ℕ → Rest → Type 0
+ReadsRoots (Ok m) read s r = read ≡ Ok (view_content m, s, r)
+ReadsRoots (Err e) read s r = Fails e read
+
+abbrev pub roots_at : Tables → Shape → Reader (State ℕ) defs.Members
+roots_at t shape = defs.content_at (references t all_slices).read t shape
 
 abbrev pub view_graph : Content → graphs.Graph
 view_graph c = record { roots = view_content c.roots; instances = map view_instance c.instances.items }
@@ -84,7 +84,27 @@ abbrev pub ReadsGraph : Result Content ReadFault → Result (graphs.Graph × Res
 ReadsGraph (Ok c) read r = read ≡ Ok (view_graph c, r)
 ReadsGraph (Err e) read r = Fails e read
 
--- the members and the instances, where each class fits; or the first place where it does not
-abbrev pub Fits : Tables → defs.Members → State ℕ → Result Content ReadFault → Type 0
-Fits t roots s (Ok c) = (misfit t s.instances s.met ≡ None) × (view_graph c ≡ record { roots = roots; instances = s.instances })
-Fits t roots s (Err e) = (place : ℕ) × (misfit t s.instances s.met ≡ Some place) × (e ≡ faults.Broken (record { place = place; kind = WrongClass }))
+-- ---- a whole exception
+
+-- the slices and what was met, or the fault
+abbrev pub ReadsSlices : Result (List Slice) ReadFault → Result (List graphs.Slice × State ℕ × Rest) Fault → State ℕ → Rest → Type 0
+ReadsSlices (Ok slices) read s r = read ≡ Ok (view_slices slices, s, r)
+ReadsSlices (Err e) read s r = Fails e read
+
+abbrev pub exception_slices : Tables → Reader (State ℕ) (List graphs.Slice)
+exception_slices t s r = raised_slices (references t all_slices) (of_exceptions t) all_slices (length r.bytes) first s r
+
+abbrev pub view_raised : RaisedContent → Raised
+view_raised c = record { slices = view_slices c.slices; instances = map view_instance c.instances.items }
+
+-- the exception, or the fault
+abbrev pub ReadsRaised : Result RaisedContent ReadFault → Result (Raised × Rest) Fault → Rest → Type 0
+ReadsRaised (Ok c) read r = read ≡ Ok (view_raised c, r)
+ReadsRaised (Err e) read r = Fails e read
+
+-- ---- classes that fit
+
+-- each class fits where it is named, or the first place where one does not has the fault
+abbrev pub Fits : {X : Type 0} → Tables → State ℕ → Result X Fault → Type 0
+Fits t s (Ok x) = misfit t s.instances s.met ≡ None
+Fits t s (Err e) = (place : ℕ) × (misfit t s.instances s.met ≡ Some place) × (e ≡ record { place = place; kind = WrongClass })

@@ -5,13 +5,13 @@ ghost use Rattle.std.specs.Prelude.{◌≡◌, ◌∷◌, ◌++◌, [], length, 
 ghost use Rattle.std.specs.Option.{option_map};
 ghost use Rattle.ice_graphs.specs.References.{opening, entry_in, met_at, replaced, resolved, with_begun, with_ended, with_met};
 ghost use Rattle.ice_graphs.specs.TypeIds.{with_id};
-ghost use Rattle.ice_graphs.specs.Instances as graphs;
 ghost use Rattle.graph_arena.specs.Seen.{view_instance, view_slice};
 ghost use Rattle.instance_reading.specs.Seen.{view_reference, view_references};
+ghost use Rattle.instance_reading.specs.Stacked.{Fits};
 
 use crate::fitting::misfit;
 use graph_arena::{Instance, Slice};
-use ice_prims::{Cursor, Kind, ReadFault};
+use ice_prims::{Cursor, Fault, Kind, ReadFault};
 use ice_types::{List, Schema};
 use ice_values::{Met, RefPort};
 use std::alloc::{AllocError, Global};
@@ -106,11 +106,18 @@ impl<'a> Arena<'a> {
         put_at(&mut self.instances, name, Instance { slices });
     }
 
-    /// The place of the first reference in the bytes whose class does not fit.
-    pub(crate) fn misfit(&self, schema: &Schema) -> Option<u64>
-        ensures { result ≡ graphs.misfit schema.now self.now.instances self.now.met }
+    /// Whether the class of each instance fits where it is named; the first reference in the bytes whose
+    /// class does not has the fault.
+    pub(crate) fn all_fit(&self, schema: &Schema) -> Result<(), Fault>
+        ensures { Fits schema.now self.now result }
     {
-        misfit(schema, self.instances.as_slice(), self.met.as_slice())
+        match misfit(schema, self.instances.as_slice(), self.met.as_slice()) {
+            None => Ok(()),
+            Some(place) => Err(Fault {
+                place,
+                kind: Kind::WrongClass,
+            }),
+        }
     }
 
     /// The instances.

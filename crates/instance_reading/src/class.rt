@@ -1,39 +1,60 @@
-//! Classes as a schema has them.
+//! Classes as a schema has them, and exceptions in the same way.
 
 ghost use Rattle.std.specs.Prelude.{◌≡◌};
 ghost use Rattle.ice_graphs.specs.Classes as classes;
 ghost use Rattle.ice_members.specs.Shapes.{handed};
-ghost use Rattle.instance_reading.specs.Seen.{by_flag, own_fields};
+ghost use Rattle.instance_reading.specs.Seen.{by_flag, members_of, own_fields};
+ghost use Rattle.instance_reading.specs.Sorts.{rows_of};
 
+use crate::sort::Sort;
 use ice_members::{Fields, Optionals};
-use ice_types::Schema;
+use ice_types::{Member, Schema};
 
-/// The class of a type id.
-pub(crate) fn class_named(schema: &Schema, id: &str) -> Option<u32>
-    ensures { result ≡ classes.class_named schema.now id.now }
+/// The class or the exception of a type id.
+pub(crate) fn class_named(sort: Sort, schema: &Schema, id: &str) -> Option<u32>
+    ensures { result ≡ classes.class_named (rows_of sort schema.now) id.now }
 {
     schema.rules();
-    schema.class(id)
+    match sort {
+        Sort::Class => schema.class(id),
+        Sort::Exception => schema.exception(id),
+    }
 }
 
-/// The class that a class extends.
-pub(crate) fn base_of(schema: &Schema, class: u32) -> Option<u32>
-    ensures { result ≡ classes.base_of schema.now class }
+/// What a class or an exception extends.
+pub(crate) fn base_of(sort: Sort, schema: &Schema, class: u32) -> Option<u32>
+    ensures { result ≡ classes.base_of (rows_of sort schema.now) class }
 {
-    schema.classes().get(class as usize)?.base
+    match sort {
+        Sort::Class => schema.classes().get(class as usize)?.base,
+        Sort::Exception => schema.exceptions().get(class as usize)?.base,
+    }
 }
 
-/// The members that a class declares itself, required and optional ones together.
-pub(crate) fn own_fields(schema: &Schema, class: u32) -> Fields<'_>
-    ensures { handed result ≡ own_fields schema.now class }
+/// The members that a class or an exception declares itself, required and optional ones together.
+pub(crate) fn own_fields(sort: Sort, schema: &Schema, class: u32) -> Fields<'_>
+    ensures { handed result ≡ own_fields (rows_of sort schema.now) class }
 {
-    let members = match schema.classes().get(class as usize) {
-        Some(decl) => decl.members.as_slice(),
-        None => &[],
-    };
+    let members = own_members(sort, schema, class);
     Fields {
         required: members,
         optional: members,
+    }
+}
+
+/// The same as they are declared.
+fn own_members(sort: Sort, schema: &Schema, class: u32) -> &[Member]
+    ensures { result.now ≡ members_of (rows_of sort schema.now) class }
+{
+    match sort {
+        Sort::Class => match schema.classes().get(class as usize) {
+            Some(decl) => decl.members.as_slice(),
+            None => &[],
+        },
+        Sort::Exception => match schema.exceptions().get(class as usize) {
+            Some(decl) => decl.members.as_slice(),
+            None => &[],
+        },
     }
 }
 

@@ -8,6 +8,7 @@ ghost use Rattle.instance_reading.specs.Seen.{view_reference, view_references};
 
 use crate::arena::Reference;
 use crate::class::base_of;
+use crate::sort::Sort;
 use graph_arena::{Instance, class_of};
 use ice_types::Schema;
 
@@ -68,7 +69,7 @@ fn is_a(schema: &Schema, class: u32, base: u32) -> bool
             return false;
         }
         left -= 1;
-        match base_of(schema, class) {
+        match base_of(Sort::Class, schema, class) {
             Some(next) => class = next,
             None => return false,
         }

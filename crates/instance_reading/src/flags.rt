@@ -1,12 +1,15 @@
 //! The flags of a slice. (Ice manual, "Data Encoding for Class and Exception Types".)
 
 ghost use Rattle.std.specs.Prelude.{◌≡◌};
+ghost use Rattle.ice_graphs.specs.Exceptions as exceptions;
 ghost use Rattle.ice_graphs.specs.Flags.{flags_of, has_id, is_odd};
 ghost use Rattle.ice_graphs.specs.Flags as spec;
 ghost use Rattle.instance_reading.specs.Seen.{view_before};
 ghost use Rattle.instance_reading.specs.Slices.{SeesFlags};
+ghost use Rattle.instance_reading.specs.Sorts.{may_begin};
 
 use crate::slice::Before;
+use crate::sort::Sort;
 use ice_prims::{Cursor, Fault, Kind};
 
 /// Whether the lowest bit of the flags is set, once those below it are shifted out.
@@ -17,18 +20,28 @@ pub(crate) fn is_odd(flags: u8) -> bool
 }
 
 /// The flags of a slice that may stand behind this one.
-pub(crate) fn take_flags(before: Before, cursor: &mut Cursor<'_>) -> Result<u8, Fault>
-    ensures { SeesFlags (view_before before) result cursor.old cursor.new }
+pub(crate) fn take_flags(sort: Sort, before: Before, cursor: &mut Cursor<'_>) -> Result<u8, Fault>
+    ensures { SeesFlags sort (view_before before) result cursor.old cursor.new }
 {
     let wrong = cursor.fault(Kind::BadFlags);
     let flags = cursor.take_byte()?;
-    if flags >= 64 || !may_stand(before, flags) {
+    if flags >= 64 || !may_begin(sort, before, flags) {
         return Err(wrong);
     }
     Ok(flags)
 }
 
-/// Whether a slice with these flags may stand there. The first one has a type id, and each behind a slice
+/// Whether a slice with these flags may stand there.
+fn may_begin(sort: Sort, before: Before, flags: u8) -> bool
+    ensures { result ≡ may_begin sort (view_before before) (flags_of flags) }
+{
+    match sort {
+        Sort::Class => may_stand(before, flags),
+        Sort::Exception => may_be_raised(before, flags),
+    }
+}
+
+/// Whether a slice of an instance with these flags may stand there. The first one has a type id, and each behind a slice
 /// with a size has both; behind one without a size it has neither. A table comes with a size alone.
 fn may_stand(before: Before, flags: u8) -> bool
     ensures { result ≡ spec.may_stand (view_before before) (flags_of flags) }
@@ -39,6 +52,21 @@ fn may_stand(before: Before, flags: u8) -> bool
     match before {
         Before::First => has_id && (has_size || !has_table),
         Before::OnlyKept | Before::Derived { sized: true, .. } => has_id && has_size,
+        Before::Derived { sized: false, .. } => !has_id && !has_size && !has_table,
+    }
+}
+
+/// Whether a slice of an exception with these flags may stand there. The bits of a type id are clear; behind
+/// a slice with a size each has one, behind one without a size none has.
+fn may_be_raised(before: Before, flags: u8) -> bool
+    ensures { result ≡ exceptions.may_be_raised (view_before before) (flags_of flags) }
+{
+    let has_id = has_id(flags);
+    let has_table = is_odd(flags / 8);
+    let has_size = is_odd(flags / 16);
+    match before {
+        Before::First => !has_id && (has_size || !has_table),
+        Before::OnlyKept | Before::Derived { sized: true, .. } => !has_id && has_size,
         Before::Derived { sized: false, .. } => !has_id && !has_size && !has_table,
     }
 }

@@ -2,25 +2,29 @@
 //! the size of the table.
 //! (Ice manual, "Data Encoding for Class and Exception Types".)
 
-ghost use Rattle.std.specs.Prelude.{◌≡◌, [], true, false};
+ghost use Rattle.std.specs.Prelude.{◌≡◌, true, false};
+ghost use Rattle.ice_encoding.specs.Pausing.{Inside, in_place};
 ghost use Rattle.ice_optionals.specs.Members.{slice_members_at};
 ghost use Rattle.ice_graphs.specs.Classes.{own_members};
 ghost use Rattle.ice_graphs.specs.Classes as classes;
 ghost use Rattle.ice_graphs.specs.Flags.{flags_of};
-ghost use Rattle.ice_graphs.specs.References.{entry_at};
-ghost use Rattle.ice_graphs.specs.TypeIds as spec;
-ghost use Rattle.instance_reading.specs.Seen.{view_before, view_next, view_references};
-ghost use Rattle.instance_reading.specs.Slices.{Ends, FindsOutside, OpensKept, OpensSized, next_by, ReadsPlaces, ReadsSized, ReadsUses, SeesTable};
+ghost use Rattle.ice_members.specs.Advancing.{ReadsMembers};
+ghost use Rattle.instance_reading.specs.Seen.{view_next, view_references};
+ghost use Rattle.instance_reading.specs.Slices.{Ends, OpensKept, OpensSized, ReadsPlaces, ReadsSized, SeesTable, first_outside};
+ghost use Rattle.instance_reading.specs.Sorts.{rows_of};
+ghost use Rattle.instance_reading.specs.Sorts as sorts;
 
 use crate::arena::Reference;
 use crate::class::{base_of, optionals, own_fields};
 use crate::flags::is_odd;
 use crate::slice::Before;
+use crate::sort::Sort;
 use crate::table_port::{InTable, Untabled};
 use graph_arena::Members;
 use ice_members::read_members;
 use ice_prims::{Cursor, Fault, Kind, ReadFault};
 use ice_types::{List, Schema};
+use ice_values::RefPort;
 use preserved::{KeptPart, skip_slice, slice_bound};
 use std::alloc::Global;
 
@@ -64,14 +68,15 @@ pub(crate) struct OpenSlice<'a> {
 /// A slice of a known class begins behind its type id: its size and members, and the size of its table.
 pub(crate) fn open_sized<'a>(
     alloc: Global,
+    sort: Sort,
     schema: &Schema,
     class: u32,
     flags: u8,
     cursor: &mut Cursor<'_>,
 ) -> Result<OpenSlice<'a>, ReadFault>
-    ensures { OpensSized schema.now (flags_of flags) class result cursor.old cursor.new }
+    ensures { OpensSized sort schema.now (flags_of flags) class result cursor.old cursor.new }
 {
-    let read = match read_sized(alloc, schema, class, flags, cursor) {
+    let read = match read_sized(alloc, sort, schema, class, flags, cursor) {
         Ok(read) => read,
         Err(fault) => return Err(fault),
     };
@@ -82,7 +87,7 @@ pub(crate) fn open_sized<'a>(
                 members: read.members,
                 uses: read.uses,
             },
-            next: next_slice(flags, before_base(schema, class, true)),
+            next: behind_base(sort, schema, class, true),
             table: List::new(alloc),
             left,
         }),
@@ -104,44 +109,43 @@ pub(crate) fn open_kept<'a>(
     let left = take_table(flags, &[], cursor)?;
     Ok(OpenSlice {
         body: Body::Kept { id, part },
-        next: next_slice(flags, Before::OnlyKept),
+        next: behind_kept(flags),
         table: List::new(alloc),
         left,
     })
 }
 
-/// What the next slice follows, None behind the last one.
-pub(crate) fn next_slice(flags: u8, before: Before) -> Option<Before>
-    ensures { view_next result ≡ next_by (flags_of flags).is_last (view_before before) }
+/// What the next slice follows behind one of a class that is not known, None behind the last.
+fn behind_kept(flags: u8) -> Option<Before>
+    ensures { view_next result ≡ sorts.behind_kept (flags_of flags).is_last }
 {
     if is_odd(flags / 32) {
         return None;
     }
-    Some(before)
+    Some(Before::OnlyKept)
 }
 
-/// What stands before the slice of the base of a class.
-pub(crate) fn before_base(schema: &Schema, class: u32, sized: bool) -> Before
-    ensures { view_before result ≡ spec.before_base sized (classes.base_of schema.now class) }
+/// What the next slice follows behind one of a known class, which is the last where that has no base.
+pub(crate) fn behind_base(sort: Sort, schema: &Schema, class: u32, sized: bool) -> Option<Before>
+    ensures { view_next result ≡ sorts.behind_base sized (classes.base_of (rows_of sort schema.now) class) }
 {
-    match base_of(schema, class) {
-        Some(base) => Before::Derived { sized, base },
-        None => Before::OnlyKept,
-    }
+    let base = base_of(sort, schema, class)?;
+    Some(Before::Derived { sized, base })
 }
 
 /// The size of a slice, and its members, with places in its table as references.
 fn read_sized(
     alloc: Global,
+    sort: Sort,
     schema: &Schema,
     class: u32,
     flags: u8,
     cursor: &mut Cursor<'_>,
 ) -> Result<SizedMembers, ReadFault>
-    ensures { ReadsSized schema.now class (flags_of flags).has_table (flags_of flags).has_optional result cursor.old cursor.new }
+    ensures { ReadsSized sort schema.now class (flags_of flags).has_table (flags_of flags).has_optional result cursor.old cursor.new }
 {
     let mut bound = slice_bound(cursor)?;
-    match read_in_bound(alloc, schema, class, flags, &mut bound) {
+    match read_in_bound(alloc, sort, schema, class, flags, &mut bound) {
         Ok(read) => match end(&bound) {
             Ok(()) => Ok(read),
             Err(fault) => Err(ReadFault::Broken(fault)),
@@ -153,40 +157,58 @@ fn read_sized(
 /// The members, in the bound that the size gives.
 fn read_in_bound(
     alloc: Global,
+    sort: Sort,
     schema: &Schema,
     class: u32,
     flags: u8,
     bound: &mut Cursor<'_>,
 ) -> Result<SizedMembers, ReadFault>
-    ensures { ReadsPlaces schema.now class (flags_of flags).has_table (flags_of flags).has_optional result bound.old bound.new }
+    ensures { ReadsPlaces sort schema.now class (flags_of flags).has_table (flags_of flags).has_optional result bound.old bound.new }
 {
     let flagged = is_odd(flags / 4);
-    if is_odd(flags / 8) {
-        read_tabled(alloc, schema, class, flagged, bound)
+    read_places(
+        alloc,
+        sort,
+        schema,
+        class,
+        is_odd(flags / 8),
+        flagged,
+        bound,
+    )
+}
+
+/// The members of a class, with places in a table as references, where there is a table.
+pub(crate) fn read_places(
+    alloc: Global,
+    sort: Sort,
+    schema: &Schema,
+    class: u32,
+    tabled: bool,
+    flagged: bool,
+    bound: &mut Cursor<'_>,
+) -> Result<SizedMembers, ReadFault>
+    ensures { ReadsPlaces sort schema.now class tabled flagged result bound.old bound.new }
+{
+    if tabled {
+        read_tabled(alloc, sort, schema, class, flagged, bound)
     } else {
-        read_untabled(alloc, schema, class, flagged, bound)
+        read_untabled(alloc, sort, schema, class, flagged, bound)
     }
 }
 
 /// The members of a slice that has a table.
 fn read_tabled(
     alloc: Global,
+    sort: Sort,
     schema: &Schema,
     class: u32,
     flagged: bool,
     bound: &mut Cursor<'_>,
 ) -> Result<SizedMembers, ReadFault>
-    ensures { ReadsUses true result (slice_members_at (entry_at true) schema.now flagged (own_members schema.now class) [] bound.old) bound.new }
+    ensures { ReadsPlaces sort schema.now class true flagged result bound.old bound.new }
 {
     let mut port = InTable::new(alloc);
-    match read_members(
-        alloc,
-        schema,
-        own_fields(schema, class),
-        optionals(flagged),
-        bound,
-        &mut port,
-    ) {
+    match read_own(alloc, sort, schema, class, flagged, bound, &mut port) {
         Ok(members) => Ok(SizedMembers {
             members,
             uses: port.into_uses(),
@@ -198,32 +220,52 @@ fn read_tabled(
 /// The members of a slice that has none.
 fn read_untabled(
     alloc: Global,
+    sort: Sort,
     schema: &Schema,
     class: u32,
     flagged: bool,
     bound: &mut Cursor<'_>,
 ) -> Result<SizedMembers, ReadFault>
-    ensures { ReadsUses false result (slice_members_at (entry_at false) schema.now flagged (own_members schema.now class) [] bound.old) bound.new }
+    ensures { ReadsPlaces sort schema.now class false flagged result bound.old bound.new }
 {
-    let mut port = Untabled;
-    match read_members(
-        alloc,
-        schema,
-        own_fields(schema, class),
-        optionals(flagged),
-        bound,
-        &mut port,
-    ) {
-        Ok(members) => Ok(SizedMembers {
-            members,
-            uses: Vec::new(alloc),
-        }),
+    let mut port = Untabled::new();
+    match read_own(alloc, sort, schema, class, flagged, bound, &mut port) {
+        Ok(members) => {
+            port.is_unused();
+            Ok(SizedMembers {
+                members,
+                uses: Vec::new(alloc),
+            })
+        }
         Err(fault) => Err(fault),
     }
 }
 
+/// The members that a class has itself, at a port at which nothing begins.
+fn read_own<P: RefPort>(
+    alloc: Global,
+    sort: Sort,
+    schema: &Schema,
+    class: u32,
+    flagged: bool,
+    bound: &mut Cursor<'_>,
+    port: &mut P,
+) -> Result<Members, ReadFault>
+    requires { P.room port.old ≡ 0 }
+    ensures { (inside : Inside P) → ReadsMembers result (slice_members_at (in_place P.take inside) (rows_of sort schema.now) flagged (own_members (rows_of sort schema.now) class) port.old bound.old) port.new bound.new }
+{
+    read_members(
+        alloc,
+        schema,
+        own_fields(sort, schema, class),
+        optionals(flagged),
+        bound,
+        port,
+    )
+}
+
 /// The end of a bound.
-fn end(cursor: &Cursor<'_>) -> Result<(), Fault>
+pub(crate) fn end(cursor: &Cursor<'_>) -> Result<(), Fault>
     ensures { Ends result cursor.now }
 {
     if cursor.left() > 0 {
@@ -241,7 +283,7 @@ fn take_table(flags: u8, uses: &[Reference], cursor: &mut Cursor<'_>) -> Result<
         return Ok(0);
     }
     let count = cursor.take_size()?;
-    match first_outside(uses, count) {
+    match first_outside(uses, count as usize) {
         Some(place) => Err(Fault {
             place,
             kind: Kind::BadReference,
@@ -251,11 +293,11 @@ fn take_table(flags: u8, uses: &[Reference], cursor: &mut Cursor<'_>) -> Result<
 }
 
 /// The place of the first reference that is past a table's end.
-fn first_outside(uses: &[Reference], count: u32) -> Option<u64>
-    ensures { FindsOutside count (view_references uses.now) result }
+pub(crate) fn first_outside(uses: &[Reference], count: usize) -> Option<u64>
+    ensures { result ≡ first_outside count (view_references uses.now) }
 {
     for used in uses {
-        if used.name >= count {
+        if used.name as usize >= count {
             return Some(used.place);
         }
     }

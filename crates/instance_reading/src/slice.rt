@@ -1,16 +1,18 @@
 //! Where reading stands in the slices of an instance, and the head of a slice: its flags, its type id, and
 //! the tests of its class. (Ice manual, "Data Encoding for Class and Exception Types".)
 
-ghost use Rattle.std.specs.Prelude.{◌≡◌, ◌<◌, ◌^◌, OnOk};
+ghost use Rattle.std.specs.Prelude.{◌≡◌, ◌<◌, ◌^◌, OnOk, Some};
 ghost use Rattle.ice_graphs.specs.Flags.{flags_of};
-ghost use Rattle.ice_graphs.specs.TypeIds as spec;
 ghost use Rattle.instance_reading.specs.Seen.{view_before};
 ghost use Rattle.instance_reading.specs.Slices.{BeginsSlice, FindsId, OpensKnown, OpensSlice, ReadsId, Tests, stage_work};
+ghost use Rattle.instance_reading.specs.Sorts.{class_by, ends_by, is_over, rows_of};
+ghost use Rattle.instance_reading.specs.declared.sort.Sort.TheVariants as sorts;
 
 use crate::arena::Arena;
 use crate::class::{base_of, class_named, optionals};
 use crate::flags::{is_odd, take_flags};
-use crate::sized::{OpenSlice, before_base, next_slice, open_kept, open_sized};
+use crate::sized::{OpenSlice, behind_base, open_kept, open_sized};
+use crate::sort::Sort;
 use ice_members::MembersReader;
 use ice_prims::{Cursor, Fault, Kind, ReadFault};
 use ice_types::Schema;
@@ -69,27 +71,28 @@ fn is_within(count: u32)
 /// size of its table, or nothing where it has no size.
 pub(crate) fn begin_slice<'a>(
     alloc: Global,
+    sort: Sort,
     schema: &Schema,
     before: Before,
     cursor: &mut Cursor<'a>,
     arena: &mut Arena<'a>,
 ) -> Result<Stage<'a>, ReadFault>
-    ensures slice { BeginsSlice schema.now (view_before before) result arena.old cursor.old arena.new cursor.new }
+    ensures slice { BeginsSlice sort schema.now (view_before before) result arena.old cursor.old arena.new cursor.new }
     ensures instances { OnOk result (arena.new.instances ≡ arena.old.instances) }
 {
     let flags_place = cursor.place();
-    let flags = match take_flags(before, cursor) {
+    let flags = match take_flags(sort, before, cursor) {
         Ok(flags) => flags,
         Err(fault) => return Err(ReadFault::Broken(fault)),
     };
     let id_place = cursor.place();
-    let id = match take_id(flags, flags_place, cursor, arena) {
+    let id = match take_id(sort, flags, flags_place, cursor, arena) {
         Ok(id) => id,
         Err(fault) => return Err(fault),
     };
-    let class = class_in(schema, before, id);
-    match test_class(schema, before, flags, flags_place, id_place, class) {
-        Ok(()) => open_slice(alloc, schema, class, id, flags, cursor),
+    let class = class_in(sort, schema, before, id);
+    match test_class(sort, schema, before, flags, flags_place, id_place, class) {
+        Ok(()) => open_slice(alloc, sort, schema, class, id, flags, cursor),
         Err(fault) => Err(ReadFault::Broken(fault)),
     }
 }
@@ -97,16 +100,17 @@ pub(crate) fn begin_slice<'a>(
 /// The same behind the type id, of a class that passed the tests. One that is not known has a size.
 fn open_slice<'a>(
     alloc: Global,
+    sort: Sort,
     schema: &Schema,
     class: Option<u32>,
     id: &'a str,
     flags: u8,
     cursor: &mut Cursor<'a>,
 ) -> Result<Stage<'a>, ReadFault>
-    ensures { OpensSlice schema.now (flags_of flags) class id.now result cursor.old cursor.new }
+    ensures { OpensSlice sort schema.now (flags_of flags) class id.now result cursor.old cursor.new }
 {
     match class {
-        Some(class) => open_known(alloc, schema, class, flags, cursor),
+        Some(class) => open_known(alloc, sort, schema, class, flags, cursor),
         None => match open_kept(alloc, id, flags, cursor) {
             Ok(slice) => Ok(Stage::Open(slice)),
             Err(fault) => Err(ReadFault::Broken(fault)),
@@ -117,34 +121,52 @@ fn open_slice<'a>(
 /// The same of a known class.
 fn open_known<'a>(
     alloc: Global,
+    sort: Sort,
     schema: &Schema,
     class: u32,
     flags: u8,
     cursor: &mut Cursor<'a>,
 ) -> Result<Stage<'a>, ReadFault>
-    ensures { OpensKnown schema.now (flags_of flags) class result cursor.old cursor.new }
+    ensures { OpensKnown sort schema.now (flags_of flags) class result cursor.old cursor.new }
 {
     if is_odd(flags / 16) {
-        let slice = open_sized(alloc, schema, class, flags, cursor)?;
+        let slice = open_sized(alloc, sort, schema, class, flags, cursor)?;
         return Ok(Stage::Open(slice));
     }
     let flagged = is_odd(flags / 4);
     let slice = CompactSlice {
         class,
-        next: next_slice(flags, before_base(schema, class, false)),
+        next: behind_base(sort, schema, class, false),
         members: MembersReader::new(alloc, optionals(flagged)),
     };
     Ok(Stage::Compact(Box::new(alloc, slice)?))
 }
 
-/// The type id of a slice with these flags, which stand at `place`: a text, or the index of one.
+/// The type id of a slice with these flags, which stand at `place`.
 fn take_id<'a>(
+    sort: Sort,
     flags: u8,
     place: u64,
     cursor: &mut Cursor<'a>,
     arena: &mut Arena<'a>,
 ) -> Result<&'a str, ReadFault>
-    ensures id { ReadsId place flags result arena.old cursor.old arena.new cursor.new }
+    ensures id { ReadsId sort place flags result arena.old cursor.old arena.new cursor.new }
+    ensures instances { OnOk result (arena.new.instances ≡ arena.old.instances) }
+{
+    match sort {
+        Sort::Class => take_counted_id(flags, place, cursor, arena),
+        Sort::Exception => Ok(cursor.take_str()?),
+    }
+}
+
+/// That of a slice of an instance: a text, which takes the next index, or the index of one.
+fn take_counted_id<'a>(
+    flags: u8,
+    place: u64,
+    cursor: &mut Cursor<'a>,
+    arena: &mut Arena<'a>,
+) -> Result<&'a str, ReadFault>
+    ensures id { ReadsId sorts.Class place flags result arena.old cursor.old arena.new cursor.new }
     ensures instances { OnOk result (arena.new.instances ≡ arena.old.instances) }
 {
     match flags % 4 {
@@ -179,21 +201,26 @@ fn id_at<'a>(arena: &Arena<'a>, index: u32, unknown: Fault) -> Result<&'a str, R
     }
 }
 
-/// The class of a slice: by its type id, or without one the base that follows.
-fn class_in(schema: &Schema, before: Before, id: &str) -> Option<u32>
-    ensures { result ≡ spec.class_in schema.now (view_before before) id.now }
+/// The class of a slice, or the exception: by its type id, or of an instance without one the base that
+/// follows.
+fn class_in(sort: Sort, schema: &Schema, before: Before, id: &str) -> Option<u32>
+    ensures { result ≡ class_by sort (rows_of sort schema.now) (view_before before) id.now }
 {
-    match before {
-        Before::Derived { sized: false, base } => Some(base),
-        Before::First | Before::OnlyKept | Before::Derived { sized: true, .. } => {
-            class_named(schema, id)
-        }
+    match sort {
+        Sort::Exception => class_named(sort, schema, id),
+        Sort::Class => match before {
+            Before::Derived { sized: false, base } => Some(base),
+            Before::First | Before::OnlyKept | Before::Derived { sized: true, .. } => {
+                class_named(sort, schema, id)
+            }
+        },
     }
 }
 
 /// Whether a slice of the class may stand here: the base of the one before it; a known one, or one with a
-/// size; and of a known one the last exactly where it has no base.
+/// size; and of a known one the last or not.
 fn test_class(
+    sort: Sort,
     schema: &Schema,
     before: Before,
     flags: u8,
@@ -201,7 +228,7 @@ fn test_class(
     id_place: u64,
     class: Option<u32>,
 ) -> Result<(), Fault>
-    ensures { Tests schema.now (view_before before) (flags_of flags) flags_place id_place class result }
+    ensures { Tests sort schema.now (view_before before) (flags_of flags) flags_place id_place class result }
 {
     if let Before::Derived { base, .. } = before
         && class != Some(base)
@@ -217,10 +244,36 @@ fn test_class(
             place: id_place,
             kind: Kind::UnknownClass,
         }),
-        Some(class) if is_odd(flags / 32) == base_of(schema, class).is_none() => Ok(()),
+        Some(class) if ends_well(sort, schema, class, flags) => Ok(()),
         Some(_) => Err(Fault {
             place: flags_place,
             kind: Kind::BadLast,
         }),
+    }
+}
+
+/// Whether a slice of a known class tells rightly that it is the last: of an instance exactly where the class
+/// has no base; of an exception nowhere else, but it need not.
+fn ends_well(sort: Sort, schema: &Schema, class: u32, flags: u8) -> bool
+    ensures { result ≡ ends_by sort (rows_of sort schema.now) (Some class) (flags_of flags) }
+{
+    let is_last = is_odd(flags / 32);
+    let is_base = base_of(sort, schema, class).is_none();
+    match sort {
+        Sort::Class => is_last == is_base,
+        Sort::Exception => !is_last || is_base,
+    }
+}
+
+/// Whether no slice has to follow: what is kept of an exception is the last where nothing is left behind it.
+pub(crate) fn is_over(sort: Sort, before: Before, cursor: &Cursor<'_>) -> bool
+    ensures { result ≡ is_over sort (view_before before) cursor.now.bytes }
+{
+    match sort {
+        Sort::Class => false,
+        Sort::Exception => match before {
+            Before::OnlyKept => cursor.left() == 0,
+            Before::First | Before::Derived { .. } => false,
+        },
     }
 }

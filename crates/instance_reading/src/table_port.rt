@@ -75,7 +75,10 @@ impl RefPort for InTable {
 
 /// A slice without a table, in which null alone may stand.
 #[derive(Drop)]
-pub(crate) struct Untabled;
+pub(crate) struct Untabled {
+    /// What was met: nothing ever is.
+    met: (),
+}
 
 impl Model for Untabled {
     ghost use Rattle.std.specs.Prelude.{ℕ, List, []};
@@ -87,6 +90,22 @@ impl Model for Untabled {
     ghost coded = { references_code };
 
     ghost view = { λ p. [] };
+}
+
+impl Untabled {
+    /// None were met.
+    pub(crate) fn new() -> Untabled
+        ensures { result ≡ [] }
+    {
+        Untabled { met: () }
+    }
+
+    /// None were met since.
+    pub(crate) fn is_unused(&self)
+        ensures { self.now ≡ [] }
+    {
+        let _ = &self.met;
+    }
 }
 
 impl RefPort for Untabled {

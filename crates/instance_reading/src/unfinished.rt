@@ -1,20 +1,18 @@
-//! A class instance that has begun and is not read whole.
+//! A class instance or an exception that has begun and is not read whole.
 
 ghost use Rattle.std.specs.Prelude.{ℕ, ◌≡◌, ◌<◌, ◌≤◌, ◌+◌, ◌*◌, ◌^◌, ◌++◌, ◌∷◌, [], IfOk, OnOk};
-ghost use Rattle.ice_types.specs.Tables.{Tables};
-ghost use Rattle.ice_prims.specs.Rest.{Rest};
+ghost use Rattle.ice_graphs.specs.References.{resolved, with_met};
 ghost use Rattle.graph_arena.specs.Seen.{view_slice};
 ghost use Rattle.instance_reading.specs.Seen.{view_next};
 ghost use Rattle.instance_reading.specs.Slices.{opened, slice_with, uses_of, view_body};
+ghost use Rattle.instance_reading.specs.Unfinished.{Completes, Keeps, LessOnOn, NarrowsOnAdvance, NarrowsOnPause, Pauses, ReadsOn, StepsOn, begun, room, work_left};
 ghost use Rattle.instance_reading.specs.declared.slice.Stage.TheVariants as stages;
-ghost use Rattle.ice_encoding.specs.Pausing.{Inside};
-ghost use Rattle.ice_graphs.specs.References.{State, resolved, with_met};
-ghost use Rattle.instance_reading.specs.Unfinished.{Advances, Goes, LessOnOn, NarrowsOnAdvance, NarrowsOnPause, Keeps, Pauses, begun, left_behind, left_by, left_slices, room, work_left};
 
 use crate::arena::Arena;
 use crate::class::own_fields;
 use crate::sized::{Body, OpenSlice};
-use crate::slice::{Before, CompactSlice, Stage, begin_slice};
+use crate::slice::{Before, CompactSlice, Stage, begin_slice, is_over};
+use crate::sort::Sort;
 use graph_arena::{Slice, resolve_members};
 use ice_members::PausedMembers;
 use ice_prims::{Cursor, Kind, ReadFault};
@@ -24,11 +22,12 @@ use preserved::keep;
 use std::alloc::{AllocError, Global};
 use std::mem;
 
-/// An instance of which some slices are read.
+/// An instance, or an exception, of which some slices are read.
 #[derive(Drop)]
 pub(crate) struct Unfinished<'a> {
+    /// Of an instance. An exception has none.
     pub name: u32,
-    /// How many slices may still begin: no more than there were bytes where the instance began.
+    /// How many slices may still begin: no more than there were bytes where the first one began.
     pub steps: usize,
     /// The slices that are read whole.
     pub slices: List<Slice>,
@@ -60,16 +59,17 @@ impl<'a> Unfinished<'a> {
     pub(crate) fn go(
         &mut self,
         alloc: Global,
+        sort: Sort,
         schema: &Schema,
         cursor: &mut Cursor<'a>,
         arena: &mut Arena<'a>,
     ) -> Result<Option<u32>, ReadFault>
-        ensures goes { (inside : Inside (State ℕ)) → Goes inside schema.now self.new result (left_slices inside schema.now self.old arena.old cursor.old) arena.new cursor.new }
+        ensures goes { ReadsOn sort schema.now self.old self.new result arena.old cursor.old arena.new cursor.new }
         ensures name { self.new.name ≡ self.old.name }
         ensures room { NarrowsOnPause result (room arena.old) (room arena.new) }
     {
         loop {
-            match self.step(alloc, schema, cursor, arena)? {
+            match self.step(alloc, sort, schema, cursor, arena)? {
                 Advanced::On => {}
                 Advanced::Done => return Ok(None),
                 Advanced::Begins(name) => return Ok(Some(name)),
@@ -81,25 +81,26 @@ impl<'a> Unfinished<'a> {
     fn step(
         &mut self,
         alloc: Global,
+        sort: Sort,
         schema: &Schema,
         cursor: &mut Cursor<'a>,
         arena: &mut Arena<'a>,
     ) -> Result<Advanced, ReadFault>
-        ensures advances { (inside : Inside (State ℕ)) → Advances inside schema.now self.new result (left_slices inside schema.now self.old arena.old cursor.old) arena.new cursor.new }
+        ensures advances { StepsOn sort schema.now self.old self.old.stage self.new result arena.old cursor.old arena.new cursor.new }
         ensures name { self.new.name ≡ self.old.name }
         ensures room { NarrowsOnAdvance result (room arena.old) (room arena.new) }
         ensures less { LessOnOn result (work_left self.old) (work_left self.new) }
     {
         match mem::replace(&mut self.stage, Stage::Next(Before::First)) {
-            Stage::Next(before) => self.begin(alloc, schema, before, cursor, arena),
+            Stage::Next(before) => self.begin(alloc, sort, schema, before, cursor, arena),
             Stage::Open(slice) => {
                 if slice.left > 0 {
-                    self.read_entry(schema, slice, cursor, arena)
+                    self.read_entry(sort, schema, slice, cursor, arena)
                 } else {
-                    self.close(alloc, schema, slice, cursor, arena)
+                    self.close(alloc, sort, schema, slice, cursor, arena)
                 }
             }
-            Stage::Compact(slice) => self.read_compact(alloc, schema, slice, cursor, arena),
+            Stage::Compact(slice) => self.read_compact(alloc, sort, schema, slice, cursor, arena),
         }
     }
 
@@ -107,20 +108,24 @@ impl<'a> Unfinished<'a> {
     fn begin(
         &mut self,
         alloc: Global,
+        sort: Sort,
         schema: &Schema,
         before: Before,
         cursor: &mut Cursor<'a>,
         arena: &mut Arena<'a>,
     ) -> Result<Advanced, ReadFault>
-        ensures advances { (inside : Inside (State ℕ)) → Advances inside schema.now self.new result (left_by inside schema.now self.old (stages.Next before) arena.old cursor.old) arena.new cursor.new }
+        ensures advances { StepsOn sort schema.now self.old (stages.Next before) self.new result arena.old cursor.old arena.new cursor.new }
         ensures name { self.new.name ≡ self.old.name }
         ensures room { NarrowsOnAdvance result (room arena.old) (room arena.new) }
         ensures less { LessOnOn result (self.old.steps * 2 ^ 33) (work_left self.new) }
     {
+        if is_over(sort, before, cursor) {
+            return Ok(Advanced::Done);
+        }
         if self.steps == 0 {
             return Err(ReadFault::Broken(cursor.fault(Kind::Short)));
         }
-        match begin_slice(alloc, schema, before, cursor, arena) {
+        match begin_slice(alloc, sort, schema, before, cursor, arena) {
             Ok(stage) => {
                 stage.is_bounded();
                 self.steps -= 1;
@@ -134,17 +139,19 @@ impl<'a> Unfinished<'a> {
     /// Reads an entry of the table, which is not null.
     fn read_entry(
         &mut self,
+        sort: Sort,
         schema: &Schema,
         slice: OpenSlice<'a>,
         cursor: &mut Cursor<'a>,
         arena: &mut Arena<'a>,
     ) -> Result<Advanced, ReadFault>
         requires { 0 < slice.left }
-        ensures advances { (inside : Inside (State ℕ)) → Advances inside schema.now self.new result (left_by inside schema.now self.old (stages.Open slice.entry) arena.old cursor.old) arena.new cursor.new }
+        ensures advances { StepsOn sort schema.now self.old (stages.Open slice.entry) self.new result arena.old cursor.old arena.new cursor.new }
         ensures name { self.new.name ≡ self.old.name }
         ensures room { NarrowsOnAdvance result (room arena.old) (room arena.new) }
         ensures less { LessOnOn result (self.old.steps * 2 ^ 33 + (1 + slice.entry.left)) (work_left self.new) }
     {
+        let _ = sort;
         let _ = schema;
         let no_such = cursor.fault(Kind::BadReference);
         match arena.take_ref(None, cursor) {
@@ -177,13 +184,14 @@ impl<'a> Unfinished<'a> {
     fn close(
         &mut self,
         alloc: Global,
+        sort: Sort,
         schema: &Schema,
         slice: OpenSlice<'a>,
         cursor: &Cursor<'_>,
         arena: &mut Arena<'_>,
     ) -> Result<Advanced, ReadFault>
         requires { slice.left ≡ 0 }
-        ensures advances { (inside : Inside (State ℕ)) → Advances inside schema.now self.new result (left_by inside schema.now self.old (stages.Open slice.entry) arena.old cursor.now) arena.new cursor.now }
+        ensures advances { StepsOn sort schema.now self.old (stages.Open slice.entry) self.new result arena.old cursor.now arena.new cursor.now }
         ensures name { self.new.name ≡ self.old.name }
         ensures room { NarrowsOnAdvance result (room arena.old) (room arena.new) }
         ensures less { LessOnOn result (self.old.steps * 2 ^ 33 + 1) (work_left self.new) }
@@ -191,29 +199,30 @@ impl<'a> Unfinished<'a> {
         let _ = schema;
         let _ = cursor;
         let read = closed(alloc, slice.body, slice.table, arena)?;
-        self.complete(read, slice.next)
+        self.complete(alloc, sort, read, slice.next)
     }
 
     /// Reads on in the members of a slice without a size.
     fn read_compact(
         &mut self,
         alloc: Global,
+        sort: Sort,
         schema: &Schema,
         slice: Box<CompactSlice<'a>>,
         cursor: &mut Cursor<'a>,
         arena: &mut Arena<'a>,
     ) -> Result<Advanced, ReadFault>
-        ensures advances { (inside : Inside (State ℕ)) → Advances inside schema.now self.new result (left_by inside schema.now self.old (stages.Compact slice.entry) arena.old cursor.old) arena.new cursor.new }
+        ensures advances { StepsOn sort schema.now self.old (stages.Compact slice.entry) self.new result arena.old cursor.old arena.new cursor.new }
         ensures name { self.new.name ≡ self.old.name }
         ensures room { NarrowsOnAdvance result (room arena.old) (room arena.new) }
         ensures less { LessOnOn result (self.old.steps * 2 ^ 33 + 1) (work_left self.new) }
     {
         let mut slice = Box::into_inner(slice);
-        let fields = own_fields(schema, slice.class);
+        let fields = own_fields(sort, schema, slice.class);
         match slice.members.go(alloc, schema, fields, cursor, arena) {
             Ok(PausedMembers::Done(members)) => {
                 let class = slice.class;
-                self.complete(Slice::Known { class, members }, slice.next)
+                self.complete(alloc, sort, Slice::Known { class, members }, slice.next)
             }
             Ok(PausedMembers::Begins(name)) => {
                 self.pause(alloc, slice)?;
@@ -233,13 +242,19 @@ impl<'a> Unfinished<'a> {
     }
 
     /// A slice is read whole, and the next one follows this, None behind the last.
-    fn complete(&mut self, slice: Slice, next: Option<Before>) -> Result<Advanced, ReadFault>
-        ensures advances { (inside : Inside (State ℕ)) (t : Tables) (s : State ℕ) (r : Rest) → Advances inside t self.new result (left_behind inside t self.old.steps (self.old.slices ++ slice ∷ []) (view_next next) s r) s r }
+    fn complete(
+        &mut self,
+        alloc: Global,
+        sort: Sort,
+        slice: Slice,
+        next: Option<Before>,
+    ) -> Result<Advanced, ReadFault>
+        ensures advances { Completes sort self.old slice (view_next next) self.new result }
         ensures name { self.new.name ≡ self.old.name }
         ensures room { (before after : ℕ) → after ≤ before → NarrowsOnAdvance result before after }
         ensures less { LessOnOn result (self.old.steps * 2 ^ 33 + 1) (work_left self.new) }
     {
-        self.slices.push(slice)?;
+        push_slice(alloc, &mut self.slices, slice, next.is_none())?;
         match next {
             Some(before) => {
                 self.stage = Stage::Next(before);
@@ -248,6 +263,22 @@ impl<'a> Unfinished<'a> {
             None => Ok(Advanced::Done),
         }
     }
+}
+
+/// Puts a slice behind those that are read. One that is the only one gets room for itself alone, since most
+/// instances have a single slice. Out of memory leaves the slices as they were.
+fn push_slice(
+    alloc: Global,
+    slices: &mut List<Slice>,
+    slice: Slice,
+    is_last: bool,
+) -> Result<(), AllocError>
+    ensures ok { OnOk result (slices.new ≡ slices.old ++ slice ∷ []) }
+{
+    if is_last && slices.is_empty() {
+        *slices = List::from_vec(Vec::with_capacity(alloc, 1)?);
+    }
+    slices.push(slice)
 }
 
 /// The slice of which this was read, with the names in its table. Those of its references are known now.

@@ -1,12 +1,21 @@
-use Rattle.std.proofs.Common.{false, [], refl, sym, ap, ◌∙◌}
+use Rattle.std.proofs.Common.{◌≡◌, Ok, false, [], sym, ap, ◌∙◌}
 use Rattle.ice_graphs.specs.Classes.{own_members}
-use Rattle.ice_members.specs.Shapes.{told_apart}
+use Rattle.graph_arena.specs.Seen.{view_content}
 use Rattle.instance_reading.specs.Seen.{view_references}
-use Rattle.instance_reading.proofs.Places.{nothing, flagged_along, fault_along}
+use Rattle.instance_reading.specs.Sorts.{rows_of}
+use Rattle.instance_reading.proofs.Places.{nothing, members_read, fault_along}
 use Rattle.instance_reading.proofs.sized.read_untabled.Goals as goal
 
 pub returns-in-Ok : goal.returns-in-Ok
-returns-in-Ok c = (c.read_members.new.port, sym (flagged_along false c.args.schema.now c.args.flagged (own_members c.args.schema.now c.args.class) _ c.optionals.result [] [] c.args.bound.now c.optionals.ensures (ap told_apart c.own_fields.ensures) refl) ∙ c.in-Ok.ensures nothing, ap view_references c.new.ensures.items)
+returns-in-Ok c =
+    let none = ap view_references c.new.ensures.items in
+    let same : c.read_own.new.port ≡ view_references c.new.result.items = c.is_unused.ensures ∙ sym none in (
+      sym (members_read false (rows_of c.args.sort c.args.schema.now) c.args.flagged (own_members (rows_of c.args.sort c.args.schema.now) c.args.class) c.new-port.result [] c.args.bound.now c.new-port.ensures)
+          ∙ c.in-Ok.ensures nothing
+          ∙ (λ i. Ok (view_content c.in-Ok.members, same i, c.read_own.new.bound)),
+      none,
+    )
 
 pub returns-in-Err : goal.returns-in-Err
-returns-in-Err c = fault_along c.in-Err.fault _ _ (flagged_along false c.args.schema.now c.args.flagged (own_members c.args.schema.now c.args.class) _ c.optionals.result [] [] c.args.bound.now c.optionals.ensures (ap told_apart c.own_fields.ensures) refl) (c.in-Err.ensures nothing)
+returns-in-Err c =
+    fault_along c.in-Err.fault _ _ (members_read false (rows_of c.args.sort c.args.schema.now) c.args.flagged (own_members (rows_of c.args.sort c.args.schema.now) c.args.class) c.new-port.result [] c.args.bound.now c.new-port.ensures) (c.in-Err.ensures nothing)

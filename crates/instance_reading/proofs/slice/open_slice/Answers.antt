@@ -4,4 +4,4 @@ use Rattle.instance_reading.proofs.slice.open_slice.Goals as goal
 
 pub returns-in-Some : goal.returns-in-Some
 returns-in-Some c =
-    rw c.in-Some.is (opens_known c.args.schema.now (flags_of c.args.flags) c.in-Some.class c.args.id.now c.open_known.result c.args.cursor.now c.open_known.new.cursor c.open_known.ensures)
+    rw c.in-Some.is (opens_known c.args.sort c.args.schema.now (flags_of c.args.flags) c.in-Some.class c.args.id.now c.open_known.result c.args.cursor.now c.open_known.new.cursor c.open_known.ensures)

@@ -11,27 +11,30 @@ use Rattle.instance_reading.proofs.unfinished.Unfinished.read_compact.Goals as g
 
 pub returns-in-Ok-Done-clause-advances : goal.returns-in-Ok-Done-clause-advances
 returns-in-Ok-Done-clause-advances c inside =
+    let sort = c.args.sort in
     let t = c.args.schema.now in
     let u = c.args.self.now in
     let old = c.into_inner-slice.result in
-    subst (λ (read : Result (List Slice × State ℕ × Rest) Fault). Advances inside t c.complete.new.self c.complete.result read c.go.new.port c.go.new.cursor)
-    (left_same inside t u old.class old.next (handed c.own_fields-fields.result) c.own_fields-fields.ensures old.members c.args.slice.value c.args.arena.now c.args.cursor.now c.into_inner-slice.ensures)
-    (members_whole inside t u old.class old.next (handed c.own_fields-fields.result) c.own_fields-fields.ensures old.members c.in-Ok-Done.members c.args.arena.now c.go.new.port c.args.cursor.now c.go.new.cursor
+    subst (λ (read : Result (List Slice × State ℕ × Rest) Fault). Advances inside sort t c.complete.new.self c.complete.result read c.go.new.port c.go.new.cursor)
+    (left_same inside sort t u old.class old.next (handed c.own_fields-fields.result) c.own_fields-fields.ensures old.members c.args.slice.value c.args.arena.now c.args.cursor.now c.into_inner-slice.ensures)
+    (members_whole inside sort t u old.class old.next (handed c.own_fields-fields.result) c.own_fields-fields.ensures old.members c.in-Ok-Done.members c.args.arena.now c.go.new.port c.args.cursor.now c.go.new.cursor
     (rw c.in-Ok-Done.field-0-is at (c.in-Ok-Done.ensures.goes inside)) c.complete.new.self c.complete.result (c.complete.ensures.advances inside t c.go.new.port c.go.new.cursor))
 
 pub returns-in_ok-pause-in-Ok-Begins-clause-advances : goal.returns-in_ok-pause-in-Ok-Begins-clause-advances
 returns-in_ok-pause-in-Ok-Begins-clause-advances c inside =
+    let sort = c.args.sort in
     let t = c.args.schema.now in
     let u = c.args.self.now in
     let old = c.into_inner-slice.result in
-    sym (left_same inside t u old.class old.next (handed c.own_fields-fields.result) c.own_fields-fields.ensures old.members c.args.slice.value c.args.arena.now c.args.cursor.now c.into_inner-slice.ensures)
-    ∙ members_paused inside t u old.class old.next (handed c.own_fields-fields.result) c.own_fields-fields.ensures old.members c.go.new.self c.in-Ok-Begins.name c.args.arena.now c.go.new.port c.args.cursor.now c.go.new.cursor
+    sym (left_same inside sort t u old.class old.next (handed c.own_fields-fields.result) c.own_fields-fields.ensures old.members c.args.slice.value c.args.arena.now c.args.cursor.now c.into_inner-slice.ensures)
+    ∙ members_paused inside sort t u old.class old.next (handed c.own_fields-fields.result) c.own_fields-fields.ensures old.members c.go.new.self c.in-Ok-Begins.name c.args.arena.now c.go.new.port c.args.cursor.now c.go.new.cursor
     (rw c.in-Ok-Begins.field-0-is at (c.in-Ok-Begins.ensures.goes inside)) c.pause.new.self c.in_ok-pause-in-Ok-Begins.ensures.pauses
 
 pub returns-in-Err-clause-advances : goal.returns-in-Err-clause-advances
 returns-in-Err-clause-advances c inside =
+    let sort = c.args.sort in
     let t = c.args.schema.now in
     let u = c.args.self.now in
     let old = c.into_inner-slice.result in
-    fault_along c.in-Err.fault _ _ (left_same inside t u old.class old.next (handed c.own_fields-fields.result) c.own_fields-fields.ensures old.members c.args.slice.value c.args.arena.now c.args.cursor.now c.into_inner-slice.ensures)
-    (members_fail inside t u old.class old.next (handed c.own_fields-fields.result) c.own_fields-fields.ensures old.members c.in-Err.fault c.args.arena.now c.args.cursor.now (c.in-Err.ensures.goes inside))
+    fault_along c.in-Err.fault _ _ (left_same inside sort t u old.class old.next (handed c.own_fields-fields.result) c.own_fields-fields.ensures old.members c.args.slice.value c.args.arena.now c.args.cursor.now c.into_inner-slice.ensures)
+    (members_fail inside sort t u old.class old.next (handed c.own_fields-fields.result) c.own_fields-fields.ensures old.members c.in-Err.fault c.args.arena.now c.args.cursor.now (c.in-Err.ensures.goes inside))

@@ -1,0 +1,85 @@
+-- The two sorts of slices: those of an instance, which are of classes, and those of an exception; and what differs between them.
+use Rattle.std.specs.Prelude.{ℕ, Bool, true, false, List, [], ◌∷◌, Option, None, Some}
+use Rattle.ice_types.specs.Tables.{Tables}
+use Rattle.ice_prims.specs.Number.{text_at}
+use Rattle.ice_encoding.specs.Port.{Port, Reader}
+use Rattle.ice_encoding.specs.Reading.{plain}
+use Rattle.ice_optionals.specs.Steps.{given}
+use Rattle.ice_graphs.specs.Classes.{class_named, base_of}
+use Rattle.ice_graphs.specs.Graph.{Slice}
+use Rattle.ice_graphs.specs.Flags.{IdForm, Flags, all_slices, Before, first, only_kept, derived, may_stand}
+use Rattle.ice_graphs.specs.References.{State, seen}
+use Rattle.ice_graphs.specs.TypeIds.{id_at, class_in, ends_well}
+use Rattle.ice_graphs.specs.Slices.{slices_at}
+use Rattle.ice_graphs.specs.Exceptions.{of_exceptions, may_be_raised, may_be_last, raised_slices}
+use Rattle.instance_reading.specs.declared.sort.Sort.{Sort}
+use Rattle.instance_reading.specs.declared.sort.Sort.TheVariants as sorts
+
+-- the tables in which the rows of the sort are the classes
+abbrev pub rows_of : Sort → Tables → Tables
+rows_of sorts.Class t = t
+rows_of sorts.Exception t = of_exceptions t
+
+-- which flags may stand
+abbrev pub may_begin : Sort → Before → Flags → Bool
+may_begin sorts.Class = may_stand
+may_begin sorts.Exception = may_be_raised
+
+-- the type id, which of an exception is always a text and is not counted
+abbrev pub id_by : Sort → ℕ → IdForm → Reader (State ℕ) (List ℕ)
+id_by sorts.Class flags_place form = id_at flags_place form
+id_by sorts.Exception flags_place form = plain text_at
+
+-- what the type id stands for
+abbrev pub class_by : Sort → Tables → Before → List ℕ → Option ℕ
+class_by sorts.Class t before id = class_in t before id
+class_by sorts.Exception t before id = class_named t id
+
+-- whether the flag of the last slice may stand there, or lack
+abbrev pub ends_by : Sort → Tables → Option ℕ → Flags → Bool
+ends_by sorts.Class t class f = ends_well t class f
+ends_by sorts.Exception t class f = may_be_last t class f
+
+-- whether nothing has to follow: what is kept of an exception without the flag is the last where nothing is left
+abbrev pub is_over : Sort → Before → List ℕ → Bool
+is_over sorts.Class before bytes = false
+is_over sorts.Exception first bytes = false
+is_over sorts.Exception only_kept [] = true
+is_over sorts.Exception only_kept (b ∷ bs) = false
+is_over sorts.Exception (derived sized base) bytes = false
+
+-- ---- what the slice behind one follows, None behind the last
+
+-- behind a known one
+abbrev pub behind_base : Bool → Option ℕ → Option Before
+behind_base sized None = None
+behind_base sized (Some base) = Some (derived sized base)
+
+-- behind a kept one, by the flag of the last
+abbrev pub behind_kept : Bool → Option Before
+behind_kept true = None
+behind_kept false = Some only_kept
+
+abbrev pub behind_slice : Tables → Option ℕ → Flags → Option Before
+behind_slice t None f = behind_kept f.is_last
+behind_slice t (Some class) f = behind_base f.has_size (base_of t class)
+
+-- ---- slices from one on, by how references are read
+
+module _ (refer : Option ℕ → Reader (State ℕ) (Option ℕ)) where
+  -- the same as a port, by which nothing is spelled
+  abbrev pub port_by : Port (State ℕ) (State (Unit {0}))
+  port_by = record { seen = seen; read = refer; Spells = λ declared bytes n from to. ⊥ }
+
+  -- where one has to begin
+  abbrev pub slices_by : Sort → Tables → ℕ → Before → Reader (State ℕ) (List Slice)
+  slices_by sorts.Class t steps before = slices_at refer t all_slices steps before
+  slices_by sorts.Exception t steps before = raised_slices port_by (of_exceptions t) all_slices steps before
+
+  abbrev pub unless_over : Bool → Reader (State ℕ) (List Slice) → Reader (State ℕ) (List Slice)
+  unless_over true next = given []
+  unless_over false next = next
+
+  -- where one begins or nothing has to follow
+  abbrev pub slices_from : Sort → Tables → ℕ → Before → Reader (State ℕ) (List Slice)
+  slices_from sort t steps before s r = unless_over (is_over sort before r.bytes) (slices_by sort t steps before) s r

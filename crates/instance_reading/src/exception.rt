@@ -1,0 +1,75 @@
+//! A user exception with the instances that begin in it.
+//! (Ice manual, "Data Encoding for Class and Exception Types".)
+
+ghost use Rattle.std.specs.Prelude.{◌≡◌};
+ghost use Rattle.ice_graphs.specs.Exceptions.{raised_at};
+ghost use Rattle.ice_graphs.specs.Flags.{all_slices};
+ghost use Rattle.instance_reading.specs.Stacked.{ReadsRaised, ReadsSlices, exception_slices};
+
+use crate::arena::Arena;
+use crate::nesting::read_instance;
+use crate::sized::end;
+use crate::sort::Sort;
+use crate::unfinished::Unfinished;
+use graph_arena::{Instance, Slice};
+use ice_prims::{Cursor, ReadFault};
+use ice_types::{List, Schema};
+use std::alloc::Global;
+
+/// The slices of a user exception, in which a known one names an exception of the schema by its place, and
+/// the instances that begin in them, each named by its place.
+#[derive(Debug, Drop)]
+pub struct RaisedContent {
+    pub slices: List<Slice>,
+    pub instances: Vec<Instance>,
+}
+
+/// What an encapsulation of a user exception holds: its slices, from the most derived exception on, with the
+/// instances that begin in them, up to the end of the bytes. Slices of exceptions that the schema lacks are
+/// kept; the last of them is the last of all where nothing is left behind it, its flag or not. The first fault
+/// from the left, or out of memory, leaves the cursor anywhere on the way; `LeftOver` where bytes are left; a
+/// reference to an instance whose class does not fit is the fault where there is no other.
+/// (Ice manual, "Data Encoding for Class and Exception Types".)
+pub fn read_raised<'a>(
+    alloc: Global,
+    schema: &Schema,
+    cursor: &mut Cursor<'a>,
+) -> Result<RaisedContent, ReadFault>
+    ensures { ReadsRaised result (raised_at schema.now all_slices cursor.old) cursor.new }
+{
+    let mut arena = Arena::new(alloc);
+    match read_slices(alloc, schema, cursor, &mut arena) {
+        Ok(slices) => match end(cursor) {
+            Ok(()) => match arena.all_fit(schema) {
+                Ok(()) => Ok(RaisedContent {
+                    slices,
+                    instances: arena.into_instances(),
+                }),
+                Err(fault) => Err(ReadFault::Broken(fault)),
+            },
+            Err(fault) => Err(ReadFault::Broken(fault)),
+        },
+        Err(fault) => Err(fault),
+    }
+}
+
+/// The slices, and what is met in them, before it is known whether classes fit.
+fn read_slices<'a>(
+    alloc: Global,
+    schema: &Schema,
+    cursor: &mut Cursor<'a>,
+    arena: &mut Arena<'a>,
+) -> Result<List<Slice>, ReadFault>
+    ensures { ReadsSlices result (exception_slices schema.now arena.old cursor.old) arena.new cursor.new }
+{
+    let mut raised = Unfinished::new(alloc, 0, cursor);
+    loop {
+        match raised.go(alloc, Sort::Exception, schema, cursor, arena) {
+            Ok(None) => return Ok(raised.slices),
+            Ok(Some(name)) => {
+                read_instance(alloc, schema, name, cursor, arena)?;
+            }
+            Err(fault) => return Err(fault),
+        }
+    }
+}

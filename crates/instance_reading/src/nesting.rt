@@ -1,0 +1,62 @@
+//! An instance with those that begin in it, over an explicit stack of those that are not read whole.
+
+ghost use Rattle.std.specs.Prelude.{◌≡◌, ◌<◌, ◌≤◌, ◌++◌, ◌∷◌, [], OnOk};
+ghost use Rattle.ice_graphs.specs.Instances.{most_instances};
+ghost use Rattle.instance_reading.specs.Stacked.{ReadsInstance, Steps, instance_within, is_within, stack_left, steps_left};
+ghost use Rattle.instance_reading.specs.Unfinished.{room};
+
+use crate::arena::Arena;
+use crate::sort::Sort;
+use crate::unfinished::Unfinished;
+use ice_prims::{Cursor, ReadFault};
+use ice_types::{List, Schema};
+use std::alloc::Global;
+
+/// Reads the instance of this name, which begins here, whole, with those that begin in it.
+pub(crate) fn read_instance<'a>(
+    alloc: Global,
+    schema: &Schema,
+    name: u32,
+    cursor: &mut Cursor<'a>,
+    arena: &mut Arena<'a>,
+) -> Result<(), ReadFault>
+    requires { room arena.old < most_instances }
+    ensures reads { ReadsInstance result (instance_within schema.now most_instances name arena.old cursor.old) arena.new cursor.new }
+    ensures room { OnOk result (room arena.new ≤ room arena.old) }
+{
+    let mut stack = List::new(alloc);
+    stack.push(Unfinished::new(alloc, name, cursor))?;
+    while let Some(top) = stack.pop() {
+        read_on(alloc, schema, top, &mut stack, cursor, arena)?;
+    }
+    Ok(())
+}
+
+/// Reads on in the innermost instance, which is off the stack, up to its end or to the begin of the next one.
+fn read_on<'a>(
+    alloc: Global,
+    schema: &Schema,
+    mut top: Unfinished<'a>,
+    stack: &mut List<Unfinished<'a>>,
+    cursor: &mut Cursor<'a>,
+    arena: &mut Arena<'a>,
+) -> Result<(), ReadFault>
+    requires { is_within (stack.old ++ top ∷ []) arena.old }
+    ensures steps { Steps schema.now result (stack_left schema.now (stack.old ++ top.entry ∷ []) arena.old cursor.old) stack.new arena.new cursor.new }
+    ensures within { OnOk result (is_within stack.new arena.new) }
+    ensures room { OnOk result (room arena.new ≤ room arena.old) }
+    ensures less { OnOk result (steps_left stack.new arena.new < steps_left (stack.old ++ top.entry ∷ []) arena.old) }
+{
+    match top.go(alloc, Sort::Class, schema, cursor, arena) {
+        Err(fault) => Err(fault),
+        Ok(None) => {
+            arena.end(top.name, top.slices);
+            Ok(())
+        }
+        Ok(Some(name)) => {
+            stack.push(top)?;
+            stack.push(Unfinished::new(alloc, name, cursor))?;
+            Ok(())
+        }
+    }
+}
