@@ -1,16 +1,19 @@
--- How what is still written of instances in one another changes where one begins or ends.
+-- How what is still written of instances in one another changes where one begins or ends, and what is written of the roots or
+-- of an exception around them.
 use Rattle.std.proofs.Common.{◌≡◌, ℕ, zero, suc, ◌+◌, ◌-◌, ◌≤◌, Bool, true, false, nat_lt, List, [], ◌∷◌, ◌++◌, length, Option, Some, None, refl, sym, ap, ◌∙◌, subst, arith, length-append}
 use Rattle.ice_types.specs.declared.declarations.Member.{Member}
 use Rattle.ice_types.specs.Tables.{Tables}
 use Rattle.ice_prims.specs.Bytes.{size_bytes, Grows}
-use Rattle.ice_encoding.specs.Writing.{Piece, ◌>>◌, written_each}
+use Rattle.ice_encoding.specs.Writing.{Piece, exactly, ◌>>◌, written_each}
 use Rattle.ice_encoding.specs.Pausing.{Put, written_begun, written_in_place}
 use Rattle.ice_optionals.specs.Members.{Members, shape_of}
 use Rattle.ice_graphs.specs.Graph.{Slice, Graph}
 use Rattle.ice_graphs.specs.Instances.{slices_of}
 use Rattle.ice_graphs.specs.Visiting.{most}
 use Rattle.ice_graphs.specs.Members.{written_content}
-use Rattle.ice_graphs.specs.Canonical.{Pen, Format, blank, bytes_of, put_inline, written_as, written_instance}
+use Rattle.ice_graphs.specs.Canonical.{Pen, Format, blank, bytes_of, put_inline, with_one_begun, written_as, written_instance}
+use Rattle.ice_graphs.specs.Exceptions.{of_exceptions}
+use Rattle.ice_graphs.specs.RaisedWritten.{graph_of, raised_as, raised_bytes}
 use Rattle.ice_graphs.specs.Names.{instance_names}
 use Rattle.graph_arena.specs.Arena.{AreBelow}
 use Rattle.graph_arena.specs.Seen.{view_slices}
@@ -20,11 +23,12 @@ use Rattle.ice_members.specs.declared.ending.Ending.TheVariants.{Bound}
 use Rattle.ice_members.specs.WritingMembers.{Remaining, all_of, members_left, RemainingFits}
 use Rattle.instance_writing.specs.declared.open_slice.OpenSlice.{OpenSlice}
 use Rattle.instance_writing.specs.declared.open_slice.OpenSlice.TheVariants as opens
+use Rattle.instance_writing.specs.declared.sort.Sort.TheVariants.{Class, Exception}
 use Rattle.instance_writing.specs.declared.unfinished.Unfinished.{Unfinished}
 use Rattle.instance_writing.specs.Pens.{put_counted, begun_put, beginning_put}
 use Rattle.instance_writing.specs.Opened.{refer_to, is_first, open_left, OpenFits}
 use Rattle.instance_writing.specs.Remains.{others_left, instance_left, inside_at, stack_left, Fits, AllFit, with_options}
-use Rattle.instance_writing.specs.Writable.{SlicesCanBeWritten, GraphCanBeWritten}
+use Rattle.instance_writing.specs.Writable.{SlicesCanBeWritten, GraphCanBeWritten, RaisedCanBeWritten, raised_of}
 use Rattle.instance_writing.proofs.Steps.{all-slices, open-grown}
 
 most-more : most ≡ suc (most - 1)
@@ -58,30 +62,30 @@ module _ (t : Tables) (f : Format) (g : Graph) where
   inside-more depth n w = ap (λ (r : Option ℕ → Piece Pen). onto (written_as t r f (slices_of g.instances n)) w) (same-refer depth)
 
   -- one of which no slice has begun
-  fresh-left : (inside : InsideWritten Pen) (n : ℕ) (u : Unfinished) (w : Written Pen) → (u.current ≡ opens.Nothing) × (view_slices u.slices.now ≡ slices_of g.instances n) → onto (written_as t (refer_to inside) f (slices_of g.instances n)) w ≡ instance_left t f inside u w
+  fresh-left : (inside : InsideWritten Pen) (n : ℕ) (u : Unfinished) (w : Written Pen) → (u.current ≡ opens.Nothing) × (view_slices u.slices.now ≡ slices_of g.instances n) → onto (written_as t (refer_to inside) f (slices_of g.instances n)) w ≡ instance_left Class t f inside u w
   fresh-left inside n u w fresh =
       sym (all-slices t (refer_to inside) f (slices_of g.instances n) w)
-      ∙ ap (λ (ss : List Slice). onto (others_left t (refer_to inside) f true ss) w) (sym fresh.1)
-      ∙ ap (λ (o : OpenSlice). onto (others_left t (refer_to inside) f (is_first o) (view_slices u.slices.now)) (open_left t inside o w)) (sym fresh.0)
+      ∙ ap (λ (ss : List Slice). onto (others_left Class t (refer_to inside) f true ss) w) (sym fresh.1)
+      ∙ ap (λ (o : OpenSlice). onto (others_left Class t (refer_to inside) f (is_first o) (view_slices u.slices.now)) (open_left t inside o w)) (sym fresh.0)
 
   -- ---- the stack
 
-  stack-push : (depth : ℕ) (us : List Unfinished) (u : Unfinished) (w : Written Pen) → stack_left t f g depth (us ++ u ∷ []) w ≡ stack_left t f g depth us (instance_left t f (inside_at t f g (depth - length us)) u w)
-  stack-push depth [] u w = let e : depth ≡ depth - 0 = omega arith in ap (λ (d : ℕ). instance_left t f (inside_at t f g d) u w) e
+  stack-push : (depth : ℕ) (us : List Unfinished) (u : Unfinished) (w : Written Pen) → stack_left t f g depth (us ++ u ∷ []) w ≡ stack_left t f g depth us (instance_left Class t f (inside_at t f g (depth - length us)) u w)
+  stack-push depth [] u w = let e : depth ≡ depth - 0 = omega arith in ap (λ (d : ℕ). instance_left Class t f (inside_at t f g d) u w) e
   stack-push depth (v ∷ us) u w =
       let e : depth - 1 - length us ≡ depth - suc (length us) = omega arith in
-      ap (instance_left t f (inside_at t f g depth) v)
-      (stack-push (depth - 1) us u w ∙ ap (λ (d : ℕ). stack_left t f g (depth - 1) us (instance_left t f (inside_at t f g d) u w)) e)
+      ap (instance_left Class t f (inside_at t f g depth) v)
+      (stack-push (depth - 1) us u w ∙ ap (λ (d : ℕ). stack_left t f g (depth - 1) us (instance_left Class t f (inside_at t f g d) u w)) e)
 
   -- the innermost instance is written whole
-  pub instance-ends : (depth : ℕ) (us : List Unfinished) (old : Unfinished) (w w' : Written Pen) → ((inside : InsideWritten Pen) → instance_left t f inside old w ≡ w')
+  pub instance-ends : (depth : ℕ) (us : List Unfinished) (old : Unfinished) (w w' : Written Pen) → ((inside : InsideWritten Pen) → instance_left Class t f inside old w ≡ w')
       → stack_left t f g depth (us ++ old ∷ []) w ≡ stack_left t f g depth us w'
   instance-ends depth us old w w' wrote = stack-push depth us old w ∙ ap (stack_left t f g depth us) (wrote (inside_at t f g (depth - length us)))
 
   -- one begins in it
   pub instance-begins : (depth : ℕ) (us mid all : List Unfinished) (old now next : Unfinished) (n : ℕ) (w w' : Written Pen) → length us + 1 ≤ depth → mid ≡ us ++ now ∷ [] → all ≡ mid ++ next ∷ []
       → (next.current ≡ opens.Nothing) × (view_slices next.slices.now ≡ slices_of g.instances n)
-      → ((inside : InsideWritten Pen) → instance_left t f inside old w ≡ instance_left t f inside now (onto (inside n) w'))
+      → ((inside : InsideWritten Pen) → instance_left Class t f inside old w ≡ instance_left Class t f inside now (onto (inside n) w'))
       → stack_left t f g depth (us ++ old ∷ []) w ≡ stack_left t f g depth all w'
   instance-begins depth us mid all old now next n w w' room mid_is all_is fresh wrote =
       let d = depth - length mid in
@@ -131,12 +135,12 @@ content-written t f g optional =
 pub onto-grows : (piece : Piece Pen) (w w' : Written Pen) → w' ≡ onto piece w → Grows w.1 w'.1
 onto-grows piece w w' is = ((piece w.0).0, ap (λ (x : Written Pen). x.1) is)
 
-pub fresh-fits : (t : Tables) (g : Graph) (u : Unfinished) (n : ℕ) (out : List ℕ) → (u.current ≡ opens.Nothing) × (view_slices u.slices.now ≡ slices_of g.instances n) → AreBelow (length g.instances) (instance_names (slices_of g.instances n)) → GraphCanBeWritten t g
+pub fresh-fits : (t : Tables) (g : Graph) (u : Unfinished) (n : ℕ) (out : List ℕ) → (u.current ≡ opens.Nothing) × (view_slices u.slices.now ≡ slices_of g.instances n) → AreBelow (length g.instances) (instance_names (slices_of g.instances n)) → ((n : ℕ) → SlicesCanBeWritten t (slices_of g.instances n))
     → Fits t (length g.instances) u out
 fresh-fits t g u n out fresh below can = record {
   current = subst (λ (o : OpenSlice). OpenFits (length g.instances) o out) (sym fresh.0) tt;
   names = subst (λ (ss : List Slice). AreBelow (length g.instances) (instance_names ss)) (sym fresh.1) below;
-  slices = subst (SlicesCanBeWritten t) (sym fresh.1) (can.instances n);
+  slices = subst (SlicesCanBeWritten t) (sym fresh.1) (can n);
 }
 
 pub content-begun : (t : Tables) (f : Format) (g : Graph) (optional : List Member) (r : Remaining) (c : Members) (p : Pen) (out : List ℕ) → r ≡ all_of Bound c → c ≡ g.roots → p ≡ blank
@@ -152,3 +156,34 @@ content-fits t g r c out is roots can = subst (λ (x : Remaining). RemainingFits
 -- what is left can still be written behind an instance
 pub remains-fit : (piece : Piece Pen) (r : Remaining) (p p' : Pen) (out out' : List ℕ) → (p', out') ≡ onto piece (p, out) → RemainingFits r out → RemainingFits r out'
 remains-fit piece r p p' out out' wrote fits = (fits.0, fits.1, stands-grown r.place out out' fits.2 (grows-longer out out' (onto-grows piece (p, out) (p', out') wrote)))
+
+-- ---- an exception
+
+-- Of a graph the instances alone are used.
+pub instances-only : (t : Tables) (f : Format) (g h : Graph) → g.instances ≡ h.instances → (depth : ℕ) → written_instance t f g depth ≡ written_instance t f h depth
+instances-only t f g h same zero = λ i n. exactly []
+instances-only t f g h same (suc depth) = λ i n p. written_as t (written_in_place put_inline (instances-only t f g h same depth i)) f (slices_of (same i) n) (with_one_begun p)
+
+pub raised-written : (t : Tables) (f : Format) (g : Graph) (slices : List Slice) → (raised_as t (refer_to (inside_at t f g most)) f slices blank).0 ≡ raised_bytes t f (raised_of slices g)
+raised-written t f g slices =
+    ap (λ (r : Option ℕ → Piece Pen). (raised_as t r f slices blank).0) (sym (same-refer t f g most))
+    ∙ ap (λ (begins : ℕ → Piece Pen). (raised_as t (written_in_place put_inline begins) f slices blank).0) (instances-only t f g (graph_of (raised_of slices g)) refl most)
+
+module _ (t : Tables) (g : Graph) (slices : List Slice) (u : Unfinished) (fresh : (u.current ≡ opens.Nothing) × (view_slices u.slices.now ≡ slices)) where
+  -- no slice of it has begun
+  pub raised-begun : (f : Format) (inside : InsideWritten Pen) (p : Pen) (out : List ℕ) → p ≡ blank → onto (raised_as t (refer_to inside) f slices) (blank, out) ≡ instance_left Exception t f inside u (p, out)
+  raised-begun f inside p out nothing =
+      ap (λ (ss : List Slice). onto (raised_as t (refer_to inside) f ss) (blank, out)) (sym fresh.1)
+      ∙ ap (λ (o : OpenSlice). onto (raised_as t (refer_to inside) f (view_slices u.slices.now)) (open_left t inside o (blank, out))) (sym fresh.0)
+      ∙ ap (λ (q : Pen). instance_left Exception t f inside u (q, out)) (sym nothing)
+
+  pub raised-fits : (out : List ℕ) → RaisedCanBeWritten t (raised_of slices g) → Fits (of_exceptions t) (length g.instances) u out
+  raised-fits out can = record {
+    current = subst (λ (o : OpenSlice). OpenFits (length g.instances) o out) (sym fresh.0) tt;
+    names = subst (λ (ss : List Slice). AreBelow (length g.instances) (instance_names ss)) (sym fresh.1) can.names;
+    slices = subst (SlicesCanBeWritten (of_exceptions t)) (sym fresh.1) can.slices;
+  }
+
+-- the output has grown by an instance
+pub raised-grown : (t : Tables) (count : ℕ) (piece : Piece Pen) (u : Unfinished) (p p' : Pen) (out out' : List ℕ) → (p', out') ≡ onto piece (p, out) → Fits t count u out → Fits t count u out'
+raised-grown t count piece u p p' out out' wrote fits = one-grown t count u out out' fits (grows-longer out out' (onto-grows piece (p, out) (p', out') wrote))

@@ -1,11 +1,12 @@
--- How what is still written of an instance changes with a step.
-use Rattle.std.proofs.Common.{◌≡◌, ℕ, suc, ◌^◌, ◌<◌, ◌≤◌, Bool, true, false, List, [], ◌∷◌, ◌++◌, length, drop, slice_get, Option, Some, None, Result, Ok, Err, refl, sym, ap, ◌∙◌, subst, arith, append_assoc}
+-- How what is still written of an instance or an exception changes with a step.
+use Rattle.std.proofs.Common.{◌≡◌, ℕ, suc, ◌^◌, ◌<◌, ◌≤◌, Bool, true, false, not, List, [], ◌∷◌, ◌++◌, length, drop, slice_get, Option, Some, None, Result, Ok, Err, refl, sym, ap, ◌∙◌, subst, arith, append_assoc}
 use Rattle.std.specs.declared.alloc.AllocError.{AllocError}
 use Rattle.std.proofs.lemmas.Bool.{eq-eqb, ne_eqb, false≢true}
 use Rattle.std.specs.Bool.{◌==◌}
 use Rattle.std.specs.Prelude.{IfOk, OnOk}
 use Rattle.std.proofs.lemmas.List.{append-nil}
 use Rattle.ice_types.specs.declared.declarations.Member.{Member}
+use Rattle.ice_types.specs.declared.declarations.Shape.{Shape}
 use Rattle.ice_types.specs.Tables.{Tables}
 use Rattle.ice_encoding.specs.Writing.{Piece, exactly, ◌>>◌}
 use Rattle.ice_encoding.specs.Pausing.{Put, written_begun}
@@ -13,13 +14,15 @@ use Rattle.ice_graphs.specs.Graph.{Slice, known, kept}
 use Rattle.ice_graphs.specs.Names.{names_of, slice_names, instance_names}
 use Rattle.ice_graphs.specs.Visiting.{is_listed, most}
 use Rattle.ice_graphs.specs.Slices.{slice_size}
-use Rattle.ice_graphs.specs.Canonical.{Pen, Format, sliced, compact, each_once, table_of, sized_bytes, is_there, flags_byte, has_optional, id_of, written_head, written_names, written_table, sized_body, members_bytes, written_as, is_end}
+use Rattle.ice_graphs.specs.Canonical.{Pen, Format, sliced, compact, each_once, table_of, sized_bytes, is_there, written_names, written_table, sized_body, members_bytes, written_as, written_slices, written_bases, is_end}
+use Rattle.ice_graphs.specs.RaisedWritten.{raised_slices, raised_plain}
+use Rattle.ice_graphs.proofs.Agreeing.{written_same}
 use Rattle.graph_arena.specs.declared.instance.Slice as arena
 use Rattle.graph_arena.specs.Arena.{AreBelow}
 use Rattle.graph_arena.specs.Seen.{view_slices}
 use Rattle.ice_optionals.specs.Members.{Members, shape_of}
 use Rattle.ice_graphs.specs.Members.{written_slice_members}
-use Rattle.ice_graphs.specs.Classes.{members_in}
+use Rattle.ice_graphs.specs.Classes.{members_in, own_members}
 use Rattle.ice_members.proofs.WritingSteps.{fits-grown, all-left}
 use Rattle.ice_members.specs.declared.ending.Ending.TheVariants.{Marked}
 use Rattle.ice_members.specs.WritingMembers.{Remaining, remaining, all_of, members_left}
@@ -28,10 +31,13 @@ use Rattle.ice_values.proofs.Levels.{onto-then, onto-nothing}
 use Rattle.instance_writing.specs.declared.open_slice.OpenSlice.{OpenSlice}
 use Rattle.instance_writing.specs.declared.open_slice.OpenSlice.TheVariants.{Nothing, Found, Lent}
 use Rattle.instance_writing.specs.declared.open_slice.OpenSlice.TheVariants as opens
+use Rattle.instance_writing.specs.declared.sort.Sort.{Sort}
+use Rattle.instance_writing.specs.declared.sort.Sort.TheVariants.{Class, Exception}
 use Rattle.instance_writing.specs.declared.unfinished.Unfinished.{Unfinished}
 use Rattle.instance_writing.specs.Pens.{put_counted}
 use Rattle.instance_writing.specs.Opened.{refer_to, entries_in, is_first, HasEntries, IsTabled, open_left, OpenFits}
-use Rattle.instance_writing.specs.Remains.{slice_front, table_size, plain_head, one_slice, others_left, instance_left, Fits, BeginsNext}
+use Rattle.instance_writing.specs.Sorts.{rows_of, slice_head, plain_head}
+use Rattle.instance_writing.specs.Remains.{slice_front, table_size, one_slice, others_left, instance_left, Fits, BeginsNext}
 use Rattle.instance_writing.specs.Writable.{SlicesCanBeWritten}
 use Rattle.instance_writing.proofs.Placed.{below-both}
 
@@ -109,21 +115,34 @@ open-grown count (opens.Members m) out out' h longer = fits-grown (remaining m.v
 
 -- ---- a slice begins
 
-table-then : (t : Tables) (refer : Option ℕ → Piece Pen) (ns : List ℕ) (w : Written Pen) → onto (written_table t refer ns) w ≡ onto (written_names t refer ns) (onto (exactly (table_size ns)) w)
-table-then t refer [] w = sym (ap (onto (exactly [])) (onto-nothing w))
-table-then t refer (n ∷ ns) w = onto-then (exactly (table_size (n ∷ ns))) (written_names t refer (n ∷ ns)) w
+-- What stands in no row is the same by the tables of either sort.
+names-same : (u t : Tables) (refer : Option ℕ → Piece Pen) (ns : List ℕ) → written_names u refer ns ≡ written_names t refer ns
+names-same u t refer [] = refl
+names-same u t refer (n ∷ ns) = ap (λ (p : Piece Pen). refer (Some n) >> p) (names-same u t refer ns)
+
+pub members-same : {S : Type 0} (sort : Sort) (t : Tables) (refer : Option ℕ → Piece S) (shape : Shape) (c : Members) → written_slice_members refer (rows_of sort t) shape c ≡ written_slice_members refer t shape c
+members-same {S} Class t refer shape c = refl
+members-same {S} Exception t refer shape c = written_same t refer shape c
+
+table-then : (u t : Tables) (refer : Option ℕ → Piece Pen) (ns : List ℕ) (w : Written Pen) → onto (written_table u refer ns) w ≡ onto (written_names t refer ns) (onto (exactly (table_size ns)) w)
+table-then u t refer [] w = sym (ap (onto (exactly [])) (onto-nothing w))
+table-then u t refer (n ∷ ns) w =
+    onto-then (exactly (table_size (n ∷ ns))) (written_names u refer (n ∷ ns)) w
+    ∙ ap (λ (p : Piece Pen). onto p (onto (exactly (table_size (n ∷ ns))) w)) (names-same u t refer (n ∷ ns))
 
 exactly-then : (a b : List ℕ) (w : Written Pen) → onto (exactly (a ++ b)) w ≡ onto (exactly b) (onto (exactly a) w)
 exactly-then a b w = onto-then (exactly a) (exactly b) w
 
 -- in sliced format, up to the entries of its table
-slice-fronted : (t : Tables) (refer : Option ℕ → Piece Pen) (s : Slice) (first last : Bool) (w : Written Pen) → onto (one_slice t refer sliced first last s) w ≡ onto (written_names t refer (table_of s)) (onto (slice_front t last s) w)
-slice-fronted t refer s first last w =
-    let head = written_head (λ form. flags_byte form (has_optional s) (is_there (table_of s)) true last) (id_of t s) in
-    let sized = slice_size.put (length (sized_bytes t s)) ++ sized_bytes t s in
-    onto-then head (sized_body t refer s) w
-    ∙ onto-then (exactly sized) (written_table t refer (table_of s)) (onto head w)
-    ∙ table-then t refer (table_of s) (onto (exactly sized) (onto head w))
+slice-fronted : (sort : Sort) (t : Tables) (refer : Option ℕ → Piece Pen) (s : Slice) (first last : Bool) (w : Written Pen)
+    → onto (one_slice sort t refer sliced first last s) w ≡ onto (written_names t refer (table_of s)) (onto (slice_front sort t last s) w)
+slice-fronted sort t refer s first last w =
+    let u = rows_of sort t in
+    let head = slice_head sort t (is_there (table_of s)) true last s in
+    let sized = slice_size.put (length (sized_bytes u s)) ++ sized_bytes u s in
+    onto-then head (sized_body u refer s) w
+    ∙ onto-then (exactly sized) (written_table u refer (table_of s)) (onto head w)
+    ∙ table-then u t refer (table_of s) (onto (exactly sized) (onto head w))
     ∙ ap (onto (written_names t refer (table_of s))) (sym (exactly-then sized (table_size (table_of s)) (onto head w)))
     ∙ ap (onto (written_names t refer (table_of s))) (sym (onto-then head (exactly (sized ++ table_size (table_of s))) w))
 
@@ -139,9 +158,10 @@ has-fits count (Found next names) entries out h below = (subst (AreBelow count) 
 has-fits count (Lent names) entries out h below = subst (AreBelow count) (sym h) below
 has-fits count (opens.Members m) entries out h below = absurd h
 
-pub slice-begun : (t : Tables) (inside : InsideWritten Pen) (s : Slice) (first last : Bool) (o : OpenSlice) (w w' : Written Pen) → HasEntries (table_of s) o → w' ≡ onto (slice_front t last s) w → onto (one_slice t (refer_to inside) sliced first last s) w ≡ open_left t inside o w'
-slice-begun t inside s first last o w w' has wrote =
-    slice-fronted t (refer_to inside) s first last w ∙ ap (onto (written_names t (refer_to inside) (table_of s))) (sym wrote) ∙ sym (has-left t inside o (table_of s) w' has)
+pub slice-begun : (sort : Sort) (t : Tables) (inside : InsideWritten Pen) (s : Slice) (first last : Bool) (o : OpenSlice) (w w' : Written Pen) → HasEntries (table_of s) o → w' ≡ onto (slice_front sort t last s) w
+    → onto (one_slice sort t (refer_to inside) sliced first last s) w ≡ open_left t inside o w'
+slice-begun sort t inside s first last o w w' has wrote =
+    slice-fronted sort t (refer_to inside) s first last w ∙ ap (onto (written_names t (refer_to inside) (table_of s))) (sym wrote) ∙ sym (has-left t inside o (table_of s) w' has)
 
 -- names of a table are among those of its slice
 once-step : (b : Bool) (limit n : ℕ) (a c : List ℕ) → n < limit → AreBelow limit a → AreBelow limit c → AreBelow limit (elim b [ true ↦ a | false ↦ n ∷ c ])
@@ -159,10 +179,10 @@ table-below limit (kept id bytes optionals table) h = h
 pub slice-fits : (count : ℕ) (s : Slice) (o : OpenSlice) (out : List ℕ) → HasEntries (table_of s) o → AreBelow count (slice_names s) → OpenFits count o out
 slice-fits count s o out has below = has-fits count o (table_of s) out has (table-below count s below)
 
-pub sliced-begun : (t : Tables) (inside : InsideWritten Pen) (s : Slice) (f : Format) (first last : Bool) (result : Result OpenSlice AllocError) (w w' : Written Pen) → f ≡ sliced → IfOk result (HasEntries (table_of s)) → OnOk result (w' ≡ onto (slice_front t last s) w)
-    → IfOk result (λ o. onto (one_slice t (refer_to inside) f first last s) w ≡ open_left t inside o w')
-sliced-begun t inside s f first last (Ok o) w w' is has wrote = ap (λ (form : Format). onto (one_slice t (refer_to inside) form first last s) w) is ∙ slice-begun t inside s first last o w w' has wrote
-sliced-begun t inside s f first last (Err e) w w' is has wrote = tt
+pub sliced-begun : (sort : Sort) (t : Tables) (inside : InsideWritten Pen) (s : Slice) (f : Format) (first last : Bool) (result : Result OpenSlice AllocError) (w w' : Written Pen) → f ≡ sliced → IfOk result (HasEntries (table_of s)) → OnOk result (w' ≡ onto (slice_front sort t last s) w)
+    → IfOk result (λ o. onto (one_slice sort t (refer_to inside) f first last s) w ≡ open_left t inside o w')
+sliced-begun sort t inside s f first last (Ok o) w w' is has wrote = ap (λ (form : Format). onto (one_slice sort t (refer_to inside) form first last s) w) is ∙ slice-begun sort t inside s first last o w w' has wrote
+sliced-begun sort t inside s f first last (Err e) w w' is has wrote = tt
 
 pub sliced-fits : (count : ℕ) (s : Slice) (result : Result OpenSlice AllocError) (out : List ℕ) → IfOk result (HasEntries (table_of s)) → AreBelow count (slice_names s) → IfOk result (λ o. OpenFits count o out)
 sliced-fits count s (Ok o) out has below = slice-fits count s o out has below
@@ -172,41 +192,44 @@ sliced-fits count s (Err e) out has below = tt
 pub onto-is : (piece : Piece Pen) (p p' : Pen) (out out' : List ℕ) → (out' ≡ out ++ (piece p).0) × (p' ≡ (piece p).1) → (p', out') ≡ onto piece (p, out)
 onto-is piece p p' out out' h = ap (λ (l : List ℕ). (p', l)) h.0 ∙ ap (λ (q : Pen). (q, out ++ (piece p).0)) h.1
 
-pub plain-begun : (t : Tables) (inside : InsideWritten Pen) (s : Slice) (f : Format) (first last : Bool) (result : Result OpenSlice AllocError) (w w' : Written Pen) → f ≡ compact → w' ≡ onto (plain_head t first last s) w
-    → IfOk result (λ o. open_left t inside o w' ≡ onto (members_bytes t (refer_to inside) s) w') → IfOk result (λ o. onto (one_slice t (refer_to inside) f first last s) w ≡ open_left t inside o w')
-plain-begun t inside s f first last (Ok o) w w' is wrote opened =
-    ap (λ (form : Format). onto (one_slice t (refer_to inside) form first last s) w) is
-    ∙ onto-then (plain_head t first last s) (members_bytes t (refer_to inside) s) w
-    ∙ ap (onto (members_bytes t (refer_to inside) s)) (sym wrote) ∙ sym opened
-plain-begun t inside s f first last (Err e) w w' is wrote opened = tt
+pub plain-begun : (sort : Sort) (t : Tables) (inside : InsideWritten Pen) (s : Slice) (f : Format) (first last : Bool) (result : Result OpenSlice AllocError) (w w' : Written Pen) → f ≡ compact → w' ≡ onto (plain_head sort t first last s) w
+    → IfOk result (λ o. open_left t inside o w' ≡ onto (members_bytes (rows_of sort t) (refer_to inside) s) w') → IfOk result (λ o. onto (one_slice sort t (refer_to inside) f first last s) w ≡ open_left t inside o w')
+plain-begun sort t inside s f first last (Ok o) w w' is wrote opened =
+    ap (λ (form : Format). onto (one_slice sort t (refer_to inside) form first last s) w) is
+    ∙ onto-then (plain_head sort t first last s) (members_bytes (rows_of sort t) (refer_to inside) s) w
+    ∙ ap (onto (members_bytes (rows_of sort t) (refer_to inside) s)) (sym wrote) ∙ sym opened
+plain-begun sort t inside s f first last (Err e) w w' is wrote opened = tt
 
-pub members-open : (t : Tables) (inside : InsideWritten Pen) (class : ℕ) (c : Members) (own : List Member) (r : Remaining) (w : Written Pen) → own ≡ members_in (slice_get t.classes class) → r ≡ all_of Marked c
-    → members_left put_counted inside t own r w ≡ onto (members_bytes t (refer_to inside) (known class c)) w
-members-open t inside class c own r w is fresh =
+pub members-open : (sort : Sort) (t : Tables) (inside : InsideWritten Pen) (at : ℕ) (c : Members) (own : List Member) (r : Remaining) (w : Written Pen) → own ≡ members_in (slice_get (rows_of sort t).classes at) → r ≡ all_of Marked c
+    → members_left put_counted inside t own r w ≡ onto (members_bytes (rows_of sort t) (refer_to inside) (known at c)) w
+members-open sort t inside at c own r w is fresh =
     ap (λ (x : Remaining). members_left put_counted inside t own x w) fresh ∙ all-left put_counted inside t own Marked c w
     ∙ ap (λ (ms : List Member). onto (written_slice_members (refer_to inside) t (shape_of ms) c) w) is
+    ∙ ap (λ (p : Piece Pen). onto p w) (sym (members-same sort t (refer_to inside) (own_members (rows_of sort t) at) c))
 
--- ---- the slices of an instance
+-- ---- the slices of an instance, or of an exception
+
+in-turn : (head body others : Piece Pen) (w : Written Pen) → onto (head >> (body >> others)) w ≡ onto others (onto (head >> body) w)
+in-turn head body others w = onto-then head (body >> others) w ∙ onto-then body others (onto head w) ∙ ap (onto others) (sym (onto-then head body w))
+
+last-same : (t : Tables) (refer : Option ℕ → Piece Pen) (ss : List Slice) → not (is_there ss) ≡ is_end t refer ss
+last-same t refer [] = refl
+last-same t refer (s ∷ ss) = refl
 
 -- the first of those that have not begun, and those behind it
-pub next-slice : (t : Tables) (refer : Option ℕ → Piece Pen) (f : Format) (first : Bool) (s : Slice) (ss : List Slice) (w : Written Pen) → onto (others_left t refer f first (s ∷ ss)) w ≡ onto (others_left t refer f false ss) (onto (one_slice t refer f first (is_end t refer ss) s) w)
-next-slice t refer sliced first s ss w =
-    let head = written_head (λ form. flags_byte form (has_optional s) (is_there (table_of s)) true (is_end t refer ss)) (id_of t s) in
-    onto-then head (sized_body t refer s >> others_left t refer sliced false ss) w
-    ∙ onto-then (sized_body t refer s) (others_left t refer sliced false ss) (onto head w)
-    ∙ ap (onto (others_left t refer sliced false ss)) (sym (onto-then head (sized_body t refer s) w))
-next-slice t refer compact true s ss w =
-    let head = plain_head t true (is_end t refer ss) s in
-    onto-then head (members_bytes t refer s >> others_left t refer compact false ss) w
-    ∙ onto-then (members_bytes t refer s) (others_left t refer compact false ss) (onto head w)
-    ∙ ap (onto (others_left t refer compact false ss)) (sym (onto-then head (members_bytes t refer s) w))
-next-slice t refer compact false s ss w =
-    let head = plain_head t false (is_end t refer ss) s in
-    onto-then head (members_bytes t refer s >> others_left t refer compact false ss) w
-    ∙ onto-then (members_bytes t refer s) (others_left t refer compact false ss) (onto head w)
-    ∙ ap (onto (others_left t refer compact false ss)) (sym (onto-then head (members_bytes t refer s) w))
+pub next-slice : (sort : Sort) (t : Tables) (refer : Option ℕ → Piece Pen) (f : Format) (first : Bool) (s : Slice) (ss : List Slice) (w : Written Pen)
+    → onto (others_left sort t refer f first (s ∷ ss)) w ≡ onto (others_left sort t refer f false ss) (onto (one_slice sort t refer f first (is_end t refer ss) s) w)
+next-slice Class t refer sliced first s ss w = in-turn (slice_head Class t (is_there (table_of s)) true (is_end t refer ss) s) (sized_body t refer s) (written_slices t refer ss) w
+next-slice Class t refer compact true s ss w = in-turn (plain_head Class t true (is_end t refer ss) s) (members_bytes t refer s) (written_bases t refer ss) w
+next-slice Class t refer compact false s ss w = in-turn (plain_head Class t false (is_end t refer ss) s) (members_bytes t refer s) (written_bases t refer ss) w
+next-slice Exception t refer sliced first s ss w =
+    in-turn (slice_head Exception t (is_there (table_of s)) true (not (is_there ss)) s) (sized_body (rows_of Exception t) refer s) (raised_slices t refer ss) w
+    ∙ ap (λ (last : Bool). onto (raised_slices t refer ss) (onto (one_slice Exception t refer sliced first last s) w)) (last-same t refer ss)
+next-slice Exception t refer compact first s ss w =
+    in-turn (plain_head Exception t first (not (is_there ss)) s) (members_bytes (rows_of Exception t) refer s) (raised_plain t refer ss) w
+    ∙ ap (λ (last : Bool). onto (raised_plain t refer ss) (onto (one_slice Exception t refer compact first last s) w)) (last-same t refer ss)
 
-pub all-slices : (t : Tables) (refer : Option ℕ → Piece Pen) (f : Format) (ss : List Slice) (w : Written Pen) → onto (others_left t refer f true ss) w ≡ onto (written_as t refer f ss) w
+pub all-slices : (t : Tables) (refer : Option ℕ → Piece Pen) (f : Format) (ss : List Slice) (w : Written Pen) → onto (others_left Class t refer f true ss) w ≡ onto (written_as t refer f ss) w
 all-slices t refer sliced ss w = refl
 all-slices t refer compact ss w = refl
 
@@ -214,31 +237,31 @@ pub first-below : (count : ℕ) (s : Slice) (ss all : List Slice) → AreBelow c
 first-below count s ss all h is = below-both count (slice_names s) (instance_names ss) (subst (λ (l : List Slice). AreBelow count (instance_names l)) is h)
 
 -- the next one has begun
-pub begun-next : (t : Tables) (f : Format) (inside : InsideWritten Pen) (first said last : Bool) (s : Slice) (ss all : List Slice) (o : OpenSlice) (w w' : Written Pen) → said ≡ first → all ≡ s ∷ ss → last ≡ is_end t (refer_to inside) ss → is_first o ≡ false
-    → onto (one_slice t (refer_to inside) f said last s) w ≡ open_left t inside o w'
-    → onto (others_left t (refer_to inside) f first all) w ≡ onto (others_left t (refer_to inside) f (is_first o) ss) (open_left t inside o w')
-begun-next t f inside first said last s ss all o w w' same is end begun wrote =
+pub begun-next : (sort : Sort) (t : Tables) (f : Format) (inside : InsideWritten Pen) (first said last : Bool) (s : Slice) (ss all : List Slice) (o : OpenSlice) (w w' : Written Pen) → said ≡ first → all ≡ s ∷ ss → last ≡ is_end t (refer_to inside) ss → is_first o ≡ false
+    → onto (one_slice sort t (refer_to inside) f said last s) w ≡ open_left t inside o w'
+    → onto (others_left sort t (refer_to inside) f first all) w ≡ onto (others_left sort t (refer_to inside) f (is_first o) ss) (open_left t inside o w')
+begun-next sort t f inside first said last s ss all o w w' same is end begun wrote =
     let refer = refer_to inside in
-    ap (λ (l : List Slice). onto (others_left t refer f first l) w) is
-    ∙ next-slice t refer f first s ss w
-    ∙ ap (λ (b : Bool). onto (others_left t refer f false ss) (onto (one_slice t refer f b (is_end t refer ss) s) w)) (sym same)
-    ∙ ap (λ (b : Bool). onto (others_left t refer f false ss) (onto (one_slice t refer f said b s) w)) (sym end)
-    ∙ ap (onto (others_left t refer f false ss)) wrote
-    ∙ ap (λ (b : Bool). onto (others_left t refer f b ss) (open_left t inside o w')) (sym begun)
+    ap (λ (l : List Slice). onto (others_left sort t refer f first l) w) is
+    ∙ next-slice sort t refer f first s ss w
+    ∙ ap (λ (b : Bool). onto (others_left sort t refer f false ss) (onto (one_slice sort t refer f b (is_end t refer ss) s) w)) (sym same)
+    ∙ ap (λ (b : Bool). onto (others_left sort t refer f false ss) (onto (one_slice sort t refer f said b s) w)) (sym end)
+    ∙ ap (onto (others_left sort t refer f false ss)) wrote
+    ∙ ap (λ (b : Bool). onto (others_left sort t refer f b ss) (open_left t inside o w')) (sym begun)
 
 -- one is written whole
-pub slice-done : (t : Tables) (f : Format) (inside : InsideWritten Pen) (u : Unfinished) (o : OpenSlice) (w w' : Written Pen) → open_left t inside u.current w ≡ w' → is_first o ≡ is_first u.current
-    → instance_left t f inside u w ≡ onto (others_left t (refer_to inside) f (is_first o) (view_slices u.slices.now)) w'
-slice-done t f inside u o w w' done first =
-    ap (onto (others_left t (refer_to inside) f (is_first u.current) (view_slices u.slices.now))) done
-    ∙ ap (λ (b : Bool). onto (others_left t (refer_to inside) f b (view_slices u.slices.now)) w') (sym first)
+pub slice-done : (sort : Sort) (t : Tables) (f : Format) (inside : InsideWritten Pen) (u : Unfinished) (o : OpenSlice) (w w' : Written Pen) → open_left t inside u.current w ≡ w' → is_first o ≡ is_first u.current
+    → instance_left sort t f inside u w ≡ onto (others_left sort t (refer_to inside) f (is_first o) (view_slices u.slices.now)) w'
+slice-done sort t f inside u o w w' done first =
+    ap (onto (others_left sort t (refer_to inside) f (is_first u.current) (view_slices u.slices.now))) done
+    ∙ ap (λ (b : Bool). onto (others_left sort t (refer_to inside) f b (view_slices u.slices.now)) w') (sym first)
 
-module _ (t : Tables) (f : Format) (inside : InsideWritten Pen) (old new : Unfinished) (w w' : Written Pen) where
-  pub next-ended : (b : Bool) → b ≡ false → BeginsNext t f inside (Ok b) old new w w' → onto (others_left t (refer_to inside) f (is_first old.current) (view_slices old.slices.now)) w ≡ w'
+module _ (sort : Sort) (t : Tables) (f : Format) (inside : InsideWritten Pen) (old new : Unfinished) (w w' : Written Pen) where
+  pub next-ended : (b : Bool) → b ≡ false → BeginsNext sort t f inside (Ok b) old new w w' → onto (others_left sort t (refer_to inside) f (is_first old.current) (view_slices old.slices.now)) w ≡ w'
   next-ended true is h = absurd (false≢true (sym is))
   next-ended false is h = h
 
-  pub next-begun : (b : Bool) → b ≡ true → BeginsNext t f inside (Ok b) old new w w' → onto (others_left t (refer_to inside) f (is_first old.current) (view_slices old.slices.now)) w ≡ instance_left t f inside new w'
+  pub next-begun : (b : Bool) → b ≡ true → BeginsNext sort t f inside (Ok b) old new w w' → onto (others_left sort t (refer_to inside) f (is_first old.current) (view_slices old.slices.now)) w ≡ instance_left sort t f inside new w'
   next-begun true is h = h
   next-begun false is h = absurd (false≢true is)
 

@@ -1,4 +1,5 @@
 pub mod Formats
+pub mod Sorts
 pub mod Tabling
 pub mod Pens
 pub mod Writable

@@ -1,4 +1,4 @@
--- What is still written of instances that have begun.
+-- What is still written of instances and exceptions that have begun.
 use Rattle.std.specs.Prelude.{ℕ, zero, suc, ◌≡◌, ◌+◌, ◌-◌, ◌*◌, ◌<◌, Bool, true, false, List, [], ◌∷◌, ◌++◌, length, Option, Result, Ok, Err}
 use Rattle.std.specs.declared.alloc.AllocError.{AllocError}
 use Rattle.ice_types.specs.declared.declarations.Member.{Member}
@@ -9,14 +9,17 @@ use Rattle.ice_encoding.specs.Writing.{Piece, exactly, ◌>>◌}
 use Rattle.ice_encoding.specs.Pausing.{written_in_place}
 use Rattle.ice_graphs.specs.Graph.{Slice, Graph}
 use Rattle.ice_graphs.specs.Names.{instance_names}
-use Rattle.ice_graphs.specs.Flags.{no_id}
 use Rattle.ice_graphs.specs.Slices.{slice_size}
 use Rattle.ice_graphs.specs.Instances.{slices_of}
-use Rattle.ice_graphs.specs.Canonical.{Pen, Format, sliced, compact, table_of, sized_bytes, is_there, flags_byte, has_optional, id_of, written_head, sized_body, members_bytes, written_slices, written_bases, written_plain, written_as, written_instance, put_inline}
+use Rattle.ice_graphs.specs.Canonical.{Pen, Format, sliced, compact, table_of, sized_bytes, is_there, sized_body, members_bytes, written_slices, written_bases, written_plain, written_as, written_instance, put_inline}
+use Rattle.ice_graphs.specs.RaisedWritten.{raised_as}
 use Rattle.graph_arena.specs.Arena.{AreBelow}
 use Rattle.graph_arena.specs.Seen.{view_slices}
 use Rattle.ice_values.specs.Putting.{InsideWritten, Written, onto}
+use Rattle.instance_writing.specs.declared.sort.Sort.{Sort}
+use Rattle.instance_writing.specs.declared.sort.Sort.TheVariants.{Class, Exception}
 use Rattle.instance_writing.specs.declared.unfinished.Unfinished.{Unfinished}
+use Rattle.instance_writing.specs.Sorts.{rows_of, slice_head, plain_head}
 use Rattle.instance_writing.specs.Writable.{SlicesCanBeWritten}
 use Rattle.instance_writing.specs.Opened.{refer_to, is_first, open_left, OpenFits}
 
@@ -28,31 +31,27 @@ table_size [] = []
 table_size (n ∷ ns) = size_bytes (length (n ∷ ns))
 
 -- in sliced format, up to the entries of its table: flags and type id, size, members, and the size of the table
-abbrev pub slice_front : Tables → Bool → Slice → Piece Pen
-slice_front t is_last s = written_head (λ form. flags_byte form (has_optional s) (is_there (table_of s)) true is_last) (id_of t s)
-    >> exactly ((slice_size.put (length (sized_bytes t s)) ++ sized_bytes t s) ++ table_size (table_of s))
+abbrev pub slice_front : Sort → Tables → Bool → Slice → Piece Pen
+slice_front sort t is_last s = slice_head sort t (is_there (table_of s)) true is_last s
+    >> exactly ((slice_size.put (length (sized_bytes (rows_of sort t) s)) ++ sized_bytes (rows_of sort t) s) ++ table_size (table_of s))
 
--- in compact format, up to its members: flags, and the type id of the first
-abbrev pub plain_head : Tables → Bool → Bool → Slice → Piece Pen
-plain_head t true is_last s = written_head (λ form. flags_byte form (has_optional s) false false is_last) (id_of t s)
-plain_head t false is_last s = exactly (flags_byte no_id (has_optional s) false false is_last ∷ [])
+-- one of the slices of an instance or an exception: whether it is the first, and whether it is the last
+abbrev pub one_slice : Sort → Tables → (Option ℕ → Piece Pen) → Format → Bool → Bool → Slice → Piece Pen
+one_slice sort t refer sliced first is_last s = slice_head sort t (is_there (table_of s)) true is_last s >> sized_body (rows_of sort t) refer s
+one_slice sort t refer compact first is_last s = plain_head sort t first is_last s >> members_bytes (rows_of sort t) refer s
 
--- one of the slices of an instance: whether it is the first, and whether it is the last
-abbrev pub one_slice : Tables → (Option ℕ → Piece Pen) → Format → Bool → Bool → Slice → Piece Pen
-one_slice t refer sliced first is_last s = written_head (λ form. flags_byte form (has_optional s) (is_there (table_of s)) true is_last) (id_of t s) >> sized_body t refer s
-one_slice t refer compact first is_last s = plain_head t first is_last s >> members_bytes t refer s
+-- ---- an instance, or an exception
 
--- ---- an instance
-
--- the slices that have not begun, the first one of an instance among them or not
-abbrev pub others_left : Tables → (Option ℕ → Piece Pen) → Format → Bool → List Slice → Piece Pen
-others_left t refer sliced first = written_slices t refer
-others_left t refer compact true = written_plain t refer
-others_left t refer compact false = written_bases t refer
+-- the slices that have not begun, the first one among them or not
+abbrev pub others_left : Sort → Tables → (Option ℕ → Piece Pen) → Format → Bool → List Slice → Piece Pen
+others_left Class t refer sliced first = written_slices t refer
+others_left Class t refer compact true = written_plain t refer
+others_left Class t refer compact false = written_bases t refer
+others_left Exception t refer f first = raised_as t refer f
 
 -- the slice that has begun, and those behind it
-abbrev pub instance_left : Tables → Format → InsideWritten Pen → Unfinished → Written Pen → Written Pen
-instance_left t f inside u w = onto (others_left t (refer_to inside) f (is_first u.current) (view_slices u.slices.now)) (open_left t inside u.current w)
+abbrev pub instance_left : Sort → Tables → Format → InsideWritten Pen → Unfinished → Written Pen → Written Pen
+instance_left sort t f inside u w = onto (others_left sort t (refer_to inside) f (is_first u.current) (view_slices u.slices.now)) (open_left t inside u.current w)
 
 -- ---- instances in one another
 
@@ -68,11 +67,11 @@ inside_at t f g (suc depth) n p = written_as t (written_in_place put_inline (wri
 -- what is left of instances in one another, the innermost last
 abbrev pub stack_left : Tables → Format → Graph → ℕ → List Unfinished → Written Pen → Written Pen
 stack_left t f g depth [] w = w
-stack_left t f g depth (u ∷ inner) w = instance_left t f (inside_at t f g depth) u (stack_left t f g (depth - 1) inner w)
+stack_left t f g depth (u ∷ inner) w = instance_left Class t f (inside_at t f g depth) u (stack_left t f g (depth - 1) inner w)
 
 -- ---- what can be written
 
--- an instance, behind this output: its names are below the count
+-- an instance or an exception, behind this output: its names are below the count
 pub record Fits (t : Tables) (count : ℕ) (u : Unfinished) (out : List ℕ) : Type 0 where
   pub current : OpenFits count u.current out
   pub names : AreBelow count (instance_names (view_slices u.slices.now))
@@ -83,10 +82,10 @@ AllFit t count [] out = Unit {0}
 AllFit t count (u ∷ inner) out = Fits t count u out × AllFit t count inner out
 
 -- the next slice has begun and one fewer is behind it, or there is none
-abbrev pub BeginsNext : Tables → Format → InsideWritten Pen → Result Bool AllocError → Unfinished → Unfinished → Written Pen → Written Pen → Type 0
-BeginsNext t f inside (Ok true) old new w w' = onto (others_left t (refer_to inside) f (is_first old.current) (view_slices old.slices.now)) w ≡ instance_left t f inside new w'
-BeginsNext t f inside (Ok false) old new w w' = onto (others_left t (refer_to inside) f (is_first old.current) (view_slices old.slices.now)) w ≡ w'
-BeginsNext t f inside (Err e) old new w w' = Unit {0}
+abbrev pub BeginsNext : Sort → Tables → Format → InsideWritten Pen → Result Bool AllocError → Unfinished → Unfinished → Written Pen → Written Pen → Type 0
+BeginsNext sort t f inside (Ok true) old new w w' = onto (others_left sort t (refer_to inside) f (is_first old.current) (view_slices old.slices.now)) w ≡ instance_left sort t f inside new w'
+BeginsNext sort t f inside (Ok false) old new w w' = onto (others_left sort t (refer_to inside) f (is_first old.current) (view_slices old.slices.now)) w ≡ w'
+BeginsNext sort t f inside (Err e) old new w w' = Unit {0}
 
 abbrev pub LessOnNext : Result Bool AllocError → ℕ → ℕ → Type 0
 LessOnNext (Ok true) old new = new < old

@@ -1,9 +1,12 @@
--- Which graphs can be written. (Ice manual, "Data Encoding".)
-use Rattle.std.specs.Prelude.{ℕ, List, [], ◌∷◌}
+-- Which graphs and user exceptions can be written. (Ice manual, "Data Encoding".)
+use Rattle.std.specs.Prelude.{ℕ, List, [], ◌∷◌, length}
 use Rattle.ice_types.specs.Tables.{Tables}
 use Rattle.ice_graphs.specs.Classes.{own_members}
 use Rattle.ice_graphs.specs.Graph.{Slice, known, kept, Graph}
 use Rattle.ice_graphs.specs.Instances.{slices_of}
+use Rattle.ice_graphs.specs.Names.{instance_names}
+use Rattle.ice_graphs.specs.Exceptions.{of_exceptions, Raised}
+use Rattle.graph_arena.specs.Arena.{AreBelow}
 use Rattle.ice_members.specs.WritingMembers.{ContentCanBeWritten}
 use Rattle.instance_writing.specs.Tabling.{HasPlaces}
 
@@ -20,3 +23,13 @@ SlicesCanBeWritten t (s ∷ ss) = SliceCanBeWritten t s × SlicesCanBeWritten t 
 pub record GraphCanBeWritten (t : Tables) (g : Graph) : Type 0 where
   pub roots : ContentCanBeWritten g.roots
   pub instances : (n : ℕ) → SlicesCanBeWritten t (slices_of g.instances n)
+
+-- the exception of these slices, and of the instances of a graph
+abbrev pub raised_of : List Slice → Graph → Raised
+raised_of slices g = record { slices = slices; instances = g.instances }
+
+-- its slices, whose references are to its instances, and each instance
+pub record RaisedCanBeWritten (t : Tables) (x : Raised) : Type 0 where
+  pub names : AreBelow (length x.instances) (instance_names x.slices)
+  pub slices : SlicesCanBeWritten (of_exceptions t) x.slices
+  pub instances : (n : ℕ) → SlicesCanBeWritten t (slices_of x.instances n)

@@ -1,6 +1,6 @@
 //! A graph in bytes, over an explicit stack of instances that have begun.
 
-ghost use Rattle.std.specs.Prelude.{◌≡◌, ◌+◌, ◌-◌, ◌++◌, ◌<◌, ◌≤◌, [], ◌∷◌, length, OnOk};
+ghost use Rattle.std.specs.Prelude.{◌≡◌, ℕ, ◌+◌, ◌-◌, ◌++◌, ◌<◌, ◌≤◌, [], ◌∷◌, length, OnOk};
 ghost use Rattle.ice_graphs.specs.Names.{instance_names};
 ghost use Rattle.ice_graphs.specs.Instances.{slices_of};
 ghost use Rattle.ice_graphs.specs.Visiting.{most};
@@ -12,11 +12,13 @@ ghost use Rattle.instance_writing.specs.Formats.{view_format};
 ghost use Rattle.instance_writing.specs.Pens.{room};
 ghost use Rattle.instance_writing.specs.Tabling.{no_names};
 ghost use Rattle.instance_writing.specs.Remains.{AllFit, inside_at, stack_left, steps_left, with_options};
-ghost use Rattle.instance_writing.specs.Writable.{GraphCanBeWritten};
+ghost use Rattle.instance_writing.specs.Writable.{GraphCanBeWritten, SlicesCanBeWritten};
 
+use crate::encoder::Encoder;
 use crate::format::Format;
 use crate::pen::Pen;
 use crate::slice::Desk;
+use crate::sort::Sort;
 use crate::unfinished::Unfinished;
 use graph_arena::{Graph, Slice};
 use ice_members::{Ending, MembersWriter};
@@ -42,6 +44,11 @@ pub fn write_numbered(
     requires { GraphCanBeWritten schema.now graph.now }
     ensures { OnOk result (out.new.items ≡ out.old.items ++ bytes_of schema.now (with_options optional.now) (view_format format) graph.now) }
 {
+    let encoder = Encoder {
+        alloc,
+        schema,
+        format,
+    };
     let mut pen = Pen::new(alloc);
     let mut desk = Desk::new(alloc, graph.len())?;
     let mut roots = MembersWriter::new(alloc, graph.roots(), Ending::Bound)?;
@@ -49,46 +56,40 @@ pub fn write_numbered(
         match roots.go(alloc, schema, optional, out, &mut pen)? {
             WritePaused::Done => return Ok(()),
             WritePaused::Begins(name) => {
-                put_instance(alloc, schema, format, graph, name, &mut pen, &mut desk, out)?;
+                put_instance(&encoder, graph, name, &mut pen, &mut desk, out)?;
             }
         }
     }
 }
 
 /// Puts an instance that has just begun, with all that begin in it.
-fn put_instance<'a>(
-    alloc: Global,
-    schema: &'a Schema,
-    format: Format,
+pub(crate) fn put_instance<'a>(
+    by: &Encoder<'a>,
     graph: &'a Graph,
     name: u32,
     pen: &mut Pen<'a>,
     desk: &mut Desk,
     out: &mut Vec<u8>,
 ) -> Result<(), AllocError>
-    requires fits { GraphCanBeWritten schema.now graph.now }
+    requires fits { (n : ℕ) → SlicesCanBeWritten by.now.schema.now (slices_of graph.now.instances n) }
     requires few { length graph.now.instances ≤ most }
     requires desk { desk.old.table ≡ no_names (length graph.now.instances) }
     requires begun { room pen.old < most }
-    ensures writes { OnOk result ((pen.new, out.new.items) ≡ onto (inside_at schema.now (view_format format) graph.now most name) (pen.old, out.old.items)) }
+    ensures writes { OnOk result ((pen.new, out.new.items) ≡ onto (inside_at by.now.schema.now (view_format by.now.format) graph.now most name) (pen.old, out.old.items)) }
     ensures desk { OnOk result (desk.new.table ≡ desk.old.table) }
     ensures room { OnOk result (room pen.new ≤ room pen.old) }
 {
-    let mut stack = List::new(alloc);
+    let mut stack = List::new(by.alloc);
     stack.push(Unfinished::new(slices_of(graph, name)))?;
     while let Some(top) = stack.pop() {
-        put_more(
-            alloc, schema, format, graph, top, &mut stack, pen, desk, out,
-        )?;
+        put_more(by, graph, top, &mut stack, pen, desk, out)?;
     }
     Ok(())
 }
 
 /// Writes on in the innermost instance, up to its end or to the begin of the next one.
 fn put_more<'a>(
-    alloc: Global,
-    schema: &'a Schema,
-    format: Format,
+    by: &Encoder<'a>,
     graph: &'a Graph,
     mut top: Unfinished<'a>,
     stack: &mut List<Unfinished<'a>>,
@@ -96,19 +97,19 @@ fn put_more<'a>(
     desk: &mut Desk,
     out: &mut Vec<u8>,
 ) -> Result<(), AllocError>
-    requires can { GraphCanBeWritten schema.now graph.now }
+    requires can { (n : ℕ) → SlicesCanBeWritten by.now.schema.now (slices_of graph.now.instances n) }
     requires few { length graph.now.instances ≤ most }
     requires desk { desk.old.table ≡ no_names (length graph.now.instances) }
-    requires fits { AllFit schema.now (length graph.now.instances) (stack.old ++ top ∷ []) out.old.items }
+    requires fits { AllFit by.now.schema.now (length graph.now.instances) (stack.old ++ top ∷ []) out.old.items }
     requires deep { length stack.old + 1 + room pen.old ≤ most }
-    ensures writes { OnOk result (stack_left schema.now (view_format format) graph.now (most - 1) (stack.old ++ top.entry ∷ []) (pen.old, out.old.items) ≡ stack_left schema.now (view_format format) graph.now (most - 1) stack.new (pen.new, out.new.items)) }
-    ensures fits { OnOk result (AllFit schema.now (length graph.now.instances) stack.new out.new.items) }
+    ensures writes { OnOk result (stack_left by.now.schema.now (view_format by.now.format) graph.now (most - 1) (stack.old ++ top.entry ∷ []) (pen.old, out.old.items) ≡ stack_left by.now.schema.now (view_format by.now.format) graph.now (most - 1) stack.new (pen.new, out.new.items)) }
+    ensures fits { OnOk result (AllFit by.now.schema.now (length graph.now.instances) stack.new out.new.items) }
     ensures desk { OnOk result (desk.new.table ≡ desk.old.table) }
     ensures deep { OnOk result (length stack.new + room pen.new ≤ most) }
     ensures room { OnOk result (room pen.new ≤ room pen.old) }
     ensures less { OnOk result (steps_left (room pen.new) (length stack.new) < steps_left (room pen.old) (length stack.old + 1)) }
 {
-    match top.go(alloc, schema, format, pen, desk, out)? {
+    match top.go(by, Sort::Class, pen, desk, out)? {
         WritePaused::Done => Ok(()),
         WritePaused::Begins(name) => {
             stack.push(top)?;

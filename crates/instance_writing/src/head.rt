@@ -1,12 +1,14 @@
 //! What stands before the members of a slice.
 
-ghost use Rattle.std.specs.Prelude.{◌≡◌, ◌+◌, ◌<◌, ◌++◌, OnOk, OnErr};
+ghost use Rattle.std.specs.Prelude.{◌≡◌, ◌+◌, ◌<◌, ◌++◌, ◌∷◌, OnOk, OnErr};
 ghost use Rattle.ice_prims.specs.Bytes.{text_bytes};
 ghost use Rattle.ice_graphs.specs.Flags.{no_id};
 ghost use Rattle.ice_graphs.specs.Canonical.{flags_byte, written_head};
 ghost use Rattle.ice_members.specs.WritingMembers.{WritesPiece};
+ghost use Rattle.instance_writing.specs.Sorts.{head_of};
 
 use crate::pen::Pen;
+use crate::sort::Sort;
 use ice_prims::{put_byte, put_size, put_str};
 use ice_types::MOST_NUMBER;
 use std::alloc::AllocError;
@@ -40,13 +42,28 @@ impl Flags {
     }
 }
 
-/// Puts the flags and the type id of a slice: as an index where it was written before, else as a text. Out
-/// of memory leaves a part of it; so does a type id of more bytes than the greatest int.
-/// (Ice manual, "Data Encoding for Class and Exception Types".)
+/// Puts the flags and the type id of a slice. Out of memory leaves a part of it; so does a type id of more
+/// bytes than the greatest int. (Ice manual, "Data Encoding for Class and Exception Types".)
 pub(crate) fn put_head<'a>(
-    pen: &mut Pen<'a>,
+    sort: Sort,
     id: &'a str,
     flags: Flags,
+    pen: &mut Pen<'a>,
+    out: &mut Vec<u8>,
+) -> Result<(), AllocError>
+    ensures { WritesPiece (head_of sort (λ form. flags_byte form flags.has_optional flags.has_table flags.has_size flags.is_last) id.now) result pen.old out.old.items pen.new out.new.items }
+{
+    match sort {
+        Sort::Class => put_class_head(id, flags, pen, out),
+        Sort::Exception => put_exception_head(id, flags, out),
+    }
+}
+
+/// Of an instance: the type id as an index where it was written before, else as a text.
+fn put_class_head<'a>(
+    id: &'a str,
+    flags: Flags,
+    pen: &mut Pen<'a>,
     out: &mut Vec<u8>,
 ) -> Result<(), AllocError>
     ensures { WritesPiece (written_head (λ form. flags_byte form flags.has_optional flags.has_table flags.has_size flags.is_last) id.now) result pen.old out.old.items pen.new out.new.items }
@@ -63,6 +80,14 @@ pub(crate) fn put_head<'a>(
             pen.add(id)
         }
     }
+}
+
+/// Of an exception: the type id as a text, of which the flags tell nothing.
+fn put_exception_head(id: &str, flags: Flags, out: &mut Vec<u8>) -> Result<(), AllocError>
+    ensures { OnOk result (out.new.items ≡ out.old.items ++ (flags_byte no_id flags.has_optional flags.has_table flags.has_size flags.is_last ∷ text_bytes id.now)) }
+{
+    put_byte(out, flags.without_id())?;
+    put_text(out, id)
 }
 
 /// A type id as a text. One of more bytes than the greatest int is answered as want of memory.

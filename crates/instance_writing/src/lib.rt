@@ -1,18 +1,23 @@
-//! Slices of class instances, written: the canonical bytes of a graph in either format, over an explicit
-//! stack of instances that have begun.
+//! Slices of class instances and of user exceptions, written: the canonical bytes of a graph in either
+//! format, over an explicit stack of instances that have begun.
 #![tactic(auto)]
 
 mod compact;
 mod encode;
+mod encoder;
 mod format;
 mod head;
 mod id_places;
 mod open_slice;
 mod parts;
 mod pen;
+mod position;
+mod raised;
 mod slice;
+mod sort;
 mod table;
 mod unfinished;
 
 pub use encode::write_numbered;
 pub use format::Format;
+pub use raised::write_raised;

@@ -15,17 +15,20 @@ ghost use Rattle.ice_members.specs.WritingMembers.{ContentCanBeWritten};
 ghost use Rattle.instance_writing.specs.Tabling.{HasPlaces, no_names};
 ghost use Rattle.instance_writing.specs.Opened.{HasEntries};
 ghost use Rattle.instance_writing.specs.Remains.{slice_front, table_size};
+ghost use Rattle.instance_writing.specs.Sorts.{rows_of};
 ghost use Rattle.instance_writing.specs.Writable.{SliceCanBeWritten};
 
+use crate::encoder::Encoder;
 use crate::head::{Flags, put_head};
 use crate::open_slice::OpenSlice;
 use crate::parts::{has_optional, id_of, own_members};
 use crate::pen::Pen;
+use crate::sort::Sort;
 use crate::table::Table;
 use graph_arena::{Members, Slice};
 use ice_members::{Ending, write_members};
 use ice_prims::put_size;
-use ice_types::{MOST_NUMBER, Schema};
+use ice_types::MOST_NUMBER;
 use preserved::{put_slice_size, write_kept};
 use std::alloc::{AllocError, Global};
 
@@ -41,8 +44,8 @@ pub(crate) struct Desk {
 /// so may a slice of more bytes than an int can tell, or a table of more entries, which is answered as
 /// that is. (Ice manual, "Data Encoding for Class and Exception Types".)
 pub(crate) fn put_slice<'a>(
-    alloc: Global,
-    schema: &'a Schema,
+    by: &Encoder<'a>,
+    sort: Sort,
     slice: &'a Slice,
     is_last: bool,
     pen: &mut Pen<'a>,
@@ -50,34 +53,26 @@ pub(crate) fn put_slice<'a>(
     out: &mut Vec<u8>,
 ) -> Result<OpenSlice<'a>, AllocError>
     requires names { AreBelow desk.old.table.count (slice_names (view_slice slice.now)) }
-    requires fits { SliceCanBeWritten schema.now (view_slice slice.now) }
+    requires fits { SliceCanBeWritten (rows_of sort by.now.schema.now) (view_slice slice.now) }
     requires empty { desk.old.table.names ≡ [] }
     ensures entries { IfOk result (λ begun. HasEntries (table_of (view_slice slice.now)) begun) }
-    ensures writes { OnOk result ((pen.new, out.new.items) ≡ onto (slice_front schema.now is_last (view_slice slice.now)) (pen.old, out.old.items)) }
+    ensures writes { OnOk result ((pen.new, out.new.items) ≡ onto (slice_front sort by.now.schema.now is_last (view_slice slice.now)) (pen.old, out.old.items)) }
     ensures desk { OnOk result (desk.new.table ≡ desk.old.table) }
 {
     match slice {
         Slice::Known { class, members } => {
-            desk.put_members(alloc, schema, *class, members)?;
+            desk.put_members(by, sort, *class, members)?;
             let names = desk.table.take();
             let entries = names.as_slice();
-            put_head(
-                pen,
-                id_of(schema, slice),
-                sized_flags(slice, entries, is_last),
-                out,
-            )?;
+            let flags = sized_flags(slice, entries, is_last);
+            put_head(sort, id_of(by.schema, sort, slice), flags, pen, out)?;
             put_behind(desk.members.as_slice(), entries, out)?;
             Ok(OpenSlice::Found { next: 0, names })
         }
         Slice::Kept { table, .. } => {
             let entries = table.as_slice();
-            put_head(
-                pen,
-                id_of(schema, slice),
-                sized_flags(slice, entries, is_last),
-                out,
-            )?;
+            let flags = sized_flags(slice, entries, is_last);
+            put_head(sort, id_of(by.schema, sort, slice), flags, pen, out)?;
             write_kept(out, slice)?;
             put_table_size(entries, out)?;
             Ok(OpenSlice::Lent(entries))
@@ -109,26 +104,26 @@ impl Desk {
         })
     }
 
-    /// Puts the members of a slice of the class on the desk, with its table.
+    /// Puts the members of a slice of the class, or of the exception, on the desk, with its table.
     fn put_members(
         &mut self,
-        alloc: Global,
-        schema: &Schema,
+        by: &Encoder,
+        sort: Sort,
         class: u32,
         members: &Members,
     ) -> Result<(), AllocError>
         requires names { AreBelow self.old.table.count (names_of (view_content members.now)) }
         requires fits { ContentCanBeWritten (view_content members.now) }
-        requires places { HasPlaces (own_members schema.now class).optional (view_content members.now) }
+        requires places { HasPlaces (own_members (rows_of sort by.now.schema.now) class).optional (view_content members.now) }
         requires empty { self.old.table ≡ no_names self.old.table.count }
-        ensures members { OnOk result (self.new.members.items ≡ sized_bytes schema.now (known class (view_content members.now))) }
+        ensures members { OnOk result (self.new.members.items ≡ sized_bytes (rows_of sort by.now.schema.now) (known class (view_content members.now))) }
         ensures table { OnOk result (self.new.table ≡ record { count = self.old.table.count; names = table_of (known class (view_content members.now)) }) }
     {
         self.members.clear();
-        let own = own_members(schema, class);
+        let own = own_members(by.schema, sort, class);
         write_members(
-            alloc,
-            schema,
+            by.alloc,
+            by.schema,
             own,
             members,
             Ending::Marked,

@@ -1,4 +1,4 @@
-//! Instances that are being written.
+//! Instances and exceptions that are being written.
 
 ghost use Rattle.std.specs.Prelude.{◌≡◌, ◌≤◌, false, [], length, OnOk, ℕ, IfOk};
 ghost use Rattle.ice_graphs.specs.Visiting.{most};
@@ -14,20 +14,23 @@ ghost use Rattle.instance_writing.specs.Pens.{room};
 ghost use Rattle.instance_writing.specs.Opened.{OpenFits, open_left, refer_to};
 ghost use Rattle.instance_writing.specs.Opened as spec;
 ghost use Rattle.instance_writing.specs.Remains.{BeginsNext, Fits, LessOnNext, instance_left, one_slice};
+ghost use Rattle.instance_writing.specs.Sorts.{rows_of};
 ghost use Rattle.instance_writing.specs.Writable.{SliceCanBeWritten};
 
 use crate::compact::{open_members, put_plain_head};
+use crate::encoder::Encoder;
 use crate::format::Format;
 use crate::open_slice::OpenSlice;
 use crate::pen::Pen;
+use crate::position::Position;
 use crate::slice::{Desk, put_slice};
+use crate::sort::Sort;
 use graph_arena::Slice;
-use ice_types::Schema;
 use ice_values::WritePaused;
-use std::alloc::{AllocError, Global};
+use std::alloc::AllocError;
 use std::mem::size_of;
 
-/// What is left of an instance that has begun.
+/// What is left of an instance, or of an exception, that has begun.
 #[derive(Drop)]
 pub(crate) struct Unfinished<'a> {
     /// The slice that has begun.
@@ -56,28 +59,27 @@ impl<'a> Unfinished<'a> {
     /// (Ice manual, "Data Encoding for Class and Exception Types".)
     pub(crate) fn go(
         &mut self,
-        alloc: Global,
-        schema: &'a Schema,
-        format: Format,
+        by: &Encoder<'a>,
+        sort: Sort,
         pen: &mut Pen<'a>,
         desk: &mut Desk,
         out: &mut Vec<u8>,
     ) -> Result<WritePaused, AllocError>
-        requires fits { Fits schema.now desk.old.table.count self.old out.old.items }
+        requires fits { Fits (rows_of sort by.now.schema.now) desk.old.table.count self.old out.old.items }
         requires few { desk.old.table.count ≤ most }
         requires empty { desk.old.table.names ≡ [] }
-        ensures goes { (inside : InsideWritten Pen) → GoesOn inside (instance_left schema.now (view_format format) inside self.new) result (instance_left schema.now (view_format format) inside self.old (pen.old, out.old.items)) (pen.new, out.new.items) }
-        ensures fits { OnOk result (Fits schema.now desk.old.table.count self.new out.new.items) }
+        ensures goes { (inside : InsideWritten Pen) → GoesOn inside (instance_left sort by.now.schema.now (view_format by.now.format) inside self.new) result (instance_left sort by.now.schema.now (view_format by.now.format) inside self.old (pen.old, out.old.items)) (pen.new, out.new.items) }
+        ensures fits { OnOk result (Fits (rows_of sort by.now.schema.now) desk.old.table.count self.new out.new.items) }
         ensures room { NarrowsOnPause result (room pen.old) (room pen.new) }
         ensures longer { OnOk result (length out.old.items ≤ length out.new.items) }
         ensures desk { OnOk result (desk.new.table ≡ desk.old.table) }
     {
         loop {
-            match self.current.go(alloc, schema, pen, out)? {
+            match self.current.go(by.alloc, by.schema, pen, out)? {
                 WritePaused::Done => {}
                 WritePaused::Begins(name) => return Ok(WritePaused::Begins(name)),
             }
-            if !self.begin_next(alloc, schema, format, pen, desk, out)? {
+            if !self.begin_next(by, sort, pen, desk, out)? {
                 return Ok(WritePaused::Done);
             }
         }
@@ -86,17 +88,16 @@ impl<'a> Unfinished<'a> {
     /// Begins the next slice. False where there is none.
     fn begin_next(
         &mut self,
-        alloc: Global,
-        schema: &'a Schema,
-        format: Format,
+        by: &Encoder<'a>,
+        sort: Sort,
         pen: &mut Pen<'a>,
         desk: &mut Desk,
         out: &mut Vec<u8>,
     ) -> Result<bool, AllocError>
-        requires fits { Fits schema.now desk.old.table.count self.old out.old.items }
+        requires fits { Fits (rows_of sort by.now.schema.now) desk.old.table.count self.old out.old.items }
         requires empty { desk.old.table.names ≡ [] }
-        ensures writes { (inside : InsideWritten Pen) → BeginsNext schema.now (view_format format) inside result self.old self.new (pen.old, out.old.items) (pen.new, out.new.items) }
-        ensures fits { OnOk result (Fits schema.now desk.old.table.count self.new out.new.items) }
+        ensures writes { (inside : InsideWritten Pen) → BeginsNext sort by.now.schema.now (view_format by.now.format) inside result self.old self.new (pen.old, out.old.items) (pen.new, out.new.items) }
+        ensures fits { OnOk result (Fits (rows_of sort by.now.schema.now) desk.old.table.count self.new out.new.items) }
         ensures less { LessOnNext result (length self.old.slices.now) (length self.new.slices.now) }
         ensures desk { OnOk result (desk.new.table ≡ desk.old.table) }
         ensures begun { OnOk result (pen.new.begun ≡ pen.old.begun) }
@@ -107,9 +108,8 @@ impl<'a> Unfinished<'a> {
             Some((slice, others)) => {
                 let is_first = self.current.is_first();
                 let is_last = others.is_empty();
-                self.current = begin_slice(
-                    alloc, schema, format, slice, is_first, is_last, pen, desk, out,
-                )?;
+                let position = Position { is_first, is_last };
+                self.current = begin_slice(by, sort, slice, position, pen, desk, out)?;
                 self.slices = others;
                 Ok(true)
             }
@@ -119,31 +119,29 @@ impl<'a> Unfinished<'a> {
 
 /// Writes a slice in the format, up to the entries of its table or to its members.
 fn begin_slice<'a>(
-    alloc: Global,
-    schema: &'a Schema,
-    format: Format,
+    by: &Encoder<'a>,
+    sort: Sort,
     slice: &'a Slice,
-    is_first: bool,
-    is_last: bool,
+    position: Position,
     pen: &mut Pen<'a>,
     desk: &mut Desk,
     out: &mut Vec<u8>,
 ) -> Result<OpenSlice<'a>, AllocError>
     requires names { AreBelow desk.old.table.count (slice_names (view_slice slice.now)) }
-    requires fits { SliceCanBeWritten schema.now (view_slice slice.now) }
+    requires fits { SliceCanBeWritten (rows_of sort by.now.schema.now) (view_slice slice.now) }
     requires empty { desk.old.table.names ≡ [] }
-    ensures writes { (inside : InsideWritten Pen) → IfOk result (λ begun. onto (one_slice schema.now (refer_to inside) (view_format format) is_first is_last (view_slice slice.now)) (pen.old, out.old.items) ≡ open_left schema.now inside begun (pen.new, out.new.items)) }
+    ensures writes { (inside : InsideWritten Pen) → IfOk result (λ begun. onto (one_slice sort by.now.schema.now (refer_to inside) (view_format by.now.format) position.is_first position.is_last (view_slice slice.now)) (pen.old, out.old.items) ≡ open_left by.now.schema.now inside begun (pen.new, out.new.items)) }
     ensures fits { IfOk result (λ begun. OpenFits desk.old.table.count begun out.new.items) }
     ensures first { IfOk result (λ begun. spec.is_first begun ≡ false) }
     ensures desk { OnOk result (desk.new.table ≡ desk.old.table) }
     ensures begun { OnOk result (pen.new.begun ≡ pen.old.begun) }
     ensures longer { OnOk result (length out.old.items ≤ length out.new.items) }
 {
-    match format {
-        Format::Sliced => put_slice(alloc, schema, slice, is_last, pen, desk, out),
+    match by.format {
+        Format::Sliced => put_slice(by, sort, slice, position.is_last, pen, desk, out),
         Format::Compact => {
-            put_plain_head(schema, slice, is_first, is_last, pen, out)?;
-            open_members(alloc, schema, slice)
+            put_plain_head(by, sort, slice, position, pen, out)?;
+            open_members(by, sort, slice)
         }
     }
 }

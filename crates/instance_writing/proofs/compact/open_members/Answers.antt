@@ -6,11 +6,12 @@ use Rattle.ice_values.specs.Putting.{onto}
 use Rattle.ice_members.specs.WritingMembers.{remaining}
 use Rattle.instance_writing.specs.declared.open_slice.OpenMembers.{OpenMembers}
 use Rattle.instance_writing.specs.Opened.{members_of, refer_to}
+use Rattle.instance_writing.specs.Sorts.{rows_of}
 use Rattle.instance_writing.proofs.Steps.{members-open}
 use Rattle.instance_writing.proofs.compact.open_members.Goals as goal
 
 pub returns-in_ok-new-in-Known-clause-left : goal.returns-in_ok-new-in-Known-clause-left
 returns-in_ok-new-in-Known-clause-left c inside w =
-    ap (λ (m : OpenMembers). members_of c.args.schema.now inside m w) c.in_ok-new-in-Known.ensures.ok
-    ∙ members-open c.args.schema.now inside c.in-Known.class (view_content c.in-Known.members) c.own_members-own.result.now (remaining c.in_ok-writer-in-Known.writer) w c.own_members-own.ensures c.in_ok-writer-in-Known.ensures
-    ∙ ap (λ (s : arena.Slice). onto (members_bytes c.args.schema.now (refer_to inside) (view_slice s)) w) (sym c.in-Known.is)
+    ap (λ (m : OpenMembers). members_of c.args.by.now.schema.now inside m w) c.in_ok-new-in-Known.ensures.ok
+    ∙ members-open c.args.sort c.args.by.now.schema.now inside c.in-Known.class (view_content c.in-Known.members) c.own_members-own.result.now (remaining c.in_ok-writer-in-Known.writer) w c.own_members-own.ensures c.in_ok-writer-in-Known.ensures
+    ∙ ap (λ (s : arena.Slice). onto (members_bytes (rows_of c.args.sort c.args.by.now.schema.now) (refer_to inside) (view_slice s)) w) (sym c.in-Known.is)

@@ -8,8 +8,8 @@ use Rattle.instance_writing.proofs.encode.put_instance.Given as goal
 
 abbrev pub invariant-loop-top : goal.invariant-loop-top
 invariant-loop-top l = record {
-  left : onto (inside_at l.schema (view_format l.format) l.graph most l.name) (l.fn.pen, l.fn.out.items) ≡ stack_left l.schema (view_format l.format) l.graph (most - 1) l.stack (l.pen, l.out.items);
-  fits : AllFit l.schema (length l.graph.instances) l.stack l.out.items;
+  left : onto (inside_at l.by.schema.now (view_format l.by.format) l.graph most l.name) (l.fn.pen, l.fn.out.items) ≡ stack_left l.by.schema.now (view_format l.by.format) l.graph (most - 1) l.stack (l.pen, l.out.items);
+  fits : AllFit l.by.schema.now (length l.graph.instances) l.stack l.out.items;
   deep : length l.stack + room l.pen ≤ most;
   desk : l.desk.table ≡ l.fn.desk.table;
   room : room l.pen ≤ room l.fn.pen;

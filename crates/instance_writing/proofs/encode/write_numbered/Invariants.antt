@@ -14,8 +14,8 @@ use Rattle.instance_writing.proofs.encode.write_numbered.Given as goal
 
 abbrev pub invariant-loop-roots : goal.invariant-loop-roots
 invariant-loop-roots l = record {
-  left : onto (written_content (written_in_place put_counted (inside_at l.schema (view_format l.format) l.graph most)) l.schema (shape_of l.optional) l.graph.roots) (blank, l.fn.out.items)
-      ≡ members_left put_counted (inside_at l.schema (view_format l.format) l.graph most) l.schema l.optional (remaining l.roots) (l.pen, l.out.items);
+  left : onto (written_content (written_in_place put_counted (inside_at l.schema (view_format l.fn.format) l.graph most)) l.schema (shape_of l.optional) l.graph.roots) (blank, l.fn.out.items)
+      ≡ members_left put_counted (inside_at l.schema (view_format l.fn.format) l.graph most) l.schema l.optional (remaining l.roots) (l.pen, l.out.items);
   fits : RemainingFits (remaining l.roots) l.out.items;
   desk : l.desk.table ≡ no_names (length l.graph.instances);
 }

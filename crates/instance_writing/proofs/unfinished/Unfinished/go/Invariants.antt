@@ -3,13 +3,14 @@ use Rattle.ice_graphs.specs.Canonical.{Pen}
 use Rattle.ice_values.specs.Putting.{InsideWritten}
 use Rattle.instance_writing.specs.Formats.{view_format}
 use Rattle.instance_writing.specs.Pens.{room}
+use Rattle.instance_writing.specs.Sorts.{rows_of}
 use Rattle.instance_writing.specs.Remains.{instance_left, Fits}
 use Rattle.instance_writing.proofs.unfinished.Unfinished.go.Given as goal
 
 abbrev pub invariant-loop-name : goal.invariant-loop-name
 invariant-loop-name l = record {
-  goes : (inside : InsideWritten Pen) → instance_left l.schema (view_format l.format) inside l.fn.self (l.fn.pen, l.fn.out.items) ≡ instance_left l.schema (view_format l.format) inside l.self (l.pen, l.out.items);
-  fits : Fits l.schema l.fn.desk.table.count l.self l.out.items;
+  goes : (inside : InsideWritten Pen) → instance_left l.sort l.by.schema.now (view_format l.by.format) inside l.fn.self (l.fn.pen, l.fn.out.items) ≡ instance_left l.sort l.by.schema.now (view_format l.by.format) inside l.self (l.pen, l.out.items);
+  fits : Fits (rows_of l.sort l.by.schema.now) l.fn.desk.table.count l.self l.out.items;
   room : room l.pen ≤ room l.fn.pen;
   longer : length l.fn.out.items ≤ length l.out.items;
   desk : l.desk.table ≡ l.fn.desk.table;
