@@ -2,6 +2,7 @@ pub mod FirstIll
 pub mod Formed
 pub mod Membered
 pub mod Places
+pub mod Rowed
 pub mod Sliced
 pub mod Walked
 pub mod ZeroTyped

@@ -5,10 +5,11 @@ use Rattle.std.specs.Str.{IsUtf8}
 use Rattle.std.proofs.lemmas.Bool.{false≢true}
 use Rattle.std.proofs.lemmas.List.{length-drop, take_all}
 use Rattle.std.proofs.lemmas.Slice.Eq.{bytes_eq-Decides}
-use Rattle.ice_types.specs.Tables.{Tables, Finds, HasId, class_ids}
-use Rattle.ice_graphs.specs.Classes.{base_of, class_named, place_of, one_further}
-use Rattle.ice_graphs.specs.Graph.{Graph, Slice, known, kept}
-use Rattle.ice_graphs.specs.Typed.{AreBases, IsInstance, IsKnown, RefersIn}
+use Rattle.ice_types.specs.Tables.{Tables, Finds, HasId}
+use Rattle.ice_encoding.specs.Typed.{Refers}
+use Rattle.ice_graphs.specs.Classes.{base_of, place_of, one_further}
+use Rattle.ice_graphs.specs.Graph.{Slice, known, kept}
+use Rattle.ice_graphs.specs.Typed.{AreBases, IsInstance, IsKnown}
 use Rattle.graph_arena.specs.declared.instance.Members.{Members}
 use Rattle.graph_arena.specs.declared.instance.Slice as seen
 use Rattle.graph_arena.specs.declared.instance.Slice.TheVariants.{Known}
@@ -53,20 +54,22 @@ none_tells None false e = absurd cc
 none_tells (Some at) true e = absurd cc
 none_tells (Some at) false e = (λ b. absurd cc, λ h. absurd cc)
 
-pub unknown_told : (t : Tables) (id text : List ℕ) (found : Option ℕ) (tells : Bool) → text ≡ id → IsUtf8 text → Finds (HasId (class_ids t) text) found → is_some found ≡ not tells
-    → IsTrue tells ↔ ((class_named t id ≡ None) × IsUtf8 id)
-unknown_told t id text found tells same valid finds is =
-    let none = none_found (class_ids t) text found finds in
+pub unknown_told : (rows ids : List (List ℕ)) (id text : List ℕ) (found : Option ℕ) (tells : Bool) → rows ≡ ids → text ≡ id → IsUtf8 text → Finds (HasId rows text) found → is_some found ≡ not tells
+    → IsTrue tells ↔ ((place_of ids id ≡ None) × IsUtf8 id)
+unknown_told rows ids id text found tells are same valid finds is =
+    let none = none_found rows text found finds in
     let test = none_tells found tells is in
-    subst (λ (s : List ℕ). IsTrue tells ↔ ((class_named t s ≡ None) × IsUtf8 s)) same (
+    subst (λ (l : List (List ℕ)). IsTrue tells ↔ ((place_of l id ≡ None) × IsUtf8 id)) are (
+    subst (λ (s : List ℕ). IsTrue tells ↔ ((place_of rows s ≡ None) × IsUtf8 s)) same (
       (λ b. (none.0 (test.0 b), valid)),
       (λ h. test.1 (none.1 h.0)),
+    )
     )
 
 -- ---- one slice at least
 
-module _ (t : Tables) (g : Graph) where
-  pub some_slices : (ss : List Slice) → (ss ≡ [] → ⊥) → AreSlices t g ss ↔ IsInstance t (RefersIn t g.instances) ss
+module _ (u : Tables) (Refer : Refers) where
+  pub some_slices : (ss : List Slice) → (ss ≡ [] → ⊥) → AreSlices u Refer ss ↔ IsInstance u Refer ss
   some_slices [] some = absurd (some refl)
   some_slices (known class content ∷ ss) some = (λ h. h, λ h. h)
   some_slices (kept id bytes optionals table ∷ []) some = (λ h. h.0, λ h. (h, tt))
@@ -75,15 +78,15 @@ module _ (t : Tables) (g : Graph) where
       (λ h. (h.0, rest.0 h.1), λ h. (h.0, rest.1 h.1))
 
   abbrev pub Behind : ℕ → Members → List seen.Slice → Type 0
-  Behind class members bases = IsKnown t (RefersIn t g.instances) class (view_content members) × AreBases t (RefersIn t g.instances) (base_of t class) (view_slices bases)
+  Behind class members bases = IsKnown u Refer class (view_content members) × AreBases u Refer (base_of u class) (view_slices bases)
 
   -- a known class behind the slices that were kept
   pub known_next : (slices : List seen.Slice) (at class : ℕ) (members : Members) (tells : Bool) → drop at slices ≡ Known class members ∷ drop (at + 1) slices
-      → (AreSlices t g (view_slices slices) ↔ AreSlices t g (view_slices (drop at slices)))
+      → (AreSlices u Refer (view_slices slices) ↔ AreSlices u Refer (view_slices (drop at slices)))
       → (IsTrue tells ↔ Behind class members (take (length slices - (at + 1)) (drop (at + 1) slices)))
-      → IsTrue tells ↔ AreSlices t g (view_slices slices)
+      → IsTrue tells ↔ AreSlices u Refer (view_slices slices)
   known_next slices at class members tells here rest told =
-      let first = subst (λ (l : List seen.Slice). AreSlices t g (view_slices slices) ↔ AreSlices t g (view_slices l)) here rest in
+      let first = subst (λ (l : List seen.Slice). AreSlices u Refer (view_slices slices) ↔ AreSlices u Refer (view_slices l)) here rest in
       let all = take_all (length slices - (at + 1)) (drop (at + 1) slices) (omega (arith, length-drop (at + 1) slices)) in
       let behind = subst (λ (l : List seen.Slice). IsTrue tells ↔ Behind class members l) all told in
       (λ b. first.1 (behind.0 b), λ h. behind.1 (first.0 h))

@@ -2,6 +2,7 @@
 use Rattle.std.specs.Prelude.{ℕ, ◌<◌, ◌≡◌, ◌⊎◌, Bool, true, false, List, [], ◌∷◌, length, Option, None, Some, slice_index, slice_index_or}
 use Rattle.ice_types.specs.declared.declarations.Shape.{Shape}
 use Rattle.ice_types.specs.Tables.{Tables}
+use Rattle.ice_encoding.specs.Typed.{Refers}
 use Rattle.ice_graphs.specs.Classes.{base_of}
 use Rattle.ice_graphs.specs.Graph.{Graph, Slice, known, kept}
 use Rattle.ice_graphs.specs.Instances.{slices_of}
@@ -12,23 +13,24 @@ use Rattle.ice_graphs.specs.Visiting.{order, place}
 abbrev pub IsEarlier : List ℕ → ℕ → ℕ → Type 0
 IsEarlier ns m n = (place ns m < place ns n) ⊎ ((place ns m ≡ place ns n) × (m < n))
 
-module _ (t : Tables) (g : Graph) where
+module _ (u : Tables) (Refer : Refers) where
   -- a slice of this class, which is known
   abbrev pub IsSlice : ℕ → Slice → Type 0
-  IsSlice class (known other content) = (other ≡ class) × IsKnown t (RefersIn t g.instances) class content
+  IsSlice class (known other content) = (other ≡ class) × IsKnown u Refer class content
   IsSlice class (kept id bytes optionals table) = ⊥
 
   -- a slice of a class that the tables lack
   abbrev pub IsKeptSlice : Slice → Type 0
   IsKeptSlice (known class content) = ⊥
-  IsKeptSlice (kept id bytes optionals table) = IsKept t (RefersIn t g.instances) id table
+  IsKeptSlice (kept id bytes optionals table) = IsKept u Refer id table
 
   -- kept slices, and then a known class with all its bases, or none
   abbrev pub AreSlices : List Slice → Type 0
   AreSlices [] = Unit {0}
-  AreSlices (kept id bytes optionals table ∷ ss) = IsKept t (RefersIn t g.instances) id table × AreSlices ss
-  AreSlices (known class content ∷ ss) = IsKnown t (RefersIn t g.instances) class content × AreBases t (RefersIn t g.instances) (base_of t class) ss
+  AreSlices (kept id bytes optionals table ∷ ss) = IsKept u Refer id table × AreSlices ss
+  AreSlices (known class content ∷ ss) = IsKnown u Refer class content × AreBases u Refer (base_of u class) ss
 
+module _ (t : Tables) (g : Graph) where
   -- the instance at a place is one
   abbrev pub IsFine : ℕ → Type 0
   IsFine n = IsInstance t (RefersIn t g.instances) (slices_of g.instances n)

@@ -1,4 +1,5 @@
 pub mod First
 pub mod Forms
 pub mod References
+pub mod Rows
 pub mod Zeros

@@ -30,14 +30,20 @@ pub fn first_ill_typed(
     if !are_members(schema, graph, fields, graph.roots()) {
         return Ok(Some(None));
     }
-    match first_instance(alloc, schema, graph)? {
+    match first_ill_instance(alloc, schema, graph)? {
         Some(place) => Ok(Some(Some(place))),
         None => Ok(None),
     }
 }
 
-/// The first instance that is not of its class.
-fn first_instance(alloc: Global, schema: &Schema, graph: &Graph) -> Result<Option<u32>, AllocError>
+/// The first instance that is not of its class: those that the roots lead to, in the order of their first
+/// visits; then the others, by rising place. None where each is. It is refused where there is no memory for
+/// the order. (Ice manual, "Classes".)
+pub fn first_ill_instance(
+    alloc: Global,
+    schema: &Schema,
+    graph: &Graph,
+) -> Result<Option<u32>, AllocError>
     ensures { IfOk result (IsFirstInstance schema.now graph.now) }
 {
     let count = graph.len();

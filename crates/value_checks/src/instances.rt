@@ -1,44 +1,69 @@
-//! Whether slices are those of an instance. (Ice manual, "Class Inheritance".)
+//! Whether slices are those of an instance, or of an exception. (Ice manual, "Class Inheritance", "User
+//! Exceptions".)
 
-ghost use Rattle.std.specs.Prelude.{◌≡◌, ◌<◌, ◌↔◌, IsTrue, None, length};
+ghost use Rattle.std.specs.Prelude.{◌≡◌, ◌<◌, ◌↔◌, IsTrue, IfSome, None, length, slice_get};
 ghost use Rattle.std.specs.Str.{IsUtf8};
 ghost use Rattle.ice_graphs.specs.Classes as classes;
+ghost use Rattle.ice_graphs.specs.Exceptions.{of_exceptions};
 ghost use Rattle.ice_graphs.specs.Typed.{AreBases, AreReferred, IsInstance, IsKnown, RefersIn};
 ghost use Rattle.graph_arena.specs.Seen.{view_content, view_slice, view_slices};
 ghost use Rattle.value_checks.specs.First.{AreSlices, IsFine, IsKeptSlice, IsSlice};
+ghost use Rattle.value_checks.specs.Rows.{HasOwn, rows_of};
 
 use crate::members::are_members;
 use crate::references::References;
 use graph_arena::{Graph, Members, Slice};
 use ice_members::Fields;
-use ice_types::{Name, Schema};
+use ice_types::{Member, Name, Schema};
+
+/// Which rows of a schema slices are of.
+#[derive(Clone, Copy)]
+pub(crate) enum Rows {
+    Classes,
+    Exceptions,
+}
+
+/// Whether they are the slices of a user exception whose references stand for instances of the graph: kept
+/// ones and then those of an exception of the schema and of all its bases, in order, or kept ones alone, and
+/// one at least. The values of its members are of their types; the instances may be of any.
+/// (Ice manual, "User Exceptions".)
+pub fn is_raised(schema: &Schema, graph: &Graph, slices: &[Slice]) -> bool
+    ensures { IsTrue result ↔ IsInstance (of_exceptions schema.now) (RefersIn schema.now graph.now.instances) (view_slices slices.now) }
+{
+    is_instance(schema, Rows::Exceptions, graph, slices)
+}
 
 /// Whether the instance at a place is of its class.
 pub(crate) fn is_fine(schema: &Schema, graph: &Graph, at: u32) -> bool
     requires { at < length graph.now.instances }
     ensures { IsTrue result ↔ IsFine schema.now graph.now at }
 {
-    is_instance(schema, graph, graph.instance(at).slices.as_slice())
+    is_instance(
+        schema,
+        Rows::Classes,
+        graph,
+        graph.instance(at).slices.as_slice(),
+    )
 }
 
 /// Whether they are kept slices and then those of a known class and of all its bases, in order, or kept
 /// slices alone, and one at least.
-fn is_instance(schema: &Schema, graph: &Graph, slices: &[Slice]) -> bool
-    ensures { IsTrue result ↔ IsInstance schema.now (RefersIn schema.now graph.now.instances) (view_slices slices.now) }
+fn is_instance(schema: &Schema, rows: Rows, graph: &Graph, slices: &[Slice]) -> bool
+    ensures { IsTrue result ↔ IsInstance (rows_of rows schema.now) (RefersIn schema.now graph.now.instances) (view_slices slices.now) }
 {
-    !slices.is_empty() && are_slices(schema, graph, slices)
+    !slices.is_empty() && are_slices(schema, rows, graph, slices)
 }
 
 /// The same, where they may also be none.
-fn are_slices(schema: &Schema, graph: &Graph, slices: &[Slice]) -> bool
-    ensures { IsTrue result ↔ AreSlices schema.now graph.now (view_slices slices.now) }
+fn are_slices(schema: &Schema, rows: Rows, graph: &Graph, slices: &[Slice]) -> bool
+    ensures { IsTrue result ↔ AreSlices (rows_of rows schema.now) (RefersIn schema.now graph.now.instances) (view_slices slices.now) }
 {
     for (at, slice) in slices.iter().enumerate() {
         if let Slice::Known { class, members } = slice {
             let bases = &slices[at + 1..];
-            return is_whole(schema, graph, *class, members, bases);
+            return is_whole(schema, rows, graph, *class, members, bases);
         }
-        if !is_kept(schema, graph, slice) {
+        if !is_kept(schema, rows, graph, slice) {
             return false;
         }
     }
@@ -47,22 +72,25 @@ fn are_slices(schema: &Schema, graph: &Graph, slices: &[Slice]) -> bool
 
 /// Whether it is kept of a class that the schema lacks, with a table of names that may stand where any
 /// class may.
-fn is_kept(schema: &Schema, graph: &Graph, slice: &Slice) -> bool
-    ensures { IsTrue result ↔ IsKeptSlice schema.now graph.now (view_slice slice.now) }
+fn is_kept(schema: &Schema, rows: Rows, graph: &Graph, slice: &Slice) -> bool
+    ensures { IsTrue result ↔ IsKeptSlice (rows_of rows schema.now) (RefersIn schema.now graph.now.instances) (view_slice slice.now) }
 {
     match slice {
         Slice::Known { .. } => false,
         Slice::Kept { id, table, .. } => {
-            is_unknown(schema, id) && are_referred(schema, graph, table.as_slice())
+            is_unknown(schema, rows, id) && are_referred(schema, graph, table.as_slice())
         }
     }
 }
 
 /// Whether the schema lacks the type id, which is UTF-8 as each text is.
-fn is_unknown(schema: &Schema, id: &Name) -> bool
-    ensures { IsTrue result ↔ ((classes.class_named schema.now id.now ≡ None) × IsUtf8 id.now) }
+fn is_unknown(schema: &Schema, rows: Rows, id: &Name) -> bool
+    ensures { IsTrue result ↔ ((classes.class_named (rows_of rows schema.now) id.now ≡ None) × IsUtf8 id.now) }
 {
-    schema.class(id.as_str()).is_none()
+    match rows {
+        Rows::Classes => schema.class(id.as_str()).is_none(),
+        Rows::Exceptions => schema.exception(id.as_str()).is_none(),
+    }
 }
 
 /// Whether each name may stand where any class may.
@@ -78,62 +106,90 @@ fn are_referred(schema: &Schema, graph: &Graph, names: &[u32]) -> bool
 }
 
 /// Whether the class is known, they are the values of its own members, and these the slices of its bases.
-fn is_whole(schema: &Schema, graph: &Graph, class: u32, members: &Members, bases: &[Slice]) -> bool
-    ensures { IsTrue result ↔ (IsKnown schema.now (RefersIn schema.now graph.now.instances) class (view_content members.now)
-        × AreBases schema.now (RefersIn schema.now graph.now.instances) (classes.base_of schema.now class) (view_slices bases.now)) }
+fn is_whole(
+    schema: &Schema,
+    rows: Rows,
+    graph: &Graph,
+    class: u32,
+    members: &Members,
+    bases: &[Slice],
+) -> bool
+    ensures { IsTrue result ↔ (IsKnown (rows_of rows schema.now) (RefersIn schema.now graph.now.instances) class (view_content members.now)
+        × AreBases (rows_of rows schema.now) (RefersIn schema.now graph.now.instances) (classes.base_of (rows_of rows schema.now) class) (view_slices bases.now)) }
 {
-    is_known(schema, graph, class, members)
-        && are_bases(schema, graph, base_of(schema, class), bases)
+    is_known(schema, rows, graph, class, members)
+        && are_bases(schema, rows, graph, base_of(schema, rows, class), bases)
 }
 
 /// Whether they are the slices of this class, its base, the base of that and so on.
-fn are_bases(schema: &Schema, graph: &Graph, class: Option<u32>, slices: &[Slice]) -> bool
-    ensures { IsTrue result ↔ AreBases schema.now (RefersIn schema.now graph.now.instances) class (view_slices slices.now) }
+fn are_bases(
+    schema: &Schema,
+    rows: Rows,
+    graph: &Graph,
+    class: Option<u32>,
+    slices: &[Slice],
+) -> bool
+    ensures { IsTrue result ↔ AreBases (rows_of rows schema.now) (RefersIn schema.now graph.now.instances) class (view_slices slices.now) }
 {
     let mut next = class;
     for slice in slices {
         let Some(class) = next else {
             return false;
         };
-        if !is_slice(schema, graph, class, slice) {
+        if !is_slice(schema, rows, graph, class, slice) {
             return false;
         }
-        next = base_of(schema, class);
+        next = base_of(schema, rows, class);
     }
     next.is_none()
 }
 
 /// Whether it is the slice of this class, with the values of its own members.
-fn is_slice(schema: &Schema, graph: &Graph, class: u32, slice: &Slice) -> bool
-    ensures { IsTrue result ↔ IsSlice schema.now graph.now class (view_slice slice.now) }
+fn is_slice(schema: &Schema, rows: Rows, graph: &Graph, class: u32, slice: &Slice) -> bool
+    ensures { IsTrue result ↔ IsSlice (rows_of rows schema.now) (RefersIn schema.now graph.now.instances) class (view_slice slice.now) }
 {
     match slice {
         Slice::Known {
             class: other,
             members,
-        } => *other == class && is_known(schema, graph, class, members),
+        } => *other == class && is_known(schema, rows, graph, class, members),
         Slice::Kept { .. } => false,
     }
 }
 
 /// Whether the class is known, and they are the values of its own members.
-fn is_known(schema: &Schema, graph: &Graph, class: u32, members: &Members) -> bool
-    ensures { IsTrue result ↔ IsKnown schema.now (RefersIn schema.now graph.now.instances) class (view_content members.now) }
+fn is_known(schema: &Schema, rows: Rows, graph: &Graph, class: u32, members: &Members) -> bool
+    ensures { IsTrue result ↔ IsKnown (rows_of rows schema.now) (RefersIn schema.now graph.now.instances) class (view_content members.now) }
 {
-    let Some(decl) = schema.classes().get(class as usize) else {
-        return false;
-    };
-    let own = decl.members.as_slice();
-    let fields = Fields {
-        required: own,
-        optional: own,
-    };
-    are_members(schema, graph, fields, members)
+    match own_members(schema, rows, class) {
+        Some(own) => {
+            let fields = Fields {
+                required: own,
+                optional: own,
+            };
+            are_members(schema, graph, fields, members)
+        }
+        None => false,
+    }
+}
+
+/// The members of a class itself, without those of its bases.
+fn own_members(schema: &Schema, rows: Rows, class: u32) -> Option<&[Member]>
+    ensures none { result ≡ None → slice_get (rows_of rows schema.now).classes class ≡ None }
+    ensures some { IfSome result (λ own. HasOwn (rows_of rows schema.now) class own.now) }
+{
+    match rows {
+        Rows::Classes => Some(schema.classes().get(class as usize)?.members.as_slice()),
+        Rows::Exceptions => Some(schema.exceptions().get(class as usize)?.members.as_slice()),
+    }
 }
 
 /// The class that a class extends.
-fn base_of(schema: &Schema, class: u32) -> Option<u32>
-    ensures { result ≡ classes.base_of schema.now class }
+fn base_of(schema: &Schema, rows: Rows, class: u32) -> Option<u32>
+    ensures { result ≡ classes.base_of (rows_of rows schema.now) class }
 {
-    schema.classes().get(class as usize)?.base
+    match rows {
+        Rows::Classes => schema.classes().get(class as usize)?.base,
+        Rows::Exceptions => schema.exceptions().get(class as usize)?.base,
+    }
 }

@@ -3,7 +3,7 @@ use Rattle.graph_arena.specs.Arena.{AreBelow}
 use Rattle.graph_arena.proofs.Closed.{order-is}
 use Rattle.value_checks.specs.First.{AreFine, AreMarkedFine}
 use Rattle.value_checks.proofs.Places.{marked-fine, reached-first, least_first}
-use Rattle.value_checks.proofs.first.first_instance.Goals as goal
+use Rattle.value_checks.proofs.first.first_ill_instance.Goals as goal
 
 pub first_of-requires : goal.first_of-requires
 first_of-requires c =
