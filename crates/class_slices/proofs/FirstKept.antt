@@ -2,6 +2,7 @@
 use Rattle.std.proofs.Common.{◌≡◌, ℕ, ◌<◌, List, [], ◌∷◌, length, sym, subst, arith, Option, None, Some}
 use Rattle.ice_types.specs.declared.declarations.Shape.{Shape}
 use Rattle.ice_types.specs.Tables.{Tables}
+use Rattle.ice_encoding.specs.Typed.{Refers}
 use Rattle.ice_graphs.specs.Graph.{Graph, Slice, known, kept}
 use Rattle.ice_graphs.specs.Instances.{slices_of}
 use Rattle.ice_graphs.specs.Canonical.{Format, sliced, compact, Compact, IsWritable}
@@ -37,13 +38,13 @@ module _ (g : Graph) where
 
 -- ---- what each format can carry, of a graph of a type
 
-first_known : (t : Tables) (g : Graph) (ss : List Slice) → IsInstance t (RefersIn t g.instances) ss → (BeginsKept ss → ⊥) → Compact ss
-first_known t g [] is none = absurd is
-first_known t g (known class content ∷ ss) is none = tt
-first_known t g (kept id bytes optionals table ∷ ss) is none = absurd (none tt)
+pub first_known : (t : Tables) (Refer : Refers) (ss : List Slice) → IsInstance t Refer ss → (BeginsKept ss → ⊥) → Compact ss
+first_known t Refer [] is none = absurd is
+first_known t Refer (known class content ∷ ss) is none = tt
+first_known t Refer (kept id bytes optionals table ∷ ss) is none = absurd (none tt)
 
 pub writable : (t : Tables) (shape : Shape) (f : Format) (g : Graph) → OfType t shape g → IsSound g → (NeedsSliced f g → ⊥) → IsWritable f g
 writable t shape sliced g typed sound none = λ n lt. tt
 writable t shape compact g typed sound none = λ n lt.
     let within = subst (λ (k : ℕ). k < length g.instances) (place-found (order g) n lt) (below-at (length g.instances) (order g) (place (order g) n) (order-is g sound).below lt) in
-    first_known t g (slices_of g.instances n) (typed.instances n within) (λ begins. none (n, (lt, begins)))
+    first_known t (RefersIn t g.instances) (slices_of g.instances n) (typed.instances n within) (λ begins. none (n, (lt, begins)))

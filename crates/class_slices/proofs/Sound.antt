@@ -26,7 +26,7 @@ few-enough : (n : ℕ) → n ≤ most_instances → n ≤ most
 unfolding most_instances most
 few-enough n le = omega (arith, le)
 
-below : (limit : ℕ) (ns : List ℕ) → ranged.AreBelow limit ns → AreBelow limit ns
+pub below : (limit : ℕ) (ns : List ℕ) → ranged.AreBelow limit ns → AreBelow limit ns
 below limit [] h = tt
 below limit (n ∷ ns) h = (h.0, below limit ns h.1)
 

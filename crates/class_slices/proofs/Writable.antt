@@ -136,7 +136,7 @@ module _ (t : Tables) where
       bases-writable (base_of t class) ss h.2,
     )
 
-    instance-writable : (ss : List Slice) → IsInstance t Refer ss → SlicesCanBeWritten t (map (renamed_slice f) ss)
+    pub instance-writable : (ss : List Slice) → IsInstance t Refer ss → SlicesCanBeWritten t (map (renamed_slice f) ss)
     instance-writable [] h = absurd h
     instance-writable (kept id bytes optionals table ∷ []) h = (tt, tt)
     instance-writable (kept id bytes optionals table ∷ s ∷ ss) h = (tt, instance-writable (s ∷ ss) h.1)
@@ -153,15 +153,15 @@ place-few [] n = omega arith
 place-few (m ∷ ns) n = few-by-test (nat_eq m n) (place ns n) (length ns) (place-few ns n)
 
 module _ (t : Tables) (is : List (List Slice)) (f : ℕ → ℕ) (moves : Moves f (RefersIn t is) by_size) (one : (n : ℕ) → n < length is → IsInstance t (RefersIn t is) (slices_of is n)) where
-  abbrev instance_of : ℕ → List Slice
+  abbrev pub instance_of : ℕ → List Slice
   instance_of n = map (renamed_slice f) (slices_of is n)
 
-  each-writable : (ns : List ℕ) → AreBelow (length is) ns → (n : ℕ) → SlicesCanBeWritten t (slices_of (map instance_of ns) n)
+  pub each-writable : (ns : List ℕ) → AreBelow (length is) ns → (n : ℕ) → SlicesCanBeWritten t (slices_of (map instance_of ns) n)
   each-writable [] below n = tt
   each-writable (m ∷ ns) below zero = instance-writable t (RefersIn t is) f moves (slices_of is m) (one m below.0)
   each-writable (m ∷ ns) below (suc n) = each-writable ns below.1 n
 
-moves-to-places : (t : Tables) (g : Graph) → IsSound g → Moves (place (order g)) (RefersIn t g.instances) by_size
+pub moves-to-places : (t : Tables) (g : Graph) → IsSound g → Moves (place (order g)) (RefersIn t g.instances) by_size
 moves-to-places t g sound declared None h = omega arith
 moves-to-places t g sound declared (Some n) h = omega (arith, place-few (order g) n, order-few g sound, sound.few, most-is)
 

@@ -36,7 +36,8 @@ fn allow_compact(graph: &Graph) -> Result<(), WriteFault>
 
 /// The first instance that has a kept slice, of those that the roots lead to, in the order of their first
 /// visits. None where there is none. It is refused where there is no memory for the order.
-fn first_kept(graph: &Graph) -> Result<Option<u32>, AllocError>
+/// (Ice manual, "Data Encoding for Class and Exception Types".)
+pub fn first_kept(graph: &Graph) -> Result<Option<u32>, AllocError>
     ensures { IfOk result (FindsFirstKept graph.now) }
 {
     // Its contract says what every graph keeps.
@@ -58,8 +59,9 @@ fn first_of(graph: &Graph, places: &[u32]) -> Option<u32>
     None
 }
 
-/// Whether the first slice is kept; no kept slice stands behind a known one.
-fn begins_kept(slices: &[Slice]) -> bool
+/// Whether the first slice is kept; in an instance no kept slice stands behind a known one.
+/// (Ice manual, "Data Encoding for Class and Exception Types".)
+pub fn begins_kept(slices: &[Slice]) -> bool
     ensures { IsTrue result ↔ BeginsKept (view_slices slices.now) }
 {
     match slices.first() {

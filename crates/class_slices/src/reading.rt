@@ -1,19 +1,19 @@
 //! The graph in an encapsulation.
 
-ghost use Rattle.std.specs.Prelude.{◌≡◌, IfOk};
-ghost use Rattle.ice_prims.specs.Rest.{whole, IsBytes};
+ghost use Rattle.std.specs.Prelude.{IfOk};
+ghost use Rattle.ice_prims.specs.Rest.{whole};
 ghost use Rattle.ice_prims.specs.Taking.{GivesUnlessMemory, TakesUnlessMemory};
 ghost use Rattle.ice_encoding.specs.Encapsulation.{encapsulated_at};
 ghost use Rattle.ice_graphs.specs.Flags.{all_slices};
 ghost use Rattle.ice_graphs.specs.Instances.{graph_at, numbered_at};
 ghost use Rattle.ice_graphs.specs.Typed.{OfType};
 ghost use Rattle.ice_members.specs.Shapes.{shape_seen};
-ghost use Rattle.instance_reading.specs.Slices.{Ends};
 
+use crate::enclosing::{end, left_are_bytes};
 use encaps_optionals::open_encaps;
 use graph_arena::Graph;
 use ice_members::Fields;
-use ice_prims::{Cursor, Fault, Kind, ReadFault};
+use ice_prims::{Cursor, ReadFault};
 use ice_types::Schema;
 use instance_reading::read_content;
 use std::alloc::Global;
@@ -63,7 +63,7 @@ pub fn take_graph(
     ensures typed { IfOk result (λ graph. OfType schema.now (shape_seen fields.entry) graph) }
 {
     // A text is of its type since what is read are bytes.
-    are_bytes(left_bytes(cursor));
+    left_are_bytes(cursor);
     let mut ahead = cursor.fork();
     let mut inside = open_encaps(&mut ahead)?;
     let content = read_content(alloc, schema, fields, &mut inside)?;
@@ -71,29 +71,4 @@ pub fn take_graph(
     schema.rules();
     *cursor = ahead;
     Ok(Graph::of(content.roots, content.instances))
-}
-
-/// Each is a number below 256.
-fn are_bytes(bytes: &[u8])
-    ensures { IsBytes bytes.now }
-{
-    let _ = bytes;
-}
-
-/// The bytes that are left.
-fn left_bytes<'a>(cursor: &Cursor<'a>) -> &'a [u8]
-    ensures { result.now ≡ cursor.now.bytes }
-{
-    let mut ahead = cursor.fork();
-    ahead.take_bytes(ahead.left()).unwrap_or(&[])
-}
-
-/// The end of a bound.
-fn end(cursor: &Cursor<'_>) -> Result<(), Fault>
-    ensures { Ends result cursor.now }
-{
-    if cursor.left() > 0 {
-        return Err(cursor.fault(Kind::LeftOver));
-    }
-    Ok(())
 }

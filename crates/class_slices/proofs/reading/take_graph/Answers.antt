@@ -1,4 +1,4 @@
-use Rattle.std.proofs.Common.{ap, sym, subst, ◌∙◌}
+use Rattle.std.proofs.Common.{ap, sym, subst}
 use Rattle.ice_prims.specs.Rest.{Rest, IsBytes}
 use Rattle.ice_graphs.specs.Flags.{all_slices}
 use Rattle.ice_graphs.specs.Graph.{Graph}
@@ -10,9 +10,9 @@ use Rattle.class_slices.proofs.reading.take_graph.Goals as goal
 
 pub of-requires : goal.of-requires
 of-requires c = (steps-typed c.args.schema.now all_slices (shape_seen c.args.fields) c.fork-ahead.result c.in_ok-inside.inside c.open_encaps.new.cursor c.read_content.new.cursor
-    (view_graph c.in_ok-content.content) c.rules.ensures (subst IsBytes (c.left_bytes.ensures ∙ sym (ap (λ (r : Rest). r.bytes) c.fork-ahead.ensures)) c.are_bytes.ensures) c.in_ok-inside.ensures c.in_ok-content.ensures c.in_ok-end.ensures).1
+    (view_graph c.in_ok-content.content) c.rules.ensures (subst IsBytes (sym (ap (λ (r : Rest). r.bytes) c.fork-ahead.ensures)) c.left_are_bytes.ensures) c.in_ok-inside.ensures c.in_ok-content.ensures c.in_ok-end.ensures).1
 
 pub returns-clause-typed : goal.returns-clause-typed
 returns-clause-typed c = subst (λ (g : Graph). OfType c.args.schema.now (shape_seen c.args.fields) g) (sym c.of.ensures)
     (steps-typed c.args.schema.now all_slices (shape_seen c.args.fields) c.fork-ahead.result c.in_ok-inside.inside c.open_encaps.new.cursor c.read_content.new.cursor
-    (view_graph c.in_ok-content.content) c.rules.ensures (subst IsBytes (c.left_bytes.ensures ∙ sym (ap (λ (r : Rest). r.bytes) c.fork-ahead.ensures)) c.are_bytes.ensures) c.in_ok-inside.ensures c.in_ok-content.ensures c.in_ok-end.ensures).0
+    (view_graph c.in_ok-content.content) c.rules.ensures (subst IsBytes (sym (ap (λ (r : Rest). r.bytes) c.fork-ahead.ensures)) c.left_are_bytes.ensures) c.in_ok-inside.ensures c.in_ok-content.ensures c.in_ok-end.ensures).0
