@@ -16,15 +16,15 @@ use Rattle.graph_relaying.proofs.There.{reached_there, same_itself}
 use Rattle.instance_writing.specs.declared.format.Format.TheVariants as formats
 use Rattle.ice_relay.specs.Relaying.{one_value, Holds, canonical_bytes}
 use Rattle.slice_meaning.proofs.Loads.{one_meaning}
-use Rattle.ice_node.specs.declared.words.Task.TheVariants as tasks
-use Rattle.ice_node.specs.Words.{Word, Command, values, check, proxy, messages, help, version, Asks}
-use Rattle.ice_node.specs.Outside.{Files, Outside}
-use Rattle.ice_node.specs.Answers.{Answer, done, denied, usage, no_such_name, slice_refused, input_refused, too_long, needs_sliced, text_refused, read_failed, write_failed, no_memory, refused_after, read_failed_after, no_memory_after, status}
-use Rattle.ice_node.specs.Decided.{DoesTask, Decides, Decided}
+use Rattle.node_commands.specs.declared.words.Task.TheVariants as tasks
+use Rattle.node_commands.specs.Words.{Word, Command, values, check, proxy, messages, help, version, Asks}
+use Rattle.node_commands.specs.Outside.{Files, Outside}
+use Rattle.node_commands.specs.Answers.{Answer, done, denied, usage, no_such_name, slice_refused, input_refused, too_long, needs_sliced, text_refused, read_failed, write_failed, no_memory, refused_after, read_failed_after, no_memory_after, status}
+use Rattle.node_commands.specs.Decided.{DoesTask, Decides, Decided}
 use Rattle.ice_node.specs.Carrying.{IsReader, Carries}
-use Rattle.ice_node.specs.Statuses.{Answered}
-use Rattle.ice_node.specs.TypeWords.{IsTypeWord}
-use Rattle.ice_node.proofs.CommandForms.{values_apart, too_few}
+use Rattle.node_commands.specs.Statuses.{Answered}
+use Rattle.node_commands.specs.TypeWords.{IsTypeWord}
+use Rattle.node_commands.proofs.CommandForms.{values_apart, too_few}
 
 done_is : (a b : List ℕ) → done a ≡ done b → a ≡ b
 done_is a b e = cc

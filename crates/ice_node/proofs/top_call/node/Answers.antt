@@ -1,7 +1,7 @@
-use Rattle.ice_node.specs.Words.{words_of}
-use Rattle.ice_node.specs.Outcomes.{answer_of}
+use Rattle.node_commands.specs.Words.{words_of}
+use Rattle.node_commands.specs.Outcomes.{answer_of}
 use Rattle.ice_node.proofs.Carrying.{answer_carries}
-use Rattle.ice_node.proofs.OneAnswer.{ends}
+use Rattle.node_commands.proofs.OneAnswer.{ends}
 use Rattle.ice_node.proofs.top_call.node.Goals as goal
 
 pub returns-clause-answered : goal.returns-clause-answered

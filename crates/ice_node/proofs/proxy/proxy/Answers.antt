@@ -1,6 +1,0 @@
-use Rattle.std.proofs.Common.{arith}
-use Rattle.proxy_text.proofs.Sized.{text_sized}
-use Rattle.ice_node.proofs.proxy.proxy.Goals as goal
-
-pub lines_of-requires : goal.lines_of-requires
-lines_of-requires c = text_sized c.args.text.now c.in_ok-proxy.proxy (omega (arith, c.requires)) c.in_ok-proxy.ensures

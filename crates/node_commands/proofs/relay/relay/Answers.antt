@@ -1,0 +1,71 @@
+use Rattle.std.proofs.Common.{ℕ, ◌≤◌, List, [], length, Err, refl, ap, subst, inl, inr}
+use Rattle.std.proofs.lemmas.Result.{err_from_is_err_and}
+use Rattle.instance_writing.specs.Formats.{view_format}
+use Rattle.node_commands.specs.declared.words.Task.TheVariants as tasks
+use Rattle.node_commands.specs.Outside.{counts}
+use Rattle.node_commands.specs.Answers.{done}
+use Rattle.node_commands.specs.Outcomes.{answer_of}
+use Rattle.ice_relay.specs.Relaying.{Canonicalizes}
+use Rattle.node_commands.proofs.Relaying.{graph_read, input_gives_none, input_unread, task_untyped, task_unloaded, unloaded_takes, untyped_takes, unread_takes, unfound_takes}
+use Rattle.node_commands.proofs.relay.relay.Goals as goal
+
+pub returns-in_err-canonical_of-clause-found : goal.returns-in_err-canonical_of-clause-found
+returns-in_err-canonical_of-clause-found g c = λ sink.
+    let failed = err_from_is_err_and c.from_residual-in_err-canonical_of.result c.from_residual-in_err-canonical_of.ensures.1 in
+    let none : Canonicalizes c.in_ok-schema.schema c.in_ok-kind.kind (view_format c.args.format) c.in_ok-input.input.items (Err c.in_err-canonical_of.field-0.0) =
+    subst (λ (x : List ℕ). Canonicalizes c.in_ok-schema.schema c.in_ok-kind.kind (view_format c.args.format) x (Err c.in_err-canonical_of.field-0.0)) c.as_slice.ensures.value c.in_err-canonical_of.ensures in
+    let before = counts (g.H.Shelf.failures c.args.shelf.now) (g.S.Source.failures c.args.source.now) sink in
+    let after = counts (g.H.Shelf.failures c.load_schema.new.shelf) (g.S.Source.failures c.read_input.new.source) sink in
+    rw failed.1 (input_gives_none c.args.format (g.H.Shelf.files c.args.shelf.now) (g.S.Source.left c.args.source.now) (g.S.Source.left c.read_input.new.source) c.args.file.now c.args.word.now c.in_ok-schema.schema c.in_ok-kind.kind c.in_ok-input.input.items before after c.in_err-canonical_of.field-0.0 failed.0 failed.2
+    c.in_ok-schema.ensures.0 c.in_ok-kind.ensures c.in_ok-input.ensures.read none (c.in_ok-schema.ensures.1, c.in_ok-input.ensures.count, refl))
+
+pub returns-clause-found : goal.returns-clause-found
+returns-clause-found g c = λ sink.
+    let e = c.in_ok-canonical_of.ensures in
+    let holds = graph_read c.in_ok-schema.schema c.in_ok-kind.kind (g.S.Source.left c.args.source.now) (g.S.Source.left c.read_input.new.source) c.in_ok-input.input.items e.0 c.in_ok-input.ensures.read (rw c.as_slice.ensures.value at e.1) in (
+      inr (c.in_ok-schema.schema, c.in_ok-schema.ensures.0, inr (c.in_ok-kind.kind, c.in_ok-kind.ensures, inr (e.0, holds, inr (e.2, inl (subst (λ (l : List ℕ). length l ≤ 1048576) e.3 e.4, ap done e.3))))),
+      (c.in_ok-schema.ensures.1, c.in_ok-input.ensures.count, refl),
+    )
+
+pub returns-clause-taken : goal.returns-clause-taken
+returns-clause-taken g c = c.in_ok-input.ensures.taken
+
+pub returns-in_err-canonical_of-clause-taken : goal.returns-in_err-canonical_of-clause-taken
+returns-in_err-canonical_of-clause-taken g c =
+    let failed = err_from_is_err_and c.from_residual-in_err-canonical_of.result c.from_residual-in_err-canonical_of.ensures.1 in
+    rw failed.1 (unfound_takes (tasks.Relay c.args.format) c.args.file.now c.args.word.now (g.S.Source.left c.args.source.now) (g.S.Source.left c.read_input.new.source) c.in_err-canonical_of.field-0.0 failed.0 failed.2 c.in_ok-input.ensures.taken)
+
+pub returns-in_err-input-clause-found : goal.returns-in_err-input-clause-found
+returns-in_err-input-clause-found g c = λ sink.
+    let failed = err_from_is_err_and c.from_residual-in_err-input.result c.from_residual-in_err-input.ensures.1 in
+    let before = counts (g.H.Shelf.failures c.args.shelf.now) (g.S.Source.failures c.args.source.now) sink in
+    let after = counts (g.H.Shelf.failures c.load_schema.new.shelf) (g.S.Source.failures c.read_input.new.source) sink in
+    rw failed.1 (input_unread (g.H.Shelf.files c.args.shelf.now) (g.S.Source.left c.args.source.now) (tasks.Relay c.args.format) c.args.file.now c.args.word.now c.in_ok-schema.schema c.in_ok-kind.kind before after c.in_err-input.field-0.0 failed.0 failed.2
+    c.in_ok-schema.ensures.0 c.in_ok-kind.ensures c.in_ok-schema.ensures.1 c.in_err-input.ensures.count refl)
+
+pub returns-in_err-input-clause-taken : goal.returns-in_err-input-clause-taken
+returns-in_err-input-clause-taken g c =
+    let failed = err_from_is_err_and c.from_residual-in_err-input.result c.from_residual-in_err-input.ensures.1 in
+    rw failed.1 (unread_takes (tasks.Relay c.args.format) c.args.file.now c.args.word.now (g.S.Source.left c.args.source.now) (g.S.Source.left c.read_input.new.source) c.in_err-input.field-0.0 failed.0 failed.2 c.in_err-input.ensures.taken)
+
+pub returns-in_err-kind-clause-found : goal.returns-in_err-kind-clause-found
+returns-in_err-kind-clause-found g c = λ sink.
+    let failed = err_from_is_err_and c.from_residual-in_err-kind.result c.from_residual-in_err-kind.ensures.1 in
+    let before = counts (g.H.Shelf.failures c.args.shelf.now) (g.S.Source.failures c.args.source.now) sink in
+    let after = counts (g.H.Shelf.failures c.load_schema.new.shelf) (g.S.Source.failures c.args.source.now) sink in
+    rw (failed.1, failed.2) (task_untyped (g.H.Shelf.files c.args.shelf.now) (g.S.Source.left c.args.source.now) (tasks.Relay c.args.format) c.args.file.now c.args.word.now c.in_ok-schema.schema before after (answer_of c.in_err-kind.field-0.0 []) c.in_ok-schema.ensures.0 (c.in_ok-schema.ensures.1, refl, refl) c.in_err-kind.ensures)
+
+pub returns-in_err-kind-clause-taken : goal.returns-in_err-kind-clause-taken
+returns-in_err-kind-clause-taken g c =
+    let failed = err_from_is_err_and c.from_residual-in_err-kind.result c.from_residual-in_err-kind.ensures.1 in
+    rw (failed.1, failed.2) (untyped_takes (tasks.Relay c.args.format) c.args.file.now c.args.word.now c.in_ok-schema.schema (g.S.Source.left c.args.source.now) (answer_of c.in_err-kind.field-0.0 []) c.in_err-kind.ensures)
+
+pub returns-in_err-schema-clause-found : goal.returns-in_err-schema-clause-found
+returns-in_err-schema-clause-found g c = λ sink.
+    let failed = err_from_is_err_and c.from_residual.result c.from_residual.ensures.1 in
+    rw (failed.1, failed.2) (task_unloaded (g.H.Shelf.files c.args.shelf.now) (g.S.Source.left c.args.source.now) (tasks.Relay c.args.format) c.args.file.now c.args.word.now (g.H.Shelf.failures c.args.shelf.now) (g.H.Shelf.failures c.load_schema.new.shelf) (g.S.Source.failures c.args.source.now) sink (answer_of c.in_err-schema.field-0.0 []) c.in_err-schema.ensures)
+
+pub returns-in_err-schema-clause-taken : goal.returns-in_err-schema-clause-taken
+returns-in_err-schema-clause-taken g c =
+    let failed = err_from_is_err_and c.from_residual.result c.from_residual.ensures.1 in
+    rw (failed.1, failed.2) (unloaded_takes (g.H.Shelf.files c.args.shelf.now) (tasks.Relay c.args.format) c.args.file.now c.args.word.now (g.H.Shelf.failures c.args.shelf.now) (g.H.Shelf.failures c.load_schema.new.shelf) (g.S.Source.left c.args.source.now) (answer_of c.in_err-schema.field-0.0 []) c.in_err-schema.ensures)
