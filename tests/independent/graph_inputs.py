@@ -45,7 +45,12 @@ class ClassMaker(generate.SchemaMaker):
         row, base = self.rows[name], None
         if self.defined and self.chance.random() < 0.6:
             base = self.chance.choice(self.defined[-3:])
-        tokens, members, optional = [], self.inherited(base), {}
+        self.fill(row, name, self.rows.get(base), self.inherited(base), ["class", name, *(["extends", base] if base else [])])
+        self.defined.append(name)
+
+    def fill(self, row, name, base, members, head):
+        """Gives a class, or an exception, its members, and adds its definition behind the head. `members` are names that none has."""
+        tokens, optional = [], {}
         for _ in range(self.chance.choice([0, 1, 1, 2, 2, 3, 4])):
             word, kind = self.type()
             members.append(self.name(members))
@@ -56,10 +61,8 @@ class ClassMaker(generate.SchemaMaker):
             else:
                 row.required.append(kind)
             tokens += [*generate.type_tokens(word), members[-1], ";"]
-        row.type_id, row.base = f"::{self.module}::{name}".encode(), self.rows[base] if base else None
-        row.optional = dict(sorted(optional.items()))
-        self.defined.append(name)
-        self.definitions.append(["class", name, *(["extends", base] if base else []), "{", *tokens, "}", ";"])
+        row.type_id, row.base, row.optional = f"::{self.module}::{name}".encode(), base, dict(sorted(optional.items()))
+        self.definitions.append([*head, "{", *tokens, "}", ";"])
 
     def inherited(self, base):
         """Returns the names that the members of a class derived from that one may not have: here all are free."""
@@ -228,8 +231,8 @@ class VariedWriter(graphs.Writer):
 
     def instance(self, number):
         slices = self.graph.instances[number]
-        is_known = not any(isinstance(it, Kept) for it in slices)
-        yield from self.unsized(slices) if is_known and self.is_so(self.style.compact) else super().instance(number)
+        is_unsized = not graphs.keeps(slices) and self.is_so(self.style.compact)
+        yield from self.unsized(slices) if is_unsized else super().instance(number)
 
     def type_id(self, it):
         there = [at for at, other in enumerate(self.ids, 1) if other == it]
@@ -371,17 +374,22 @@ def changes(what, data, chance):
         yield data[:at] + bytes([generate.other(data[at], chance)]) + data[at + 1 :]
 
 
+def broken_parts(parts, chance, count):
+    """Yields so many times the sort of a part, its number, and what may stand in its place; all sorts about as often."""
+    sorts = sorted({what for what, _ in parts})
+    for _ in range(count):
+        sort = chance.choice(sorts)
+        at = chance.choice([at for at, it in enumerate(parts) if it[0] == sort])
+        what, data = parts[at]
+        yield what, at, chance.choice([it for it in changes(what, data, chance) if it != data])
+
+
 def broken_graphs(graph, kind, chance, count):
-    """Yields so many inputs of a graph, each with a part changed, of all sorts about as often."""
+    """Yields so many inputs of a graph, each with a part changed."""
     seed = chance.random()
     writer = VariedWriter(graph, seed)
     graphs.encode(graph, kind, writer)
-    sorts = sorted({what for what, _ in writer.parts})
-    for _ in range(count):
-        sort = chance.choice(sorts)
-        at = chance.choice([at for at, it in enumerate(writer.parts) if it[0] == sort])
-        what, data = writer.parts[at]
-        changed = chance.choice([it for it in changes(what, data, chance) if it != data])
+    for what, at, changed in broken_parts(writer.parts, chance, count):
         yield what, graphs.encode(graph, kind, VariedWriter(graph, seed, at, changed))
 
 

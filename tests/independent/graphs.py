@@ -54,6 +54,10 @@ class Graph:
     instances: list  # of lists of slices
 
 
+def id_of(slice_):
+    return slice_.type_id if isinstance(slice_, Kept) else slice_.row.type_id
+
+
 def class_of(slices):
     """Returns the class of an instance, the first that is known; None is `Object`."""
     return next((it.row for it in slices if isinstance(it, Known)), None)
@@ -195,11 +199,13 @@ class Reader:
             if row and has_more != (row.base is not None):
                 raise Fault(flags_place, "BadLast")
             base = row.base if row else None
-            if not is_sized:
-                members = yield from self.members(cursor, row, flags, self.inline)
-                slices.append(Known(row, *members))
-            else:
-                slices.append((yield from self.sized(cursor, type_id, row, flags)))
+            slices.append((yield from self.slice(cursor, type_id, row, flags)))
+
+    def slice(self, cursor, type_id, row, flags):
+        """Reads a slice behind its type id."""
+        if flags & SIZED:
+            return (yield from self.sized(cursor, type_id, row, flags))
+        return Known(row, *(yield from self.members(cursor, row, flags, self.inline)))
 
     def flags(self, cursor, is_sized):
         """Returns the flags of a slice, the first one where `is_sized` is None."""
@@ -378,22 +384,32 @@ def refs_of(slice_):
         yield from refs_in(it, slice_.row.optional[tag])
 
 
-def reached(graph, kind):
-    """Returns the numbers of the instances that the root leads to."""
-    found, waiting = [], [it.number for it in refs_in(graph.root, kind)]
+def led_to(instances, refs):
+    """Returns the numbers of the instances that these references lead to."""
+    found, waiting = [], [it.number for it in refs]
     seen = set()
     while waiting:
         number = waiting.pop()
         if number not in seen:
             seen.add(number)
             found.append(number)
-            waiting += [ref.number for slice_ in graph.instances[number] for ref in refs_of(slice_)]
+            waiting += [ref.number for slice_ in instances[number] for ref in refs_of(slice_)]
     return found
 
 
+def reached(graph, kind):
+    """Returns the numbers of the instances that the root leads to."""
+    return led_to(graph.instances, refs_in(graph.root, kind))
+
+
+def keeps(slices):
+    """Says whether one of the slices is kept. Such an instance cannot be written without sizes."""
+    return any(isinstance(it, Kept) for it in slices)
+
+
 def has_kept(graph, kind):
-    """Says whether the root leads to an instance that has a kept slice: such a graph cannot be written without sizes."""
-    return any(isinstance(it, Kept) for number in reached(graph, kind) for it in graph.instances[number])
+    """Says whether the root leads to an instance that has a kept slice."""
+    return any(keeps(graph.instances[number]) for number in reached(graph, kind))
 
 
 # Writing
@@ -487,19 +503,19 @@ class Writer:
     def instance(self, number):
         slices = self.graph.instances[number]
         for at, it in enumerate(slices):
-            yield from self.slice(it, at == len(slices) - 1)
+            yield from self.slice(it, at == len(slices) - 1, *self.type_id(id_of(it)))
 
-    def slice(self, it, is_last):
+    def slice(self, it, is_last, form, type_id):
+        """Writes a slice with its size, and its type id in a form."""
         is_kept = isinstance(it, Kept)
         used = [ref.number for ref in refs_of(it)]
         table = used if is_kept else self.table(used)
-        form, type_id = self.type_id(it.type_id if is_kept else it.row.type_id)
         has_optional = it.has_optional if is_kept else self.has_optional(it)
         inside = self.apart(self.body(it, table, has_optional))
         has_table = self.has_table(it, table)
         flags = form | has_optional * OPTIONAL | has_table * TABLE | SIZED | is_last * LAST
         self.put(bytes([flags]), "kept flags" if is_kept else "flags")
-        self.put(type_id, "type id" if form == AS_TEXT else "index")
+        self.put(type_id, "index" if form == AS_INDEX else "type id")
         self.put(values.spelled_number(4 + len(inside), "int"), "slice size")
         self.out += inside
         if has_table:
@@ -508,17 +524,20 @@ class Writer:
                 yield from self.inline(Ref(number))
 
     def unsized(self, slices):
-        """Writes the slices of an instance without sizes. References in them stand as they do outside of slices."""
+        """Writes the slices of an instance without sizes. The first alone has a type id."""
         for at, it in enumerate(slices):
-            form, type_id = (0, b"") if at else self.type_id(it.row.type_id)
-            has_optional = self.has_optional(it)
-            self.put(bytes([form | has_optional * OPTIONAL | (at == len(slices) - 1) * LAST]), "flags")
-            if form:
-                self.put(type_id, "type id" if form == AS_TEXT else "index")
-            for value, kind in zip(it.required, it.row.required):
-                yield from self.value(value, kind, self.inline)
-            if has_optional:
-                yield from self.options(it.optional, it.row, self.inline)
+            yield from self.unsized_slice(it, at == len(slices) - 1, *((0, b"") if at else self.type_id(it.row.type_id)))
+
+    def unsized_slice(self, it, is_last, form, type_id):
+        """Writes a slice without a size. References in it stand as they do outside of slices."""
+        has_optional = self.has_optional(it)
+        self.put(bytes([form | has_optional * OPTIONAL | is_last * LAST]), "flags")
+        if type_id:
+            self.put(type_id, "index" if form == AS_INDEX else "type id")
+        for value, kind in zip(it.required, it.row.required):
+            yield from self.value(value, kind, self.inline)
+        if has_optional:
+            yield from self.options(it.optional, it.row, self.inline)
 
     def table(self, used):
         """Returns the entries of the table of a slice, of which all of these are used, in this order."""

@@ -48,7 +48,7 @@ class Class:
 
 @dataclass(eq=False)
 class Exception_:
-    pass
+    row: kinds.Class  # what it has, as a class has it
 
 
 @dataclass(eq=False)

@@ -64,7 +64,11 @@ def relay(shelf, file, word, data, is_compact=False):
         kind, (graph,) = read(schema_of(shelf, file), word, data, 1)
     except Unread as unread:
         return unread.args
-    written = graphs.encode_compact(graph, kind) if is_compact else graphs.encode(graph, kind)
+    return written_answer(graphs.encode_compact(graph, kind) if is_compact else graphs.encode(graph, kind))
+
+
+def written_answer(written):
+    """Returns the answer where these bytes are to be written, None where kept slices have no place in them, and why they are not."""
     if written is None:
         return (4, b"", b"ice: kept slice needs sliced format\n"), "kept slice"
     if len(written) > values.MOST_BYTES:

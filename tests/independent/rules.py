@@ -60,6 +60,7 @@ class Rules:
     def __init__(self):
         self.names, self.faults, self.file = names.Names(), Faults(), 0
         self.classes, self.enumerators = [], {}  # in the order of their first declarations; the names by the enum's kind
+        self.exceptions = []  # their rows
         self.counts = {"types": 0, "classes": 0, "exceptions": 0, "interfaces": 0}
 
     def first_fault(self, item):
@@ -257,18 +258,22 @@ class Rules:
         base = self.found(item.base, names.Class) if item.base else None
         if base and not base.is_defined:
             self.faults.add(item.base.place, "BadBase")
-        members = self.fields(item.fields)
-        row = declared.kind.class_
-        row.type_id, row.base = self.names.type_id(item.word.name).encode(), base and base.kind.class_
-        row.required = [kind for tag, kind in members if tag is None]
-        row.optional = dict(sorted([it for it in members if it[0] is not None], key=lambda it: it[0]))
+        self.fill(declared.kind.class_, item, base and base.kind.class_)
         declared.is_defined = True
 
+    def fill(self, row, item, base):
+        """Looks at the members of a class or an exception, and gives the row what it has."""
+        members = self.fields(item.fields)
+        row.type_id, row.base = self.names.type_id(item.word.name).encode(), base
+        row.required = [kind for tag, kind in members if tag is None]
+        row.optional = dict(sorted([it for it in members if it[0] is not None], key=lambda it: it[0]))
+
     def exception(self, item):
-        if item.base:
-            self.found(item.base, names.Exception_)
-        self.fields(item.fields)
-        self.define(item.word, names.Exception_())
+        base = self.found(item.base, names.Exception_) if item.base else None
+        row = kinds.Class()
+        self.fill(row, item, base and base.row)
+        self.define(item.word, names.Exception_(row))
+        self.exceptions.append(row)
         self.counts["exceptions"] += 1
 
     def interface(self, item):

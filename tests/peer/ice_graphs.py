@@ -17,7 +17,7 @@ class Fields:
         for item in grammar.read(text).items:
             if isinstance(item, grammar.Struct):
                 self.structs[item.word.name] = [it.word.name for it in item.fields]
-            elif isinstance(item, grammar.Class) and item.fields is not None:
+            elif isinstance(item, grammar.Exception_) or isinstance(item, grammar.Class) and item.fields is not None:
                 self.required[item.word.name] = [it.word.name for it in item.fields if not it.tag]
                 self.optional[item.word.name] = {it.tag.given: it.word.name for it in item.fields if it.tag}
 
@@ -29,12 +29,12 @@ def name_of(row):
 class Side:
     """Ice with the types of one text."""
 
-    def __init__(self, text, types):
+    def __init__(self, text, types, exceptions=()):
         from peer import Peer
 
         self.text, self.types, self.fields = text, types, Fields(text)
         self.names = {kind: name for name, kind in types.items()}
-        self.peer = Peer(text, MODULE, types, *SLICED)
+        self.peer = Peer(text, MODULE, types, *SLICED, exceptions=exceptions)
         self.compact = self.peer.writer_with(*COMPACT)
 
     def members(self, slice_):
@@ -48,29 +48,41 @@ class Side:
 
     def made(self, graph, kind, order):
         """Returns the root of a graph in Ice's own form."""
+        self.make(graph.instances, order)
+        return ice_value(graph.root, kind, order, self.peer, self.names)
+
+    def make(self, instances, order):
+        """Makes instances in Ice's own form, which the peer holds then."""
+        self.peer.instances = [getattr(self.peer.types, name_of(graphs.class_of(it)))() for it in instances]
+        for held, slices in zip(self.peer.instances, instances):
+            self.fill(held, slices, order)
+
+    def fill(self, held, slices, order):
+        """Gives an instance or an exception in Ice's own form the members of its slices."""
         import Ice
 
-        rows = [graphs.class_of(it) for it in graph.instances]
-        self.peer.instances = [getattr(self.peer.types, name_of(it))() for it in rows]
-        for held, slices in zip(self.peer.instances, graph.instances):
-            for it in slices:
-                for member, part, value in self.members(it):
-                    given = ice_value(value[0], part, order, self.peer, self.names) if value else Ice.Unset
-                    setattr(held, member, given)
-        return ice_value(graph.root, kind, order, self.peer, self.names)
+        for it in slices:
+            for member, part, value in self.members(it):
+                setattr(held, member, ice_value(value[0], part, order, self.peer, self.names) if value else Ice.Unset)
 
     def written(self, graph, kind, order, is_compact=False):
         return self.peer.written(self.names[kind], self.made(graph, kind, order), self.compact if is_compact else None)
 
     def reads(self, data, graph, kind):
-        """Says whether Ice reads the bytes as the graph, up to which instances are which."""
+        """Returns how Ice reads the bytes as another graph, up to which instances are which, or nothing."""
         import Ice
 
-        # So that `ice_value` may be asked for values without references.
         try:
             read = self.peer.read(self.names[kind], data)
         except Ice.Exception as why:
             return f"Ice refuses it: {str(why).splitlines()[-1]}"
+        return self.difference(graph.instances, lambda same, _: "" if same(read, graph.root, kind) else "Ice reads another root")
+
+    def difference(self, instances, of_root):
+        """Returns how what Ice has read differs from instances and what refers to them, or nothing. Of the latter that says `of_root`,
+        which gets what compares a value, and the members of slices."""
+        import Ice
+
         partners, numbers, waiting = {}, {}, []
 
         def same(read, value, kind):
@@ -94,19 +106,22 @@ class Side:
             waiting.append((read, number))
             return True
 
-        if not same(read, graph.root, kind):
-            return "Ice reads another root"
-        while waiting:
-            read, number = waiting.pop()
-            slices = graph.instances[number]
-            if type(read).ice_staticId() != graphs.class_of(slices).type_id.decode():
-                return f"Ice reads a {type(read).ice_staticId()}"
+        def other_member(read, slices):
             for it in slices:
                 for member, part, value in self.members(it):
                     held = getattr(read, member)
                     if (held is Ice.Unset) != (value is None) or value and not same(held, value[0], part):
                         return f"Ice reads another {member}"
-        return ""
+            return ""
+
+        why = of_root(same, other_member)
+        while waiting and not why:
+            read, number = waiting.pop()
+            slices = instances[number]
+            if type(read).ice_staticId() != graphs.class_of(slices).type_id.decode():
+                return f"Ice reads a {type(read).ice_staticId()}"
+            why = other_member(read, slices)
+        return why
 
 
 class Maker(graph_inputs.ClassMaker):
@@ -119,8 +134,8 @@ class Maker(graph_inputs.ClassMaker):
     def inherited(self, base):
         return list(self.taken.get(base, []))
 
-    def define(self, name):
-        super().define(name)
+    def fill(self, row, name, base, members, head):
+        super().fill(row, name, base, members, head)
         tokens = self.definitions[-1]
         inside = tokens[tokens.index("{") + 1 :]
         base = self.taken[tokens[3]] if tokens[2] == "extends" else []
