@@ -1,0 +1,5 @@
+pub mod Notation
+pub mod Reading
+pub mod Canonical
+pub mod Contents
+pub mod Typed
