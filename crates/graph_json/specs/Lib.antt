@@ -1,0 +1,4 @@
+pub mod Notation
+pub mod Reading
+pub mod Canonical
+pub mod Typed

@@ -1,0 +1,90 @@
+//! What the definitions promise of each other, one law a function.
+
+ghost use Rattle.std.specs.Prelude.{◌≡◌, ◌≤◌, Some, length};
+ghost use Rattle.serde_json.specs.Data.{Data};
+ghost use Rattle.ice_types.specs.declared.declarations.Shape.{Shape};
+ghost use Rattle.ice_types.specs.Tables.{Tables};
+ghost use Rattle.ice_types.specs.Rules.{IsSchema};
+ghost use Rattle.ice_encoding.specs.Typed.{by_size};
+ghost use Rattle.ice_graphs.specs.Graph.{Graph};
+ghost use Rattle.ice_graphs.specs.Instances.{most_instances};
+ghost use Rattle.ice_graphs.specs.Same.{form, Same};
+ghost use Rattle.ice_graphs.specs.Typed.{AreMembers, OfType};
+ghost use Rattle.ice_graphs.specs.Visiting.{most, order};
+ghost use Rattle.value_json.specs.Contents.{HasOwnNames};
+ghost use Rattle.graph_json.specs.Notation.{NotesListed, NotesGraph};
+ghost use Rattle.graph_json.specs.Reading.{listed_graph};
+ghost use Rattle.graph_json.specs.Canonical.{canonical_noted};
+ghost use Rattle.graph_json.specs.Typed.{HaveValues, IsNotable};
+
+/// The graph that is read from JSON is listed by it.
+pub fn listed_found()
+    ensures { (t : Tables) (shape : Shape) (d : Data) (g : Graph)
+        → listed_graph t shape d ≡ Some g → NotesListed t shape d g }
+{}
+
+/// The graph that JSON lists under a schema is read from it.
+pub fn listed_only()
+    ensures { (t : Tables) (shape : Shape) (d : Data) (g : Graph)
+        → IsSchema t → NotesListed t shape d g → listed_graph t shape d ≡ Some g }
+{}
+
+/// JSON lists one graph at most.
+pub fn listed_apart()
+    ensures { (t : Tables) (shape : Shape) (d : Data) (g h : Graph)
+        → IsSchema t → NotesListed t shape d g → NotesListed t shape d h → g ≡ h }
+{}
+
+/// The canonical notation of a graph of a type notes it, where the shape's members have names and tags of their own,
+/// the texts of proxies are not too long, what is kept is bytes, and there are no more instances than a graph may
+/// have.
+pub fn graphs_noted()
+    ensures { (t : Tables) (shape : Shape) (g : Graph)
+        → IsSchema t → HasOwnNames shape → OfType t shape g → IsNotable g → length g.instances ≤ most
+        → NotesGraph t shape (canonical_noted t shape g) g }
+{}
+
+/// The canonical notation of such a graph is read as its form: its reached instances by first visit.
+pub fn canonical_read()
+    ensures { (t : Tables) (shape : Shape) (g : Graph)
+        → IsSchema t → HasOwnNames shape → OfType t shape g → IsNotable g → length g.instances ≤ most
+        → listed_graph t shape (canonical_noted t shape g) ≡ Some (form g) }
+{}
+
+/// JSON notes the graph that is read from it, where that is of the type. What JSON notes is the same as that one.
+pub fn graphs_read()
+    ensures found { (t : Tables) (shape : Shape) (d : Data) (k : Graph)
+        → listed_graph t shape d ≡ Some k → OfType t shape k → length k.instances ≤ most → NotesGraph t shape d k }
+    ensures only { (t : Tables) (shape : Shape) (d : Data) (g : Graph) → IsSchema t → NotesGraph t shape d g
+        → (k : Graph) × (listed_graph t shape d ≡ Some k) × OfType t shape k × Same k g }
+{}
+
+/// Graphs that are the same have one canonical notation. Graphs of a type that have one are the same.
+pub fn notations_equal()
+    ensures same { (t : Tables) (shape : Shape) (g h : Graph)
+        → Same g h → canonical_noted t shape g ≡ canonical_noted t shape h }
+    ensures equal { (t : Tables) (shape : Shape) (g h : Graph)
+        → IsSchema t → HasOwnNames shape → OfType t shape g → OfType t shape h → IsNotable g → IsNotable h
+        → length g.instances ≤ most → length h.instances ≤ most
+        → canonical_noted t shape g ≡ canonical_noted t shape h → Same g h }
+{}
+
+/// Two graphs that the same JSON notes are the same but for the names of their instances.
+pub fn notations_apart()
+    ensures { (t : Tables) (shape : Shape) (d : Data) (g h : Graph)
+        → IsSchema t → NotesGraph t shape d g → NotesGraph t shape d h → Same g h }
+{}
+
+/// Of a graph that JSON notes, what is reached is of the type, within the limit of instances.
+pub fn noted_typed()
+    ensures { (t : Tables) (shape : Shape) (d : Data) (g : Graph)
+        → IsSchema t → NotesGraph t shape d g → length (order g) ≤ most_instances → OfType t shape (form g) }
+{}
+
+/// What JSON lists are values of the types of their members, with numbers as references, where the shape's
+/// members have names and tags of their own.
+pub fn listed_typed()
+    ensures { (t : Tables) (shape : Shape) (d : Data) (g : Graph)
+        → IsSchema t → HasOwnNames shape → NotesListed t shape d g
+        → AreMembers t by_size shape g.roots × HaveValues t g.instances }
+{}
