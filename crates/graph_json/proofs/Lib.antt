@@ -6,3 +6,10 @@ pub mod GraphCanon
 pub mod Noted
 pub mod Values
 pub mod Samples
+pub mod Walking
+pub mod Floats
+pub mod Depths
+pub mod Objects
+pub mod Sound
+pub mod TextsApart
+pub mod Texts

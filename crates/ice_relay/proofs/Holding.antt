@@ -42,17 +42,17 @@ module _ (t : Tables) (kind : TypeRef) where
   -- ---- where the member is the one that stands for a value
 
   module _ (root : Member) (is : root ≡ root_of kind) where
-    abbrev asked : Shape
+    abbrev pub asked : Shape
     asked = told_apart (record { required = root ∷ []; optional = [] })
 
     -- it is all that is asked for
-    asked_is : asked ≡ one_value kind
+    pub asked_is : asked ≡ one_value kind
     asked_is = ap (λ (m : Member). told_apart (record { required = m ∷ []; optional = [] })) is
 
-    holds : (input : List ℕ) (g : Graph) → IsBytes input → numbered_at t all_slices asked (whole input) ≡ Ok g → Holds t kind input g
+    pub holds : (input : List ℕ) (g : Graph) → IsBytes input → numbered_at t all_slices asked (whole input) ≡ Ok g → Holds t kind input g
     holds input g fits read = numbered_found t all_slices (one_value kind) input g fits (subst (λ (s : Shape). numbered_at t all_slices s (whole input) ≡ Ok g) asked_is read)
 
-    writes : (f : Format) (g : Graph) (result : Result (Vec ℕ Global) WriteFault) → Writes t asked f g LARGEST result → Writes t (one_value kind) f g LARGEST result
+    pub writes : (f : Format) (g : Graph) (result : Result (Vec ℕ Global) WriteFault) → Writes t asked f g LARGEST result → Writes t (one_value kind) f g LARGEST result
     writes f g result = subst (λ (s : Shape). Writes t s f g LARGEST result) asked_is
 
     pub relayed : (f : Format) (input : List ℕ) (g : Graph) (out : Vec ℕ Global) → IsBytes input → numbered_at t all_slices asked (whole input) ≡ Ok g → Writes t asked f g LARGEST (Ok out) → Canonicalizes t kind f input (Ok out)

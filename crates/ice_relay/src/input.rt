@@ -90,7 +90,11 @@ fn claimed_bytes(bytes: &[u8]) -> Option<usize>
 
 /// Reads after the bytes that are there until there are so many in all, or until the input ends.
 /// After a fault no more than that was taken.
-fn read_up_to<S: Source>(source: &mut S, bytes: &mut Vec<u8>, goal: usize) -> Result<(), PortFault>
+pub fn read_up_to<S: Source>(
+    source: &mut S,
+    bytes: &mut Vec<u8>,
+    goal: usize,
+) -> Result<(), PortFault>
     requires { vec_len bytes.old ≤ goal }
     ensures read { OnOk result (ReadsUpTo goal
         (S.left source.old) (S.left source.new) bytes.old.items bytes.new.items) }

@@ -9,5 +9,5 @@ mod relay;
 
 pub use comparing::{MOST_COMPARED, are_same};
 pub use fault::RelayFault;
-pub use input::{read_input, read_two, reading_decides, two_decided};
-pub use relay::canonical_of;
+pub use input::{read_input, read_two, read_up_to, reading_decides, two_decided};
+pub use relay::{canonical_of, root_of};

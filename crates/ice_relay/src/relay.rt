@@ -33,7 +33,7 @@ pub fn canonical_of(
 }
 
 /// The member that stands for a value which is no member of anything.
-pub(crate) fn root_of(alloc: Global, kind: TypeRef) -> Result<Member, AllocError>
+pub fn root_of(alloc: Global, kind: TypeRef) -> Result<Member, AllocError>
     ensures { IfOk result (λ root. root ≡ root_of kind) }
 {
     Ok(Member {

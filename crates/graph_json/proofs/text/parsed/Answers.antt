@@ -1,0 +1,31 @@
+use Rattle.std.proofs.Common.{subst, sym, ◌∙◌}
+use Rattle.std.proofs.lemmas.Option.{none-some}
+use Rattle.serde_json.specs.View.{view as json_view}
+use Rattle.ice_graphs.specs.Typed.{OfType}
+use Rattle.ice_members.specs.Shapes.{shape_seen}
+use Rattle.value_json.proofs.Walking.{some_is}
+use Rattle.graph_json.specs.Listed.{Names, view_listed}
+use Rattle.graph_json.proofs.Sound.{can_be_named}
+use Rattle.graph_json.proofs.Texts.{ill_typed, not_many, unnamed}
+use Rattle.graph_json.proofs.text.parsed.Goals as goal
+
+pub graph_of-requires : goal.graph_of-requires
+graph_of-requires c =
+    can_be_named c.args.schema.now (shape_seen c.args.fields) (json_view c.in_ok-json.json) (view_listed c.in-Some.listed) c.rules.ensures c.requires
+    (sym (some_is view_listed c.in_ok-listed.field-0 c.in-Some.listed _ c.in-Some.is c.in_ok-listed.ensures))
+    (not_many c.lists_too_many.result _ c.lists_too_many.ensures c.if-lists_too_many.false)
+
+pub returns-in_default-2 : goal.returns-in_default-2
+returns-in_default-2 c =
+    let listed = some_is view_listed c.in_ok-listed.field-0 c.in-Some.listed _ c.in-Some.is c.in_ok-listed.ensures in
+    let few = not_many c.lists_too_many.result _ c.lists_too_many.ensures c.if-lists_too_many.false in
+    let can = can_be_named c.args.schema.now (shape_seen c.args.fields) (json_view c.in_ok-json.json) (view_listed c.in-Some.listed) c.rules.ensures c.requires (sym listed) few in
+    unnamed c.args.schema.now (shape_seen c.args.fields) c.args.text.now (json_view c.in_ok-json.json) c.in_ok-json.ensures.0 c.in_ok-json.ensures.1 few (view_listed c.in-Some.listed) listed can (subst (Names (view_listed c.in-Some.listed)) c.in_default-2.is c.in_ok-graph.ensures)
+
+pub returns : goal.returns
+returns c =
+    let listed = some_is view_listed c.in_ok-listed.field-0 c.in-Some.listed _ c.in-Some.is c.in_ok-listed.ensures in
+    let few = not_many c.lists_too_many.result _ c.lists_too_many.ensures c.if-lists_too_many.false in
+    let same = subst (Names (view_listed c.in-Some.listed)) c.in-Some-2.is c.in_ok-graph.ensures in
+    ill_typed c.args.schema.now (shape_seen c.args.fields) c.args.text.now (json_view c.in_ok-json.json) c.in_ok-json.ensures.0 c.in_ok-json.ensures.1 few (view_listed c.in-Some.listed) listed
+    (λ typed. none-some c.in-Some-3.field-0 (sym (c.in_ok-first_ill_typed.ensures.typed.1 (subst (OfType c.args.schema.now (shape_seen c.args.fields)) (sym same) typed)) ∙ c.in-Some-3.is))

@@ -1,0 +1,127 @@
+//! The graph that JSON lists, before it is known whether its names are those of instances.
+
+ghost use Rattle.std.specs.Prelude.{◌≡◌, IfOk, codes, map, option_map};
+ghost use Rattle.serde_json.specs.View.{view as json_view, items_view, members_view};
+ghost use Rattle.graph_arena.specs.Seen.{view_instance};
+ghost use Rattle.ice_members.specs.Shapes.{shape_seen};
+ghost use Rattle.value_json.specs.Reading.{some};
+ghost use Rattle.graph_json.specs.Reading as spec;
+ghost use Rattle.graph_json.specs.Reading.{at_name, items_of, list_of, listed_graph};
+ghost use Rattle.graph_json.specs.Listed.{view_listed};
+
+use crate::slices::{named, slices_of};
+use graph_arena::{Instance, Members};
+use ice_members::Fields;
+use ice_types::Schema;
+use serde_json::{Map, Value as Json};
+use std::alloc::{AllocError, Global};
+use value_json::content_of;
+
+/// The values of the roots, and the instances in the order of the list.
+#[derive(Debug, Drop)]
+pub(crate) struct Listed {
+    pub(crate) roots: Members,
+    pub(crate) instances: Vec<Instance>,
+}
+
+/// The graph that JSON lists for roots of these members, or None where it lists none. Want of memory is the
+/// only refusal.
+pub(crate) fn listed_of(
+    alloc: Global,
+    schema: &Schema,
+    fields: Fields<'_>,
+    json: &Json,
+) -> Result<Option<Listed>, AllocError>
+    ensures { IfOk result (λ o. option_map view_listed o
+        ≡ listed_graph schema.now (shape_seen fields.entry) (json_view json.now)) }
+{
+    let Some(found) = object_of(json, 2) else {
+        return Ok(None);
+    };
+    let Some(instances) = instances_in(alloc, schema, found)? else {
+        return Ok(None);
+    };
+    let Some(inside) = named(found, "roots") else {
+        return Ok(None);
+    };
+    match content_of(alloc, schema, fields, inside)? {
+        Some(roots) => Ok(Some(Listed { roots, instances })),
+        None => Ok(None),
+    }
+}
+
+/// The object, where it has so many names.
+fn object_of(json: &Json, count: usize) -> Option<&Map<String, Json>>
+    ensures { option_map (λ found. members_view found.now.entries) result
+        ≡ spec.of_object count some (json_view json.now) }
+{
+    let found = json.as_object()?;
+    if found.len() == count {
+        Some(found)
+    } else {
+        None
+    }
+}
+
+/// The instances that stand there.
+fn instances_in(
+    alloc: Global,
+    schema: &Schema,
+    found: &Map<String, Json>,
+) -> Result<Option<Vec<Instance>>, AllocError>
+    ensures { IfOk result (λ o. option_map (λ l. map view_instance l.items) o
+        ≡ at_name (codes "instances") (list_of (spec.instance_of schema.now)) (members_view found.now.entries)) }
+{
+    match named(found, "instances") {
+        Some(json) => instances_of(alloc, schema, json),
+        None => Ok(None),
+    }
+}
+
+fn instances_of(
+    alloc: Global,
+    schema: &Schema,
+    json: &Json,
+) -> Result<Option<Vec<Instance>>, AllocError>
+    ensures { IfOk result (λ o. option_map (λ l. map view_instance l.items) o
+        ≡ list_of (spec.instance_of schema.now) (json_view json.now)) }
+{
+    match json.as_array() {
+        Some(items) => each_instance(alloc, schema, items.as_slice()),
+        None => Ok(None),
+    }
+}
+
+fn each_instance(
+    alloc: Global,
+    schema: &Schema,
+    items: &[Json],
+) -> Result<Option<Vec<Instance>>, AllocError>
+    ensures { IfOk result (λ o. option_map (λ l. map view_instance l.items) o
+        ≡ items_of (spec.instance_of schema.now) (items_view items.now)) }
+{
+    let mut instances = Vec::with_capacity(alloc, items.len())?;
+    for item in items {
+        let Some(instance) = instance_of(alloc, schema, item)? else {
+            return Ok(None);
+        };
+        instances.push(instance)?;
+    }
+    Ok(Some(instances))
+}
+
+/// An instance: an object whose one name has its slices.
+fn instance_of(alloc: Global, schema: &Schema, json: &Json) -> Result<Option<Instance>, AllocError>
+    ensures { IfOk result (λ o. option_map view_instance o ≡ spec.instance_of schema.now (json_view json.now)) }
+{
+    let Some(found) = object_of(json, 1) else {
+        return Ok(None);
+    };
+    let Some(inside) = named(found, "slices") else {
+        return Ok(None);
+    };
+    match slices_of(alloc, schema, inside)? {
+        Some(slices) => Ok(Some(Instance { slices })),
+        None => Ok(None),
+    }
+}

@@ -1,0 +1,216 @@
+//! The slices of an instance from JSON.
+
+ghost use Rattle.std.specs.Prelude.{◌≡◌, IfOk, codes, option_map, slice_get};
+ghost use Rattle.hex.specs.Hex.{decode_of};
+ghost use Rattle.serde_json.specs.Find.{as_bool, as_str, get_member};
+ghost use Rattle.serde_json.specs.View.{view as json_view, items_view, members_view};
+ghost use Rattle.ice_graphs.specs.Classes.{class_named, members_in};
+ghost use Rattle.graph_arena.specs.Seen.{view_slice, view_slices};
+ghost use Rattle.value_json.specs.Reading as values;
+ghost use Rattle.graph_json.specs.Reading as spec;
+ghost use Rattle.graph_json.specs.Reading.{at_name, items_of, list_of};
+
+use graph_arena::Slice;
+use hex::FromHexError;
+use ice_members::Fields;
+use ice_types::{Bytes, List, Member, Name, Schema};
+use serde_json::{Map, Value as Json};
+use std::alloc::{AllocError, Global};
+use value_json::{content_of, name_of};
+
+/// The slices that an array lists, or None where it lists none. Want of memory is the only refusal.
+pub(crate) fn slices_of(
+    alloc: Global,
+    schema: &Schema,
+    json: &Json,
+) -> Result<Option<List<Slice>>, AllocError>
+    ensures { IfOk result (λ o. option_map view_slices o ≡ list_of (spec.slice_of schema.now) (json_view json.now)) }
+{
+    match json.as_array() {
+        Some(items) => each_slice(alloc, schema, items.as_slice()),
+        None => Ok(None),
+    }
+}
+
+fn each_slice(
+    alloc: Global,
+    schema: &Schema,
+    items: &[Json],
+) -> Result<Option<List<Slice>>, AllocError>
+    ensures { IfOk result (λ o. option_map view_slices o ≡ items_of (spec.slice_of schema.now) (items_view items.now)) }
+{
+    let mut slices = List::new(alloc);
+    for item in items {
+        let Some(slice) = slice_of(alloc, schema, item)? else {
+            return Ok(None);
+        };
+        slices.push(slice)?;
+    }
+    Ok(Some(slices))
+}
+
+/// A slice: an object of two names is that of a known class, and one of four is kept.
+fn slice_of(alloc: Global, schema: &Schema, json: &Json) -> Result<Option<Slice>, AllocError>
+    ensures { IfOk result (λ o. option_map view_slice o ≡ spec.slice_of schema.now (json_view json.now)) }
+{
+    let Some(found) = json.as_object() else {
+        return Ok(None);
+    };
+    let count = found.len();
+    if count == 2 {
+        known_in(alloc, schema, found)
+    } else if count == 4 {
+        kept_in(alloc, found)
+    } else {
+        Ok(None)
+    }
+}
+
+/// A slice of a known class, from its type id and the values of its own members.
+fn known_in(
+    alloc: Global,
+    schema: &Schema,
+    found: &Map<String, Json>,
+) -> Result<Option<Slice>, AllocError>
+    ensures { IfOk result (λ o. option_map view_slice o ≡ spec.known_in schema.now (members_view found.now.entries)) }
+{
+    let Some(class) = class_in(schema, found) else {
+        return Ok(None);
+    };
+    let Some(inside) = named(found, "members") else {
+        return Ok(None);
+    };
+    let own = own_members(schema, class);
+    let fields = Fields {
+        required: own,
+        optional: own,
+    };
+    match content_of(alloc, schema, fields, inside)? {
+        Some(members) => Ok(Some(Slice::Known { class, members })),
+        None => Ok(None),
+    }
+}
+
+/// The class whose type id stands there.
+fn class_in(schema: &Schema, found: &Map<String, Json>) -> Option<u32>
+    ensures { result ≡ at_name (codes "class") (spec.class_of schema.now) (members_view found.now.entries) }
+{
+    let id = named(found, "class")?.as_str()?;
+    class_named(schema, id)
+}
+
+/// The class of this type id.
+fn class_named(schema: &Schema, id: &str) -> Option<u32>
+    ensures { result ≡ class_named schema.now id.now }
+{
+    // No two classes have one id.
+    schema.rules();
+    schema.class(id)
+}
+
+/// The members of a class itself, without those of its bases; none where there is no such class.
+pub(crate) fn own_members(schema: &Schema, class: u32) -> &[Member]
+    ensures { result.now ≡ members_in (slice_get schema.now.classes class) }
+{
+    match schema.classes().get(class as usize) {
+        Some(decl) => decl.members.as_slice(),
+        None => &[],
+    }
+}
+
+/// A kept slice, from its bytes, its type id, whether optional members stand in the bytes, and its table.
+fn kept_in(alloc: Global, found: &Map<String, Json>) -> Result<Option<Slice>, AllocError>
+    ensures { IfOk result (λ o. option_map view_slice o ≡ spec.kept_in (members_view found.now.entries)) }
+{
+    let Some(bytes) = bytes_in(alloc, found)? else {
+        return Ok(None);
+    };
+    let Some(id) = text_in(found, "kept") else {
+        return Ok(None);
+    };
+    let Some(optionals) = bool_in(found, "optionals") else {
+        return Ok(None);
+    };
+    let Some(table) = table_in(alloc, found)? else {
+        return Ok(None);
+    };
+    Ok(Some(Slice::Kept {
+        id: Name::of(alloc, id)?,
+        bytes,
+        optionals,
+        table,
+    }))
+}
+
+/// The text at a name.
+fn text_in<'a>(found: &'a Map<String, Json>, name: &str) -> Option<&'a str>
+    ensures { option_map (λ text. text.now) result ≡ at_name name.now as_str (members_view found.now.entries) }
+{
+    named(found, name)?.as_str()
+}
+
+/// The truth value at a name.
+fn bool_in(found: &Map<String, Json>, name: &str) -> Option<bool>
+    ensures { result ≡ at_name name.now as_bool (members_view found.now.entries) }
+{
+    named(found, name)?.as_bool()
+}
+
+/// The bytes that stand in hexadecimal digits, in either case of letters.
+fn bytes_in(alloc: Global, found: &Map<String, Json>) -> Result<Option<Bytes>, AllocError>
+    ensures { IfOk result (λ o. o ≡ at_name (codes "bytes") spec.bytes_of (members_view found.now.entries)) }
+{
+    match text_in(found, "bytes") {
+        Some(digits) => decoded(alloc, digits),
+        None => Ok(None),
+    }
+}
+
+fn decoded(alloc: Global, digits: &str) -> Result<Option<Bytes>, AllocError>
+    ensures { IfOk result (λ o. o ≡ spec.decoded (decode_of digits.now)) }
+{
+    match hex::decode(alloc, digits.as_bytes()) {
+        Ok(bytes) => Ok(Some(List::from_vec(bytes))),
+        Err(FromHexError::OutOfMemory) => Err(AllocError),
+        Err(_) => Ok(None),
+    }
+}
+
+/// The names of instances in a table.
+fn table_in(alloc: Global, found: &Map<String, Json>) -> Result<Option<List<u32>>, AllocError>
+    ensures { IfOk result (λ o. o ≡ at_name (codes "table") (list_of values.name_of) (members_view found.now.entries)) }
+{
+    match named(found, "table") {
+        Some(json) => names_of(alloc, json),
+        None => Ok(None),
+    }
+}
+
+fn names_of(alloc: Global, json: &Json) -> Result<Option<List<u32>>, AllocError>
+    ensures { IfOk result (λ o. o ≡ list_of values.name_of (json_view json.now)) }
+{
+    match json.as_array() {
+        Some(items) => each_name(alloc, items.as_slice()),
+        None => Ok(None),
+    }
+}
+
+fn each_name(alloc: Global, items: &[Json]) -> Result<Option<List<u32>>, AllocError>
+    ensures { IfOk result (λ o. o ≡ items_of values.name_of (items_view items.now)) }
+{
+    let mut names = List::new(alloc);
+    for item in items {
+        let Some(name) = name_of(item) else {
+            return Ok(None);
+        };
+        names.push(name)?;
+    }
+    Ok(Some(names))
+}
+
+/// What stands at a name.
+pub(crate) fn named<'a>(found: &'a Map<String, Json>, name: &str) -> Option<&'a Json>
+    ensures { option_map (λ x. json_view x.now) result ≡ get_member name.now (members_view found.now.entries) }
+{
+    found.get(name)
+}

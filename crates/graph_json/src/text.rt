@@ -1,0 +1,219 @@
+//! Texts of graphs.
+
+ghost use Rattle.std.specs.Prelude.{◌≡◌, ◌≤◌, ◌↔◌, false, IsTrue, IfOk, IfSome, Err, map, option_map, string_bytes};
+ghost use Rattle.std.specs.Option.{is_some};
+ghost use Rattle.serde_json.specs.Data.{depth};
+ghost use Rattle.serde_json.specs.Read.{max_depth};
+ghost use Rattle.serde_json.specs.View.{view as json_view, items_view};
+ghost use Rattle.serde_json.specs.Written.{compact_text, has_float};
+ghost use Rattle.ice_graphs.specs.Graph.{Graph};
+ghost use Rattle.ice_graphs.specs.Names.{instance_names, names_of};
+ghost use Rattle.graph_arena.specs.Arena.{AreBelow};
+ghost use Rattle.graph_arena.specs.Seen.{view_content, view_instance, view_slice, view_slices};
+ghost use Rattle.ice_members.specs.Shapes.{shape_seen};
+ghost use Rattle.value_json.specs.Contents.{HasOwnNames};
+ghost use Rattle.graph_json.specs.Listed.{AreNamed, CanBeNamed, MembersOf, Names, view_listed};
+ghost use Rattle.graph_json.specs.Canonical.{canonical_noted};
+ghost use Rattle.graph_json.specs.Texts.{AreNotable, IsJson, ListsTooMany, NotesText, Parses, ReadsJson, graph_text, listed_in};
+ghost use Rattle.graph_json.specs.declared.fault.JsonFault.TheVariants as faults;
+ghost use Rattle.graph_json.specs.declared.fault.JsonKind.TheVariants as kinds;
+
+use crate::fault::{JsonFault, JsonKind};
+use crate::listing::{Listed, listed_of};
+use crate::slices::named;
+use crate::writing::graph_json;
+use graph_arena::{Graph, Instance, Members, Slice, push_slices};
+use ice_members::Fields;
+use ice_types::{List, Schema};
+use serde_json::Value as Json;
+use std::alloc::{AllocError, Global};
+use value_checks::first_ill_typed;
+
+/// The most bytes of a text that is read.
+pub const MOST_TEXT: usize = 16_777_216;
+
+/// How many instances a text lists at most.
+const MOST_LISTED: usize = 100_000;
+
+/// The text of a graph whose roots are of these members, in JSON without blanks: the instances that the roots lead to, in
+/// the order of their first visits, and the names of each object in rising order. Want of memory is the only
+/// refusal.
+pub fn to_text(
+    alloc: Global,
+    schema: &Schema,
+    fields: Fields<'_>,
+    graph: Graph,
+) -> Result<String, AllocError>
+    ensures text { IfOk result (λ text. string_bytes text ≡ graph_text schema.now (shape_seen fields.entry) graph) }
+    // It is JSON: the canonical notation, where each of the members is of a type of the schema.
+    ensures reads_back { IfOk result (λ text. AreNotable schema.now (shape_seen fields.entry)
+        → IsJson (string_bytes text) (canonical_noted schema.now (shape_seen fields.entry) graph)) }
+{
+    schema.rules();
+    let graph = graph.renumbered()?;
+    let json = graph_json(alloc, schema, fields, &graph)?;
+    compact_text(alloc, &json)
+}
+
+/// The JSON without blanks.
+fn compact_text(alloc: Global, json: &Json) -> Result<String, AllocError>
+    ensures text { IfOk result (λ text. has_float (json_view json.now) ≡ false
+        → string_bytes text ≡ compact_text (json_view json.now)) }
+    ensures reads_back { IfOk result (λ text. depth (json_view json.now) ≤ max_depth
+        → IsJson (string_bytes text) (json_view json.now)) }
+{
+    let text = json.to_string(alloc)?;
+    // It is UTF-8, as each text is.
+    let _ = text.as_str();
+    Ok(text)
+}
+
+/// The graph that the text notes, with roots of these members; or why there is none.
+pub fn from_text(
+    alloc: Global,
+    schema: &Schema,
+    fields: Fields<'_>,
+    text: &[u8],
+) -> Result<Graph, JsonFault>
+    requires { HasOwnNames (shape_seen fields) }
+    ensures parses { Parses schema.now (shape_seen fields.entry) text.now result }
+    // What it answers is noted by the text, and where it answers that the text is a misfit, no graph is.
+    ensures noted { IfOk result (λ g. NotesText schema.now (shape_seen fields.entry) text.now g) }
+    ensures misfit { result ≡ Err (faults.Refused kinds.Misfit) → (g : Graph)
+        → NotesText schema.now (shape_seen fields.entry) text.now g → ⊥ }
+{
+    schema.rules();
+    parsed(alloc, schema, fields, text)
+}
+
+/// The graph that the text lists, or why there is none.
+fn parsed(
+    alloc: Global,
+    schema: &Schema,
+    fields: Fields<'_>,
+    text: &[u8],
+) -> Result<Graph, JsonFault>
+    requires { HasOwnNames (shape_seen fields) }
+    ensures { Parses schema.now (shape_seen fields.entry) text.now result }
+{
+    schema.rules();
+    let json = json_of(alloc, text)?;
+    if lists_too_many(&json) {
+        return Err(JsonFault::Refused(JsonKind::TooMany));
+    }
+    let Some(listed) = listed_of(alloc, schema, fields, &json)? else {
+        return Err(JsonFault::Refused(JsonKind::Misfit));
+    };
+    let Some(graph) = graph_of(alloc, listed)? else {
+        return Err(JsonFault::Refused(JsonKind::Misfit));
+    };
+    match first_ill_typed(alloc, schema, fields, &graph)? {
+        None => Ok(graph),
+        Some(_) => Err(JsonFault::Refused(JsonKind::Misfit)),
+    }
+}
+
+/// The JSON of a text.
+fn json_of(alloc: Global, text: &[u8]) -> Result<Json, JsonFault>
+    ensures { ReadsJson text.now result }
+{
+    if text.len() > MOST_TEXT {
+        return Err(JsonFault::Refused(JsonKind::TooLong));
+    }
+    match Json::from_slice(alloc, text) {
+        Ok(json) => Ok(json),
+        Err(error) if error.is_memory() => Err(JsonFault::Memory),
+        Err(_) => Err(JsonFault::Refused(JsonKind::NotJson)),
+    }
+}
+
+/// Whether more instances are listed than a text may list, whatever else is wrong.
+fn lists_too_many(json: &Json) -> bool
+    ensures { IsTrue result ↔ ListsTooMany (json_view json.now) }
+{
+    match listed_items(json) {
+        Some(items) => items.len() > MOST_LISTED,
+        None => false,
+    }
+}
+
+/// What an object has in its array of instances.
+fn listed_items(json: &Json) -> Option<&Vec<Json>>
+    ensures { option_map (λ items. items_view items.now.items) result ≡ listed_in (json_view json.now) }
+{
+    named(json.as_object()?, "instances")?.as_array()
+}
+
+/// The graph that is listed, or None where a name is that of no instance.
+fn graph_of(alloc: Global, listed: Listed) -> Result<Option<Graph>, AllocError>
+    requires { CanBeNamed (view_listed listed) }
+    ensures { IfOk result (Names (view_listed listed)) }
+{
+    let Listed { roots, instances } = listed;
+    let count = instances.len();
+    if !all_named(alloc, count, instances.as_slice())? {
+        return Ok(None);
+    }
+    match named_roots(alloc, count, roots)? {
+        Some(roots) => Ok(Some(Graph::of(roots, instances))),
+        None => Ok(None),
+    }
+}
+
+/// Whether each name in the instances is that of one of so many.
+fn all_named(alloc: Global, count: usize, instances: &[Instance]) -> Result<bool, AllocError>
+    ensures { IfOk result (λ are. IsTrue are ↔ AreNamed count (map view_instance instances.now)) }
+{
+    for instance in instances {
+        if !are_named(alloc, count, instance.slices.as_slice())? {
+            return Ok(false);
+        }
+    }
+    Ok(true)
+}
+
+/// The roots, where each name in them is that of one of so many instances.
+fn named_roots(alloc: Global, count: usize, roots: Members) -> Result<Option<Members>, AllocError>
+    ensures ok { IfOk result (λ o. IfSome o (λ m. view_content m ≡ view_content roots)) }
+    ensures named { IfOk result (λ o. IsTrue (is_some o) ↔ AreBelow count (names_of (view_content roots))) }
+{
+    let slices = [Slice::Known {
+        class: 0,
+        members: roots,
+    }];
+    if !are_named(alloc, count, &slices)? {
+        return Ok(None);
+    }
+    let [slice] = slices;
+    Ok(members_of(slice))
+}
+
+/// The members of a known slice.
+fn members_of(slice: Slice) -> Option<Members>
+    ensures { MembersOf (view_slice slice) (option_map view_content result) }
+{
+    match slice {
+        Slice::Known { members, .. } => Some(members),
+        Slice::Kept { .. } => None,
+    }
+}
+
+/// Whether each name in the slices is that of one of so many instances.
+fn are_named(alloc: Global, count: usize, slices: &[Slice]) -> Result<bool, AllocError>
+    ensures { IfOk result (λ are. IsTrue are ↔ AreBelow count (instance_names (view_slices slices.now))) }
+{
+    let mut names = List::new(alloc);
+    push_slices(&mut names, slices)?;
+    Ok(are_below(names.as_slice(), count))
+}
+
+fn are_below(names: &[u32], count: usize) -> bool
+    ensures { IsTrue result ↔ AreBelow count names.now }
+{
+    for name in names {
+        if *name as usize >= count {
+            return false;
+        }
+    }
+    true
+}

@@ -1,0 +1,4 @@
+pub mod Streams
+pub mod Faults
+pub mod Dumping
+pub mod Encoding
