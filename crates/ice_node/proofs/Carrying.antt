@@ -16,15 +16,15 @@ use Rattle.graph_relaying.proofs.There.{reached_there, same_itself}
 use Rattle.instance_writing.specs.declared.format.Format.TheVariants as formats
 use Rattle.ice_relay.specs.Relaying.{one_value, Holds, canonical_bytes}
 use Rattle.slice_meaning.proofs.Loads.{one_meaning}
-use Rattle.node_commands.specs.declared.words.Task.TheVariants as tasks
-use Rattle.node_commands.specs.Words.{Word, Command, values, check, proxy, messages, help, version, Asks}
-use Rattle.node_commands.specs.Outside.{Files, Outside}
-use Rattle.node_commands.specs.Answers.{Answer, done, denied, usage, no_such_name, slice_refused, input_refused, too_long, needs_sliced, text_refused, read_failed, write_failed, no_memory, refused_after, read_failed_after, no_memory_after, status}
-use Rattle.node_commands.specs.Decided.{DoesTask, Decides, Decided}
+use Rattle.command_words.specs.declared.words.Task.TheVariants as tasks
+use Rattle.command_words.specs.Words.{Word, Command, values, check, proxy, drill, messages, help, version, Asks}
+use Rattle.command_answers.specs.Outside.{Files, Outside}
+use Rattle.command_answers.specs.Answers.{Answer, done, denied, usage, no_such_name, slice_refused, input_refused, json_refused, too_long, needs_sliced, text_refused, read_failed, write_failed, no_memory, refused_after, read_failed_after, no_memory_after, status}
+use Rattle.command_answers.specs.Decided.{DoesTask, Decides, Decided}
 use Rattle.ice_node.specs.Carrying.{IsReader, Carries}
-use Rattle.node_commands.specs.Statuses.{Answered}
-use Rattle.node_commands.specs.TypeWords.{IsTypeWord}
-use Rattle.node_commands.proofs.CommandForms.{values_apart, too_few}
+use Rattle.command_answers.specs.Statuses.{Answered}
+use Rattle.command_words.specs.TypeWords.{IsTypeWord}
+use Rattle.command_words.proofs.CommandForms.{values_apart, no_task}
 
 done_is : (a b : List ℕ) → done a ≡ done b → a ≡ b
 done_is a b e = cc
@@ -53,11 +53,12 @@ module _ (files : Files) (input : List ℕ) (fits : IsBytes input) (t : Tables) 
     by_command : (words : List Word) (asked : Option Command) → words ≡ codes "relay" ∷ file ∷ word ∷ [] → Asks words asked → Decides asked (Some files) (Some input) (done out) → SpellsSized t (one_value kind) out g
     by_command words (Some (values task f k)) are form decides =
         carried (subst (λ (c : Command). Decides (Some c) (Some files) (Some input) (done out)) (values_apart words task (tasks.Relay formats.Sliced) f file k word form.0 are) decides)
-    by_command words (Some (check f)) are form decides = absurd (too_few words _ (tasks.Relay formats.Sliced) file word are form.0 (omega arith))
-    by_command words (Some (proxy f)) are form decides = absurd (too_few words _ (tasks.Relay formats.Sliced) file word are form.0 (omega arith))
-    by_command words (Some messages) are form decides = absurd (too_few words _ (tasks.Relay formats.Sliced) file word are form (omega arith))
-    by_command words (Some help) are form decides = absurd (too_few words _ (tasks.Relay formats.Sliced) file word are form (omega arith))
-    by_command words (Some version) are form decides = absurd (too_few words _ (tasks.Relay formats.Sliced) file word are form (omega arith))
+    by_command words (Some (check f)) are form decides = absurd (no_task words _ (tasks.Relay formats.Sliced) file word are form.0 refl)
+    by_command words (Some (proxy f)) are form decides = absurd (no_task words _ (tasks.Relay formats.Sliced) file word are form.0 refl)
+    by_command words (Some (drill start count)) are form decides = absurd (no_task words _ (tasks.Relay formats.Sliced) file word are form.0 refl)
+    by_command words (Some messages) are form decides = absurd (no_task words _ (tasks.Relay formats.Sliced) file word are form refl)
+    by_command words (Some help) are form decides = absurd (no_task words _ (tasks.Relay formats.Sliced) file word are form refl)
+    by_command words (Some version) are form decides = absurd (no_task words _ (tasks.Relay formats.Sliced) file word are form refl)
     by_command words None are form decides = absurd cc
 
 pub relay_carries : (words : List Word) (files : Files) (input out : List ℕ) → IsBytes input → Decided words files input (done out) → Carries words files input out
@@ -72,6 +73,7 @@ done_at_zero usage e = absurd cc
 done_at_zero (no_such_name word) e = absurd cc
 done_at_zero (slice_refused broken) e = absurd cc
 done_at_zero (input_refused fault) e = absurd cc
+done_at_zero (json_refused why) e = absurd cc
 done_at_zero (too_long length) e = absurd cc
 done_at_zero needs_sliced e = absurd cc
 done_at_zero (text_refused place) e = absurd cc

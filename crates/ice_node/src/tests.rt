@@ -162,6 +162,31 @@ const CALLS: &[Call] = &[
         "",
     ),
     (&["proxy", ":tcp"], 4, "", "ice: text refused at 0\n"),
+    (
+        &["dump", "s.ice", "::T::Small"],
+        0,
+        "{\"instances\":[],\"roots\":{\"$value\":[7,8]}}\n",
+        "",
+    ),
+    (
+        &["dump", "s.ice", "int"],
+        4,
+        "",
+        "ice: input refused at 6: Short\n",
+    ),
+    (
+        &["encode", "s.ice", "::T::Small"],
+        4,
+        "",
+        "ice: text refused: NotJson\n",
+    ),
+    (
+        &["drill", "1", "2"],
+        0,
+        "nodes 2 reached 2 compact 29 sliced 42 same yes\n",
+        "",
+    ),
+    (&["drill", "1", "0"], 2, "", "ice: usage\n"),
     (&["messages"], 4, "", "ice: input refused at 0: BadMagic\n"),
 ];
 

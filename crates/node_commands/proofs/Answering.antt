@@ -1,18 +1,20 @@
 -- What the program did, from what its parts did.
-use Rattle.std.proofs.Common.{◌≡◌, ℕ, Bool, true, false, List, [], Option, Some, refl, inl, inr}
-use Rattle.ice_relay.specs.Streams.{TakesTwoFrugally}
-use Rattle.node_commands.specs.declared.words.Task.TheVariants as tasks
-use Rattle.node_commands.specs.Words.{Word, Command, values}
-use Rattle.node_commands.specs.Outside.{Files, Failures}
-use Rattle.node_commands.specs.Answers.{Answer, done, denied, usage, no_such_name, slice_refused, input_refused, too_long, needs_sliced, text_refused, read_failed, write_failed, no_memory, refused_after, read_failed_after, no_memory_after}
-use Rattle.node_commands.specs.Decided.{Decides}
-use Rattle.node_commands.specs.Causes.{Causes}
-use Rattle.node_commands.proofs.Telling.{to_be_written}
-use Rattle.node_commands.specs.Effects.{TakesInput, Takes, Outputs}
-use Rattle.node_commands.specs.declared.outcome.Outcome.{Outcome}
-use Rattle.node_commands.specs.declared.outcome.Outcome.TheVariants as outcomes
-use Rattle.node_commands.specs.Outcomes.{Prints, PrintsFor, answer_of, verdict, verdict_line}
-use Rattle.node_commands.proofs.Keeping.{keeps_itself}
+use Rattle.std.proofs.Common.{◌≡◌, ℕ, true, false, List, [], Option, Some, refl, inl, inr}
+use Rattle.command_words.specs.declared.words.Task.{Task}
+use Rattle.command_words.specs.Words.{Word, Command, values}
+use Rattle.command_answers.specs.Outside.{Files, Failures}
+use Rattle.command_answers.specs.Answers.{Answer, done, denied, usage, no_such_name, slice_refused, input_refused, json_refused, too_long, needs_sliced, text_refused, read_failed, write_failed, no_memory, refused_after, read_failed_after, no_memory_after}
+use Rattle.command_answers.specs.Decided.{Decides}
+use Rattle.command_answers.specs.Causes.{Causes}
+use Rattle.command_answers.proofs.Telling.{to_be_written}
+use Rattle.command_answers.proofs.Denying.{no_is_to_be_written}
+use Rattle.command_answers.specs.Effects.{TakesTask, TakesInput, Takes, Outputs}
+use Rattle.command_answers.specs.declared.found.Found.{Found}
+use Rattle.command_answers.specs.declared.found.Found.TheVariants as founds
+use Rattle.command_answers.specs.declared.outcome.Outcome.{Outcome}
+use Rattle.command_answers.specs.declared.outcome.Outcome.TheVariants as outcomes
+use Rattle.command_answers.specs.Outcomes.{Prints, PrintsFor, answer_of, verdict_line, found_answer, found_bytes, found_outcome}
+use Rattle.command_answers.proofs.Keeping.{keeps_itself}
 use Rattle.std.proofs.KnownBytes.{Appends-nil}
 
 -- what was decided was written, or a write of it failed
@@ -21,14 +23,14 @@ pub printed : (asked : Option Command) (files : Option Files) (input left : Opti
 printed asked files input left before after bytes outcome decided shelf source taken (inl p) = rw p.0 ((decided, (shelf, source, p.1)), taken)
 printed asked files input left before after bytes outcome decided shelf source taken (inr p) = rw p.0 ((to_be_written asked files input bytes decided, (shelf, source, p.1)), taken)
 
--- the verdict that was decided was written, or a write of it failed
-pub verdict_printed : (files : Option Files) (file word : Word) (input left : Option (List ℕ)) (before after : Failures) (same : Bool) (outcome : Outcome) → Decides (Some (values tasks.Same file word)) files input (answer_of (verdict same) (verdict_line same))
-    → after.shelf ≡ before.shelf → after.source ≡ before.source → TakesTwoFrugally input left → PrintsFor (verdict same) before.sink after.sink outcome
-    → Causes (Some (values tasks.Same file word)) files input before after (answer_of outcome (verdict_line same)) × Takes (Some (values tasks.Same file word)) input left (answer_of outcome (verdict_line same))
-verdict_printed files file word input left before after true outcome decided shelf source taken (inl p) = rw p.0 ((decided, (shelf, source, p.1)), taken)
-verdict_printed files file word input left before after false outcome decided shelf source taken (inl p) = rw p.0 ((decided, (shelf, source, p.1)), taken)
-verdict_printed files file word input left before after true outcome decided shelf source taken (inr p) = rw p.0 ((inl decided, (shelf, source, p.1)), taken)
-verdict_printed files file word input left before after false outcome decided shelf source taken (inr p) = rw p.0 ((inr decided, (shelf, source, p.1)), taken)
+-- what was found was written, or a write of it failed
+module _ (task : Task) (files : Option Files) (file word : Word) (input left : Option (List ℕ)) (before after : Failures) where
+  pub found_printed : (found : Found) (outcome : Outcome) → Decides (Some (values task file word)) files input (found_answer found) → after.shelf ≡ before.shelf → after.source ≡ before.source → TakesTask task input left → PrintsFor (found_outcome found) before.sink after.sink outcome
+      → Causes (Some (values task file word)) files input before after (answer_of outcome (found_bytes found)) × Takes (Some (values task file word)) input left (answer_of outcome (found_bytes found))
+  found_printed (founds.Bytes bytes) outcome decided shelf source taken prints = printed (Some (values task file word)) files input left before after bytes.items outcome decided shelf source taken prints
+  found_printed (founds.Verdict true) outcome decided shelf source taken prints = printed (Some (values task file word)) files input left before after (verdict_line true) outcome decided shelf source taken prints
+  found_printed (founds.Verdict false) outcome decided shelf source taken (inl p) = rw p.0 ((decided, (shelf, source, p.1)), taken)
+  found_printed (founds.Verdict false) outcome decided shelf source taken (inr p) = rw p.0 ((no_is_to_be_written task files input file word (verdict_line false) decided, (shelf, source, p.1)), taken)
 
 -- a command that takes nothing of the input does so whatever the answer
 pub takes_nothing : (asked : Option Command) (old : Option (List ℕ)) → TakesInput asked old old → (answer : Answer) → Takes asked old old answer
@@ -38,6 +40,7 @@ takes_nothing asked old none usage = keeps_itself old
 takes_nothing asked old none (no_such_name word) = keeps_itself old
 takes_nothing asked old none (slice_refused broken) = keeps_itself old
 takes_nothing asked old none (input_refused fault) = none
+takes_nothing asked old none (json_refused why) = none
 takes_nothing asked old none (too_long length) = none
 takes_nothing asked old none needs_sliced = none
 takes_nothing asked old none (text_refused place) = keeps_itself old
@@ -56,6 +59,7 @@ outputs_nothing old outcomes.Usage = keeps_itself old
 outputs_nothing old (outcomes.NoSuchName word) = keeps_itself old
 outputs_nothing old (outcomes.SliceRefused file place kind) = keeps_itself old
 outputs_nothing old (outcomes.InputRefused fault) = keeps_itself old
+outputs_nothing old (outcomes.JsonRefused why) = keeps_itself old
 outputs_nothing old outcomes.NeedsSliced = keeps_itself old
 outputs_nothing old (outcomes.TooLong length) = keeps_itself old
 outputs_nothing old (outcomes.TextRefused place) = keeps_itself old

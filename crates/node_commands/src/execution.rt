@@ -1,30 +1,20 @@
 //! What the words ask for, and what came of it.
 
-ghost use Rattle.std.specs.Prelude.{◌≡◌, List, ℕ, Option};
-ghost use Rattle.node_commands.specs.Words.{Word, Command as Asked, Asks, words_of};
-ghost use Rattle.node_commands.specs.Outside.{Files, counts};
-ghost use Rattle.node_commands.specs.Answers.{Answer};
-ghost use Rattle.node_commands.specs.Decided.{Decided};
-ghost use Rattle.node_commands.specs.Causes.{Causes};
-ghost use Rattle.node_commands.specs.Effects.{Takes, Outputs};
-ghost use Rattle.node_commands.specs.Outcomes.{answer_of};
+ghost use Rattle.std.specs.Prelude.{List, ℕ, Option};
+ghost use Rattle.command_words.specs.Words.{Command as Asked, Asks, words_of};
+ghost use Rattle.command_answers.specs.Outside.{counts};
+ghost use Rattle.command_answers.specs.Causes.{Causes};
+ghost use Rattle.command_answers.specs.Effects.{Takes, Outputs};
+ghost use Rattle.command_answers.specs.Outcomes.{answer_of};
 
-use crate::check::check;
-use crate::help::{HELP, VERSION};
+use crate::drill::drill;
 use crate::messages::messages;
-use crate::outcome::Outcome;
-use crate::output::{print, print_verdict};
 use crate::proxy::proxy;
-use crate::relay::{relay, same};
-use crate::words::{Command, Task, command_of};
+use command_answers::{HELP, Outcome, VERSION, print, print_found};
+use command_words::{Command, command_of};
+use file_commands::{check, found_of};
 use ice_ports::{Shelf, Sink, Source};
 use std::alloc::Global;
-
-/// Words, files and an input decide at most one answer.
-pub fn answers_apart()
-    ensures { (words : List Word) (files : Files) (input : List ℕ) (a b : Answer)
-        → Decided words files input a → Decided words files input b → a ≡ b }
-{}
 
 /// Does what the words ask for, up to the answer's last byte: reads Slice files from the shelf and the input from the
 /// source, and writes the answer to the sink. What came of it is told, for the line on why there is no answer.
@@ -44,22 +34,22 @@ pub fn run<'a, H: Shelf, S: Source, K: Sink>(
         × Outputs (K.taken sink.old) (K.taken sink.new) (answer_of result bytes) }
 {
     match command_of(words) {
-        Some(Command::Values { task, file, kind }) => match task {
-            Task::Relay(format) => match relay(alloc, format, file, kind, shelf, source) {
-                Ok(bytes) => print(bytes.as_slice(), sink),
+        Some(Command::Values { task, file, kind }) => {
+            match found_of(alloc, task, file, kind, shelf, source) {
+                Ok(found) => print_found(found, sink),
                 Err(outcome) => outcome,
-            },
-            Task::Same => match same(alloc, file, kind, shelf, source) {
-                Ok(is_same) => print_verdict(is_same, sink),
-                Err(outcome) => outcome,
-            },
-        },
+            }
+        }
         Some(Command::Check { file }) => match check(alloc, file, shelf) {
             Ok(text) => print(text.as_bytes(), sink),
             Err(outcome) => outcome,
         },
         Some(Command::Proxy { text }) => match proxy(alloc, text) {
             Ok(lines) => print(lines.as_slice(), sink),
+            Err(outcome) => outcome,
+        },
+        Some(Command::Drill { start, count }) => match drill(alloc, start, count) {
+            Ok(line) => print(line.as_bytes(), sink),
             Err(outcome) => outcome,
         },
         Some(Command::Messages) => messages(alloc, source, sink),

@@ -1,20 +1,11 @@
-//! The words of the command line, and what the program does for them.
+//! What the program does for the words of the command line.
 #![tactic(auto)]
 
-mod check;
+mod drill;
 mod execution;
-mod help;
-mod loading;
 mod messages;
-mod outcome;
-mod output;
 mod proxy;
-mod relay;
-mod type_words;
-mod words;
 
-pub use execution::{answers_apart, run};
-pub use help::{HELP, VERSION};
-pub use outcome::{Line, Outcome};
-pub use output::{print, report};
-pub use words::{Command, command_of, forms_apart};
+pub use command_answers::{HELP, Line, Outcome, VERSION, answers_apart, print, report};
+pub use command_words::{Command, command_of, forms_apart};
+pub use execution::run;

@@ -1,40 +1,27 @@
 use Rattle.std.proofs.Common.{[], Some, string_bytes, refl}
-use Rattle.node_commands.specs.declared.words.Task.TheVariants as tasks
-use Rattle.node_commands.specs.Words.{values, check, proxy, messages, help}
-use Rattle.node_commands.specs.declared.help.TheConstants.{HELP}
-use Rattle.node_commands.specs.Outside.{counts}
-use Rattle.node_commands.specs.Outcomes.{answer_of, verdict_line}
-use Rattle.node_commands.proofs.Answering.{printed, verdict_printed, outputs_nothing, takes_nothing}
-use Rattle.node_commands.proofs.Keeping.{keeps_itself}
+use Rattle.command_words.specs.Words.{values, check, proxy, drill, messages, help}
+use Rattle.command_answers.specs.declared.help.TheConstants.{HELP}
+use Rattle.command_answers.specs.Outside.{counts}
+use Rattle.command_answers.specs.Outcomes.{answer_of, found_bytes}
+use Rattle.node_commands.proofs.Answering.{printed, found_printed, outputs_nothing, takes_nothing}
+use Rattle.command_answers.proofs.Keeping.{keeps_itself}
 use Rattle.node_commands.proofs.execution.run.Goals as goal
 
 pub returns-in-Ok : goal.returns-in-Ok
 returns-in-Ok g c =
     let found = c.in-Ok.ensures.found (g.K.Sink.failures c.args.sink.now) in
-    let asked = Some (values (tasks.Relay c.in-Relay.format) c.in-Some-Values.file.now c.in-Some-Values.kind.now) in
-    let came = printed asked (g.H.Shelf.files c.args.shelf.now) (g.S.Source.left c.args.source.now) (g.S.Source.left c.relay.new.source)
-    (record { shelf = g.H.Shelf.failures c.args.shelf.now; source = g.S.Source.failures c.args.source.now; sink = g.K.Sink.failures c.args.sink.now })
-    (record { shelf = g.H.Shelf.failures c.relay.new.shelf; source = g.S.Source.failures c.relay.new.source; sink = g.K.Sink.failures c.print.new.sink })
-    c.in-Ok.bytes.items c.print.result found.0 found.1.0 found.1.1 c.in-Ok.ensures.taken c.print.ensures.outcome in
-    (c.in-Ok.bytes.items, asked, (rw (c.in-Some-Values.field-0-is, c.in-Relay.is) at c.in-Some-Values.ensures), came.0, came.1, (rw c.as_slice.ensures.value at c.print.ensures.output))
+    let task = c.in-Some-Values.task in
+    let file = c.in-Some-Values.file.now in
+    let word = c.in-Some-Values.kind.now in
+    let came = found_printed task (g.H.Shelf.files c.args.shelf.now) file word (g.S.Source.left c.args.source.now) (g.S.Source.left c.found_of.new.source)
+    (counts (g.H.Shelf.failures c.args.shelf.now) (g.S.Source.failures c.args.source.now) (g.K.Sink.failures c.args.sink.now))
+    (counts (g.H.Shelf.failures c.found_of.new.shelf) (g.S.Source.failures c.found_of.new.source) (g.K.Sink.failures c.print_found.new.sink))
+    c.in-Ok.found c.print_found.result found.0 found.1.0 found.1.1 c.in-Ok.ensures.taken c.print_found.ensures.outcome in
+    (found_bytes c.in-Ok.found, Some (values task file word), (rw c.in-Some-Values.field-0-is at c.in-Some-Values.ensures), came.0, came.1, c.print_found.ensures.output)
 
 pub returns-in-Err : goal.returns-in-Err
 returns-in-Err g c =
-    ([], Some (values (tasks.Relay c.in-Relay.format) c.in-Some-Values.file.now c.in-Some-Values.kind.now), (rw (c.in-Some-Values.field-0-is, c.in-Relay.is) at c.in-Some-Values.ensures), c.in-Err.ensures.found (g.K.Sink.failures c.args.sink.now), c.in-Err.ensures.taken, outputs_nothing (g.K.Sink.taken c.args.sink.now) c.in-Err.outcome)
-
-pub returns-in-Ok-same : goal.returns-in-Ok-same
-returns-in-Ok-same g c =
-    let found = c.in-Ok-same.ensures.found (g.K.Sink.failures c.args.sink.now) in
-    let asked = Some (values tasks.Same c.in-Some-Values.file.now c.in-Some-Values.kind.now) in
-    let came = verdict_printed (g.H.Shelf.files c.args.shelf.now) c.in-Some-Values.file.now c.in-Some-Values.kind.now (g.S.Source.left c.args.source.now) (g.S.Source.left c.same.new.source)
-    (record { shelf = g.H.Shelf.failures c.args.shelf.now; source = g.S.Source.failures c.args.source.now; sink = g.K.Sink.failures c.args.sink.now })
-    (record { shelf = g.H.Shelf.failures c.same.new.shelf; source = g.S.Source.failures c.same.new.source; sink = g.K.Sink.failures c.print_verdict.new.sink })
-    c.in-Ok-same.is_same c.print_verdict.result found.0 found.1.0 found.1.1 c.in-Ok-same.ensures.taken c.print_verdict.ensures.outcome in
-    (verdict_line c.in-Ok-same.is_same, asked, (rw (c.in-Some-Values.field-0-is, c.in-Same.is) at c.in-Some-Values.ensures), came.0, came.1, c.print_verdict.ensures.output)
-
-pub returns-in-Err-same : goal.returns-in-Err-same
-returns-in-Err-same g c =
-    ([], Some (values tasks.Same c.in-Some-Values.file.now c.in-Some-Values.kind.now), (rw (c.in-Some-Values.field-0-is, c.in-Same.is) at c.in-Some-Values.ensures), c.in-Err-same.ensures.found (g.K.Sink.failures c.args.sink.now), c.in-Err-same.ensures.taken, outputs_nothing (g.K.Sink.taken c.args.sink.now) c.in-Err-same.outcome)
+    ([], Some (values c.in-Some-Values.task c.in-Some-Values.file.now c.in-Some-Values.kind.now), (rw c.in-Some-Values.field-0-is at c.in-Some-Values.ensures), c.in-Err.ensures.found (g.K.Sink.failures c.args.sink.now), c.in-Err.ensures.taken, outputs_nothing (g.K.Sink.taken c.args.sink.now) c.in-Err.outcome)
 
 pub returns-in-Ok-check : goal.returns-in-Ok-check
 returns-in-Ok-check g c =
@@ -43,9 +30,9 @@ returns-in-Ok-check g c =
     let asked = Some (check c.in-Some-Check.file.now) in
     let came = printed asked (g.H.Shelf.files c.args.shelf.now) input input
     (record { shelf = g.H.Shelf.failures c.args.shelf.now; source = g.S.Source.failures c.args.source.now; sink = g.K.Sink.failures c.args.sink.now })
-    (record { shelf = g.H.Shelf.failures c.check.new.shelf; source = g.S.Source.failures c.args.source.now; sink = g.K.Sink.failures c.print-in-Ok-check.new.sink })
-    (string_bytes c.in-Ok-check.text) c.print-in-Ok-check.result found.0 found.1.0 found.1.1 (keeps_itself input) c.print-in-Ok-check.ensures.outcome in
-    (string_bytes c.in-Ok-check.text, asked, (rw c.in-Some-Check.field-0-is at c.in-Some-Check.ensures), came.0, came.1, (rw c.as_bytes.ensures.value at c.print-in-Ok-check.ensures.output))
+    (record { shelf = g.H.Shelf.failures c.check.new.shelf; source = g.S.Source.failures c.args.source.now; sink = g.K.Sink.failures c.print.new.sink })
+    (string_bytes c.in-Ok-check.text) c.print.result found.0 found.1.0 found.1.1 (keeps_itself input) c.print.ensures.outcome in
+    (string_bytes c.in-Ok-check.text, asked, (rw c.in-Some-Check.field-0-is at c.in-Some-Check.ensures), came.0, came.1, (rw c.as_bytes.ensures.value at c.print.ensures.output))
 
 pub returns-in-Err-check : goal.returns-in-Err-check
 returns-in-Err-check g c =
@@ -71,7 +58,7 @@ returns-in-Ok-proxy g c =
     let found = c.in-Ok-proxy.ensures files input before in
     let asked = Some (proxy c.in-Some-Proxy.text.now) in
     let came = printed asked files input input before after c.in-Ok-proxy.lines.items c.print-in-Ok-proxy.result found.0 refl refl (keeps_itself input) c.print-in-Ok-proxy.ensures.outcome in
-    (c.in-Ok-proxy.lines.items, asked, (rw c.in-Some-Proxy.field-0-is at c.in-Some-Proxy.ensures), came.0, came.1, (rw c.as_slice-in-Ok-proxy.ensures.value at c.print-in-Ok-proxy.ensures.output))
+    (c.in-Ok-proxy.lines.items, asked, (rw c.in-Some-Proxy.field-0-is at c.in-Some-Proxy.ensures), came.0, came.1, (rw c.as_slice.ensures.value at c.print-in-Ok-proxy.ensures.output))
 
 pub returns-in-Err-proxy : goal.returns-in-Err-proxy
 returns-in-Err-proxy g c =
@@ -80,6 +67,31 @@ returns-in-Err-proxy g c =
     let before = counts (g.H.Shelf.failures c.args.shelf.now) (g.S.Source.failures c.args.source.now) (g.K.Sink.failures c.args.sink.now) in
     let asked = Some (proxy c.in-Some-Proxy.text.now) in
     ([], asked, (rw c.in-Some-Proxy.field-0-is at c.in-Some-Proxy.ensures), c.in-Err-proxy.ensures files input before, takes_nothing asked input (keeps_itself input) (answer_of c.in-Err-proxy.outcome []), outputs_nothing (g.K.Sink.taken c.args.sink.now) c.in-Err-proxy.outcome)
+
+pub drill-requires-clause-some : goal.drill-requires-clause-some
+drill-requires-clause-some g c = (rw c.in-Some-Drill.field-0-is at c.in-Some-Drill.ensures).2
+
+pub drill-requires-clause-few : goal.drill-requires-clause-few
+drill-requires-clause-few g c = (rw c.in-Some-Drill.field-0-is at c.in-Some-Drill.ensures).3
+
+pub returns-in-Ok-drill : goal.returns-in-Ok-drill
+returns-in-Ok-drill g c =
+    let files = g.H.Shelf.files c.args.shelf.now in
+    let input = g.S.Source.left c.args.source.now in
+    let before = counts (g.H.Shelf.failures c.args.shelf.now) (g.S.Source.failures c.args.source.now) (g.K.Sink.failures c.args.sink.now) in
+    let after = counts (g.H.Shelf.failures c.args.shelf.now) (g.S.Source.failures c.args.source.now) (g.K.Sink.failures c.print-in-Ok-drill.new.sink) in
+    let found = c.in-Ok-drill.ensures files input before in
+    let asked = Some (drill c.in-Some-Drill.start c.in-Some-Drill.count) in
+    let came = printed asked files input input before after (string_bytes c.in-Ok-drill.line) c.print-in-Ok-drill.result found.0 refl refl (keeps_itself input) c.print-in-Ok-drill.ensures.outcome in
+    (string_bytes c.in-Ok-drill.line, asked, (rw c.in-Some-Drill.field-0-is at c.in-Some-Drill.ensures), came.0, came.1, (rw c.as_bytes-in-Ok-drill.ensures.value at c.print-in-Ok-drill.ensures.output))
+
+pub returns-in-Err-drill : goal.returns-in-Err-drill
+returns-in-Err-drill g c =
+    let files = g.H.Shelf.files c.args.shelf.now in
+    let input = g.S.Source.left c.args.source.now in
+    let before = counts (g.H.Shelf.failures c.args.shelf.now) (g.S.Source.failures c.args.source.now) (g.K.Sink.failures c.args.sink.now) in
+    let asked = Some (drill c.in-Some-Drill.start c.in-Some-Drill.count) in
+    ([], asked, (rw c.in-Some-Drill.field-0-is at c.in-Some-Drill.ensures), c.in-Err-drill.ensures files input before, takes_nothing asked input (keeps_itself input) (answer_of c.in-Err-drill.outcome []), outputs_nothing (g.K.Sink.taken c.args.sink.now) c.in-Err-drill.outcome)
 
 pub returns-in-Some-Messages : goal.returns-in-Some-Messages
 returns-in-Some-Messages g c =

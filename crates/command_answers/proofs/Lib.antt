@@ -1,0 +1,4 @@
+pub mod Keeping
+pub mod Telling
+pub mod OneAnswer
+pub mod Denying

@@ -1,5 +1,0 @@
-use Rattle.node_commands.proofs.OneAnswer.{answers_apart}
-use Rattle.node_commands.proofs.execution.answers_apart.Goals as goal
-
-pub returns : goal.returns
-returns c = answers_apart
