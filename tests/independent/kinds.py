@@ -22,6 +22,7 @@ class Kind:
     may_be_key: bool = False
     has_classes: bool = False  # whether values of it may hold references to instances
     numbers: frozenset = frozenset()  # of the enumerators of an enum
+    names: tuple = ()  # of the members of a struct, and of the enumerators of an enum in the order of their numbers
     class_: "Class | None" = None  # the declared class of a reference; none: any may stand
 
 
@@ -33,6 +34,8 @@ class Class:
     base: "Class | None" = None
     required: list = field(default_factory=list)  # the kinds of the members without a tag
     optional: dict = field(default_factory=dict)  # the kinds of the others by their tags, which rise
+    required_names: list = field(default_factory=list)  # in the same order
+    optional_names: dict = field(default_factory=dict)  # by their tags
 
     def is_a(self, other):
         """Says whether the class is the other one or derived from it."""
@@ -61,7 +64,7 @@ def dictionary(key, value):
     return Kind("dictionary", (key, value), max(key.depth, value.depth) + 2, has_classes=value.has_classes)
 
 
-def struct(members):
+def struct(members, names=()):
     """Returns a struct. One without members is none, but has its place where the rules are looked at."""
     return Kind(
         "struct",
@@ -70,11 +73,12 @@ def struct(members):
         sum(it.smallest for it in members),
         all(it.may_be_key for it in members),
         any(it.has_classes for it in members),
+        names=tuple(names),
     )
 
 
-def enum(numbers):
-    return Kind("enum", may_be_key=True, numbers=frozenset(numbers))
+def enum(numbers, names=()):
+    return Kind("enum", may_be_key=True, numbers=frozenset(numbers), names=tuple(names))
 
 
 def class_():

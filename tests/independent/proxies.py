@@ -91,7 +91,7 @@ def parts_of(word, parter=None):
     text = word[1:-1] if word[:1] == b'"' else word
     if word[:1] == b'"' and (len(word) < 2 or word[-1] != QUOTE):
         return None
-    parts, at = [b""], 0
+    parts, at = [bytearray()], 0
     while at < len(text):
         if text[at] == QUOTE:
             return None
@@ -103,11 +103,11 @@ def parts_of(word, parter=None):
             at = given[1]
             continue
         if text[at] == parter:
-            parts.append(b"")
+            parts.append(bytearray())
         else:
             parts[-1] += text[at : at + 1]
         at += 1
-    return parts if all(is_utf8(it) for it in parts) else None
+    return [bytes(it) for it in parts] if all(is_utf8(it) for it in parts) else None
 
 
 def is_utf8(text):

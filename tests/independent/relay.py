@@ -1,6 +1,8 @@
-"""The answers that `ice check FILE`, `ice relay [--compact] FILE TYPE`, `ice same FILE TYPE` and `ice proxy TEXT` have to give: status,
-standard output, and the line on standard error."""
+"""The answers that `ice check FILE`, `ice relay [--compact] FILE TYPE`, `ice same FILE TYPE`, `ice dump FILE TYPE`,
+`ice encode [--compact] FILE TYPE` and `ice proxy TEXT` have to give: status, standard output, and the line on standard error."""
 import graphs
+import json_notation
+import json_texts
 import kinds
 import loading
 import names
@@ -10,6 +12,8 @@ import values
 
 # The most bytes of a word of the command line.
 MOST_OF_A_WORD = 8_192
+# The most bytes of a text of JSON.
+MOST_OF_JSON = 16_777_216
 
 
 def refused_slice(why):
@@ -47,13 +51,22 @@ def schema_of(shelf, file):
         raise Unread(refused_slice(why), str(why)) from None
 
 
-def read(schema, word, data, count):
-    """Returns the type and the graphs of an input of so many encapsulations."""
+def named_kind(schema, word):
     kind = kind_of(schema, word)
     if kind is None:
         raise Unread((2, b"", b"ice: no such name " + word.encode() + b"\n"), "no such name")
+    return kind
+
+
+def classes_of(schema):
+    return [it.kind.class_ for it in schema.rules.classes]
+
+
+def read(schema, word, data, count):
+    """Returns the type and the graphs of an input of so many encapsulations."""
+    kind = named_kind(schema, word)
     try:
-        return kind, graphs.decode_all(data, count, kind, [it.kind.class_ for it in schema.rules.classes])
+        return kind, graphs.decode_all(data, count, kind, classes_of(schema))
     except values.Fault as why:
         raise Unread((4, b"", f"ice: input refused at {why.place}: {why.kind}\n".encode()), str(why)) from None
 
@@ -89,6 +102,53 @@ def same_of(schema, word, data):
     if sameness.is_same(*both, kind):
         return (0, b"same\n", b""), "same"
     return (1, b"different\n", b""), "different"
+
+
+def dump(shelf, file, word, data):
+    """Returns likewise the answer to what a value is in JSON."""
+    try:
+        return dump_of(schema_of(shelf, file), word, data)
+    except Unread as unread:
+        return unread.args
+
+
+def dump_of(schema, word, data):
+    kind, (graph,) = read(schema, word, data, 1)
+    return (0, json_notation.note(graph, kind) + b"\n", b""), ""
+
+
+def refused_text(kind, why):
+    return Unread((4, b"", f"ice: text refused: {kind}\n".encode()), f"{kind}: {why}")
+
+
+def graph_noted(schema, kind, text):
+    """Returns the graph that a text of JSON notes."""
+    if len(text) > MOST_OF_JSON:
+        raise refused_text("TooLong", len(text))
+    try:
+        told = json_texts.read(text)
+    except json_texts.NotJson as why:
+        raise refused_text("NotJson", why) from None
+    if json_notation.is_too_many(told):
+        raise refused_text("TooMany", len(told["instances"]))
+    try:
+        return json_notation.graph_of(told, kind, classes_of(schema))
+    except json_notation.Misfit as why:
+        raise refused_text("Misfit", why) from None
+
+
+def encode(shelf, file, word, text, is_compact=False):
+    """Returns likewise the answer to what the bytes of a value in JSON are."""
+    try:
+        return encode_of(schema_of(shelf, file), word, text, is_compact)
+    except Unread as unread:
+        return unread.args
+
+
+def encode_of(schema, word, text, is_compact=False):
+    kind = named_kind(schema, word)
+    graph = graph_noted(schema, kind, text)
+    return written_answer(graphs.encode_compact(graph, kind) if is_compact else graphs.encode(graph, kind))
 
 
 def proxy(text):

@@ -214,7 +214,7 @@ class Rules:
     # Enums and structs
 
     def enum(self, item):
-        distinct, numbers, last = Distinct(self.faults), set(), -1
+        distinct, numbers, last = Distinct(self.faults), {}, -1
         if not item.entries:
             self.faults.add(item.word.place, "NoMembers")
         for word, value in item.entries:
@@ -224,15 +224,16 @@ class Rules:
                 self.faults.add(value.place if value else word.place, "BadValue")
             if number is None:
                 break
-            numbers.add(number)
+            numbers[number] = word.name
             last = number
-        kind = kinds.enum(numbers)
+        kind = kinds.enum(numbers, [numbers[it] for it in sorted(numbers)])
         self.define(item.word, names.Enum(kind, {word.name: names.Enumerator(kind) for word, _ in item.entries}))
         self.enumerators[kind] = {word.name for word, _ in item.entries}
         self.counts["types"] += 1
 
     def fields(self, fields):
-        """Looks at the members of a definition, and returns the tag, or None, and the kind of those whose types have no fault."""
+        """Looks at the members of a definition, and returns the tag, or None, the kind and the name of those whose types have
+        no fault."""
         distinct, tags, found = Distinct(self.faults), Tags(self), []
         for it in fields:
             if it.tag:
@@ -241,13 +242,14 @@ class Rules:
             distinct.take(it.word)
             if kind and it.value:
                 self.value(it.value, kind)
-            found += [(self.tag(it.tag) if it.tag else None, kind)] if kind else []
+            found += [(self.tag(it.tag) if it.tag else None, kind, it.word.name)] if kind else []
         return found
 
     def struct(self, item):
         if not item.fields:
             self.faults.add(item.word.place, "NoMembers")
-        self.define_type(item.word, kinds.struct([kind for _, kind in self.fields(item.fields)]))
+        members = self.fields(item.fields)
+        self.define_type(item.word, kinds.struct([kind for _, kind, _ in members], [name for *_, name in members]))
 
     # Classes, exceptions and interfaces
 
@@ -265,8 +267,10 @@ class Rules:
         """Looks at the members of a class or an exception, and gives the row what it has."""
         members = self.fields(item.fields)
         row.type_id, row.base = self.names.type_id(item.word.name).encode(), base
-        row.required = [kind for tag, kind in members if tag is None]
-        row.optional = dict(sorted([it for it in members if it[0] is not None], key=lambda it: it[0]))
+        row.required = [kind for tag, kind, _ in members if tag is None]
+        row.required_names = [name for tag, _, name in members if tag is None]
+        row.optional = dict(sorted([it[:2] for it in members if it[0] is not None], key=lambda it: it[0]))
+        row.optional_names = {tag: name for tag, _, name in members if tag is not None}
 
     def exception(self, item):
         base = self.found(item.base, names.Exception_) if item.base else None
