@@ -1,10 +1,13 @@
 """The program that tests and benchmarks try."""
 import os
+import resource
+import signal
 import subprocess
 
 TOP = os.path.dirname(os.path.dirname(os.path.realpath(__file__)))
 # The launcher's status where it could not build the program.
 NOT_BUILT = 70
+SECONDS, WAITED = 20, 600
 
 
 def built_program():
@@ -15,6 +18,29 @@ def built_program():
         ran = subprocess.run([f"{TOP}/ice", "--version"], stdin=subprocess.DEVNULL, stdout=subprocess.DEVNULL)
         program = f"{TOP}/crates/ice/out/ice" if ran.returncode != NOT_BUILT else ""
     return os.path.abspath(program) if os.path.exists(program) else None
+
+
+def answer_of(command, data, folder, changed):
+    """Returns the status, standard output and standard error of a command, on this input, in this folder and in an
+    environment that is so changed. The status is a text where it takes SECONDS of processor time, or has not ended after
+    WAITED seconds: on a busy machine a run may wait long."""
+
+    def limited():
+        resource.setrlimit(resource.RLIMIT_CPU, (SECONDS, SECONDS))
+
+    given = {"input": data, "capture_output": True, "cwd": folder, "timeout": WAITED, "preexec_fn": limited}
+    try:
+        ran = subprocess.run(command, env={**os.environ, **changed}, **given)
+    except subprocess.TimeoutExpired:
+        return "none in time", b"", b""
+    is_over = ran.returncode in (-signal.SIGXCPU, -signal.SIGKILL)
+    return "none in time" if is_over else ran.returncode, ran.stdout, ran.stderr
+
+
+def commands_of(program):
+    """Returns the commands that a program lists in its help."""
+    told = subprocess.run([program, "--help"], stdin=subprocess.DEVNULL, capture_output=True, text=True).stdout
+    return {it.split()[0] for it in told.splitlines() if it[:2] == "  " and it[2:3].islower()}
 
 
 def changed_last():
