@@ -9,10 +9,10 @@ use Rattle.graph_arena.specs.declared.value.Value.TheVariants as variants
 use Rattle.graph_arena.specs.View.{view, view_all, view_pairs}
 use Rattle.graph_arena.proofs.Shapes.{view_dict}
 
-zero_first : (n : ℕ) → nat_cmp 0 (suc n) ≡ Less
+pub zero_first : (n : ℕ) → nat_cmp 0 (suc n) ≡ Less
 zero_first n = search rules
 
-both_more : (m n : ℕ) → nat_cmp (suc m) (suc n) ≡ nat_cmp m n
+pub both_more : (m n : ℕ) → nat_cmp (suc m) (suc n) ≡ nat_cmp m n
 both_more m n = search rules
 
 -- where the first list is at its end

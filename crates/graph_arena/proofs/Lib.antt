@@ -1,5 +1,6 @@
 pub mod Shapes
 pub mod Comparisons
+pub mod ByteTrees
 pub mod Rising
 pub mod Sorting
 pub mod SortedLaws

@@ -1,11 +1,15 @@
 -- Values with other names, put where they stand, the first first.
-use Rattle.std.proofs.Common.{◌≡◌, ◌≤◌, ℕ, List, [], ◌∷◌, ◌++◌, map, take, drop, length, zero, suc, arith, refl, sym, ap, ◌∙◌}
-use Rattle.ice_encoding.specs.Tree.{Tree, tree, entry}
+use Rattle.std.proofs.Common.{◌≡◌, ◌≤◌, ℕ, List, [], ◌∷◌, ◌++◌, map, take, drop, length, zero, suc, append-nil, arith, refl, sym, ap, ◌∙◌}
+use Rattle.std.specs.List.{refill}
+use Rattle.std.proofs.Math.Seq.{take-length, drop-length}
+use Rattle.ice_encoding.specs.Tree.{Tree, sequence, dictionary, struct, tree, entry}
 use Rattle.ice_optionals.specs.Optionals.{Present}
 use Rattle.ice_graphs.specs.Graph as graphs
 use Rattle.ice_graphs.specs.Names.{renamed, renamed_each, renamed_pairs, renamed_present, renamed_slice}
 use Rattle.graph_arena.specs.declared.instance.Slice.{Slice}
 use Rattle.graph_arena.specs.declared.value.Value.{Value}
+use Rattle.graph_arena.specs.declared.value.Value.TheVariants as variants
+use Rattle.graph_arena.proofs.Shapes.{view_seq, view_dict, view_members}
 use Rattle.graph_arena.specs.View.{view, view_all, view_pair, view_pairs, trees_of, entries_of}
 use Rattle.graph_arena.specs.Seen.{view_option, view_present, view_slice, view_slices}
 
@@ -26,6 +30,11 @@ itself n = n
 map-itself : (ns : List ℕ) → map itself ns ≡ ns
 map-itself [] = refl
 map-itself (n ∷ ns) = ap (λ (l : List ℕ). n ∷ l) (map-itself ns)
+
+refilled : {A : Type 0} (xs ws : List A) → length ws ≡ length xs → refill (length xs) xs ws ≡ ws
+refilled xs ws same =
+    let none_left : drop (length ws) xs ≡ [] = ap (λ (n : ℕ). drop n xs) same ∙ drop-length xs in
+    ap (λ (l : List _). take (length xs) (ws ++ l)) none_left ∙ (ap (take (length xs)) (append-nil ws) ∙ (ap (λ (n : ℕ). take n ws) (sym same) ∙ take-length ws))
 
 module _ (f : ℕ → ℕ) where
   abbrev pub renamed_view : Value → Tree
@@ -76,3 +85,17 @@ module _ (f : ℕ → ℕ) where
 
   pub slices-put : (slices now : List Slice) (n : ℕ) → length now ≤ n → so_far slice_renamed view_slice now n ≡ map slice_renamed slices → view_slices now ≡ map (renamed_slice f) (view_slices slices)
   slices-put slices now n le all = sym (all-put slice_renamed view_slice now n le) ∙ (all ∙ slices-are slices)
+
+  -- ---- where a list's items were lent and come back
+
+  pub seq-put : (items new : List Value) → length new ≡ length items → view_all new ≡ renamed_each f (view_all items) → view (variants.Seq (refill (length items) items new)) ≡ renamed f (view (variants.Seq items))
+  seq-put items new same put =
+      ap (λ (l : List Value). view (variants.Seq l)) (refilled items new same) ∙ (view_seq new ∙ (ap sequence put ∙ ap (renamed f) (sym (view_seq items))))
+
+  pub members-put : (items new : List Value) → length new ≡ length items → view_all new ≡ renamed_each f (view_all items) → view (variants.Members (refill (length items) items new)) ≡ renamed f (view (variants.Members items))
+  members-put items new same put =
+      ap (λ (l : List Value). view (variants.Members l)) (refilled items new same) ∙ (view_members new ∙ (ap struct put ∙ ap (renamed f) (sym (view_members items))))
+
+  pub dict-put : (pairs new : List (Value × Value)) → length new ≡ length pairs → view_pairs new ≡ renamed_pairs f (view_pairs pairs) → view (variants.Pairs (refill (length pairs) pairs new)) ≡ renamed f (view (variants.Pairs pairs))
+  dict-put pairs new same put =
+      ap (λ (l : List (Value × Value)). view (variants.Pairs l)) (refilled pairs new same) ∙ (view_dict new ∙ (ap dictionary put ∙ ap (renamed f) (sym (view_dict pairs))))

@@ -1,5 +1,5 @@
 -- A value without where it lies in memory.
-use Rattle.std.specs.Prelude.{List, [], ◌∷◌, map, Option}
+use Rattle.std.specs.Prelude.{ℕ, List, [], ◌∷◌, map, Option}
 use Rattle.std.specs.Option.{option_map}
 use Rattle.std.specs.declared.boxed.Box.{Box}
 use Rattle.std.specs.declared.alloc.Global.{Global}
@@ -20,6 +20,10 @@ entries_of (p ∷ ps) = entry p.0 p.1 (entries_of ps)
 abbrev pub unboxed : Option (Box Proxy Global) → Option Proxy
 unboxed p = option_map (λ b. b.value) p
 
+-- bytes as the items of a sequence
+abbrev pub byte_trees : List ℕ → Trees
+byte_trees bytes = trees_of (map byte bytes)
+
 -- one level, whose parts are seen as trees already
 abbrev pub view_step : Value-F Tree → Tree
 view_step (Value-F.Bool b) = boolean b
@@ -29,6 +33,7 @@ view_step (Value-F.Int z) = int z
 view_step (Value-F.Long z) = long z
 view_step (Value-F.Text s) = text s
 view_step (Value-F.Seq items) = sequence (trees_of items)
+view_step (Value-F.Bytes bytes) = sequence (byte_trees bytes)
 view_step (Value-F.Pairs pairs) = dictionary (entries_of pairs)
 view_step (Value-F.Members items) = struct (trees_of items)
 view_step (Value-F.Enum n) = enumerator n

@@ -6,7 +6,8 @@ ghost use Rattle.std.specs.Prelude.{◌≡◌, Some, refl};
 ghost use Rattle.std.specs.Ordering.{eq_by_cmp, on};
 ghost use Rattle.ice_encoding.specs.Order.{rank, tree_cmp, trees_cmp, entries_cmp};
 ghost use Rattle.ice_encoding.specs.Port.{size_of};
-ghost use Rattle.graph_arena.specs.View.{view, view_all, view_pairs};
+ghost use Rattle.ice_encoding.specs.Tree.{byte};
+ghost use Rattle.graph_arena.specs.View.{byte_trees, view, view_all, view_pairs};
 ghost use Rattle.graph_arena.specs.Comparing.{values_alike, values_equal, values_partial, values_total};
 
 use crate::Value;
@@ -63,6 +64,9 @@ fn compare(a: &Value, b: &Value) -> Ordering
         (Value::Long(a), Value::Long(b)) => a.cmp(b),
         (Value::Text(a), Value::Text(b)) => a.as_str().cmp(b.as_str()),
         (Value::Seq(a), Value::Seq(b)) => compare_each(a.as_slice(), b.as_slice()),
+        (Value::Bytes(a), Value::Bytes(b)) => a.as_slice().cmp(b.as_slice()),
+        (Value::Bytes(a), Value::Seq(b)) => compare_bytes(a.as_slice(), b.as_slice()),
+        (Value::Seq(a), Value::Bytes(b)) => compare_bytes(b.as_slice(), a.as_slice()).reverse(),
         (Value::Pairs(a), Value::Pairs(b)) => compare_pairs(a.as_slice(), b.as_slice()),
         (Value::Members(a), Value::Members(b)) => compare_each(a.as_slice(), b.as_slice()),
         (Value::Enum(a), Value::Enum(b)) => a.cmp(b),
@@ -83,7 +87,7 @@ fn rank(value: &Value) -> u8
         Value::Int(_) => 3,
         Value::Long(_) => 4,
         Value::Text(_) => 5,
-        Value::Seq(_) => 6,
+        Value::Seq(_) | Value::Bytes(_) => 6,
         Value::Pairs(_) => 7,
         Value::Members(_) => 8,
         Value::Enum(_) => 9,
@@ -99,6 +103,31 @@ fn size_of(reference: Option<u32>) -> u64
     match reference {
         Some(number) => number as u64 + 1,
         None => 0,
+    }
+}
+
+/// Bytes as the items of a sequence, beside the items of another.
+fn compare_bytes(bytes: &[u8], items: &[Value]) -> Ordering
+    ensures { result ≡ trees_cmp (byte_trees bytes.now) (view_all items.now) }
+{
+    for (at, byte) in bytes.iter().enumerate() {
+        let Some(item) = items.get(at) else {
+            return Ordering::Greater;
+        };
+        match compare_byte(*byte, item) {
+            Ordering::Equal => {}
+            order => return order,
+        }
+    }
+    bytes.len().cmp(&items.len())
+}
+
+fn compare_byte(number: u8, other: &Value) -> Ordering
+    ensures { result ≡ tree_cmp (byte number) (view other.now) }
+{
+    match other {
+        Value::Byte(other) => number.cmp(other),
+        _ => 1.cmp(&rank(other)),
     }
 }
 

@@ -68,6 +68,7 @@ fn push_names(out: &mut List<u32>, value: &Value) -> Result<(), AllocError>
         | Value::Int(_)
         | Value::Long(_)
         | Value::Text(_)
+        | Value::Bytes(_)
         | Value::Enum(_)
         | Value::Proxy(_) => Ok(()),
         Value::Reference(name) => push_some(out, *name),

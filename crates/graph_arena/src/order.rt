@@ -19,6 +19,7 @@ pub fn is_sorted(value: &Value) -> bool
         | Value::Int(_)
         | Value::Long(_)
         | Value::Text(_)
+        | Value::Bytes(_)
         | Value::Enum(_)
         | Value::Proxy(_)
         | Value::Reference(_) => true,

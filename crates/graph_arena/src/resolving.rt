@@ -39,6 +39,7 @@ pub fn resolve(value: &mut Value, table: &[u32])
         | Value::Int(_)
         | Value::Long(_)
         | Value::Text(_)
+        | Value::Bytes(_)
         | Value::Enum(_)
         | Value::Proxy(_) => {}
         Value::Reference(place) => *place = entry(table, *place),

@@ -9,7 +9,7 @@ ghost use Rattle.graph_arena.specs.View.{view, view_all, view_pairs};
 use crate::Value;
 use crate::order::is_sorted;
 use crate::proxy_copy::copy_some;
-use ice_types::{List, Name};
+use ice_types::{Bytes, List, Name};
 use std::alloc::{AllocError, Global};
 use std::collections::BTreeMap;
 
@@ -44,6 +44,10 @@ fn sorted_copy(alloc: Global, value: &Value) -> Result<Option<Value>, AllocError
         Value::Int(n) => Ok(Some(Value::Int(*n))),
         Value::Long(n) => Ok(Some(Value::Long(*n))),
         Value::Text(text) => Ok(Some(Value::Text(Name::of(alloc, text.as_str())?))),
+        Value::Bytes(bytes) => Ok(Some(Value::Bytes(Bytes::from_vec(Vec::from_slice(
+            alloc,
+            bytes.as_slice(),
+        )?)))),
         Value::Enum(number) => Ok(Some(Value::Enum(*number))),
         Value::Proxy(proxy) => Ok(Some(Value::Proxy(copy_some(alloc, proxy)?))),
         Value::Reference(number) => Ok(Some(Value::Reference(*number))),

@@ -13,6 +13,10 @@ enum Key {
     Int(i32),
     Long(i64),
     Text(&'static str),
+    /// A sequence of bytes, as `Value::Bytes`.
+    Packed(&'static [u8]),
+    /// A sequence of bytes, as `Value::Seq`.
+    Items(&'static [u8]),
     Enum(u32),
     /// A proxy of this name, or null.
     Proxy(Option<&'static str>),
@@ -20,7 +24,7 @@ enum Key {
     Both(&'static str, i32),
 }
 
-use Key::{Bool, Both, Byte, Enum, Int, Long, Proxy, Short, Text};
+use Key::{Bool, Both, Byte, Enum, Int, Items, Long, Packed, Proxy, Short, Text};
 
 /// Keys as they stand, and in rising order, or none where two are equal.
 const ORDERS: &[(&[Key], Option<&[Key]>)] = &[
@@ -52,6 +56,14 @@ const ORDERS: &[(&[Key], Option<&[Key]>)] = &[
             Text("\u{10000}"),
         ]),
     ),
+    (
+        &[Packed(&[9]), Items(&[7, 0]), Packed(&[7]), Packed(&[])],
+        Some(&[Packed(&[]), Packed(&[7]), Items(&[7, 0]), Packed(&[9])]),
+    ),
+    (
+        &[Items(&[9]), Packed(&[200]), Packed(&[7, 0]), Items(&[7])],
+        Some(&[Items(&[7]), Packed(&[7, 0]), Items(&[9]), Packed(&[200])]),
+    ),
     (&[Enum(300), Enum(1)], Some(&[Enum(1), Enum(300)])),
     (
         &[Proxy(Some("b")), Proxy(Some("a")), Proxy(None)],
@@ -63,6 +75,7 @@ const ORDERS: &[(&[Key], Option<&[Key]>)] = &[
     ),
     (&[Int(1), Int(2), Int(2), Int(3)], None),
     (&[Both("a", 1), Both("b", 1), Both("a", 1)], None),
+    (&[Packed(&[7, 8]), Items(&[7, 8])], None),
     (&[Enum(0), Enum(1), Enum(0)], None),
     (&[Proxy(Some("a")), Proxy(Some("a"))], None),
 ];
@@ -75,6 +88,8 @@ fn value_of(alloc: Global, key: Key) -> Result<Value, AllocError> {
         Int(n) => Ok(Value::Int(n)),
         Long(n) => Ok(Value::Long(n)),
         Text(text) => Ok(Value::Text(Name::of(alloc, text)?)),
+        Packed(bytes) => Ok(Value::Bytes(Bytes::from_vec(Vec::from_slice(alloc, bytes)?))),
+        Items(bytes) => items_of(alloc, bytes),
         Enum(n) => Ok(Value::Enum(n)),
         Proxy(None) => Ok(Value::Proxy(None)),
         Proxy(Some(name)) => Ok(Value::Proxy(Some(Box::new(alloc, proxy_of(alloc, name)?)?))),
@@ -85,6 +100,15 @@ fn value_of(alloc: Global, key: Key) -> Result<Value, AllocError> {
             Ok(Value::Members(members))
         }
     }
+}
+
+/// The bytes as so many items.
+fn items_of(alloc: Global, bytes: &[u8]) -> Result<Value, AllocError> {
+    let mut items = List::new(alloc);
+    for byte in bytes {
+        items.push(Value::Byte(*byte))?;
+    }
+    Ok(Value::Seq(items))
 }
 
 /// A proxy of this name, with an endpoint of each sort.

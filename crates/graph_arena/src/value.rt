@@ -1,6 +1,6 @@
 //! A value of any type.
 
-use ice_types::{List, Name, Proxy};
+use ice_types::{Bytes, List, Name, Proxy};
 
 /// A value, by the form that its type gives it. It holds no name of its type.
 #[derive(Debug, Drop)]
@@ -13,6 +13,8 @@ pub enum Value {
     Text(Name),
     /// The items of a sequence, in order.
     Seq(List<Value>),
+    /// The items of a sequence of bytes, in order. `Seq` of as many `Byte` is the same value.
+    Bytes(Bytes),
     /// The pairs of a dictionary.
     Pairs(List<(Value, Value)>),
     /// The values of a struct's members, in order.

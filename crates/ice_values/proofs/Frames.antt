@@ -1,5 +1,5 @@
 -- How what is still read of values that have begun changes with a step.
-use Rattle.std.proofs.Common.{◌≡◌, ℕ, Bool, true, false, cond, zero, suc, List, [], ◌∷◌, ◌++◌, map, drop, Result, Ok, Err, Option, None, Some, slice_get, replicate, ◌⊎◌, inl, inr, refl, sym, ap, ◌∙◌, subst}
+use Rattle.std.proofs.Common.{◌≡◌, ℕ, Bool, true, false, cond, zero, suc, List, [], ◌∷◌, ◌++◌, map, drop, Result, Ok, Err, Option, None, Some, slice_get, replicate, refl, sym, ap, ◌∙◌, subst}
 use Rattle.std.proofs.lemmas.List.{map_push}
 use Rattle.ice_prims.specs.declared.fault.Fault.{Fault}
 use Rattle.ice_prims.specs.declared.fault.ReadFault.{ReadFault}
@@ -117,10 +117,10 @@ first_read sort had (Err e) others = refl
 abbrev as_dictionary : {S : Type 0} → Entries → Reader S Tree
 as_dictionary all s r = Ok (dictionary all, s, r)
 
-abbrev with_state : {S : Type 0} → S → Result (Tree × Rest) Fault → Result (Tree × S × Rest) Fault
+abbrev pub with_state : {S : Type 0} → S → Result (Tree × Rest) Fault → Result (Tree × S × Rest) Fault
 with_state s read = read >>= λ x. Ok (x.0, s, x.1)
 
-abbrev made_sequence : {S : Type 0} → Trees × S × Rest → Result (Tree × S × Rest) Fault
+abbrev pub made_sequence : {S : Type 0} → Trees × S × Rest → Result (Tree × S × Rest) Fault
 made_sequence x = Ok (sequence x.0, x.1, x.2)
 
 abbrev made_dictionary : {S : Type 0} → Entries × S × Rest → Result (Tree × S × Rest) Fault
@@ -140,12 +140,6 @@ plainly s x = Ok (x.0, s, x.1)
 
 abbrev make_of : {S A : Type 0} → (A → Tree) → A × S × Rest → Result (Tree × S × Rest) Fault
 make_of make x = Ok (make x.0, x.1, x.2)
-
--- the three types with parts
-pub parts-of : (kind : TypeRef) → ((at : ℕ) × (kind ≡ kinds.Seq at)) ⊎ (((at : ℕ) × (kind ≡ kinds.Dict at)) ⊎ ((at : ℕ) × (kind ≡ kinds.Struct at))) → HasParts kind
-parts-of kind (inl (at, is)) = rw is tt
-parts-of kind (inr (inl (at, is))) = rw is tt
-parts-of kind (inr (inr (at, is))) = rw is tt
 
 leaf_made : {S A : Type 0} (make : A → Tree) (s : S) (read : Result (A × Rest) Fault) → ((read >>= λ x. plainly s x) >>= λ x. make_of make x) ≡ with_state s (seen make read)
 leaf_made make s (Ok x) = refl
@@ -271,18 +265,30 @@ module _ {S : Type 0} (take : Option ℕ → Reader S Met) (t : Tables) (inside 
   pub value-given : (old new : ValueReader) (x : Value) (v : Tree) (s : S) (r : Rest) → view x ≡ v → Gives (view x) old new → onward take t inside whole_value (old.below ++ old.top ∷ []) v s r ≡ left_of take t inside new s r
   value-given old new x v s r is gave = part-given old new v s r (subst (λ (w : Tree). Gives w old new) is gave)
 
+  -- a value that changes no state is read
+  pub read-given : (levels : ℕ) (kind : TypeRef) (read : Result (Tree × Rest) Fault) (old new : ValueReader) (x : Value) (s : S) (r r' : Rest)
+      → value_step (in_place take inside) t (value_in take t inside levels) kind s r ≡ with_state s read → read ≡ Ok (view x, r') → Gives (view x) old new
+      → then (value_step (in_place take inside) t (value_in take t inside levels) kind s r) (onward take t inside whole_value (old.below ++ old.top ∷ [])) ≡ left_of take t inside new s r'
+  read-given levels kind read old new x s r r' is done gave =
+      ap (λ (y : Result (Tree × S × Rest) Fault). then y (onward take t inside whole_value (old.below ++ old.top ∷ []))) (is ∙ ap (with_state s) done)
+      ∙ part-given old new (view x) s r' gave
+
+  pub read-fails : (levels : ℕ) (kind : TypeRef) (read : Result (Tree × Rest) Fault) (e : ReadFault) (last : Tree → Reader S Tree) (s : S) (r : Rest)
+      → value_step (in_place take inside) t (value_in take t inside levels) kind s r ≡ with_state s read → Fails e read
+      → Fails e (then (value_step (in_place take inside) t (value_in take t inside levels) kind s r) last)
+  read-fails levels kind read faults.Memory last s r is h = tt
+  read-fails levels kind read (faults.Broken e) last s r is h = ap (λ (y : Result (Tree × S × Rest) Fault). then y last) (is ∙ ap (with_state s) h)
+
   -- a value without parts is read
   pub leaf-given : (levels : ℕ) (kind : TypeRef) (old new : ValueReader) (x : Value) (s : S) (r r' : Rest) → IsLeaf kind → leaf_at t kind r ≡ Ok (view x, r') → Gives (view x) old new
       → then (value_step (in_place take inside) t (value_in take t inside levels) kind s r) (onward take t inside whole_value (old.below ++ old.top ∷ [])) ≡ left_of take t inside new s r'
   leaf-given levels kind old new x s r r' leaf read gave =
-      ap (λ (y : Result (Tree × S × Rest) Fault). then y (onward take t inside whole_value (old.below ++ old.top ∷ []))) (leaf-step (in_place take inside) t (value_in take t inside levels) kind s r leaf ∙ ap (with_state s) read)
-      ∙ part-given old new (view x) s r' gave
+      read-given levels kind (leaf_at t kind r) old new x s r r' (leaf-step (in_place take inside) t (value_in take t inside levels) kind s r leaf) read gave
 
   pub leaf-fails : (levels : ℕ) (kind : TypeRef) (e : ReadFault) (last : Tree → Reader S Tree) (s : S) (r : Rest) → IsLeaf kind → Fails e (leaf_at t kind r)
       → Fails e (then (value_step (in_place take inside) t (value_in take t inside levels) kind s r) last)
-  leaf-fails levels kind faults.Memory last s r leaf h = tt
-  leaf-fails levels kind (faults.Broken e) last s r leaf h =
-      ap (λ (y : Result (Tree × S × Rest) Fault). then y last) (leaf-step (in_place take inside) t (value_in take t inside levels) kind s r leaf ∙ ap (with_state s) h)
+  leaf-fails levels kind e last s r leaf h =
+      read-fails levels kind (leaf_at t kind r) e last s r (leaf-step (in_place take inside) t (value_in take t inside levels) kind s r leaf) h
 
   -- a value with parts has begun
   pub starts-given : (levels : ℕ) (kind : TypeRef) (old new : ValueReader) (f : Frame) (s : S) (r r' : Rest) → HasParts kind → starts_at t levels kind r ≡ Ok (opened f, r') → new.top ≡ f → new.below ≡ old.below ++ old.top ∷ []
@@ -394,7 +400,7 @@ levels-opened levels (parts.Pairs p) = refl
 
 -- ---- the types that are left
 
-some-same : {A : Type 0} {x y : A} → Some x ≡ Some y → x ≡ y
+pub some-same : {A : Type 0} {x y : A} → Some x ≡ Some y → x ≡ y
 some-same h = cc
 
 nothing-found : (at : ℕ) (m : Member) → slice_get [] at ≡ Some m → ⊥

@@ -3,3 +3,4 @@ pub mod Costs
 pub mod Keys
 pub mod Levels
 pub mod Plain
+pub mod ByteSequences

@@ -1,5 +1,6 @@
 pub mod Taking
 pub mod Leaves
+pub mod ByteSequence
 pub mod Kept
 pub mod Sorted
 pub mod Frames

@@ -97,7 +97,11 @@ pub(crate) fn put_leaf(value: &Value, out: &mut Vec<u8>) -> Result<(), AllocErro
         Value::Text(text) => put_str(out, text.as_str()),
         Value::Enum(number) => put_size(out, *number),
         Value::Proxy(proxy) => put_proxy(proxy, out),
-        Value::Seq(_) | Value::Pairs(_) | Value::Members(_) | Value::Reference(_) => Ok(()),
+        Value::Seq(_)
+        | Value::Bytes(_)
+        | Value::Pairs(_)
+        | Value::Members(_)
+        | Value::Reference(_) => Ok(()),
     }
 }
 

@@ -3,6 +3,7 @@
 #![tactic(auto)]
 
 mod begun;
+mod byte_sequence;
 mod frame;
 mod leaf;
 mod left;

@@ -1,16 +1,19 @@
 //! A value from bytes, in pieces.
 
 ghost use Rattle.std.specs.Prelude.{◌≡◌, [], ◌∷◌, ◌++◌, ◌+◌, ◌<◌, ◌^◌, suc, OnOk};
+ghost use Rattle.ice_types.specs.declared.kind.TypeRef.TheVariants as kinds;
 ghost use Rattle.ice_encoding.specs.Reading.{made, value_step};
 ghost use Rattle.ice_encoding.specs.Pausing.{Inside, in_place};
 ghost use Rattle.ice_encoding.specs.Tree.{reference};
 ghost use Rattle.graph_arena.specs.View.{view};
-ghost use Rattle.ice_values.specs.Leaves.{IsLeaf};
+ghost use Rattle.ice_values.specs.Leaves.{IsLeaf, HasParts};
+ghost use Rattle.ice_values.specs.ByteSequence.{HasByteItems};
 ghost use Rattle.ice_values.specs.Rests.{then, value_in};
 ghost use Rattle.ice_values.specs.Cost.{cost, weight, LessOnStep};
 ghost use Rattle.ice_values.specs.Going.{fresh, Goes, Steps, Closes, Gives, NarrowsOnPause, NarrowsOnStep, left_of, onward, whole_value};
 
 use crate::begun::begun;
+use crate::byte_sequence::{has_byte_items, take_byte_sequence};
 use crate::frame::{Each, Frame, Parts, Sort};
 use crate::leaf::take_leaf;
 use crate::left::Left;
@@ -176,11 +179,10 @@ impl ValueReader {
             TypeRef::Class(declared) => self.read_reference(
                 alloc, schema, levels, declared, cursor, port,
             ),
-            TypeRef::Seq(_) | TypeRef::Dict(_) | TypeRef::Struct(_) => {
-                let frame = begun(alloc, schema, levels, kind, cursor)?;
-                self.begin(frame)?;
-                Ok(Stepped::On)
-            }
+            TypeRef::Seq(at) => self.read_sequence(alloc, schema, levels, at, cursor, port),
+            TypeRef::Dict(_) | TypeRef::Struct(_) => self.begin_parts(
+                alloc, schema, levels, kind, cursor, port,
+            ),
         }
     }
 
@@ -201,6 +203,68 @@ impl ValueReader {
     {
         let value = take_leaf(alloc, schema, kind, cursor)?;
         self.give(alloc, value)?;
+        Ok(Stepped::On)
+    }
+
+    /// A sequence: one of bytes whole, and of any other one its size.
+    fn read_sequence<P: RefPort>(
+        &mut self,
+        alloc: Global,
+        schema: &Schema,
+        levels: u32,
+        at: u32,
+        cursor: &mut Cursor<'_>,
+        port: &P,
+    ) -> Result<Stepped, ReadFault>
+        ensures steps { (inside : Inside P) → Steps inside (left_of P.take schema.now inside self.new) result (then (value_step (in_place P.take inside) schema.now (value_in P.take schema.now inside levels) (kinds.Seq at) port.now cursor.old) (onward P.take schema.now inside whole_value (self.old.below ++ self.old.top ∷ []))) port.now cursor.new }
+        ensures room { NarrowsOnStep result (P.room port.now) (P.room port.now) }
+        ensures less { LessOnStep result (weight schema.now (suc levels) + cost schema.now self.old) (cost schema.now self.new) }
+    {
+        if levels > 0 && has_byte_items(schema, at) {
+            self.read_bytes(alloc, schema, levels, at, cursor, port)
+        } else {
+            self.begin_parts(alloc, schema, levels, TypeRef::Seq(at), cursor, port)
+        }
+    }
+
+    /// A sequence of bytes, whole.
+    fn read_bytes<P: RefPort>(
+        &mut self,
+        alloc: Global,
+        schema: &Schema,
+        levels: u32,
+        at: u32,
+        cursor: &mut Cursor<'_>,
+        port: &P,
+    ) -> Result<Stepped, ReadFault>
+        requires deep { 0 < levels }
+        requires bytes { HasByteItems schema.now at }
+        ensures steps { (inside : Inside P) → Steps inside (left_of P.take schema.now inside self.new) result (then (value_step (in_place P.take inside) schema.now (value_in P.take schema.now inside levels) (kinds.Seq at) port.now cursor.old) (onward P.take schema.now inside whole_value (self.old.below ++ self.old.top ∷ []))) port.now cursor.new }
+        ensures room { NarrowsOnStep result (P.room port.now) (P.room port.now) }
+        ensures less { LessOnStep result (weight schema.now (suc levels) + cost schema.now self.old) (cost schema.now self.new) }
+    {
+        let value = take_byte_sequence(alloc, cursor)?;
+        self.give(alloc, value)?;
+        Ok(Stepped::On)
+    }
+
+    /// A value with parts, up to the first of them.
+    fn begin_parts<P: RefPort>(
+        &mut self,
+        alloc: Global,
+        schema: &Schema,
+        levels: u32,
+        kind: TypeRef,
+        cursor: &mut Cursor<'_>,
+        port: &P,
+    ) -> Result<Stepped, ReadFault>
+        requires { HasParts kind }
+        ensures steps { (inside : Inside P) → Steps inside (left_of P.take schema.now inside self.new) result (then (value_step (in_place P.take inside) schema.now (value_in P.take schema.now inside levels) kind port.now cursor.old) (onward P.take schema.now inside whole_value (self.old.below ++ self.old.top ∷ []))) port.now cursor.new }
+        ensures room { NarrowsOnStep result (P.room port.now) (P.room port.now) }
+        ensures less { LessOnStep result (weight schema.now (suc levels) + cost schema.now self.old) (cost schema.now self.new) }
+    {
+        let frame = begun(alloc, schema, levels, kind, cursor)?;
+        self.begin(frame)?;
         Ok(Stepped::On)
     }
 

@@ -9,6 +9,7 @@ ghost use Rattle.ice_encoding.specs.Pausing.{written_in_place};
 ghost use Rattle.graph_arena.specs.View.{view, view_all};
 ghost use Rattle.ice_values.specs.Putting.{InsideWritten, Goes, Steps, NarrowsOnPause, NarrowsOnStep, LessOnOn, lists, waiting, Values, left_written, onto, all_fit, work_left, tree_size};
 
+use crate::byte_sequence::put_byte_sequence;
 use crate::leaf::put_leaf;
 use crate::put_port::PutPort;
 use graph_arena::Value;
@@ -160,6 +161,10 @@ impl<'a> ValueWriter<'a> {
             Value::Seq(items) => {
                 put_size(out, items.len() as u32)?;
                 self.add_level(Level::Values(items.as_slice()))?;
+                Ok(WriteStepped::On)
+            }
+            Value::Bytes(bytes) => {
+                put_byte_sequence(bytes, out)?;
                 Ok(WriteStepped::On)
             }
             Value::Pairs(pairs) => {

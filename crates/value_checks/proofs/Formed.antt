@@ -8,10 +8,10 @@ use Rattle.ice_encoding.specs.Typed.{Refers, HasType}
 use Rattle.value_checks.specs.Forms.{HasForm}
 
 module _ (t : Tables) (Refer : Refers) (levels : ℕ) where
-  abbrev Form : TypeRef → Tree → Type 0
+  abbrev pub Form : TypeRef → Tree → Type 0
   Form = HasForm t Refer levels
 
-  to_form : (kind : TypeRef) (v : Tree) → HasType t Refer (suc levels) kind v → Form kind v
+  pub to_form : (kind : TypeRef) (v : Tree) → HasType t Refer (suc levels) kind v → Form kind v
   to_form kinds.Bool v (b, is) = subst (Form kinds.Bool) (sym is) refl
   to_form kinds.Byte v (n, fits, is) = subst (Form kinds.Byte) (sym is) (refl, fits)
   to_form kinds.Short v (z, fits, is) = subst (Form kinds.Short) (sym is) (refl, fits)
@@ -25,10 +25,10 @@ module _ (t : Tables) (Refer : Refers) (levels : ℕ) where
   to_form (kinds.Proxy at) v (p, fits, is) = subst (Form (kinds.Proxy at)) (sym is) (at, refl, fits)
   to_form (kinds.Class declared) v (n, stands, is) = subst (Form (kinds.Class declared)) (sym is) (declared, refl, stands)
 
-  abbrev Of : Tree → TypeRef → Type 0
+  abbrev pub Of : Tree → TypeRef → Type 0
   Of v kind = HasType t Refer (suc levels) kind v
 
-  from_form : (kind : TypeRef) (v : Tree) → Form kind v → HasType t Refer (suc levels) kind v
+  pub from_form : (kind : TypeRef) (v : Tree) → Form kind v → HasType t Refer (suc levels) kind v
   from_form kind (boolean b) is = subst (Of (boolean b)) (sym is) (b, refl)
   from_form kind (byte n) (is, fits) = subst (Of (byte n)) (sym is) (n, fits, refl)
   from_form kind (short z) (is, fits) = subst (Of (short z)) (sym is) (z, fits, refl)

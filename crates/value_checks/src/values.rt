@@ -7,7 +7,7 @@ ghost use Rattle.ice_types.specs.declared.schema.TheConstants.{MOST_DEPTH};
 ghost use Rattle.ice_parts.specs.Proxy as parts;
 ghost use Rattle.ice_encoding.specs.Tree.{dictionary, sequence, struct};
 ghost use Rattle.ice_encoding.specs.Typed.{AllOf, EachOf, HasType, PairsOf, no_reference};
-ghost use Rattle.graph_arena.specs.View.{unboxed, view, view_all, view_pairs};
+ghost use Rattle.graph_arena.specs.View.{byte_trees, unboxed, view, view_all, view_pairs};
 ghost use Rattle.value_checks.specs.Forms.{HasForm, IsEnumerator};
 ghost use Rattle.value_checks.specs.References.{AnyRefers, MayStand};
 
@@ -62,6 +62,7 @@ fn has_form(
         Value::Proxy(proxy) => matches!(kind, TypeRef::Proxy(_)) && is_some_proxy(proxy),
         Value::Reference(name) => is_reference(schema, references, kind, *name),
         Value::Seq(items) => is_sequence(schema, references, levels, kind, items.as_slice()),
+        Value::Bytes(bytes) => is_bytes(schema, levels, kind, bytes.as_slice()),
         Value::Pairs(pairs) => is_dictionary(schema, references, levels, kind, pairs.as_slice()),
         Value::Members(items) => is_struct(schema, references, levels, kind, items.as_slice()),
     }
@@ -152,6 +153,26 @@ fn is_sequence(
         return false;
     };
     is_size(items.len()) && are_of(schema, references, levels, decl.element, items)
+}
+
+/// The same of bytes, of which none is a reference.
+fn is_bytes(schema: &Schema, levels: u32, kind: TypeRef, bytes: &[u8]) -> bool
+    ensures { IsTrue result ↔ HasForm schema.now no_reference levels kind (sequence (byte_trees bytes.now)) }
+{
+    let TypeRef::Seq(at) = kind else {
+        return false;
+    };
+    let Some(decl) = schema.seqs().get(at as usize) else {
+        return false;
+    };
+    is_size(bytes.len()) && (bytes.is_empty() || is_byte_type(levels, decl.element))
+}
+
+/// Whether bytes are of the type, which nests at most so deep.
+fn is_byte_type(levels: u32, kind: TypeRef) -> bool
+    ensures { IsTrue result ↔ ((0 < levels) × (kind ≡ kinds.Byte)) }
+{
+    levels > 0 && kind == TypeRef::Byte
 }
 
 /// Whether each item is of the type.

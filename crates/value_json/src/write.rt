@@ -1,11 +1,11 @@
 //! The canonical notation of a value.
 
-ghost use Rattle.std.specs.Prelude.{◌≡◌, IfOk, option_map, slice_get};
-ghost use Rattle.serde_json.specs.Data.{no_members, string};
+ghost use Rattle.std.specs.Prelude.{◌≡◌, ◌<◌, ◌↔◌, IfOk, IsTrue, if◌then◌else◌, map, option_map, slice_get};
+ghost use Rattle.serde_json.specs.Data.{no_members, null, number, string, unsigned};
 ghost use Rattle.serde_json.specs.View.{view as json_view, items_view, members_view};
 ghost use Rattle.ice_types.specs.declared.kind.TypeRef.TheVariants as kinds;
 ghost use Rattle.ice_encoding.specs.Tree.{dictionary, sequence, struct};
-ghost use Rattle.graph_arena.specs.View.{unboxed, view, view_all, view_pairs};
+ghost use Rattle.graph_arena.specs.View.{byte_trees, unboxed, view, view_all, view_pairs};
 ghost use Rattle.value_json.specs.Notation.{pair};
 ghost use Rattle.value_json.specs.Notation as notes;
 ghost use Rattle.value_json.specs.Canonical as spec;
@@ -66,6 +66,9 @@ fn write_parts(
         (TypeRef::Seq(at), Value::Seq(items)) => {
             write_sequence(alloc, schema, levels, at, items.as_slice())
         }
+        (TypeRef::Seq(at), Value::Bytes(bytes)) => {
+            write_bytes(alloc, schema, levels, at, bytes.as_slice())
+        }
         (TypeRef::Dict(at), Value::Pairs(pairs)) => {
             write_dictionary(alloc, schema, levels, at, pairs.as_slice())
         }
@@ -96,6 +99,50 @@ fn write_sequence(
         }
         None => Ok(Json::Null),
     }
+}
+
+/// The same of bytes.
+fn write_bytes(
+    alloc: Global,
+    schema: &Schema,
+    levels: u32,
+    at: u32,
+    bytes: &[u8],
+) -> Result<Json, AllocError>
+    ensures { IfOk result (λ j. json_view j ≡ notation_step schema.now (notation_levels schema.now levels) (kinds.Seq at) (sequence (byte_trees bytes.now))) }
+{
+    match schema.seqs().get(at as usize) {
+        Some(decl) => {
+            let items = write_each_byte(alloc, is_byte_type(levels, decl.element), bytes)?;
+            Ok(Json::from(items))
+        }
+        None => Ok(Json::Null),
+    }
+}
+
+/// Whether bytes are of the type, which nests at most so deep.
+fn is_byte_type(levels: u32, kind: TypeRef) -> bool
+    ensures { IsTrue result ↔ ((0 < levels) × (kind ≡ kinds.Byte)) }
+{
+    levels > 0 && kind == TypeRef::Byte
+}
+
+/// The bytes one after the other, each as `byte_json` has it.
+fn write_each_byte(alloc: Global, are_of: bool, bytes: &[u8]) -> Result<Vec<Json>, AllocError>
+    ensures { IfOk result (λ l. map json_view l.items ≡ map (λ n. if are_of then number (unsigned n) else null) bytes.now) }
+{
+    let mut items = Vec::new(alloc);
+    for byte in bytes {
+        items.push(byte_json(are_of, *byte))?;
+    }
+    Ok(items)
+}
+
+/// A byte as a number, or null where it is not of the type.
+fn byte_json(is_of: bool, byte: u8) -> Json
+    ensures { json_view result ≡ (if is_of then number (unsigned byte) else null) }
+{
+    if is_of { Json::from(byte) } else { Json::Null }
 }
 
 #[cycle(notes)]

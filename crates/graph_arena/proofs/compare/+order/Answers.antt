@@ -3,6 +3,7 @@ use denote.Param.Weighed.{most, at_most}
 use Rattle.graph_arena.proofs.value.Value.TheLaws.{the_size}
 use Rattle.graph_arena.specs.declared.value.Value.{Value}
 use Rattle.graph_arena.specs.declared.value.Value.TheShapes.{weighed-Value-Pairs-0-at-2}
+use Rattle.graph_arena.proofs.ByteTrees.{bytes_beside_bytes, seq_beside_bytes}
 use Rattle.graph_arena.proofs.Comparisons.{each_ends, pairs_end, dicts_compared}
 use Rattle.graph_arena.proofs.compare.+order.Goals as goal
 
@@ -10,6 +11,16 @@ pub compare-returns-in-Pairs-Pairs : goal.compare-returns-in-Pairs-Pairs
 compare-returns-in-Pairs-Pairs t c =
     dicts_compared c.args.a.now c.args.b.now c.in-Pairs-Pairs.a c.in-Pairs-Pairs.b c.as_slice-in-Pairs-Pairs.result.now c.as_slice-in-Pairs-Pairs-2.result.now c.compare_pairs.result
     c.in-Pairs-Pairs.is-0 c.in-Pairs-Pairs.is-1 c.as_slice-in-Pairs-Pairs.ensures c.as_slice-in-Pairs-Pairs-2.ensures c.compare_pairs.ensures
+
+pub compare-returns-in-Bytes-Bytes : goal.compare-returns-in-Bytes-Bytes
+compare-returns-in-Bytes-Bytes t c =
+    bytes_beside_bytes c.args.a.now c.args.b.now c.in-Bytes-Bytes.a c.in-Bytes-Bytes.b c.as_slice-in-Bytes-Bytes.result.now c.as_slice-in-Bytes-Bytes-2.result.now c.cmp-in-Bytes-Bytes.result
+    c.in-Bytes-Bytes.is-0 c.in-Bytes-Bytes.is-1 c.as_slice-in-Bytes-Bytes.ensures c.as_slice-in-Bytes-Bytes-2.ensures c.cmp-in-Bytes-Bytes.ensures
+
+pub compare-returns-in-Seq-Bytes : goal.compare-returns-in-Seq-Bytes
+compare-returns-in-Seq-Bytes t c =
+    seq_beside_bytes c.args.a.now c.args.b.now c.in-Seq-Bytes.a c.as_slice-in-Seq-Bytes-2.result.now c.in-Seq-Bytes.b c.as_slice-in-Seq-Bytes.result.now c.reverse.result c.compare_bytes.result
+    c.in-Seq-Bytes.is-0 c.in-Seq-Bytes.is-1 c.as_slice-in-Seq-Bytes-2.ensures c.as_slice-in-Seq-Bytes.ensures c.reverse.ensures c.compare_bytes.ensures
 
 pub compare_each-compare-requires : goal.compare_each-compare-requires
 compare_each-compare-requires t c =

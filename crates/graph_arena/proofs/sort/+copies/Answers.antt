@@ -1,5 +1,6 @@
-use Rattle.std.proofs.Common.{refl, ap, arith}
+use Rattle.std.proofs.Common.{refl, ap, arith, ◌∙◌}
 use Rattle.graph_arena.specs.View.{view_pairs}
+use Rattle.graph_arena.proofs.ByteTrees.{bytes_copied}
 use Rattle.graph_arena.proofs.Sorting.{equal_is, items_copied, pairs_copied}
 use Rattle.graph_arena.proofs.sort.+copies.Goals as goal
 
@@ -17,3 +18,8 @@ sorted_copy-returns-in_ok-in_order-in-Some-3 t c =
 pub sorted_items-returns : goal.sorted_items-returns
 sorted_items-returns t c =
     items_copied c.args.items.now c.loop-item.copies c.loop-item.item-index (omega arith) c.loop-item.invariant.copied c.loop-item.invariant.equal
+
+pub sorted_copy-returns-in_ok-from_slice-in-Bytes :
+    goal.sorted_copy-returns-in_ok-from_slice-in-Bytes
+sorted_copy-returns-in_ok-from_slice-in-Bytes t c =
+    bytes_copied c.args.value.now c.in-Bytes.bytes c.from_vec.result c.in-Bytes.is (c.from_vec.ensures ∙ (c.in_ok-from_slice-in-Bytes.ensures.items ∙ c.as_slice.ensures))

@@ -2,7 +2,7 @@ use Rattle.std.proofs.Common.{◌≡◌, ℕ, suc, ◌-◌, IfOk, subst, arith}
 use Rattle.serde_json.specs.View.{view as json_view}
 use Rattle.graph_arena.specs.View.{view}
 use Rattle.value_json.specs.Canonical.{notation_levels}
-use Rattle.value_json.proofs.Writing.{each_written, pairs_written, dict_written}
+use Rattle.value_json.proofs.Writing.{bytes_held, each_written, pairs_written, dict_written}
 use Rattle.value_json.proofs.write.+notes.Goals as goal
 
 pub write_level-returns : goal.write_level-returns
@@ -22,3 +22,8 @@ pub write_parts-returns-in-Dict-Pairs : goal.write_parts-returns-in-Dict-Pairs
 write_parts-returns-in-Dict-Pairs t c =
     dict_written c.args.schema.now (notation_levels c.args.schema.now c.args.levels) c.args.kind c.in-Dict-Pairs.at c.args.value.now c.in-Dict-Pairs.pairs c.as_slice-in-Dict-Pairs.result.now c.write_dictionary.result
     c.in-Dict-Pairs.is-0 c.in-Dict-Pairs.is-1 c.as_slice-in-Dict-Pairs.ensures c.write_dictionary.ensures
+
+pub write_parts-returns-in-Seq-Bytes : goal.write_parts-returns-in-Seq-Bytes
+write_parts-returns-in-Seq-Bytes t c =
+    bytes_held c.args.schema.now (notation_levels c.args.schema.now c.args.levels) c.args.kind c.in-Seq-Bytes.at c.args.value.now c.in-Seq-Bytes.bytes c.as_slice-in-Seq-Bytes.result.now c.write_bytes.result
+    c.in-Seq-Bytes.is-0 c.in-Seq-Bytes.is-1 c.as_slice-in-Seq-Bytes.ensures c.write_bytes.ensures

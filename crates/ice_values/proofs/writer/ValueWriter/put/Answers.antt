@@ -4,6 +4,7 @@ use Rattle.ice_encoding.specs.Canonical.{HasSizes}
 use Rattle.graph_arena.specs.View.{view, view_all, view_pairs}
 use Rattle.graph_arena.proofs.Shapes.{view_seq, view_dict, view_members}
 use Rattle.ice_values.specs.Putting.{Values, Pairs, lists}
+use Rattle.ice_values.proofs.ByteSequences.{byte_sizes, value-written}
 use Rattle.ice_values.proofs.Levels.{seq_sizes, dict_sizes, seq-written, dict-written, members-written, fit-push, work-push}
 use Rattle.ice_values.proofs.writer.ValueWriter.put.Goals as goal
 
@@ -26,6 +27,13 @@ pub returns-in_ok-add_level-in-Seq-clause-less : goal.returns-in_ok-add_level-in
 returns-in_ok-add_level-in-Seq-clause-less g c =
     let shape : view c.args.value.now ≡ sequence (view_all c.in-Seq.items) = ap view c.in-Seq.is ∙ view_seq c.in-Seq.items in
     rw (shape, c.in_ok-add_level-in-Seq.ensures, c.as_slice.ensures) (omega (arith, work-push (lists c.args.self.now) (Values (view_all c.in-Seq.items))))
+
+pub put_byte_sequence-requires : goal.put_byte_sequence-requires
+put_byte_sequence-requires g c = byte_sizes c.args.value.now c.in-Bytes.bytes c.in-Bytes.is c.requires.value_fits
+
+pub returns-in_ok-put_byte_sequence-in-Bytes-clause-steps : goal.returns-in_ok-put_byte_sequence-in-Bytes-clause-steps
+returns-in_ok-put_byte_sequence-in-Bytes-clause-steps g c inside =
+    value-written g.P.PutPort.put inside (lists c.args.self.now) c.args.value.now c.in-Bytes.bytes c.args.port.now c.args.out.now.items c.put_byte_sequence.new.out.items c.in-Bytes.is c.in_ok-put_byte_sequence-in-Bytes.ensures.ok
 
 pub overflow_cast-len-in-Pairs : goal.overflow_cast-len-in-Pairs
 overflow_cast-len-in-Pairs g c = let sizes = dict_sizes c.args.value.now c.in-Pairs.pairs c.in-Pairs.is c.requires.value_fits in omega (arith, sizes.0, c.len-in-Pairs.ensures)
