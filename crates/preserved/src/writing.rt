@@ -1,6 +1,6 @@
 //! A kept slice, written as it was.
 
-ghost use Rattle.std.specs.Prelude.{◌≡◌, ◌++◌, OnOk};
+ghost use Rattle.std.specs.Prelude.{◌≡◌, ◌++◌, OnErr, OnOk};
 ghost use Rattle.ice_graphs.specs.Slices.{slice_size};
 ghost use Rattle.graph_arena.specs.Seen.{view_slice};
 ghost use Rattle.preserved.specs.Kept.{IsKept, kept_part, kept_part_of};
@@ -45,7 +45,8 @@ fn put_kept(out: &mut Vec<u8>, bytes: &[u8], optionals: bool) -> Result<(), Allo
 /// Puts the size of a slice with so many bytes behind it, which counts its own four bytes too. More than an
 /// int can tell are answered as want of memory. Out of memory leaves the output as it was.
 pub fn put_slice_size(out: &mut Vec<u8>, length: usize) -> Result<(), AllocError>
-    ensures { OnOk result (out.new.items ≡ out.old.items ++ slice_size.put length) }
+    ensures ok { OnOk result (out.new.items ≡ out.old.items ++ slice_size.put length) }
+    ensures err { OnErr result (out.new.items ≡ out.old.items) }
 {
     if length > MOST_NUMBER as usize - 4 {
         return Err(AllocError);
