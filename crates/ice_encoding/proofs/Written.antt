@@ -10,9 +10,13 @@ use Rattle.ice_encoding.specs.Order.{IsRising, insert, AreBelow}
 use Rattle.ice_encoding.specs.Port.{Port, Speller, size_of, by_number}
 use Rattle.ice_encoding.specs.Spelling.{Each, Pairs, SpellsValue}
 use Rattle.ice_encoding.specs.Typed.{AllOf, EachOf, PairsOf, Refers, no_reference, HasType, by_size}
-use Rattle.ice_encoding.specs.Writing.{Writer, IsWritten, written, written_each, written_pairs, as_number}
+use Rattle.ice_encoding.specs.Writing.{Writer, written, written_each, written_pairs, as_number}
 use Rattle.ice_encoding.proofs.Order.{tail_rising}
 use Rattle.ice_encoding.proofs.Inserting.{AllPairs, join, join_none, join_join, insert_last, lacks_above, below_next}
+
+-- what is written for it spells it, from every state, where spelling sees the states of writing so
+abbrev IsWritten : {W S A : Type 0} → (W → S) → Writer W A → Speller S A → A → Type 0
+IsWritten {W} {S} {A} seen write Spells x = (s : W) → Spells (write x s).0 x (seen s) (seen (write x s).1)
 
 -- the first key is above those before
 abbrev pub Follows : Entries → Entries → Type 0
