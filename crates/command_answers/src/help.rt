@@ -17,7 +17,9 @@ usage: ice COMMAND
                    reads a text of JSON as dump writes it from standard input, up to its end, and
                    writes the canonical encapsulation of the value that it tells to standard
                    output: in sliced format, or with --compact in compact format
-  check FILE       reads FILE and all that it includes, and writes how much they define, as
+  check FILE       reads FILE and all that it includes, and writes how many types (sequences,
+                   dictionaries, structs and enums), classes, exceptions and interfaces they
+                   define, as
                    ok: 2 types, 5 classes, 0 exceptions, 1 interfaces
   proxy TEXT       writes the proxy that TEXT stands for in its one form, and then its bytes in
                    hexadecimal, a line each
@@ -25,21 +27,27 @@ usage: ice COMMAND
                    writes a line for each as soon as it is there, as
                    request 1 \"hello\" \"\" \"ice_ping\" 1 0 6
   drill START COUNT
-                   draws a graph of COUNT class instances, 1 to 50000, from the number START, 0 to
-                   2147483647, writes it in compact format, relays it to sliced format and from
-                   there again, and writes what came of it, as
+                   draws a graph of COUNT instances of class N { int v; N left; N right; }, 1 to
+                   50000, from the number START, 0 to 2147483647, both in decimal digits without
+                   a sign or zeros in front; writes it in compact format, relays it to sliced
+                   format and from there again, and writes what came of it, as
                    nodes 1 reached 1 compact 21 sliced 25 same yes
   --help           writes this text
   --version        writes the version
 
 FILE is the path of a Slice file. Included files are paths too, from the folder that ice runs in.
 TYPE is bool, byte, short, int, long, string, Object or Value, Object*, a type id of FILE, as
-::M::Q, or an interface's type id followed by *.
+::M::Q, or an interface's type id followed by *. A word has at most 8,192 bytes, in UTF-8.
+
+An encapsulation is a value's bytes with their size and version before them, of encoding 1.1: 6 to
+1,048,576 bytes, and nothing after it. At most one byte behind what it claims is read. check, proxy
+and drill read nothing from standard input.
 
 A command ends with one of these, and writes its line to standard error. The earlier step decides:
 the words, FILE and what it includes, TYPE, the input, the output.
 
-  2  ice: usage                  the words are none of these commands
+  2  ice: usage                  the words are none of these commands, or one is not UTF-8 or too
+                                 long
   3  ice: FILE:PLACE: KIND       a Slice file is refused: its name, the fault's first byte, counted
                                  from 0, and its kind
   2  ice: no such name TYPE      no type of FILE has this name
@@ -50,7 +58,8 @@ the words, FILE and what it includes, TYPE, the input, the output.
   4  ice: text refused: KIND     the input of encode is refused, for the first of these reasons: it
                                  has more than 16,777,216 bytes (TooLong); it is no JSON in UTF-8,
                                  or nests more than 127 deep (NotJson); it lists more than 100,000
-                                 instances (TooMany); it tells no value of TYPE (Misfit)
+                                 instances (TooMany); it tells no value of TYPE, or a proxy with an
+                                 endpoint of more than 1,048,576 bytes (Misfit)
   4  ice: kept slice needs sliced format
                                  with --compact, an instance has a slice of a class that FILE lacks
   4  ice: answer too long: LENGTH
@@ -61,11 +70,57 @@ the words, FILE and what it includes, TYPE, the input, the output.
   5  ice: read failed            a file or standard input could not be read
   6  ice: write failed           standard output could not be written
   9  ice: no memory
-  1                              different
-  0                              done
+  1  (no line)                   of same: different
+  0  (no line)                   done
 
-After 2 to 5 nothing was written to standard output, but by messages, which has told what came
-before. KIND of a Slice file is one of these:
+After 2 to 5 and 9 nothing was written to standard output, and after 6 the first part of the answer;
+but messages has told what came before.
+
+The JSON of dump and encode is {\"instances\":[I,..],\"roots\":{\"$value\":V}}. The instance at place
+k of the list, counted from 0, has the number k + 2; dump lists them in the order of their first
+visits. A value V is
+
+    true, false            a bool
+    a whole number         a byte, short, int or long within its range; 1.0, 1e0 and -0 are none
+    \"text\"                 a string, an enumerator by its name, or a proxy as TEXT
+    [V,..]                 a sequence
+    [[KEY,V],..]           a dictionary, in any order, no key twice
+    {\"NAME\":V,..}          a struct by the names of its members, in any order
+    {\"$\":N}                the instance with the number N
+    null                   no instance, or the null proxy
+
+I is {\"slices\":[S,..]}, from the most derived class on. S is {\"class\":ID,\"members\":{\"NAME\":V,..}},
+with the members that this class itself declares, and without optional ones that are absent; or, of
+a class that FILE lacks, {\"bytes\":HEX,\"kept\":ID,\"optionals\":BOOL,\"table\":[{\"$\":N},..]}. An object
+has no other names; of a name that comes twice the last value counts. Instances that nothing refers
+to are not written.
+
+TEXT is an identity, options, and endpoints or an adapter:
+
+    [CATEGORY/]NAME [-f FACET] [-t|-o|-O|-d|-D] [-s] [-p M.N] [-e M.N] {:ENDPOINT} or @ ADAPTER
+
+The modes are -t twoway, -o oneway, -O batch oneway, -d datagram and -D batch datagram; -s is
+secure, -p and -e are the versions of protocol and encoding. Left out they are -t, -p 1.0 and
+-e 1.1. ENDPOINT is tcp or default, [-h HOST] [-p PORT] [-t MILLISECONDS|infinite] [-z], left out
+no host, port 0 and 60000; or opaque -t TYPE -e M.N -x HEX. Each option stands once at most. A text
+with a blank, : or @ stands in \". Escapes are \\\\ \\\" \\/ \\' \\a \\b \\t \\n \\v \\f \\r, \\ and three
+octal digits, \\u and four or \\U and eight hexadecimal digits.
+
+A message is told as one of these:
+
+    request ID \"IDENTITY\" \"FACET\" \"OPERATION\" MODE CONTEXTS BODY
+    batch COUNT
+    reply ID STATUS BODY
+    validate
+    close
+
+MODE is 0 normal, 1 nonmutating, 2 idempotent; CONTEXTS is how many entries the context has; BODY
+is how many bytes the arguments have, or of a reply all that follows its status; STATUS is 0
+success, 1 a user exception, 2 to 4 no such object, facet or operation, 5 to 7 an unknown local
+exception, user exception or other exception. There are at most 1,000,000 messages, of at most
+1,048,576 bytes each.
+
+KIND of a Slice file is one of these:
 
   NoFile        no file has the included name, or that of FILE
   TooManyFiles  an included file is one more than 100
