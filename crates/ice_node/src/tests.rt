@@ -192,6 +192,14 @@ const CALLS: &[Call] = &[
 
 const INPUT: &[u8] = &[9, 0, 0, 0, 1, 1, 2, 7, 8];
 
+/// Two inputs, one after the other.
+const TWO: &[u8] = &[9, 0, 0, 0, 1, 1, 2, 7, 8, 9, 0, 0, 0, 1, 1, 2, 7, 8];
+
+const TEXT: &[u8] = b"{\"instances\":[],\"roots\":{\"$value\":[7,8]}}";
+
+/// A message that is a header alone.
+const MESSAGE: &[u8] = b"IceP\x01\x00\x01\x00\x03\x00\x0e\x00\x00\x00";
+
 const RELAY: &[&str] = &["relay", "s.ice", "::T::Small"];
 
 const READ: &str = "ice: read failed\n";
@@ -231,6 +239,27 @@ const RUNS: &[Run] = &[
     ((1, &[], &[], &[], 0, 0), 6, b"", ""),
 ];
 
+/// The words of a call, its input, the first read past the one that finds the end, and the output that is wanted.
+type End = (
+    &'static [&'static str],
+    &'static [u8],
+    &'static [u64],
+    &'static [u8],
+);
+
+/// Inputs that are read a byte at a time.
+const ENDS: &[End] = &[
+    (
+        &["dump", "s.ice", "::T::Small"],
+        INPUT,
+        &[10],
+        b"{\"instances\":[],\"roots\":{\"$value\":[7,8]}}\n",
+    ),
+    (&["same", "s.ice", "::T::Small"], TWO, &[19], b"same\n"),
+    (&["encode", "s.ice", "::T::Small"], TEXT, &[42], INPUT),
+    (&["messages"], MESSAGE, &[15], b"validate\n"),
+];
+
 fn bytes(alloc: Global, items: &[u8]) -> Result<Bytes, AllocError> {
     Ok(List::from_vec(Vec::from_slice(alloc, items)?))
 }
@@ -263,6 +292,7 @@ fn words_of(alloc: Global, texts: &[&str]) -> Result<List<String>, AllocError> {
 fn comes(
     alloc: Global,
     words: &[&str],
+    input: &[u8],
     outside: &Outside,
     status: u8,
     output: &[u8],
@@ -271,7 +301,7 @@ fn comes(
     let (piece, loads, reads, writes, room, line_room) = outside;
     let words = words_of(alloc, words)?;
     let mut shelf = shelf(alloc, loads)?;
-    let mut source = MemSource::new(bytes(alloc, INPUT)?, (*piece).max(1), calls(alloc, reads)?);
+    let mut source = MemSource::new(bytes(alloc, input)?, (*piece).max(1), calls(alloc, reads)?);
     let mut sink = MemSink::new(alloc, (*room).min(99), calls(alloc, writes)?)?;
     let mut errors = MemSink::new(alloc, (*line_room).min(99), calls(alloc, &[])?)?;
     let words = words.as_slice();
@@ -291,7 +321,7 @@ fn each_answer_has_its_status_and_line(rt: HostRuntime) -> Result<(), Fail> {
     for (at, (words, status, output, line)) in CALLS.iter().enumerate() {
         let output = output.as_bytes();
         assert!(rt;
-            comes(rt.alloc(), words, &WELL, *status, output, line)?,
+            comes(rt.alloc(), words, INPUT, &WELL, *status, output, line)?,
             "in call {at}"
         );
     }
@@ -302,8 +332,20 @@ fn each_answer_has_its_status_and_line(rt: HostRuntime) -> Result<(), Fail> {
 fn each_failure_has_its_status(rt: HostRuntime) -> Result<(), Fail> {
     for (at, (outside, status, output, line)) in RUNS.iter().enumerate() {
         assert!(rt;
-            comes(rt.alloc(), RELAY, outside, *status, output, line)?,
+            comes(rt.alloc(), RELAY, INPUT, outside, *status, output, line)?,
             "in run {at}"
+        );
+    }
+    Ok(())
+}
+
+#[test]
+fn an_input_that_has_ended_is_not_read_again(rt: HostRuntime) -> Result<(), Fail> {
+    for (at, (words, input, reads, output)) in ENDS.iter().enumerate() {
+        let outside: Outside = (1, &[], *reads, &[], 99, 99);
+        assert!(rt;
+            comes(rt.alloc(), words, input, &outside, 0, output, "")?,
+            "in call {at}"
         );
     }
     Ok(())
