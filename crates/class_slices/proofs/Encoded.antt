@@ -6,17 +6,17 @@ use Rattle.std.specs.Int.{w32, to_le_bytes}
 use Rattle.ice_types.specs.declared.declarations.Shape.{Shape}
 use Rattle.ice_types.specs.Tables.{Tables}
 use Rattle.ice_prims.specs.Bytes.{byte_bytes, signed_bytes}
-use Rattle.ice_parts.specs.declared.limits.TheConstants.{SMALLEST}
-use Rattle.ice_parts.specs.Encapsulation.{encapsulated_bytes}
+use Rattle.ice_encoding.specs.declared.limits.TheConstants.{SMALLEST}
+use Rattle.ice_encoding.specs.Opening.{encapsulated_bytes}
 use Rattle.ice_encoding.specs.Writing.{Piece, ◌>>◌, written_each}
 use Rattle.ice_encoding.specs.Pausing.{written_in_place}
 use Rattle.ice_graphs.specs.Graph.{Graph}
 use Rattle.ice_graphs.specs.Canonical.{Pen, Format, put_inline, written_instance, blank, bytes_of, canonical_graph, IsWritable}
 use Rattle.ice_graphs.specs.Visiting.{most}
 use Rattle.ice_graphs.specs.Same.{form}
-use Rattle.ice_members.specs.declared.fields.Fields.{Fields}
-use Rattle.ice_members.specs.Shapes.{shape_seen}
-use Rattle.ice_members.proofs.WritingSteps.{options-of-tagged}
+use Rattle.ice_values.specs.declared.fields.Fields.{Fields}
+use Rattle.ice_values.specs.Shapes.{shape_seen}
+use Rattle.ice_values.proofs.WritingSteps.{options-of-tagged}
 use Rattle.instance_writing.specs.Remains.{with_options}
 use Rattle.class_slices.specs.declared.write_fault.WriteFault.TheVariants.{TooLong}
 use Rattle.class_slices.specs.Enclosing.{Closes, unsized}

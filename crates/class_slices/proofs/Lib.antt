@@ -2,3 +2,6 @@ pub mod Encoded
 pub mod FirstKept
 pub mod Sound
 pub mod Writable
+pub mod Read
+pub mod Named
+pub mod Written

@@ -5,11 +5,11 @@ use Rattle.ice_types.specs.Tables.{Tables}
 use Rattle.ice_types.specs.Rules.{IsSchema}
 use Rattle.ice_prims.specs.Rest.{Rest, IsBytes}
 use Rattle.ice_prims.proofs.Parts.{Took-fits}
-use Rattle.ice_parts.specs.Encapsulation.{opened_at}
+use Rattle.ice_encoding.specs.Opening.{opened_at}
 use Rattle.ice_encoding.specs.Encapsulation.{encapsulated_at}
 use Rattle.ice_encoding.specs.Order.{KeysRise}
-use Rattle.ice_optionals.specs.Optionals.{Present}
-use Rattle.ice_optionals.specs.Members.{Members}
+use Rattle.ice_graphs.specs.Optionals.{Present}
+use Rattle.ice_graphs.specs.OptionalMembers.{Members}
 use Rattle.ice_graphs.specs.Classes.{base_of, own_members}
 use Rattle.ice_graphs.specs.Graph.{Slice, known, kept, Graph}
 use Rattle.ice_graphs.specs.Flags.{Reach}
@@ -17,9 +17,9 @@ use Rattle.ice_graphs.specs.Instances.{slices_of, most_instances, graph_at}
 use Rattle.ice_graphs.specs.Visiting.{most}
 use Rattle.ice_graphs.specs.Typed.{AreMembers, IsKnown, AreBases, IsInstance, RefersIn, OfType}
 use Rattle.ice_graphs.proofs.Graphs.{next_found}
-use Rattle.graph_typing.proofs.Fitting.{InPresent, members_ordered}
-use Rattle.graph_typing.proofs.Ranged as ranged
-use Rattle.graph_typing.proofs.Sound.{numbered_typed}
+use Rattle.graph_laws.proofs.Fitting.{InPresent, members_ordered}
+use Rattle.graph_laws.proofs.Ranged as ranged
+use Rattle.graph_laws.proofs.Sound.{numbered_typed}
 use Rattle.graph_arena.specs.Arena.{AreBelow, AreOrdered, HasOrder, HaveOrder, InstanceFits, EachFits, IsSound}
 
 few-enough : (n : ℕ) → n ≤ most_instances → n ≤ most

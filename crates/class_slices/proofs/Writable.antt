@@ -10,8 +10,8 @@ use Rattle.ice_types.specs.Tables.{Tables}
 use Rattle.ice_encoding.specs.Tree.{Tree, Trees, none, tree, Entries, no_entry, entry, Everywhere, InEach, InPairs}
 use Rattle.ice_encoding.specs.Canonical.{HasSize, HasSizes}
 use Rattle.ice_encoding.specs.Typed.{AllOf, EachOf, PairsOf, Refers, no_reference, by_size, HasType}
-use Rattle.ice_optionals.specs.Optionals.{Present}
-use Rattle.ice_optionals.specs.Members.{Members, required_kinds}
+use Rattle.ice_graphs.specs.Optionals.{Present}
+use Rattle.ice_graphs.specs.OptionalMembers.{Members, required_kinds}
 use Rattle.ice_graphs.specs.Classes.{base_of, own_members}
 use Rattle.ice_graphs.specs.Graph.{Slice, known, kept, Graph}
 use Rattle.ice_graphs.specs.Names.{names, names_each, names_pairs, renamed_members, renamed_slice}
@@ -20,13 +20,13 @@ use Rattle.ice_graphs.specs.Visiting.{place, order}
 use Rattle.ice_graphs.specs.Same.{form}
 use Rattle.ice_graphs.specs.Typed as typed
 use Rattle.ice_graphs.specs.Typed.{AreMembers, IsKnown, AreBases, IsInstance, RefersIn, OfType}
-use Rattle.graph_typing.proofs.Fitting.{typed_sizes}
-use Rattle.graph_typing.proofs.Renamed.{Moves, members-renamed}
+use Rattle.graph_laws.proofs.Fitting.{typed_sizes}
+use Rattle.graph_laws.proofs.Renamed.{Moves, members-renamed}
 use Rattle.graph_arena.specs.Arena.{AreBelow, IsSound}
 use Rattle.graph_arena.proofs.Fitting.{most-is}
 use Rattle.graph_arena.proofs.Closed.{order-is}
 use Rattle.graph_arena.proofs.Formed.{order-few}
-use Rattle.ice_members.specs.WritingMembers.{OptionsFit, ContentCanBeWritten}
+use Rattle.ice_values.specs.WritingMembers.{OptionsFit, ContentCanBeWritten}
 use Rattle.instance_writing.specs.Tabling.{KeysNameNothing, HasPlainKeys, AreOptions, HasPlaces}
 use Rattle.instance_writing.specs.Writable.{SliceCanBeWritten, SlicesCanBeWritten, GraphCanBeWritten}
 

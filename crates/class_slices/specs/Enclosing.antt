@@ -1,7 +1,7 @@
 -- An encapsulation whose size is put when all else is. (Ice manual, "Basic Data Encoding", "Encapsulations".)
 use Rattle.std.specs.Prelude.{ℕ, ◌≡◌, ◌<◌, ◌≤◌, List, ◌∷◌, length, Result, Ok, Err, Vec}
 use Rattle.std.specs.declared.alloc.Global.{Global}
-use Rattle.ice_parts.specs.Encapsulation.{encapsulated_bytes}
+use Rattle.ice_encoding.specs.Opening.{encapsulated_bytes}
 
 -- the place of the size, the version, and the content
 abbrev pub unsized : List ℕ → List ℕ

@@ -1,14 +1,14 @@
 //! The encapsulation of any graph, or why there is none.
 
-ghost use Rattle.ice_members.specs.Shapes.{shape_seen};
+ghost use Rattle.ice_values.specs.Shapes.{shape_seen};
 ghost use Rattle.instance_writing.specs.Formats.{view_format};
 ghost use Rattle.class_slices.specs.Encoding.{Encodes};
 
 use crate::encode_fault::EncodeFault;
 use crate::writing::encode_typed;
 use graph_arena::Graph;
-use ice_members::Fields;
 use ice_types::Schema;
+use ice_values::Fields;
 use instance_writing::Format;
 use std::alloc::Global;
 use value_checks::first_ill_typed;

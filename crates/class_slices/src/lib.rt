@@ -1,11 +1,18 @@
-//! Graphs of class instances in encapsulations: read whole, in either format, with the first fault, and
-//! written in their canonical bytes. (Ice manual, "Data Encoding for Class and Exception Types".)
+//! Graphs of class instances, and user exceptions, in encapsulations: read whole, in either format, with
+//! the first fault, and written in their canonical bytes. (Ice manual, "Data Encoding for Class and
+//! Exception Types", "User Exceptions".)
 #![tactic(auto)]
 
 mod enclosing;
 mod encode_fault;
 mod encoding;
+mod exception_kept;
+mod exception_reading;
+mod exception_writing;
 mod kept;
+mod naming;
+mod raised;
+mod raised_fault;
 mod reading;
 mod write_fault;
 mod writing;
@@ -13,8 +20,12 @@ mod writing;
 pub use enclosing::{begin_encaps, end, end_encaps, left_are_bytes};
 pub use encode_fault::EncodeFault;
 pub use encoding::encode;
+pub use exception_reading::read_exception;
+pub use exception_writing::write_exception;
 pub use instance_writing::Format;
 pub use kept::{begins_kept, first_kept};
+pub use raised::Raised;
+pub use raised_fault::RaisedFault;
 pub use reading::{decode, decode_rest, take_graph};
 pub use write_fault::WriteFault;
 pub use writing::encode_typed;

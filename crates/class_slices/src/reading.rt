@@ -7,14 +7,14 @@ ghost use Rattle.ice_encoding.specs.Encapsulation.{encapsulated_at};
 ghost use Rattle.ice_graphs.specs.Flags.{all_slices};
 ghost use Rattle.ice_graphs.specs.Instances.{graph_at, numbered_at};
 ghost use Rattle.ice_graphs.specs.Typed.{OfType};
-ghost use Rattle.ice_members.specs.Shapes.{shape_seen};
+ghost use Rattle.ice_values.specs.Shapes.{shape_seen};
 
 use crate::enclosing::{end, left_are_bytes};
 use encaps_optionals::open_encaps;
 use graph_arena::Graph;
-use ice_members::Fields;
 use ice_prims::{Cursor, ReadFault};
 use ice_types::Schema;
+use ice_values::Fields;
 use instance_reading::read_content;
 use std::alloc::Global;
 

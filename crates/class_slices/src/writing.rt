@@ -1,7 +1,7 @@
 //! The encapsulation of a graph.
 
 ghost use Rattle.ice_graphs.specs.Typed.{OfType};
-ghost use Rattle.ice_members.specs.Shapes.{shape_seen};
+ghost use Rattle.ice_values.specs.Shapes.{shape_seen};
 ghost use Rattle.instance_writing.specs.Formats.{view_format};
 ghost use Rattle.class_slices.specs.Encoding.{Writes};
 
@@ -9,8 +9,8 @@ use crate::enclosing::{begin_encaps, end_encaps};
 use crate::kept::allow;
 use crate::write_fault::WriteFault;
 use graph_arena::Graph;
-use ice_members::Fields;
 use ice_types::Schema;
+use ice_values::Fields;
 use instance_writing::{Format, write_numbered};
 use std::alloc::Global;
 

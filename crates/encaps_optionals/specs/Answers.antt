@@ -3,8 +3,8 @@ use Rattle.std.specs.Prelude.{ℕ, ◌≡◌, ◌==◌, Bool, true, false, Optio
 use Rattle.ice_types.specs.declared.optional_format.TheConstants.{FORMAT_CLASS}
 use Rattle.ice_prims.specs.declared.fault.Fault.{Fault}
 use Rattle.ice_prims.specs.Rest.{Rest, ◌>>=◌}
-use Rattle.ice_parts.specs.Tags.{next_tag_at, rising_at}
-use Rattle.ice_parts.specs.Skipping.{passed_at}
+use Rattle.ice_encoding.specs.Tags.{next_tag_at, rising_at}
+use Rattle.ice_encoding.specs.Skipping.{passed_at}
 use Rattle.encaps_optionals.specs.declared.skipping.Skipped.{Skipped}
 use Rattle.encaps_optionals.specs.declared.skipping.Skipped.TheVariants.{Passed, Reference}
 

@@ -4,12 +4,12 @@
 ghost use Rattle.std.specs.Prelude.{◌≡◌, ◌++◌, ◌+◌, ◌<◌, ◌^◌, OnOk, OnErr, length};
 ghost use Rattle.ice_prims.specs.Bytes.{Grows};
 ghost use Rattle.ice_prims.specs.Taking.{Takes};
-ghost use Rattle.ice_parts.specs.declared.limits.TheConstants.{SMALLEST};
-ghost use Rattle.ice_parts.specs.Encapsulation.{encoding, opened_at, encapsulated_bytes};
+ghost use Rattle.ice_encoding.specs.declared.limits.TheConstants.{SMALLEST};
+ghost use Rattle.ice_encoding.specs.Opening.{encoding, opened_at, encapsulated_bytes};
 ghost use Rattle.encaps_optionals.specs.Answers.{Sees};
 
 use crate::size::claimed_size;
-use ice_parts::{SIZE_BYTES, SMALLEST};
+use ice_encoding::{SIZE_BYTES, SMALLEST};
 use ice_prims::{Cursor, Fault, Kind, put_int};
 use std::alloc::AllocError;
 

@@ -2,8 +2,8 @@
 //! Values".)
 
 ghost use Rattle.ice_prims.specs.Taking.{Takes};
-ghost use Rattle.ice_parts.specs.Parts.{size};
-ghost use Rattle.ice_parts.specs.Skipping.{count, bound_behind};
+ghost use Rattle.ice_encoding.specs.Parts.{size};
+ghost use Rattle.ice_encoding.specs.Skipping.{count, bound_behind};
 
 use ice_prims::{Cursor, Fault, Kind};
 

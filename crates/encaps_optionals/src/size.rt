@@ -1,9 +1,9 @@
 //! Sizes that count what they stand in.
 
 ghost use Rattle.std.specs.Prelude.{◌≡◌};
-ghost use Rattle.ice_parts.specs.Bounds.{claimed};
+ghost use Rattle.ice_encoding.specs.Bounds.{claimed};
 
-use ice_parts::LARGEST;
+use ice_encoding::LARGEST;
 use ice_prims::{Fault, Kind};
 
 /// The size that an int claims for what begins at `place`, where `left` bytes are left and there is no

@@ -3,7 +3,7 @@
 
 ghost use Rattle.std.specs.Prelude.{◌≤◌};
 ghost use Rattle.ice_prims.specs.Taking.{Takes};
-ghost use Rattle.ice_parts.specs.Skipping.{passed_at};
+ghost use Rattle.ice_encoding.specs.Skipping.{passed_at};
 ghost use Rattle.encaps_optionals.specs.Answers.{PassesOver, skipped_at};
 
 use crate::prefix::{bound_by_int, bound_by_size};

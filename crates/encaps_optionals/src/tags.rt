@@ -3,7 +3,7 @@
 ghost use Rattle.std.specs.Prelude.{◌≡◌, ◌++◌, ◌<◌, ◌≤◌, ◌^◌, OnOk, OnErr};
 ghost use Rattle.ice_prims.specs.Bytes.{Grows};
 ghost use Rattle.ice_prims.specs.Taking.{Takes};
-ghost use Rattle.ice_parts.specs.Tags as spec;
+ghost use Rattle.ice_encoding.specs.Tags as spec;
 ghost use Rattle.encaps_optionals.specs.Answers.{Sees, Ends};
 
 use ice_prims::{Cursor, Fault, Kind, put_byte, put_size};

@@ -9,7 +9,8 @@
 #[cfg(test)]
 mod tests;
 
-use ice_parts::LARGEST;
+use class_slices::{Format, RaisedFault, read_exception, write_exception};
+use ice_encoding::LARGEST;
 use ice_ports::{FolderShelf, Shelf, Source, StdSink, StdSource};
 use ice_prims::ReadFault;
 use ice_relay::read_input;
@@ -19,7 +20,6 @@ use slice_lexer::MOST_BYTES;
 use std::alloc::Global;
 use std::process::ExitCode;
 use std::{env, io};
-use user_exceptions::{Format, RaisedFault, read_exception, write_exception};
 
 /// No more bytes of a file are read: a text has fewer.
 const MOST_OF_A_FILE: u64 = MOST_BYTES as u64 + 1;

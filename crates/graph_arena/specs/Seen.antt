@@ -1,8 +1,8 @@
 -- Members, slices and instances without where they lie in memory.
 use Rattle.std.specs.Prelude.{ℕ, List, map}
 use Rattle.ice_encoding.specs.Tree.{Tree}
-use Rattle.ice_optionals.specs.Members as members
-use Rattle.ice_optionals.specs.Optionals.{Present}
+use Rattle.ice_graphs.specs.OptionalMembers as members
+use Rattle.ice_graphs.specs.Optionals.{Present}
 use Rattle.ice_graphs.specs.Graph.{known, kept}
 use Rattle.ice_graphs.specs.Graph as graphs
 use Rattle.graph_arena.specs.declared.value.Value.{Value}

@@ -8,7 +8,7 @@ use Rattle.ice_types.specs.declared.proxy.Proxy.{Proxy}
 use Rattle.ice_types.specs.declared.proxy.Endpoint.{Endpoint}
 use Rattle.ice_types.specs.declared.proxy.Endpoint.TheVariants.{Tcp, Opaque}
 use Rattle.ice_encoding.specs.Tree.{Tree, boolean, byte, short, int, long, text, sequence, dictionary, struct, enumerator, proxy, reference, Trees, none, tree, Entries, no_entry, entry}
-use Rattle.ice_optionals.specs.Members.{Members}
+use Rattle.ice_graphs.specs.OptionalMembers.{Members}
 use Rattle.ice_graphs.specs.Graph.{Slice, known, kept, Graph}
 
 -- how the values of a type are stored, and got back

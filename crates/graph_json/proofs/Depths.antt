@@ -23,14 +23,14 @@ use Rattle.ice_types.specs.Tables.{Tables}
 use Rattle.ice_types.proofs.Levels.{found_by}
 use Rattle.ice_encoding.specs.Tree as tree
 use Rattle.ice_encoding.specs.Tree.{Tree, Trees, none, Entries, no_entry, entry}
-use Rattle.ice_optionals.specs.Optionals.{Present}
-use Rattle.ice_optionals.specs.Members.{Members}
+use Rattle.ice_graphs.specs.Optionals.{Present}
+use Rattle.ice_graphs.specs.OptionalMembers.{Members}
 use Rattle.ice_graphs.specs.Classes.{members_in, own_members}
 use Rattle.ice_graphs.specs.Graph.{Slice, known, kept, Graph}
 use Rattle.ice_graphs.specs.Same.{form}
-use Rattle.value_json.specs.Notation.{name_noted}
-use Rattle.value_json.specs.Canonical.{Write, name_numbered, each_noted, pairs_noted, members_noted, noted, notation_step, notation_levels, notation}
-use Rattle.value_json.specs.Contents.{member_tagged, put_member, options_noted, content_noted}
+use Rattle.graph_json.specs.ValueNotation.{name_noted}
+use Rattle.graph_json.specs.CanonicalValues.{Write, name_numbered, each_noted, pairs_noted, members_noted, noted, notation_step, notation_levels, notation}
+use Rattle.graph_json.specs.Contents.{member_tagged, put_member, options_noted, content_noted}
 use Rattle.graph_json.specs.Canonical.{list_noted, slice_noted, instance_noted, graph_noted, canonical_noted}
 use Rattle.graph_json.specs.Texts.{AreNotable}
 use Rattle.graph_json.proofs.Floats.{whichever}

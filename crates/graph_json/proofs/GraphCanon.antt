@@ -21,15 +21,15 @@ use Rattle.ice_graphs.specs.Names.{renamed_slice}
 use Rattle.ice_graphs.specs.Same.{AreListed, form}
 use Rattle.ice_graphs.specs.Typed.{AreReferred, IsKnown, AreBases, IsInstance, RefersIn, OfType}
 use Rattle.ice_graphs.specs.Visiting.{place, order, most}
-use Rattle.graph_canonicity.proofs.Formed.{Reached, form-typed, form-same-graph}
-use Rattle.graph_canonicity.proofs.Named.{are_named}
-use Rattle.graph_canonicity.proofs.Reached.{reached-small}
-use Rattle.graph_canonicity.proofs.Sameness.{listed-within}
-use Rattle.graph_canonicity.proofs.Schemas.{utf8_texts}
-use Rattle.value_json.specs.Notation.{Noting, NotesName, name_noted}
-use Rattle.value_json.specs.Contents.{content_noted, HasOwnNames, ContentIsShort}
-use Rattle.value_json.proofs.ContentCanon.{content_canon, tags_apart}
-use Rattle.value_json.proofs.Names.{are_apart}
+use Rattle.graph_laws.proofs.Formed.{Reached, form-typed, form-same-graph}
+use Rattle.graph_laws.proofs.Named.{are_named}
+use Rattle.graph_laws.proofs.Reached.{reached-small}
+use Rattle.graph_laws.proofs.Sameness.{listed-within}
+use Rattle.graph_laws.proofs.Schemas.{utf8_texts}
+use Rattle.graph_json.specs.ValueNotation.{Noting, NotesName, name_noted}
+use Rattle.graph_json.specs.Contents.{content_noted, HasOwnNames, ContentIsShort}
+use Rattle.graph_json.proofs.ContentCanon.{content_canon, tags_apart}
+use Rattle.graph_json.proofs.Names.{are_apart}
 use Rattle.graph_json.specs.Notation.{NotesEach, NotesList, NotesSlice, NotesInstance, NotesListed, NotesGraph}
 use Rattle.graph_json.specs.Canonical.{items_noted, list_noted, slice_noted, instance_noted, graph_noted, canonical_noted}
 use Rattle.graph_json.specs.Typed.{SliceNotable, InstanceNotable, IsNotable}

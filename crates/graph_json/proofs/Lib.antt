@@ -13,3 +13,18 @@ pub mod Objects
 pub mod Sound
 pub mod TextsApart
 pub mod Texts
+pub mod Shapes
+pub mod Names
+pub mod Proxies
+pub mod NotedValues
+pub mod Canon
+pub mod OfType
+pub mod WalkingValues
+pub mod Sizes
+pub mod WritingValues
+pub mod FittingValues
+pub mod ContentNoted
+pub mod ContentWalking
+pub mod ContentCanon
+pub mod ContentTyped
+mod ValueSamples

@@ -13,14 +13,14 @@ use Rattle.ice_types.specs.Tables.{Tables}
 use Rattle.ice_types.specs.Rules.{IsSchema}
 use Rattle.ice_graphs.specs.Classes.{class_named, own_members}
 use Rattle.ice_graphs.specs.Graph.{Slice, known, kept, Graph}
-use Rattle.value_json.specs.Notation.{Noting, NotesName}
-use Rattle.value_json.specs.Reading.{Read, name_of, whole}
-use Rattle.value_json.specs.Contents.{NotesContent, noted_content}
-use Rattle.value_json.proofs.Shapes.{then_some, map_some, true_then, str_is, bool_is, array_is, object_is}
-use Rattle.value_json.proofs.Noted.{Found, Only, name_found, name_only}
+use Rattle.graph_json.specs.ValueNotation.{Noting, NotesName}
+use Rattle.graph_json.specs.ReadingValues.{Read, name_of, whole}
+use Rattle.graph_json.specs.Contents.{NotesContent, noted_content}
+use Rattle.graph_json.proofs.Shapes.{then_some, map_some, true_then, str_is, bool_is, array_is, object_is}
+use Rattle.graph_json.proofs.NotedValues.{Found, Only, name_found, name_only}
 use Rattle.graph_json.specs.Notation.{HasNames, Has, NotesEach, NotesList, NotesBytes, NotesSlice, NotesInstance, NotesListed}
 use Rattle.graph_json.specs.Reading.{of_object, at_name, items_of, list_of, decoded, bytes_of, class_of, known_in, kept_in, slice_in, slice_of, instance_of, with_roots, graph_in, listed_graph}
-use Rattle.value_json.proofs.ContentNoted.{content_found, content_only}
+use Rattle.graph_json.proofs.ContentNoted.{content_found, content_only}
 
 -- ---- objects and arrays
 

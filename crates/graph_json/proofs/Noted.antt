@@ -12,15 +12,15 @@ use Rattle.ice_graphs.specs.Names.{renamed_slice}
 use Rattle.ice_graphs.specs.Same.{form, Same}
 use Rattle.ice_graphs.specs.Typed.{OfType}
 use Rattle.ice_graphs.specs.Visiting.{place, order, most}
-use Rattle.graph_canonicity.proofs.Formed.{form-same-graph}
-use Rattle.graph_canonicity.proofs.Reached.{reached-small, reached-few}
-use Rattle.graph_canonicity.proofs.Renumbered.{form-same}
-use Rattle.graph_canonicity.proofs.Sameness.{same_both}
-use Rattle.graph_canonicity.proofs.Schemas.{few-enough}
+use Rattle.graph_laws.proofs.Formed.{form-same-graph}
+use Rattle.graph_laws.proofs.Reached.{reached-small, reached-few}
+use Rattle.graph_laws.proofs.Renumbered.{form-same}
+use Rattle.graph_laws.proofs.Sameness.{same_both}
+use Rattle.graph_laws.proofs.Schemas.{few-enough}
 use Rattle.graph_json.specs.Notation.{NotesListed, NotesGraph}
 use Rattle.graph_json.specs.Reading.{listed_graph}
 use Rattle.graph_json.specs.Canonical.{graph_noted, canonical_noted}
-use Rattle.value_json.specs.Contents.{HasOwnNames}
+use Rattle.graph_json.specs.Contents.{HasOwnNames}
 use Rattle.graph_json.specs.Typed.{IsNotable}
 use Rattle.graph_json.proofs.Listed.{graph_found, graph_only}
 use Rattle.graph_json.proofs.GraphCanon.{form_of_type, form_listed, graph_canon}

@@ -13,7 +13,7 @@ use Rattle.serde_json.proofs.Views.{Entry, members_len-members_view}
 use Rattle.ice_types.specs.Tables.{Tables}
 use Rattle.graph_arena.specs.declared.instance.Slice.{Slice}
 use Rattle.graph_arena.specs.Seen.{view_slice}
-use Rattle.value_json.specs.Reading.{some, whole}
+use Rattle.graph_json.specs.ReadingValues.{some, whole}
 use Rattle.graph_json.specs.Reading.{of_object, known_in, kept_in, slice_of}
 
 module _ (es : List Entry) (d : Data) (n : ℕ) (is : Some (members_view es) ≡ as_object d) (len : n ≡ length es) where

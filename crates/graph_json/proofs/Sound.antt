@@ -19,21 +19,21 @@ use Rattle.ice_encoding.specs.Tree.{Trees, InEach}
 use Rattle.ice_encoding.specs.Order.{KeysRise}
 use Rattle.ice_encoding.specs.Typed.{by_size, HasType, EachOf}
 use Rattle.ice_encoding.proofs.Typed.{typed_ordered}
-use Rattle.ice_optionals.specs.Members.{Members, required_kinds}
-use Rattle.ice_optionals.specs.Optionals.{Present}
+use Rattle.ice_graphs.specs.OptionalMembers.{Members, required_kinds}
+use Rattle.ice_graphs.specs.Optionals.{Present}
 use Rattle.ice_graphs.specs.Classes.{own_members}
 use Rattle.ice_graphs.specs.Graph.{Slice, known, kept, Graph}
 use Rattle.ice_graphs.specs.Instances.{slices_of, most_instances}
 use Rattle.ice_graphs.specs.Names.{instance_names, names_of}
 use Rattle.ice_graphs.specs.Typed.{AreMembers, AreOptions, OfType}
 use Rattle.ice_graphs.specs.Visiting.{most}
-use Rattle.graph_typing.proofs.Ranged as ranged
+use Rattle.graph_laws.proofs.Ranged as ranged
 use Rattle.graph_arena.specs.declared.instance.Instance.{Instance}
 use Rattle.graph_arena.specs.declared.instance.Members as arena
 use Rattle.graph_arena.specs.Seen.{view_content, view_instance}
 use Rattle.graph_arena.specs.Arena.{AreBelow, AreOrdered, EachFits, HasOrder, HaveOrder, IsSound}
-use Rattle.value_json.specs.Contents.{HasOwnNames}
-use Rattle.value_json.specs.Notation.{Noting}
+use Rattle.graph_json.specs.Contents.{HasOwnNames}
+use Rattle.graph_json.specs.ValueNotation.{Noting}
 use Rattle.graph_json.specs.Notation.{NotesEach, NotesInstance, NotesListed}
 use Rattle.graph_json.specs.Reading.{listed_graph}
 use Rattle.graph_json.specs.Typed.{InstanceHasValues, HaveValues}

@@ -4,8 +4,8 @@ use Rattle.std.proofs.lemmas.Bool.{eqb-true, eq-eqb}
 use Rattle.std.proofs.lemmas.Option.{none-some, same_Some}
 use Rattle.ice_types.specs.declared.declarations.Member.{Member}
 use Rattle.ice_types.specs.Fits.{names_of}
-use Rattle.value_json.specs.Contents.{member_tagged}
-use Rattle.value_json.proofs.Names.{LacksName}
+use Rattle.graph_json.specs.Contents.{member_tagged}
+use Rattle.graph_json.proofs.Names.{LacksName}
 
 -- each of them
 abbrev pub Each : (Member → Type 0) → List Member → Type 0

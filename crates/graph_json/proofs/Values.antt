@@ -12,23 +12,23 @@ use Rattle.ice_types.specs.declared.declarations.Shape.{Shape}
 use Rattle.ice_types.specs.declared.schema.TheConstants.{MOST_DEPTH}
 use Rattle.ice_types.specs.Tables.{Tables}
 use Rattle.ice_types.specs.Rules.{IsSchema}
-use Rattle.ice_parts.specs.Tags.{rises}
+use Rattle.ice_encoding.specs.Tags.{rises}
 use Rattle.ice_encoding.specs.Tree.{Tree}
 use Rattle.ice_encoding.specs.Typed.{by_size, HasType}
-use Rattle.ice_optionals.specs.Optionals.{Present, kind_tagged}
-use Rattle.ice_optionals.specs.Members.{Members}
+use Rattle.ice_graphs.specs.Optionals.{Present, kind_tagged}
+use Rattle.ice_graphs.specs.OptionalMembers.{Members}
 use Rattle.ice_graphs.specs.Classes.{own_members}
 use Rattle.ice_graphs.specs.Graph.{Slice, known, kept, Graph}
 use Rattle.ice_graphs.specs.Typed.{AreReferred, AreOptions, AreMembers}
-use Rattle.graph_typing.proofs.Bases.{row_of_id}
-use Rattle.value_json.specs.Notation.{NotesName, Notes}
-use Rattle.value_json.specs.Contents.{HasOwnNames, put_at, NotesOption, NotesOptions, NotesContent, member_tagged}
-use Rattle.value_json.proofs.ContentTyped.{content_is_typed}
-use Rattle.value_json.proofs.OfType.{members_typed, noted_type}
+use Rattle.graph_laws.proofs.Bases.{row_of_id}
+use Rattle.graph_json.specs.ValueNotation.{NotesName, Notes}
+use Rattle.graph_json.specs.Contents.{HasOwnNames, put_at, NotesOption, NotesOptions, NotesContent, member_tagged}
+use Rattle.graph_json.proofs.ContentTyped.{content_is_typed}
+use Rattle.graph_json.proofs.OfType.{members_typed, noted_type}
 use Rattle.graph_json.specs.Notation.{NotesEach, NotesSlice, NotesInstance, NotesListed}
 use Rattle.graph_json.specs.Typed.{SliceHasValues, InstanceHasValues, HaveValues}
 use Rattle.graph_json.proofs.Tagged.{Each, HaveTags, Own, own_tags}
-use Rattle.value_json.proofs.ContentCanon.{Above, Rising, put_rises}
+use Rattle.graph_json.proofs.ContentCanon.{Above, Rising, put_rises}
 use Rattle.graph_json.proofs.Fitting.{AreSmall, class_fits}
 
 -- ---- a member's type by its tag

@@ -5,7 +5,7 @@ use Rattle.serde_json.specs.Data.{Data, Items, no_items, item}
 use Rattle.serde_json.specs.View.{view as json_view, items_view}
 use Rattle.serde_json.specs.View as json
 use Rattle.serde_json.specs.declared.value.Value.{Value as Json}
-use Rattle.value_json.specs.Reading.{Read}
+use Rattle.graph_json.specs.ReadingValues.{Read}
 use Rattle.graph_json.specs.Reading.{items_of}
 use Rattle.graph_json.specs.Canonical.{items_noted}
 

@@ -8,8 +8,8 @@ use Rattle.ice_graphs.specs.Classes.{own_members}
 use Rattle.ice_graphs.specs.Graph.{Slice, known, kept, Graph}
 use Rattle.ice_graphs.specs.Canonical.{id_of}
 use Rattle.ice_graphs.specs.Same.{form}
-use Rattle.value_json.specs.Notation.{name_noted}
-use Rattle.value_json.specs.Contents.{content_noted}
+use Rattle.graph_json.specs.ValueNotation.{name_noted}
+use Rattle.graph_json.specs.Contents.{content_noted}
 
 abbrev pub items_noted : {A : Type 0} → (A → Data) → List A → Items
 items_noted write [] = no_items

@@ -4,3 +4,8 @@ pub mod Canonical
 pub mod Typed
 pub mod Listed
 pub mod Texts
+pub mod ValueNotation
+pub mod ReadingValues
+pub mod CanonicalValues
+pub mod Contents
+pub mod TypedValues

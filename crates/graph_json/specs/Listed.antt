@@ -1,6 +1,6 @@
 -- What JSON lists, without where it lies in memory, and the graph that it is.
 use Rattle.std.specs.Prelude.{ℕ, ◌≡◌, ◌≤◌, List, [], ◌∷◌, length, map, Option, None, Some}
-use Rattle.ice_optionals.specs.Members.{Members}
+use Rattle.ice_graphs.specs.OptionalMembers.{Members}
 use Rattle.ice_graphs.specs.Graph.{Slice, known, kept, Graph}
 use Rattle.ice_graphs.specs.Names.{instance_names}
 use Rattle.ice_graphs.specs.Visiting.{most}

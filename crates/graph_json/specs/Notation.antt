@@ -11,8 +11,8 @@ use Rattle.ice_graphs.specs.Classes.{class_named, own_members}
 use Rattle.ice_graphs.specs.Graph.{Slice, known, kept, Graph}
 use Rattle.ice_graphs.specs.Same.{Same}
 use Rattle.ice_graphs.specs.Typed.{OfType}
-use Rattle.value_json.specs.Notation.{Noting, NotesName}
-use Rattle.value_json.specs.Contents.{NotesContent}
+use Rattle.graph_json.specs.ValueNotation.{Noting, NotesName}
+use Rattle.graph_json.specs.Contents.{NotesContent}
 
 -- ---- objects and arrays
 

@@ -7,11 +7,11 @@ use Rattle.serde_json.specs.Find.{as_bool, as_str, as_array, as_object, get_memb
 use Rattle.serde_json.specs.Events.{members_len}
 use Rattle.ice_types.specs.declared.declarations.Shape.{Shape}
 use Rattle.ice_types.specs.Tables.{Tables}
-use Rattle.ice_optionals.specs.Members.{Members}
+use Rattle.ice_graphs.specs.OptionalMembers.{Members}
 use Rattle.ice_graphs.specs.Classes.{class_named, own_members}
 use Rattle.ice_graphs.specs.Graph.{Slice, known, kept, Graph}
-use Rattle.value_json.specs.Reading.{Read, name_of, whole}
-use Rattle.value_json.specs.Contents.{noted_content}
+use Rattle.graph_json.specs.ReadingValues.{Read, name_of, whole}
+use Rattle.graph_json.specs.Contents.{noted_content}
 
 -- ---- objects and arrays
 

@@ -7,7 +7,7 @@ use Rattle.ice_graphs.specs.Graph.{Slice, known, kept, Graph}
 use Rattle.ice_graphs.specs.Instances.{slices_of}
 use Rattle.ice_graphs.specs.Typed.{AreReferred, IsKnown}
 use Rattle.ice_graphs.specs.Visiting.{place, order}
-use Rattle.value_json.specs.Contents.{ContentIsShort}
+use Rattle.graph_json.specs.Contents.{ContentIsShort}
 
 -- the texts of proxies are short enough, and what is kept is bytes
 abbrev pub SliceNotable : Slice → Type 0

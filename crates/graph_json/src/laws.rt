@@ -11,7 +11,7 @@ ghost use Rattle.ice_graphs.specs.Instances.{most_instances};
 ghost use Rattle.ice_graphs.specs.Same.{form, Same};
 ghost use Rattle.ice_graphs.specs.Typed.{AreMembers, OfType};
 ghost use Rattle.ice_graphs.specs.Visiting.{most, order};
-ghost use Rattle.value_json.specs.Contents.{HasOwnNames};
+ghost use Rattle.graph_json.specs.Contents.{HasOwnNames};
 ghost use Rattle.graph_json.specs.Notation.{NotesListed, NotesGraph};
 ghost use Rattle.graph_json.specs.Reading.{listed_graph};
 ghost use Rattle.graph_json.specs.Canonical.{canonical_noted};
@@ -76,7 +76,7 @@ pub fn notations_apart()
 {}
 
 /// Of a graph that JSON notes, what is reached is of the type, within the limit of instances.
-pub fn noted_typed()
+pub fn noted_graphs_typed()
     ensures { (t : Tables) (shape : Shape) (d : Data) (g : Graph)
         → IsSchema t → NotesGraph t shape d g → length (order g) ≤ most_instances → OfType t shape (form g) }
 {}

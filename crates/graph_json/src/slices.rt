@@ -6,17 +6,17 @@ ghost use Rattle.serde_json.specs.Find.{as_bool, as_str, get_member};
 ghost use Rattle.serde_json.specs.View.{view as json_view, items_view, members_view};
 ghost use Rattle.ice_graphs.specs.Classes.{class_named, members_in};
 ghost use Rattle.graph_arena.specs.Seen.{view_slice, view_slices};
-ghost use Rattle.value_json.specs.Reading as values;
+ghost use Rattle.graph_json.specs.ReadingValues as values;
 ghost use Rattle.graph_json.specs.Reading as spec;
 ghost use Rattle.graph_json.specs.Reading.{at_name, items_of, list_of};
 
+use crate::{content_of, name_of};
 use graph_arena::Slice;
 use hex::FromHexError;
-use ice_members::Fields;
 use ice_types::{Bytes, List, Member, Name, Schema};
+use ice_values::Fields;
 use serde_json::{Map, Value as Json};
 use std::alloc::{AllocError, Global};
-use value_json::{content_of, name_of};
 
 /// The slices that an array lists, or None where it lists none. Want of memory is the only refusal.
 pub(crate) fn slices_of(

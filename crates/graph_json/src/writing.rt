@@ -7,17 +7,17 @@ ghost use Rattle.ice_types.specs.Tables.{Tables};
 ghost use Rattle.ice_graphs.specs.Canonical.{id_in};
 ghost use Rattle.ice_graphs.specs.Graph.{kept, known};
 ghost use Rattle.graph_arena.specs.Seen.{view_content, view_slice, view_slices};
-ghost use Rattle.ice_members.specs.Shapes.{shape_seen};
-ghost use Rattle.value_json.specs.Notation.{name_noted};
+ghost use Rattle.ice_values.specs.Shapes.{shape_seen};
+ghost use Rattle.graph_json.specs.ValueNotation.{name_noted};
 ghost use Rattle.graph_json.specs.Canonical.{graph_noted, instance_noted, items_noted, slice_noted};
 
 use crate::slices::own_members;
+use crate::{content_json, name_json};
 use graph_arena::{Graph, Members, Slice};
-use ice_members::Fields;
 use ice_types::{Bytes, Name, Schema};
+use ice_values::Fields;
 use serde_json::{Map, Value as Json, put};
 use std::alloc::{AllocError, Global};
-use value_json::{content_json, name_json};
 
 /// The notation of a graph whose roots are of these members: its instances as they stand. Want of memory is
 /// the only refusal.

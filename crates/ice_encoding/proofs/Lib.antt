@@ -14,3 +14,14 @@ pub mod Smallest
 pub mod Plain
 pub mod Encapsulations
 pub mod Samples
+pub mod Joined
+pub mod Times
+pub mod Bounded
+pub mod Named
+pub mod Served
+pub mod Proxied
+pub mod Opened
+pub mod Tagged
+pub mod Passed
+mod PartSamples
+mod TagSamples

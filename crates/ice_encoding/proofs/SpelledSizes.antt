@@ -9,11 +9,11 @@ use Rattle.ice_types.specs.declared.proxy.Endpoint.TheVariants.{Tcp}
 use Rattle.ice_types.specs.declared.proxy.Proxy.{Proxy}
 use Rattle.ice_prims.specs.Number.{SpellsBool, SpellsSize, SpellsText}
 use Rattle.ice_prims.specs.Bytes.{bool_bytes, signed_bytes, size_bytes, text_bytes}
-use Rattle.ice_parts.specs.Parts.{Each, SpellsTimes}
-use Rattle.ice_parts.specs.Identity.{identity, facet_of}
-use Rattle.ice_parts.specs.Endpoint.{tcp, said_bytes, SpellsSaid, is_tcp, endpoint, EndpointHasSize}
-use Rattle.ice_parts.specs.Proxy.{Location, located_by, named, proxy, HasProxySizes}
-use Rattle.ice_parts.proofs.Joined.{times_length}
+use Rattle.ice_encoding.specs.Parts.{Each, SpellsTimes}
+use Rattle.ice_encoding.specs.Identity.{identity, facet_of}
+use Rattle.ice_encoding.specs.Endpoint.{tcp, said_bytes, SpellsSaid, is_tcp, endpoint, EndpointHasSize}
+use Rattle.ice_encoding.specs.Proxy.{Location, located_by, named, proxy, HasProxySizes}
+use Rattle.ice_encoding.proofs.Joined.{times_length}
 
 pub size_fits : (front : List ℕ) (n : ℕ) → SpellsSize front n → n < 2 ^ 31
 size_fits front n (inl h) = omega (arith, h.0)

@@ -13,7 +13,7 @@ use Rattle.ice_types.specs.Measures.{reference as null, proxy, measure, measured
 use Rattle.ice_types.proofs.Levels.{found_by, some_is}
 use Rattle.ice_prims.specs.Rest.{IsBytes}
 use Rattle.ice_prims.proofs.Parts.{IsBytes-front, IsBytes-rest}
-use Rattle.ice_parts.proofs.Proxied.{proxy_lawful}
+use Rattle.ice_encoding.proofs.Proxied.{proxy_lawful}
 use Rattle.ice_prims.proofs.Spelled.{short_exact, int_exact, long_exact, size_exact, text_exact}
 use Rattle.ice_encoding.specs.Tree.{Tree, Trees, none, tree, tree_count, Entries, no_entry, entry, entry_count, InEach, InPairs}
 use Rattle.ice_encoding.specs.Order.{tree_cmp, IsRising, KeysRise, IsOrdered, insert}

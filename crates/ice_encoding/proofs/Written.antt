@@ -3,7 +3,7 @@ use Rattle.std.proofs.Common.{ℕ, suc, zero, ◌≡◌, List, [], ◌∷◌, ma
 use Rattle.ice_types.specs.declared.kind.TypeRef.{TypeRef}
 use Rattle.ice_types.specs.declared.kind.TypeRef.TheVariants as kinds
 use Rattle.ice_types.specs.Tables.{Tables}
-use Rattle.ice_parts.proofs.Proxied.{proxy_lawful}
+use Rattle.ice_encoding.proofs.Proxied.{proxy_lawful}
 use Rattle.ice_prims.proofs.Spelled.{bool_exact, short_exact, int_exact, long_exact, size_exact, text_exact}
 use Rattle.ice_encoding.specs.Tree.{Tree, boolean, byte, short, int, long, text, sequence, dictionary, struct, enumerator, proxy, reference, Trees, none, tree, tree_count, Entries, no_entry, entry, entry_count}
 use Rattle.ice_encoding.specs.Order.{IsRising, insert, AreBelow}

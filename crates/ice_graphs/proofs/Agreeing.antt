@@ -17,7 +17,7 @@ use Rattle.ice_types.specs.Measures.{measure, measured, measure_members, with_me
 use Rattle.ice_types.specs.Formats.{of_parts, optional_format}
 use Rattle.ice_prims.specs.declared.fault.Kind.TheVariants.{BadFormat}
 use Rattle.ice_prims.specs.Rest.{◌>>=◌}
-use Rattle.ice_parts.specs.Tags.{tag, rises, next_tag_at}
+use Rattle.ice_encoding.specs.Tags.{tag, rises, next_tag_at}
 use Rattle.ice_encoding.specs.Tree.{Tree, sequence, dictionary, struct, Trees, tree_count, Entries, entry_count}
 use Rattle.ice_encoding.specs.Order.{IsRising}
 use Rattle.ice_encoding.specs.Port.{Port, Reader, Speller, nowhere}
@@ -25,10 +25,10 @@ use Rattle.ice_encoding.specs.Spelling.{Made, Each, SpellsParts, SpellsValue}
 use Rattle.ice_encoding.specs.Reading.{made, each_at, value_step, value_at}
 use Rattle.ice_encoding.specs.Writing.{Writer, exactly, ◌>>◌, written, written_each}
 use Rattle.ice_encoding.specs.Typed.{AllOf, EachOf, PairsOf, Refers, no_reference, HasType}
-use Rattle.ice_optionals.specs.Steps.{followed, tested, Followed, Where}
-use Rattle.ice_optionals.specs.Prefixes.{is_one, counts_itself, prefix_by, prefix_of, framed, Framed}
-use Rattle.ice_optionals.specs.Optionals.{Present, with_option, kind_tagged, skipped_by, tagged, option_then, options_at, all_options, SkippedBy, Tagged, Options, AllOptions}
-use Rattle.ice_optionals.specs.Members.{Members, with_optional, required_kinds, if_flagged, slice_members_at, IfFlagged, SpellsSliceMembers}
+use Rattle.ice_graphs.specs.Steps.{followed, tested, Followed, Where}
+use Rattle.ice_graphs.specs.Prefixes.{is_one, counts_itself, prefix_by, prefix_of, framed, Framed}
+use Rattle.ice_graphs.specs.Optionals.{Present, with_option, kind_tagged, skipped_by, tagged, option_then, options_at, all_options, SkippedBy, Tagged, Options, AllOptions}
+use Rattle.ice_graphs.specs.OptionalMembers.{Members, with_optional, required_kinds, if_flagged, slice_members_at, IfFlagged, SpellsSliceMembers}
 use Rattle.ice_graphs.specs.Exceptions.{of_exceptions}
 use Rattle.ice_graphs.specs.Members.{framing, written_option, written_options, marked_options, written_slice_members}
 use Rattle.ice_graphs.specs.Typed.{AreOptions, AreMembers}

@@ -6,13 +6,13 @@ use Rattle.ice_prims.specs.declared.fault.Kind.{Kind}
 use Rattle.ice_prims.specs.Rest.{Rest, whole, Took, IsBytes}
 use Rattle.ice_prims.specs.Laws.{FoundPart, OnlyPart}
 use Rattle.ice_prims.proofs.Parts.{then_ok, ok_is, Took-fits}
-use Rattle.ice_parts.specs.Bounds.{ended, filled}
+use Rattle.ice_encoding.specs.Bounds.{ended, filled}
 use Rattle.ice_encoding.specs.Port.{Reader, Speller}
 use Rattle.ice_encoding.specs.Spelling.{Made}
 use Rattle.ice_encoding.specs.Reading.{made}
 use Rattle.ice_encoding.proofs.Values.{Lawful}
-use Rattle.ice_optionals.specs.Steps as steps
-use Rattle.ice_optionals.specs.Steps.{followed, Followed, Where}
+use Rattle.ice_graphs.specs.Steps as steps
+use Rattle.ice_graphs.specs.Steps.{followed, Followed, Where}
 use Rattle.ice_graphs.specs.Joining.{placed}
 
 abbrev pub ends : Rest → Rest

@@ -7,14 +7,14 @@ use Rattle.ice_prims.specs.Rest.{Rest, whole, ◌>>=◌, Took, IsBytes}
 use Rattle.ice_prims.specs.Number.{SpellsText, text_at}
 use Rattle.ice_prims.specs.Laws.{FoundPart}
 use Rattle.ice_prims.proofs.Parts.{then_ok, ok_is}
-use Rattle.ice_parts.specs.Bounds.{ended}
+use Rattle.ice_encoding.specs.Bounds.{ended}
 use Rattle.ice_encoding.specs.Port.{Port, IsLawful, Reader, Speller}
 use Rattle.ice_encoding.specs.Spelling.{Plain}
 use Rattle.ice_encoding.specs.Encapsulation.{encapsulated_at}
 use Rattle.ice_encoding.proofs.Encapsulations.{OnlyAtEnd, encapsulated_found, encapsulated_only}
 use Rattle.ice_encoding.proofs.Values.{plain_lawful, text_lawful}
-use Rattle.ice_optionals.specs.Steps.{Followed}
-use Rattle.ice_optionals.proofs.Stepping.{given_lawful}
+use Rattle.ice_graphs.specs.Steps.{Followed}
+use Rattle.ice_graphs.proofs.Stepping.{given_lawful}
 use Rattle.ice_graphs.specs.Classes.{class_named}
 use Rattle.ice_graphs.specs.Graph.{Slice}
 use Rattle.ice_graphs.specs.References.{State, opening, seen, unplaced}

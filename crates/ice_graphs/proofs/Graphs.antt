@@ -8,8 +8,8 @@ use Rattle.ice_prims.proofs.Parts.{chosen, then_ok, ok_is}
 use Rattle.ice_encoding.specs.Port.{IsLawful}
 use Rattle.ice_encoding.specs.Encapsulation.{encapsulated_at}
 use Rattle.ice_encoding.proofs.Encapsulations.{OnlyAtEnd, encapsulated_found, encapsulated_only}
-use Rattle.ice_optionals.specs.Members.{Members, SpellsContent, content_at}
-use Rattle.ice_optionals.proofs.Contents.{content_found, content_only}
+use Rattle.ice_graphs.specs.OptionalMembers.{Members, SpellsContent, content_at}
+use Rattle.ice_graphs.proofs.Contents.{content_found, content_only}
 use Rattle.ice_graphs.specs.Graph.{Slice, Graph}
 use Rattle.ice_graphs.specs.References.{State, Reference, opening, seen, unplaced}
 use Rattle.ice_graphs.specs.Flags.{Reach}

@@ -9,3 +9,11 @@ pub mod Reopening
 pub mod Agreeing
 pub mod Samples
 mod RaisedSamples
+pub mod Stepping
+pub mod Prefixed
+pub mod OwnSizes
+pub mod Nexts
+pub mod Present
+pub mod Contents
+pub mod Rising
+mod OptionalSamples

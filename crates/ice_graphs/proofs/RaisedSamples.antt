@@ -11,9 +11,9 @@ use Rattle.ice_prims.specs.declared.fault.Fault.{Fault}
 use Rattle.ice_prims.specs.declared.fault.Kind.{Kind}
 use Rattle.ice_prims.specs.declared.fault.Kind.TheVariants as faults
 use Rattle.ice_prims.specs.Rest.{fault, whole}
-use Rattle.ice_parts.specs.Encapsulation.{encapsulated_bytes}
+use Rattle.ice_encoding.specs.Opening.{encapsulated_bytes}
 use Rattle.ice_encoding.specs.Tree.{int, text, none, tree}
-use Rattle.ice_optionals.specs.Members.{with_optional}
+use Rattle.ice_graphs.specs.OptionalMembers.{with_optional}
 use Rattle.ice_graphs.specs.Graph.{Slice, known, kept}
 use Rattle.ice_graphs.specs.Flags.{Reach, all_slices, known_classes}
 use Rattle.ice_graphs.specs.Instances.{most_instances}

@@ -3,9 +3,9 @@ use Rattle.std.proofs.Common.{◌≡◌, ℕ, Bool, List, length, map, Ok, refl,
 use Rattle.ice_types.specs.Tables.{Tables}
 use Rattle.ice_prims.specs.Rest.{Rest, whole, ◌>>=◌, IsBytes}
 use Rattle.ice_prims.proofs.Parts.{then_ok, ok_is}
-use Rattle.ice_parts.specs.Bounds.{ended}
-use Rattle.ice_optionals.specs.Members.{Members, SpellsSliceMembers, slice_members_at}
-use Rattle.ice_optionals.proofs.Contents.{slice_members_lawful}
+use Rattle.ice_encoding.specs.Bounds.{ended}
+use Rattle.ice_graphs.specs.OptionalMembers.{Members, SpellsSliceMembers, slice_members_at}
+use Rattle.ice_graphs.proofs.Contents.{slice_members_lawful}
 use Rattle.ice_graphs.specs.Classes.{own_members}
 use Rattle.ice_graphs.specs.Graph.{Slice}
 use Rattle.ice_graphs.specs.References.{Reference, unplaced, in_table, entry_at, AreWithin, within}

@@ -14,9 +14,9 @@ use Rattle.ice_prims.specs.declared.fault.Fault.{Fault}
 use Rattle.ice_prims.specs.declared.fault.Kind.{Kind}
 use Rattle.ice_prims.specs.declared.fault.Kind.TheVariants as faults
 use Rattle.ice_prims.specs.Rest.{fault, whole}
-use Rattle.ice_parts.specs.Encapsulation.{encapsulated_bytes}
+use Rattle.ice_encoding.specs.Opening.{encapsulated_bytes}
 use Rattle.ice_encoding.specs.Tree.{short, int, byte, sequence, struct, text, reference, Trees, none, tree}
-use Rattle.ice_optionals.specs.Members.{Members, with_optional, content_at}
+use Rattle.ice_graphs.specs.OptionalMembers.{Members, with_optional, content_at}
 use Rattle.ice_graphs.specs.Graph.{Slice, known, kept, Graph}
 use Rattle.ice_graphs.specs.References.{opening}
 use Rattle.ice_graphs.specs.Flags.{Reach, all_slices, known_classes}

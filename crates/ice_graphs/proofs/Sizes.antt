@@ -6,10 +6,10 @@ use Rattle.ice_prims.specs.declared.fault.Fault.{Fault}
 use Rattle.ice_prims.specs.declared.fault.Kind.TheVariants.{BadSize, BadTag}
 use Rattle.ice_prims.specs.Rest.{Rest, fault, ◌>>=◌, Took}
 use Rattle.ice_prims.proofs.Parts.{chosen, then_ok, ok_is}
-use Rattle.ice_parts.specs.Parts.{Part, IsLawful, tested}
-use Rattle.ice_parts.specs.Skipping.{count, bound_behind}
-use Rattle.ice_parts.proofs.Joined.{made_sorted, tested_lawful}
-use Rattle.ice_parts.proofs.Passed.{count_lawful, bound_found, bound_only}
+use Rattle.ice_encoding.specs.Parts.{Part, IsLawful, tested}
+use Rattle.ice_encoding.specs.Skipping.{count, bound_behind}
+use Rattle.ice_encoding.proofs.Joined.{made_sorted, tested_lawful}
+use Rattle.ice_encoding.proofs.Passed.{count_lawful, bound_found, bound_only}
 use Rattle.ice_encoding.proofs.Values.{LawfulPart}
 use Rattle.ice_graphs.specs.Slices.{slice_size, kept_bytes, unmarked, without_marker, SpellsKept, kept_at}
 

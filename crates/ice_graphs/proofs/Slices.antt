@@ -12,11 +12,11 @@ use Rattle.ice_prims.proofs.Numbers.{size_found, size_only, text_found, text_onl
 use Rattle.ice_encoding.specs.Port.{Port, IsLawful, Reader, Speller, Found, Only, nowhere}
 use Rattle.ice_encoding.specs.Spelling.{Plain}
 use Rattle.ice_encoding.proofs.Values.{Lawful, LawfulPart, lands, plain_lawful, made_lawful}
-use Rattle.ice_optionals.specs.Steps.{Followed}
-use Rattle.ice_optionals.specs.Members.{SpellsSliceMembers, slice_members_at}
-use Rattle.ice_optionals.proofs.Stepping.{followed_lawful, given_lawful, tested_lawful}
-use Rattle.ice_optionals.proofs.Prefixed.{prefixed_lawful}
-use Rattle.ice_optionals.proofs.Contents.{slice_members_lawful}
+use Rattle.ice_graphs.specs.Steps.{Followed}
+use Rattle.ice_graphs.specs.OptionalMembers.{SpellsSliceMembers, slice_members_at}
+use Rattle.ice_graphs.proofs.Stepping.{followed_lawful, given_lawful, tested_lawful}
+use Rattle.ice_graphs.proofs.Prefixed.{prefixed_lawful}
+use Rattle.ice_graphs.proofs.Contents.{slice_members_lawful}
 use Rattle.ice_graphs.specs.Classes.{own_members}
 use Rattle.ice_graphs.specs.Graph.{Slice, known, kept}
 use Rattle.ice_graphs.specs.References.{State, Reference, seen, unplaced, in_table, SpellsTable, table_at}

@@ -1,16 +1,16 @@
 -- What a call and an answer are made of is read as it is spelled, and what is put spells it.
 use Rattle.std.proofs.Common.{◌≡◌, ℕ, ℤ, pos, zero, suc, ◌≤◌, List, [], ◌++◌, length, Ok, refl, sym, ap, subst, ◌∙◌, arith, take, drop}
-use Rattle.ice_parts.specs.Parts.{IsLawful, int}
+use Rattle.ice_encoding.specs.Parts.{IsLawful, int}
 use Rattle.std.specs.Int.{w32}
 use Rattle.std.proofs.lemmas.List.{length-append, take-append-le, take_at, take-append-drop}
 use Rattle.ice_prims.specs.Rest.{Rest, ◌>>=◌, Took, bytes_at}
 use Rattle.ice_prims.specs.Number.{signed_at, SpellsSigned}
 use Rattle.ice_prims.proofs.Parts.{then_ok, between, bytes_found, bytes_only}
-use Rattle.ice_parts.specs.declared.limits.TheConstants.{LARGEST}
-use Rattle.ice_parts.specs.Bounds.{claimed}
-use Rattle.ice_parts.proofs.Joined.{byte_lawful, int_lawful, size_lawful, text_lawful, not_longer, both_lawful, made_lawful, tested_lawful, chosen_lawful}
-use Rattle.ice_parts.proofs.Bounded.{claimed_ok, claimed_is}
-use Rattle.ice_parts.proofs.Named.{identity_lawful, facet_lawful}
+use Rattle.ice_encoding.specs.declared.limits.TheConstants.{LARGEST}
+use Rattle.ice_encoding.specs.Bounds.{claimed}
+use Rattle.ice_encoding.proofs.Joined.{byte_lawful, int_lawful, size_lawful, text_lawful, not_longer, both_lawful, made_lawful, tested_lawful, chosen_lawful}
+use Rattle.ice_encoding.proofs.Bounded.{claimed_ok, claimed_is}
+use Rattle.ice_encoding.proofs.Named.{identity_lawful, facet_lawful}
 use Rattle.ice_messages.specs.declared.message.Answer.{Answer}
 use Rattle.ice_messages.specs.Context.{context}
 use Rattle.ice_messages.specs.Calls.{mode, IsEncapsulation, encapsulation, call, missing, answer_by, answer, status_of}

@@ -12,8 +12,8 @@ use Rattle.ice_prims.specs.declared.fault.Fault.{Fault}
 use Rattle.ice_prims.specs.Rest.{Rest, ◌>>=◌, Took, IsBytes}
 use Rattle.ice_prims.specs.Number.{text_at}
 use Rattle.ice_prims.proofs.Parts.{then_ok, Took-none, Took-none-is, Took-then, between, Took-fits, IsBytes-front, IsBytes-rest}
-use Rattle.ice_parts.specs.Parts.{Each, IsLawful, text, both}
-use Rattle.ice_parts.proofs.Joined.{lands, text_lawful}
+use Rattle.ice_encoding.specs.Parts.{Each, IsLawful, text, both}
+use Rattle.ice_encoding.proofs.Joined.{lands, text_lawful}
 use Rattle.ice_messages.specs.Context.{Entry, name_cmp, value_of, with_entry, new_name, entries_at, SpellsEntries, entries, AreRising}
 
 -- a name that was new

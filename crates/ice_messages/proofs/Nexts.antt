@@ -9,8 +9,8 @@ use Rattle.ice_prims.specs.declared.fault.ReadFault.{ReadFault}
 use Rattle.ice_prims.specs.declared.fault.ReadFault.TheVariants as faults
 use Rattle.ice_prims.specs.Rest.{Rest, ◌>>=◌, IsBytes, whole, after}
 use Rattle.ice_prims.specs.Taking.{Fails, GivesUnlessMemory}
-use Rattle.ice_parts.specs.declared.limits.TheConstants.{LARGEST}
-use Rattle.ice_parts.specs.Bounds.{claimed, ended}
+use Rattle.ice_encoding.specs.declared.limits.TheConstants.{LARGEST}
+use Rattle.ice_encoding.specs.Bounds.{claimed, ended}
 use Rattle.ice_messages.specs.declared.message.Message.{Message}
 use Rattle.ice_messages.specs.declared.message.TheConstants.{HEADER_BYTES}
 use Rattle.ice_messages.specs.Messages.{header, message_at, whole_message_at}

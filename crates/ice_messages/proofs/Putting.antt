@@ -8,8 +8,8 @@ use Rattle.std.proofs.lemmas.List.{drop_more, length-append}
 use Rattle.std.proofs.Common.{Bool, true, false, cond, ltb}
 use Rattle.std.specs.Int.{w32, to_le_bytes}
 use Rattle.ice_prims.specs.Bytes.{size_bytes}
-use Rattle.ice_parts.specs.Parts.{both, text}
-use Rattle.ice_parts.specs.Identity.{identity, facet}
+use Rattle.ice_encoding.specs.Parts.{both, text}
+use Rattle.ice_encoding.specs.Identity.{identity, facet}
 use Rattle.ice_messages.specs.declared.message.Call.{Call}
 use Rattle.ice_messages.specs.Context.{Entry, context}
 use Rattle.ice_messages.specs.Calls.{mode, encapsulation, call}

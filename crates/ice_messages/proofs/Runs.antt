@@ -4,8 +4,8 @@ use Rattle.std.proofs.lemmas.List.{length-append}
 use Rattle.ice_prims.specs.declared.fault.Fault.{Fault}
 use Rattle.ice_prims.specs.Rest.{Rest, ◌>>=◌, IsBytes, whole}
 use Rattle.ice_prims.proofs.Parts.{chosen as choice, then_ok, IsBytes-rest}
-use Rattle.ice_parts.specs.declared.limits.TheConstants.{LARGEST}
-use Rattle.ice_parts.specs.Bounds.{claimed}
+use Rattle.ice_encoding.specs.declared.limits.TheConstants.{LARGEST}
+use Rattle.ice_encoding.specs.Bounds.{claimed}
 use Rattle.ice_messages.specs.declared.message.Message.{Message}
 use Rattle.ice_messages.specs.declared.message.TheConstants.{HEADER_BYTES}
 use Rattle.ice_messages.specs.Messages.{message_at, SpellsMessage}

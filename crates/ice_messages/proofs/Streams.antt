@@ -8,9 +8,9 @@ use Rattle.std.proofs.lemmas.List.{length-append, length-drop, take-append-drop,
 use Rattle.ice_prims.specs.Rest.{Rest, ◌>>=◌, Took, IsBytes, whole}
 use Rattle.ice_prims.specs.Laws.{any}
 use Rattle.ice_prims.proofs.Parts.{chosen as choice, then_ok, ok_is, IsBytes-rest}
-use Rattle.ice_parts.specs.declared.limits.TheConstants.{LARGEST}
-use Rattle.ice_parts.specs.Bounds.{claimed}
-use Rattle.ice_parts.proofs.Bounded.{claimed_ok, claimed_is}
+use Rattle.ice_encoding.specs.declared.limits.TheConstants.{LARGEST}
+use Rattle.ice_encoding.specs.Bounds.{claimed}
+use Rattle.ice_encoding.proofs.Bounded.{claimed_ok, claimed_is}
 use Rattle.ice_messages.specs.declared.message.Message.{Message}
 use Rattle.ice_messages.specs.declared.message.TheConstants.{HEADER_BYTES}
 use Rattle.ice_messages.specs.Messages.{header, message_at, SpellsMessage}

@@ -5,8 +5,8 @@ use Rattle.std.proofs.lemmas.List.{length-append}
 use Rattle.std.proofs.Math.ListN.{drop_of_length-le}
 use Rattle.std.proofs.lemmas.List.{drop_more}
 use Rattle.ice_types.specs.declared.identity.Identity.{Identity}
-use Rattle.ice_parts.specs.Parts.{text}
-use Rattle.ice_parts.specs.Identity.{identity, facet}
+use Rattle.ice_encoding.specs.Parts.{text}
+use Rattle.ice_encoding.specs.Identity.{identity, facet}
 use Rattle.ice_messages.specs.declared.message.Answer.TheVariants.{Missing, Unknown}
 use Rattle.ice_messages.specs.Calls.{answer_by}
 use Rattle.ice_messages.specs.Written.{told}

@@ -6,11 +6,11 @@ use Rattle.std.proofs.lemmas.Bool.{leb-true, le-leb}
 use Rattle.std.proofs.lemmas.List.{length-append}
 use Rattle.ice_prims.specs.Rest.{Rest, ◌>>=◌, Took, IsBytes, bound_at, bytes_at}
 use Rattle.ice_prims.proofs.Parts.{then_ok, ok_is, between, Took-then, Took-fits, IsBytes-rest, bytes_found, bytes_only}
-use Rattle.ice_parts.specs.declared.limits.TheConstants.{LARGEST}
-use Rattle.ice_parts.specs.Parts.{IsLawful}
-use Rattle.ice_parts.specs.Bounds.{claimed, filled}
-use Rattle.ice_parts.proofs.Joined.{answer as done, byte_lawful, int_lawful, exactly_lawful, nothing_lawful, both_lawful, made_lawful, made_sorted, tested_lawful, chosen_lawful, times_lawful, times_length}
-use Rattle.ice_parts.proofs.Bounded.{claimed_ok, claimed_is, filled_found, filled_only}
+use Rattle.ice_encoding.specs.declared.limits.TheConstants.{LARGEST}
+use Rattle.ice_encoding.specs.Parts.{IsLawful}
+use Rattle.ice_encoding.specs.Bounds.{claimed, filled}
+use Rattle.ice_encoding.proofs.Joined.{answer as done, byte_lawful, int_lawful, exactly_lawful, nothing_lawful, both_lawful, made_lawful, made_sorted, tested_lawful, chosen_lawful, times_lawful, times_length}
+use Rattle.ice_encoding.proofs.Bounded.{claimed_ok, claimed_is, filled_found, filled_only}
 use Rattle.ice_messages.specs.declared.message.Message.{Message}
 use Rattle.ice_messages.specs.declared.message.Message.TheVariants.{Request, Batch, Reply, Validate, Close}
 use Rattle.ice_messages.specs.declared.message.TheConstants.{HEADER_BYTES}

@@ -6,10 +6,10 @@ use Rattle.ice_prims.specs.declared.fault.Fault.{Fault}
 use Rattle.ice_prims.specs.declared.fault.Kind.TheVariants.{BadMode, BadStatus}
 use Rattle.ice_prims.specs.Rest.{Rest, ◌>>=◌, bytes_at}
 use Rattle.ice_prims.specs.Number.{signed_at, SpellsSigned}
-use Rattle.ice_parts.specs.declared.limits.TheConstants.{LARGEST, SMALLEST}
-use Rattle.ice_parts.specs.Parts.{Part, byte, text, both, made, tested, chosen}
-use Rattle.ice_parts.specs.Bounds.{claimed}
-use Rattle.ice_parts.specs.Identity.{identity, no_identity, facet}
+use Rattle.ice_encoding.specs.declared.limits.TheConstants.{LARGEST, SMALLEST}
+use Rattle.ice_encoding.specs.Parts.{Part, byte, text, both, made, tested, chosen}
+use Rattle.ice_encoding.specs.Bounds.{claimed}
+use Rattle.ice_encoding.specs.Identity.{identity, no_identity, facet}
 use Rattle.ice_messages.specs.declared.message.Call.{Call}
 use Rattle.ice_messages.specs.declared.message.Answer.{Answer}
 use Rattle.ice_messages.specs.declared.message.Answer.TheVariants.{Done, Raised, Missing, Unknown}

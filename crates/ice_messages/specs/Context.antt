@@ -11,7 +11,7 @@ use Rattle.ice_prims.specs.declared.fault.Fault.{Fault}
 use Rattle.ice_prims.specs.declared.fault.Kind.TheVariants.{EqualKey}
 use Rattle.ice_prims.specs.Rest.{Rest, fault, ◌>>=◌}
 use Rattle.ice_prims.specs.Number.{text_at, SpellsText}
-use Rattle.ice_parts.specs.Parts.{Part, Each, size, text, both, chosen}
+use Rattle.ice_encoding.specs.Parts.{Part, Each, size, text, both, chosen}
 
 abbrev pub Entry : Type 0
 Entry = List ℕ × List ℕ

@@ -3,10 +3,10 @@ use Rattle.std.specs.Prelude.{ℕ, ℤ, pos, negsuc, zero, suc, ◌≡◌, ◌�
 use Rattle.ice_prims.specs.declared.fault.Fault.{Fault}
 use Rattle.ice_prims.specs.declared.fault.Kind.TheVariants.{BadSize, BadMagic, BadVersion, BadMessage, Compressed, BadStatus}
 use Rattle.ice_prims.specs.Rest.{Rest, ◌>>=◌, bound_at}
-use Rattle.ice_parts.specs.declared.limits.TheConstants.{LARGEST}
-use Rattle.ice_parts.specs.Parts.{Part, byte, int, exactly, nothing, both, made, tested, chosen, times}
-use Rattle.ice_parts.specs.Bounds.{claimed, filled}
-use Rattle.ice_parts.specs.Identity.{no_identity}
+use Rattle.ice_encoding.specs.declared.limits.TheConstants.{LARGEST}
+use Rattle.ice_encoding.specs.Parts.{Part, byte, int, exactly, nothing, both, made, tested, chosen, times}
+use Rattle.ice_encoding.specs.Bounds.{claimed, filled}
+use Rattle.ice_encoding.specs.Identity.{no_identity}
 use Rattle.ice_messages.specs.declared.message.Call.{Call}
 use Rattle.ice_messages.specs.declared.message.Answer.{Answer}
 use Rattle.ice_messages.specs.declared.message.Answer.TheVariants.{Done}

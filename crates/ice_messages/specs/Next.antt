@@ -4,8 +4,8 @@ use Rattle.ice_prims.specs.declared.fault.Fault.{Fault}
 use Rattle.ice_prims.specs.declared.fault.ReadFault.{ReadFault}
 use Rattle.ice_prims.specs.Rest.{Rest, after, whole, ◌>>=◌}
 use Rattle.ice_prims.specs.Taking.{Fails}
-use Rattle.ice_parts.specs.Bounds.{claimed}
-use Rattle.ice_parts.specs.declared.limits.TheConstants.{LARGEST}
+use Rattle.ice_encoding.specs.Bounds.{claimed}
+use Rattle.ice_encoding.specs.declared.limits.TheConstants.{LARGEST}
 use Rattle.ice_messages.specs.declared.message.Message.{Message}
 use Rattle.ice_messages.specs.Streams.{next_at}
 use Rattle.ice_messages.specs.Written.{IsOrderly}

@@ -1,7 +1,7 @@
 -- What is asked of a message that is written, and what writing answers.
 use Rattle.std.specs.Prelude.{ℕ, ◌≡◌, ◌≤◌, ◌<◌, ◌-◌, ◌^◌, List, length, min, Result, Ok, Err}
-use Rattle.ice_parts.specs.declared.limits.TheConstants.{LARGEST}
-use Rattle.ice_parts.specs.Parts.{Each}
+use Rattle.ice_encoding.specs.declared.limits.TheConstants.{LARGEST}
+use Rattle.ice_encoding.specs.Parts.{Each}
 use Rattle.ice_messages.specs.declared.message.Call.{Call}
 use Rattle.ice_messages.specs.declared.message.Answer.{Answer}
 use Rattle.ice_messages.specs.declared.message.Answer.TheVariants.{Done, Raised, Missing, Unknown}

@@ -3,8 +3,8 @@
 ghost use Rattle.std.specs.Prelude.{◌≡◌, ◌+◌, ◌-◌, ◌^◌, ◌≤◌, ◌<◌, ℕ, List, length, min, drop};
 ghost use Rattle.std.specs.List.{flat_map};
 ghost use Rattle.ice_prims.specs.Bytes.{size_bytes, text_bytes};
-ghost use Rattle.ice_parts.specs.Parts.{both, text};
-ghost use Rattle.ice_parts.specs.Identity as names;
+ghost use Rattle.ice_encoding.specs.Parts.{both, text};
+ghost use Rattle.ice_encoding.specs.Identity as names;
 ghost use Rattle.ice_messages.specs.Calls as form;
 ghost use Rattle.ice_messages.specs.Messages.{message_bytes};
 ghost use Rattle.ice_messages.specs.Written.{told, IsAnswer, IsOrderly};

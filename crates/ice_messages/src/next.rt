@@ -8,7 +8,7 @@ ghost use Rattle.ice_messages.specs.Next.{StandsNext, IsCounted, size_counted};
 use crate::message::{HEADER_BYTES, Message};
 use crate::reading::{take_header, take_message};
 use encaps_optionals::claimed_size;
-use ice_parts::LARGEST;
+use ice_encoding::LARGEST;
 use ice_prims::{Cursor, Fault, ReadFault};
 use std::alloc::Global;
 

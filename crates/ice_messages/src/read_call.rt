@@ -2,8 +2,8 @@
 
 ghost use Rattle.std.specs.Prelude.{◌≡◌, ◌<◌, ℕ, List};
 ghost use Rattle.ice_prims.specs.Number.{text_at};
-ghost use Rattle.ice_parts.specs.Identity.{identity, facet};
-ghost use Rattle.ice_parts.specs.Bounds.{claimed};
+ghost use Rattle.ice_encoding.specs.Identity.{identity, facet};
+ghost use Rattle.ice_encoding.specs.Bounds.{claimed};
 ghost use Rattle.ice_messages.specs.Calls.{mode, encapsulation, call, answer, answer_by, missing};
 ghost use Rattle.ice_messages.specs.Answers.{Reads};
 ghost use Rattle.ice_prims.specs.Taking.{Takes};
@@ -11,7 +11,7 @@ ghost use Rattle.ice_prims.specs.Taking.{Takes};
 use crate::message::{Answer, Call};
 use crate::read_context::take_context;
 use encaps_optionals::claimed_size;
-use ice_parts::SMALLEST;
+use ice_encoding::SMALLEST;
 use ice_prims::{Cursor, Fault, Kind, ReadFault};
 use ice_types::{Bytes, Identity, List, Name};
 use std::alloc::Global;

@@ -3,8 +3,8 @@
 ghost use Rattle.std.specs.Prelude.{IfOk, ◌≡◌, ◌<◌, ◌-◌, ◌≤◌, ℕ, ℤ, List, Ok, length};
 ghost use Rattle.ice_prims.specs.Rest.{whole};
 ghost use Rattle.ice_prims.specs.Taking.{GivesUnlessMemory, Takes};
-ghost use Rattle.ice_parts.specs.Parts.{read_times, exactly};
-ghost use Rattle.ice_parts.specs.Bounds.{filled};
+ghost use Rattle.ice_encoding.specs.Parts.{read_times, exactly};
+ghost use Rattle.ice_encoding.specs.Bounds.{filled};
 ghost use Rattle.ice_messages.specs.Calls.{call};
 ghost use Rattle.ice_messages.specs.Messages.{header, magic, versions, message_type, compression, body_by, calls, message_at, whole_message_at};
 ghost use Rattle.ice_messages.specs.Answers.{Reads, Sees, Fills};

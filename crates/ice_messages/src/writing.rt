@@ -2,9 +2,9 @@
 
 ghost use Rattle.std.specs.Prelude.{pos, ◌≡◌, ◌++◌, ◌≤◌, ◌<◌, ℕ, List, [], length, OnOk};
 ghost use Rattle.std.specs.List.{flat_map};
-ghost use Rattle.ice_parts.specs.declared.limits.TheConstants.{LARGEST};
-ghost use Rattle.ice_parts.specs.Parts.{both, int, text};
-ghost use Rattle.ice_parts.specs.Identity as names;
+ghost use Rattle.ice_encoding.specs.declared.limits.TheConstants.{LARGEST};
+ghost use Rattle.ice_encoding.specs.Parts.{both, int, text};
+ghost use Rattle.ice_encoding.specs.Identity as names;
 ghost use Rattle.ice_messages.specs.declared.message.Answer.TheVariants.{Missing};
 ghost use Rattle.ice_messages.specs.Context as entries;
 ghost use Rattle.ice_messages.specs.Calls as form;
@@ -14,7 +14,7 @@ ghost use Rattle.ice_messages.specs.Written.{IsAnswer, IsOrderly, Writes};
 use crate::fault::WriteFault;
 use crate::lengths::message_length;
 use crate::message::{Answer, Call, Message};
-use ice_parts::LARGEST;
+use ice_encoding::LARGEST;
 use ice_prims::{put_byte, put_int, put_size, put_str};
 use ice_types::{Bytes, Identity, Name};
 use std::alloc::{AllocError, Global};

@@ -3,28 +3,28 @@ use Rattle.std.proofs.Common.{◌≡◌, ◌≤◌, ◌∙◌, ℕ, List, [], �
 use Rattle.ice_types.specs.declared.kind.TypeRef.{TypeRef}
 use Rattle.ice_types.specs.Tables.{Tables}
 use Rattle.ice_prims.specs.Rest.{IsBytes}
-use Rattle.ice_parts.specs.declared.limits.TheConstants.{LARGEST}
+use Rattle.ice_encoding.specs.declared.limits.TheConstants.{LARGEST}
 use Rattle.std.specs.Io.KnownBytes.{Appends}
 use Rattle.ice_graphs.specs.Graph.{Graph}
 use Rattle.ice_graphs.specs.Flags.{all_slices}
 use Rattle.ice_graphs.specs.Canonical.{sliced}
-use Rattle.graph_relaying.specs.Relaying.{Relays}
+use Rattle.graph_laws.specs.Relaying.{Relays}
 use Rattle.ice_graphs.specs.Same.{Spells}
-use Rattle.graph_relaying.specs.Sized.{SpellsSized}
-use Rattle.graph_relaying.proofs.Relayed.{spelled_back}
-use Rattle.graph_relaying.proofs.There.{reached_there, same_itself}
+use Rattle.graph_laws.specs.Sized.{SpellsSized}
+use Rattle.graph_laws.proofs.Relayed.{spelled_back}
+use Rattle.graph_laws.proofs.There.{reached_there, same_itself}
 use Rattle.instance_writing.specs.declared.format.Format.TheVariants as formats
 use Rattle.ice_relay.specs.Relaying.{one_value, Holds, canonical_bytes}
 use Rattle.slice_meaning.proofs.Loads.{one_meaning}
-use Rattle.command_words.specs.declared.words.Task.TheVariants as tasks
-use Rattle.command_words.specs.Words.{Word, Command, values, check, proxy, drill, messages, help, version, Asks}
-use Rattle.command_answers.specs.Outside.{Files, Outside}
-use Rattle.command_answers.specs.Answers.{Answer, done, denied, usage, no_such_name, slice_refused, input_refused, json_refused, too_long, needs_sliced, text_refused, read_failed, write_failed, no_memory, refused_after, read_failed_after, no_memory_after, status}
-use Rattle.command_answers.specs.Decided.{DoesTask, Decides, Decided}
+use Rattle.node_commands.specs.declared.words.Task.TheVariants as tasks
+use Rattle.node_commands.specs.Words.{Word, Command, values, check, proxy, drill, messages, help, version, Asks}
+use Rattle.node_commands.specs.Outside.{Files, Outside}
+use Rattle.node_commands.specs.Answers.{Answer, done, denied, usage, no_such_name, slice_refused, input_refused, json_refused, too_long, needs_sliced, text_refused, read_failed, write_failed, no_memory, refused_after, read_failed_after, no_memory_after, status}
+use Rattle.node_commands.specs.Decided.{DoesTask, Decides, Decided}
 use Rattle.ice_node.specs.Carrying.{IsReader, Carries}
-use Rattle.command_answers.specs.Statuses.{Answered}
-use Rattle.command_words.specs.TypeWords.{IsTypeWord}
-use Rattle.command_words.proofs.CommandForms.{values_apart, no_task}
+use Rattle.node_commands.specs.Statuses.{Answered}
+use Rattle.node_commands.specs.TypeWords.{IsTypeWord}
+use Rattle.node_commands.proofs.CommandForms.{values_apart, no_task}
 
 done_is : (a b : List ℕ) → done a ≡ done b → a ≡ b
 done_is a b e = cc

@@ -5,13 +5,13 @@ use Rattle.ice_types.specs.Tables.{Tables}
 use Rattle.ice_graphs.specs.Graph.{Graph}
 use Rattle.ice_graphs.specs.Flags.{all_slices}
 use Rattle.ice_graphs.specs.Same.{Spells}
-use Rattle.graph_relaying.specs.Relaying.{Relays}
-use Rattle.graph_relaying.specs.Sized.{SpellsSized}
+use Rattle.graph_laws.specs.Relaying.{Relays}
+use Rattle.graph_laws.specs.Sized.{SpellsSized}
 use Rattle.ice_relay.specs.Relaying.{one_value}
 use Rattle.slice_meaning.specs.Loading.{Loads}
-use Rattle.command_words.specs.Words.{Word}
-use Rattle.command_answers.specs.Outside.{Files}
-use Rattle.command_words.specs.TypeWords.{IsTypeWord}
+use Rattle.node_commands.specs.Words.{Word}
+use Rattle.node_commands.specs.Outside.{Files}
+use Rattle.node_commands.specs.TypeWords.{IsTypeWord}
 
 -- FILE's schema is the reader's without some classes, the word names a type of both, and the input is for the reader an
 -- encapsulation of this graph.

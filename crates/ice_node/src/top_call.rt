@@ -3,11 +3,11 @@
 ghost use Rattle.std.specs.Prelude.{◌≡◌, List, ℕ, Some};
 ghost use Rattle.std.specs.Io.KnownBytes.{Appends};
 ghost use Rattle.ice_prims.specs.Rest.{IsBytes};
-ghost use Rattle.command_words.specs.Words.{words_of};
-ghost use Rattle.command_answers.specs.Outside.{Files, outside, counts};
-ghost use Rattle.command_answers.specs.Answers.{Answer};
-ghost use Rattle.command_answers.specs.Decided.{Decided};
-ghost use Rattle.command_answers.specs.Statuses.{Answered, Ends};
+ghost use Rattle.node_commands.specs.Words.{words_of};
+ghost use Rattle.node_commands.specs.Outside.{Files, outside, counts};
+ghost use Rattle.node_commands.specs.Answers.{Answer};
+ghost use Rattle.node_commands.specs.Decided.{Decided};
+ghost use Rattle.node_commands.specs.Statuses.{Answered, Ends};
 ghost use Rattle.ice_node.specs.Carrying.{Carries};
 
 use ice_ports::{Shelf, Sink, Source};

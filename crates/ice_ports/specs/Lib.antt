@@ -3,3 +3,4 @@ pub mod Files
 pub mod Plan
 pub mod Memory
 pub mod Streams
+pub mod Writing

@@ -5,7 +5,7 @@ use Rattle.ice_prims.specs.declared.fault.ReadFault.{ReadFault}
 use Rattle.ice_prims.specs.declared.fault.ReadFault.TheVariants as faults
 use Rattle.ice_prims.specs.Rest.{Rest, ◌>>=◌}
 use Rattle.ice_prims.specs.Taking.{Fails}
-use Rattle.ice_parts.specs.Parts.{read_times}
+use Rattle.ice_encoding.specs.Parts.{read_times}
 
 -- what was read before, and what is still read
 abbrev pub with_front : {A : Type 0} → List A → Result (List A × Rest) Fault → Result (List A × Rest) Fault

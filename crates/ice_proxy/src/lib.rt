@@ -9,8 +9,9 @@ mod tcp;
 mod write;
 mod write_endpoint;
 
-pub use proxy_text::{parse_text, print_text};
-pub use proxy_words::{TextFault, escape_identity, parse_identity, print_identity, quote};
+pub use proxy_text::{
+    TextFault, escape_identity, parse_identity, parse_text, print_identity, print_text, quote,
+};
 pub use read::read_proxy;
 pub use tcp::tcp_of;
 pub use write::write_proxy;

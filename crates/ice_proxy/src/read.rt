@@ -3,10 +3,10 @@
 ghost use Rattle.std.specs.Prelude.{◌≡◌, Err};
 ghost use Rattle.ice_prims.specs.Number.{text_at};
 ghost use Rattle.ice_prims.specs.Taking.{TakesUnlessMemory};
-ghost use Rattle.ice_parts.specs.Parts.{made, read_times};
-ghost use Rattle.ice_parts.specs.Identity.{facet};
-ghost use Rattle.ice_parts.specs.Endpoint.{endpoint};
-ghost use Rattle.ice_parts.specs.Proxy as form;
+ghost use Rattle.ice_encoding.specs.Parts.{made, read_times};
+ghost use Rattle.ice_encoding.specs.Identity.{facet};
+ghost use Rattle.ice_encoding.specs.Endpoint.{endpoint};
+ghost use Rattle.ice_encoding.specs.Proxy as form;
 ghost use Rattle.ice_proxy.specs.Answers.{Reads, Sees, IsThere};
 
 use crate::read_endpoint::take_endpoint;

@@ -2,13 +2,13 @@
 
 ghost use Rattle.std.specs.Prelude.{◌≡◌};
 ghost use Rattle.ice_prims.specs.Taking.{GivesUnlessMemory};
-ghost use Rattle.ice_parts.specs.declared.limits.TheConstants.{SMALLEST};
-ghost use Rattle.ice_parts.specs.Bounds.{claimed, filled};
-ghost use Rattle.ice_parts.specs.Endpoint as form;
+ghost use Rattle.ice_encoding.specs.declared.limits.TheConstants.{SMALLEST};
+ghost use Rattle.ice_encoding.specs.Bounds.{claimed, filled};
+ghost use Rattle.ice_encoding.specs.Endpoint as form;
 ghost use Rattle.ice_proxy.specs.Answers.{Reads, Fills};
 
 use crate::take::{take_text, take_version};
-use ice_parts::{LARGEST, SIZE_BYTES, SMALLEST};
+use ice_encoding::{LARGEST, SIZE_BYTES, SMALLEST};
 use ice_prims::{Cursor, Fault, Kind, ReadFault};
 use ice_types::{Bytes, Endpoint};
 use std::alloc::Global;

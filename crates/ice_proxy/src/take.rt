@@ -1,7 +1,7 @@
 //! Parts of a proxy that stand in more than one place.
 
 ghost use Rattle.ice_prims.specs.Number.{text_at};
-ghost use Rattle.ice_parts.specs.Parts.{version};
+ghost use Rattle.ice_encoding.specs.Parts.{version};
 ghost use Rattle.ice_proxy.specs.Answers.{Reads, Sees};
 
 use ice_prims::{Cursor, Fault, ReadFault};

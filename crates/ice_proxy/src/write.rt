@@ -3,11 +3,11 @@
 ghost use Rattle.std.specs.Prelude.{◌≡◌, ◌++◌, ◌<◌, ◌^◌, OnOk, OnErr, Some, length, option_copied};
 ghost use Rattle.std.specs.List.{flat_map};
 ghost use Rattle.ice_prims.specs.Bytes.{Grows};
-ghost use Rattle.ice_parts.specs.Parts.{Each};
-ghost use Rattle.ice_parts.specs.Parts as parts;
-ghost use Rattle.ice_parts.specs.Identity as names;
-ghost use Rattle.ice_parts.specs.Endpoint.{endpoint, EndpointHasSize};
-ghost use Rattle.ice_parts.specs.Proxy as form;
+ghost use Rattle.ice_encoding.specs.Parts.{Each};
+ghost use Rattle.ice_encoding.specs.Parts as parts;
+ghost use Rattle.ice_encoding.specs.Identity as names;
+ghost use Rattle.ice_encoding.specs.Endpoint.{endpoint, EndpointHasSize};
+ghost use Rattle.ice_encoding.specs.Proxy as form;
 
 use crate::write_endpoint::append_endpoint;
 use ice_prims::{put_bool, put_byte, put_size, put_str};

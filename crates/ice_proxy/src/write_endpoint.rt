@@ -3,10 +3,10 @@
 ghost use Rattle.std.specs.Prelude.{◌≡◌, ◌++◌, ◌<◌, ◌≤◌, ◌^◌, OnOk, OnErr, length};
 ghost use Rattle.ice_types.specs.declared.proxy.Endpoint.TheVariants.{Tcp};
 ghost use Rattle.ice_prims.specs.Bytes.{Grows, size_bytes};
-ghost use Rattle.ice_parts.specs.Bounds.{size_with};
-ghost use Rattle.ice_parts.specs.Endpoint as form;
+ghost use Rattle.ice_encoding.specs.Bounds.{size_with};
+ghost use Rattle.ice_encoding.specs.Endpoint as form;
 
-use ice_parts::SIZE_BYTES;
+use ice_encoding::SIZE_BYTES;
 use ice_prims::{put_bool, put_byte, put_int, put_short, put_str};
 use ice_types::{Endpoint, Name};
 use std::alloc::AllocError;

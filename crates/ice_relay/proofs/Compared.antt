@@ -14,7 +14,7 @@ use Rattle.ice_prims.specs.declared.fault.ReadFault.TheVariants as read_faults
 use Rattle.ice_prims.specs.Rest.{Rest, whole, IsBytes}
 use Rattle.ice_prims.specs.Taking.{Fails}
 use Rattle.ice_prims.proofs.Parts.{IsBytes-front, IsBytes-rest}
-use Rattle.ice_parts.specs.declared.limits.TheConstants.{SMALLEST}
+use Rattle.ice_encoding.specs.declared.limits.TheConstants.{SMALLEST}
 use Rattle.ice_encoding.proofs.Encapsulations.{encapsulated_length}
 use Rattle.ice_encoding.specs.Encapsulation.{encapsulated_at}
 use Rattle.ice_graphs.specs.Graph.{Graph}
@@ -23,8 +23,8 @@ use Rattle.ice_graphs.specs.Instances.{graph_at, numbered_at}
 use Rattle.ice_graphs.specs.Canonical.{sliced}
 use Rattle.ice_graphs.specs.Same.{Same}
 use Rattle.ice_graphs.proofs.Graphs.{next_found, next_only, last_found, last_only}
-use Rattle.graph_canonicity.proofs.Schemas.{read_equal_is_same}
-use Rattle.ice_members.specs.Shapes.{told_apart}
+use Rattle.graph_laws.proofs.Schemas.{read_equal_is_same}
+use Rattle.ice_values.specs.Shapes.{told_apart}
 use Rattle.class_slices.specs.Encoding.{Writes}
 use Rattle.class_slices.specs.declared.write_fault.WriteFault.{WriteFault}
 use Rattle.class_slices.specs.declared.write_fault.WriteFault.TheVariants as write_faults

@@ -10,10 +10,10 @@ use Rattle.ice_prims.specs.Rest.{Rest, ◌>>=◌, bytes_at, bound_at}
 use Rattle.ice_prims.specs.Number.{SpellsSigned, signed_at}
 use Rattle.ice_prims.proofs.Parts.{bytes_only}
 use Rattle.ice_prims.proofs.Numbers.{signed_only}
-use Rattle.ice_parts.specs.declared.limits.TheConstants.{SMALLEST}
-use Rattle.ice_parts.specs.Bounds.{claimed, ended, filled}
-use Rattle.ice_parts.specs.Encapsulation.{encoding}
-use Rattle.ice_parts.proofs.Bounded.{claimed_ok}
+use Rattle.ice_encoding.specs.declared.limits.TheConstants.{SMALLEST}
+use Rattle.ice_encoding.specs.Bounds.{claimed, ended, filled}
+use Rattle.ice_encoding.specs.Opening.{encoding}
+use Rattle.ice_encoding.proofs.Bounded.{claimed_ok}
 use Rattle.ice_encoding.specs.Encapsulation.{encapsulated_at}
 use Rattle.ice_graphs.specs.Flags.{all_slices}
 use Rattle.ice_graphs.specs.Instances.{graph_at}

@@ -4,3 +4,12 @@ pub mod Holding
 pub mod Twice
 pub mod TwoInputs
 pub mod Compared
+pub mod Deciding
+pub mod Noted
+pub mod TextTelling
+pub mod Tables
+pub mod Fitting
+pub mod Relayed
+pub mod Views
+pub mod Drilled
+pub mod Samples

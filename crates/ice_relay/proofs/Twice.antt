@@ -8,10 +8,10 @@ use Rattle.ice_prims.specs.declared.fault.Fault.{Fault}
 use Rattle.ice_prims.specs.Rest.{Rest, whole, ◌>>=◌, bytes_at}
 use Rattle.ice_prims.specs.Number.{signed_at}
 use Rattle.ice_prims.proofs.Parts.{bytes_only}
-use Rattle.ice_parts.specs.declared.limits.TheConstants.{SMALLEST}
-use Rattle.ice_parts.specs.Bounds.{filled}
-use Rattle.ice_parts.specs.Encapsulation.{encoding}
-use Rattle.ice_parts.proofs.Bounded.{claimed_ok}
+use Rattle.ice_encoding.specs.declared.limits.TheConstants.{SMALLEST}
+use Rattle.ice_encoding.specs.Bounds.{filled}
+use Rattle.ice_encoding.specs.Opening.{encoding}
+use Rattle.ice_encoding.proofs.Bounded.{claimed_ok}
 use Rattle.ice_encoding.specs.Encapsulation.{encapsulated_at}
 use Rattle.ice_graphs.specs.Graph.{Graph}
 use Rattle.ice_graphs.specs.Flags.{all_slices}

@@ -4,7 +4,7 @@ use Rattle.ice_types.specs.declared.kind.TypeRef.{TypeRef}
 use Rattle.ice_types.specs.Tables.{Tables}
 use Rattle.ice_prims.specs.declared.fault.Fault.{Fault}
 use Rattle.ice_prims.specs.Rest.{Rest, whole, ◌>>=◌}
-use Rattle.ice_parts.specs.Bounds.{filled}
+use Rattle.ice_encoding.specs.Bounds.{filled}
 use Rattle.ice_encoding.specs.Encapsulation.{encapsulated_at}
 use Rattle.ice_graphs.specs.Graph.{Graph}
 use Rattle.ice_graphs.specs.Flags.{all_slices}

@@ -2,3 +2,10 @@ pub mod Streams
 pub mod Faults
 pub mod Relaying
 pub mod Comparing
+pub mod TextStreams
+pub mod TextFaults
+pub mod Dumping
+pub mod Encoding
+pub mod Drawn
+pub mod Nodes
+pub mod Telling

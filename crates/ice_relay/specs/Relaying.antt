@@ -7,7 +7,7 @@ use Rattle.ice_types.specs.declared.declarations.Shape.{Shape}
 use Rattle.ice_types.specs.Tables.{Tables}
 use Rattle.ice_prims.specs.declared.fault.Fault.{Fault}
 use Rattle.ice_prims.specs.Rest.{whole}
-use Rattle.ice_parts.specs.declared.limits.TheConstants.{LARGEST}
+use Rattle.ice_encoding.specs.declared.limits.TheConstants.{LARGEST}
 use Rattle.ice_graphs.specs.Graph.{Graph}
 use Rattle.ice_graphs.specs.Flags.{all_slices}
 use Rattle.ice_graphs.specs.Instances.{SpellsNumbered, numbered_at}

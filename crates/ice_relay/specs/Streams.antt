@@ -3,7 +3,7 @@ use Rattle.std.specs.Prelude.{ℕ, ℤ, pos, ◌+◌, ◌<◌, ◌≤◌, ◌≡
 use Rattle.std.specs.Int.{w32}
 use Rattle.std.specs.Io.KnownBytes.{Consumes, IsAtEnd}
 use Rattle.ice_prims.specs.Number.{SpellsSigned}
-use Rattle.ice_parts.specs.declared.limits.TheConstants.{LARGEST, SIZE_BYTES}
+use Rattle.ice_encoding.specs.declared.limits.TheConstants.{LARGEST, SIZE_BYTES}
 
 -- Bytes were read after those that were there, up to so many in all or the end of the input.
 pub record ReadsUpTo (goal : ℕ) (old_left new_left : Option (List ℕ)) (old new : List ℕ)

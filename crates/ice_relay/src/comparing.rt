@@ -5,9 +5,9 @@ ghost use Rattle.ice_relay.specs.Comparing.{Compares};
 use crate::fault::RelayFault;
 use crate::relay::root_of;
 use class_slices::{Format, decode_rest, encode_typed, take_graph};
-use ice_members::Fields;
 use ice_prims::Cursor;
 use ice_types::{Schema, TypeRef};
+use ice_values::Fields;
 use std::alloc::Global;
 
 /// The most bytes of a canonical encapsulation that is compared.

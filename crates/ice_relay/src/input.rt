@@ -9,7 +9,7 @@ ghost use Rattle.ice_relay.specs.Relaying.{held};
 ghost use Rattle.ice_relay.specs.Comparing.{two_held};
 ghost use Rattle.ice_relay.specs.Streams.{ReadsUpTo, TakesUpTo, ReadsInput, ReadsTwo, TakesFrugally, TakesTwoFrugally, ClaimsMore};
 
-use ice_parts::{LARGEST, SIZE_BYTES};
+use ice_encoding::{LARGEST, SIZE_BYTES};
 use ice_ports::{MOST_OF_A_READ, PortFault, Source};
 use ice_prims::Cursor;
 use std::alloc::Global;

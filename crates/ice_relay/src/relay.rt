@@ -6,9 +6,9 @@ ghost use Rattle.ice_relay.specs.Relaying.{Canonicalizes, root_of};
 
 use crate::fault::RelayFault;
 use class_slices::{Format, decode, encode_typed};
-use ice_members::Fields;
-use ice_parts::LARGEST;
+use ice_encoding::LARGEST;
 use ice_types::{Member, Name, Schema, TypeRef};
+use ice_values::Fields;
 use std::alloc::{AllocError, Global};
 
 /// The canonical encapsulation, in the format, of the value that the whole input holds, with all

@@ -39,7 +39,7 @@ use Rattle.ice_values.specs.declared.frame.Part.TheVariants.{Next, Begun, Equal}
 use Rattle.ice_values.specs.declared.frame.Frame.{Frame}
 use Rattle.ice_values.specs.Frames.{Open, each, pairs, opened, given, with_key, opened_parts, whole, closed, kinds_of, kinds_left, last_of, join, add, Asks}
 use Rattle.std.specs.Int.{w16, w32, w64}
-use Rattle.ice_parts.specs.Proxy as proxies
+use Rattle.ice_encoding.specs.Proxy as proxies
 use Rattle.ice_prims.specs.Number.{bool_at, byte_at, signed_at, size_at, text_at}
 use Rattle.ice_values.specs.Leaves.{IsLeaf, HasParts, leaf_at, seen}
 use Rattle.ice_values.specs.Rests.{then, value_in, rest_of, starts_at}

@@ -4,3 +4,8 @@ pub mod Keys
 pub mod Levels
 pub mod Plain
 pub mod ByteSequences
+pub mod Joined
+pub mod RequiredParts
+pub mod OptionParts
+pub mod Stages
+pub mod WritingSteps

@@ -10,7 +10,7 @@ use Rattle.ice_prims.specs.Bytes.{bool_bytes, signed_bytes, size_bytes, text_byt
 use Rattle.ice_prims.specs.Rest.{Rest, ◌>>=◌}
 use Rattle.ice_prims.specs.Number.{bool_at, byte_at, signed_at, text_at}
 use Rattle.ice_prims.specs.Taking.{Fails}
-use Rattle.ice_parts.specs.Proxy as parts
+use Rattle.ice_encoding.specs.Proxy as parts
 use Rattle.ice_encoding.specs.Tree.{Tree, boolean, byte, short, int, long, text, sequence, dictionary, struct, enumerator, proxy, reference}
 use Rattle.ice_encoding.specs.Port.{nowhere}
 use Rattle.ice_encoding.specs.Enum.{enumerator_at}

@@ -9,3 +9,9 @@ pub mod Going
 pub mod Numbering
 pub mod Putting
 pub mod Cost
+pub mod Shapes
+pub mod Entering
+pub mod Unread
+pub mod Advancing
+pub mod WritingLengths
+pub mod WritingMembers

@@ -2,7 +2,7 @@
 
 ghost use Rattle.std.specs.Prelude.{◌≡◌, ◌++◌, ◌↔◌, IsTrue, OnOk, OnErr};
 ghost use Rattle.ice_prims.specs.Bytes.{Grows};
-ghost use Rattle.ice_parts.specs.Proxy as parts;
+ghost use Rattle.ice_encoding.specs.Proxy as parts;
 ghost use Rattle.ice_encoding.specs.Enum.{HasNumber, has_number, enumerator_at};
 ghost use Rattle.graph_arena.specs.View.{unboxed, view};
 ghost use Rattle.ice_encoding.specs.Canonical.{HasSize};

@@ -11,9 +11,9 @@ use Rattle.ice_encoding.specs.Port.{Reader}
 use Rattle.ice_encoding.specs.Pausing.{Inside}
 use Rattle.ice_encoding.specs.Reading.{made}
 use Rattle.ice_prims.specs.declared.fault.Kind.TheVariants.{WrongBase, UnknownClass, BadLast}
-use Rattle.ice_optionals.specs.Steps.{followed, tested}
-use Rattle.ice_optionals.specs.Prefixes.{prefixed}
-use Rattle.ice_optionals.specs.Members.{Members, slice_members_at}
+use Rattle.ice_graphs.specs.Steps.{followed, tested}
+use Rattle.ice_graphs.specs.Prefixes.{prefixed}
+use Rattle.ice_graphs.specs.OptionalMembers.{Members, slice_members_at}
 use Rattle.ice_graphs.specs.Classes.{own_members, base_of}
 use Rattle.ice_graphs.specs.Graph.{Slice, known}
 use Rattle.ice_graphs.specs.Exceptions.{of_exceptions, is_known_last, unless_ended, behind_raised, raised_slices}
@@ -22,11 +22,11 @@ use Rattle.ice_graphs.specs.TypeIds.{is_base, can_be_read, same_bool, before_bas
 use Rattle.ice_graphs.specs.Instances.{most_instances}
 use Rattle.ice_graphs.specs.References.{State, Reference, inline_at, entry_at, entries_at, table_at, resolved, with_met}
 use Rattle.ice_graphs.specs.Slices.{slice_size, kept_at, one_more, body_at, next_slices, from_id, slices_at}
-use Rattle.ice_members.specs.declared.fields.Optionals.{Optionals}
-use Rattle.ice_members.specs.Advancing.{fresh_members}
-use Rattle.ice_members.specs.Shapes.{told_apart}
-use Rattle.ice_members.specs.Unread.{left_of_members}
-use Rattle.ice_members.proofs.Stages.{left-slice, left-bare}
+use Rattle.ice_values.specs.declared.fields.Optionals.{Optionals}
+use Rattle.ice_values.specs.Advancing.{fresh_members}
+use Rattle.ice_values.specs.Shapes.{told_apart}
+use Rattle.ice_values.specs.Unread.{left_of_members}
+use Rattle.ice_values.proofs.Stages.{left-slice, left-bare}
 use Rattle.instance_reading.specs.Seen.{by_flag, own_fields, view_next}
 use Rattle.instance_reading.specs.Slices.{Front, members_of, bytes_of, slice_with, uses_of, Open, refer_by, left_table, left_next, left_open, left_members, left_compact, behind_tests, OpensKnown, OpensSlice, BeginsSlice}
 use Rattle.instance_reading.specs.Sorts.{rows_of, may_begin, id_by, class_by, ends_by, is_over, behind_base, behind_kept, behind_slice, port_by, unless_over, slices_by}

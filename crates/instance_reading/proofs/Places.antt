@@ -11,7 +11,7 @@ use Rattle.ice_prims.specs.Rest.{Rest, fault, ◌>>=◌}
 use Rattle.ice_prims.specs.Taking.{Fails}
 use Rattle.ice_encoding.specs.Port.{Reader}
 use Rattle.ice_encoding.specs.Pausing.{Inside, Met, met, in_place}
-use Rattle.ice_optionals.specs.Members.{Members, slice_members_at}
+use Rattle.ice_graphs.specs.OptionalMembers.{Members, slice_members_at}
 use Rattle.ice_graphs.specs.References.{State, Reference, entry_at, within, with_met}
 use Rattle.ice_graphs.proofs.Agreeing.{read_same}
 use Rattle.instance_reading.specs.Seen.{by_flag, entry_met, is_known}
@@ -20,8 +20,8 @@ use Rattle.instance_reading.specs.declared.sized.SizedMembers.{SizedMembers}
 use Rattle.instance_reading.specs.Sorts.{rows_of}
 use Rattle.instance_reading.specs.declared.sort.Sort.{Sort}
 use Rattle.instance_reading.specs.declared.sort.Sort.TheVariants as sorts
-use Rattle.ice_members.specs.declared.fields.Optionals.{Optionals}
-use Rattle.ice_members.specs.Advancing.{members_at, ReadsMembers}
+use Rattle.ice_values.specs.declared.fields.Optionals.{Optionals}
+use Rattle.ice_values.specs.Advancing.{members_at, ReadsMembers}
 use Rattle.graph_arena.specs.declared.instance.Members as stored
 
 abbrev pub nothing : Inside (List (Reference ℕ))

@@ -6,8 +6,8 @@ use Rattle.ice_prims.specs.declared.fault.Kind.TheVariants.{LeftOver}
 use Rattle.ice_prims.specs.declared.fault.ReadFault.{ReadFault}
 use Rattle.ice_prims.specs.Rest.{Rest, whole, ◌>>=◌}
 use Rattle.ice_prims.specs.Taking.{Fails, GivesUnlessMemory}
-use Rattle.ice_parts.specs.Bounds.{ended}
-use Rattle.ice_optionals.specs.Members.{Members, slice_members_at}
+use Rattle.ice_encoding.specs.Bounds.{ended}
+use Rattle.ice_graphs.specs.OptionalMembers.{Members, slice_members_at}
 use Rattle.ice_graphs.specs.Canonical.{is_there}
 use Rattle.ice_graphs.specs.Classes.{own_members}
 use Rattle.ice_graphs.specs.Graph.{Slice}

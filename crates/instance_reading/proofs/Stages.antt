@@ -12,7 +12,7 @@ use Rattle.ice_encoding.specs.Pausing.{Inside, begins, met}
 use Rattle.ice_encoding.specs.Pausing as pausing
 use Rattle.ice_encoding.specs.Reading.{made}
 use Rattle.ice_types.specs.declared.declarations.Shape.{Shape}
-use Rattle.ice_optionals.specs.Members.{Members}
+use Rattle.ice_graphs.specs.OptionalMembers.{Members}
 use Rattle.ice_graphs.specs.Graph.{Slice, known}
 use Rattle.ice_graphs.specs.Flags.{Before}
 use Rattle.ice_graphs.specs.Instances.{most_instances}
@@ -22,8 +22,8 @@ use Rattle.graph_arena.specs.declared.instance.Members as stored_members
 use Rattle.graph_arena.specs.declared.instance.Slice as stored
 use Rattle.graph_arena.specs.declared.instance.Slice.TheVariants.{Known}
 use Rattle.graph_arena.specs.Seen.{view_content, view_slice, view_slices}
-use Rattle.ice_members.specs.declared.reader.MembersReader.{MembersReader}
-use Rattle.ice_members.specs.Unread.{left_of_members}
+use Rattle.ice_values.specs.declared.members_reader.MembersReader.{MembersReader}
+use Rattle.ice_values.specs.Unread.{left_of_members}
 use Rattle.instance_reading.specs.declared.slice.Before as code
 use Rattle.instance_reading.specs.declared.slice.CompactSlice.{CompactSlice}
 use Rattle.instance_reading.specs.Seen.{own_fields, view_before, view_next}

@@ -8,11 +8,11 @@ use Rattle.ice_prims.specs.Number.{text_at}
 use Rattle.ice_prims.specs.Rest.{Rest, fault, ◌>>=◌}
 use Rattle.ice_prims.specs.declared.fault.Kind.TheVariants.{Short, WrongClass}
 use Rattle.ice_prims.specs.Taking.{Fails}
-use Rattle.ice_parts.specs.Bounds.{ended}
+use Rattle.ice_encoding.specs.Bounds.{ended}
 use Rattle.ice_encoding.specs.Port.{Port, Reader}
 use Rattle.ice_encoding.specs.Reading.{plain}
-use Rattle.ice_optionals.specs.Steps.{followed}
-use Rattle.ice_optionals.specs.Members as defs
+use Rattle.ice_graphs.specs.Steps.{followed}
+use Rattle.ice_graphs.specs.OptionalMembers as defs
 use Rattle.ice_graphs.specs.Classes.{class_named}
 use Rattle.ice_graphs.specs.Exceptions.{Raised, of_exceptions, may_be_raised, may_be_last, is_known_last, behind_raised, raised_slices, raised_at}
 use Rattle.ice_graphs.specs.Graph.{Slice, Graph}
@@ -22,11 +22,11 @@ use Rattle.ice_graphs.specs.Joining.{placed}
 use Rattle.ice_graphs.specs.References.{State, inline_at, opening}
 use Rattle.ice_graphs.specs.Slices.{from_id}
 use Rattle.ice_graphs.specs.TypeIds.{before_next}
-use Rattle.ice_members.specs.declared.fields.Optionals.TheVariants.{ToEnd}
-use Rattle.ice_members.specs.Advancing.{fresh_members}
-use Rattle.ice_members.specs.Shapes.{told_apart}
-use Rattle.ice_members.specs.Unread.{left_of_members}
-use Rattle.ice_members.proofs.Stages.{left-content}
+use Rattle.ice_values.specs.declared.fields.Optionals.TheVariants.{ToEnd}
+use Rattle.ice_values.specs.Advancing.{fresh_members}
+use Rattle.ice_values.specs.Shapes.{told_apart}
+use Rattle.ice_values.specs.Unread.{left_of_members}
+use Rattle.ice_values.proofs.Stages.{left-content}
 use Rattle.instance_reading.specs.declared.sort.Sort.TheVariants as sorts
 use Rattle.instance_reading.specs.Slices.{refer_by}
 use Rattle.instance_reading.specs.Sorts.{port_by}

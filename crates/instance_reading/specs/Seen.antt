@@ -14,8 +14,8 @@ use Rattle.ice_graphs.specs.Flags as flags
 use Rattle.ice_graphs.specs.Graph.{Slice}
 use Rattle.ice_graphs.specs.References as refs
 use Rattle.graph_arena.specs.Stored.{instances_code}
-use Rattle.ice_members.specs.declared.fields.Optionals.{Optionals}
-use Rattle.ice_members.specs.declared.fields.Optionals.TheVariants.{Absent, Marked}
+use Rattle.ice_values.specs.declared.fields.Optionals.{Optionals}
+use Rattle.ice_values.specs.declared.fields.Optionals.TheVariants.{Absent, Marked}
 use Rattle.instance_reading.specs.declared.arena.Reference.{Reference}
 use Rattle.instance_reading.specs.declared.slice.Before.{Before}
 use Rattle.instance_reading.specs.declared.slice.Before.TheVariants as befores

@@ -11,10 +11,10 @@ use Rattle.ice_prims.specs.Taking.{Fails}
 use Rattle.ice_encoding.specs.Port.{Reader}
 use Rattle.ice_encoding.specs.Pausing.{Inside, in_place}
 use Rattle.ice_encoding.specs.Reading.{made}
-use Rattle.ice_optionals.specs.Steps.{followed, given, tested}
-use Rattle.ice_optionals.specs.Prefixes.{prefixed}
-use Rattle.ice_optionals.specs.Members.{slice_members_at}
-use Rattle.ice_optionals.specs.Members as defs
+use Rattle.ice_graphs.specs.Steps.{followed, given, tested}
+use Rattle.ice_graphs.specs.Prefixes.{prefixed}
+use Rattle.ice_graphs.specs.OptionalMembers.{slice_members_at}
+use Rattle.ice_graphs.specs.OptionalMembers as defs
 use Rattle.ice_graphs.specs.Classes.{own_members}
 use Rattle.ice_graphs.specs.Graph.{known, kept}
 use Rattle.ice_graphs.specs.Graph as graphs
@@ -26,7 +26,7 @@ use Rattle.ice_graphs.specs.References.{State, inline_at, entry_at, entries_at, 
 use Rattle.ice_graphs.specs.References as refs
 use Rattle.ice_graphs.specs.Slices.{slice_size, by_table, one_more, body_at}
 use Rattle.graph_arena.specs.Seen.{view_content}
-use Rattle.ice_members.specs.Unread.{left_of_members}
+use Rattle.ice_values.specs.Unread.{left_of_members}
 use Rattle.instance_reading.specs.Seen.{own_fields, view_before, view_next, view_references}
 use Rattle.instance_reading.specs.Sorts.{rows_of, may_begin, id_by, ends_by, behind_slice, slices_by, slices_from}
 use Rattle.instance_reading.specs.declared.sort.Sort.{Sort}

@@ -4,7 +4,7 @@ use Rattle.ice_types.specs.Tables.{Tables}
 use Rattle.ice_prims.specs.Number.{text_at}
 use Rattle.ice_encoding.specs.Port.{Port, Reader}
 use Rattle.ice_encoding.specs.Reading.{plain}
-use Rattle.ice_optionals.specs.Steps.{given}
+use Rattle.ice_graphs.specs.Steps.{given}
 use Rattle.ice_graphs.specs.Classes.{class_named, base_of}
 use Rattle.ice_graphs.specs.Graph.{Slice}
 use Rattle.ice_graphs.specs.Flags.{IdForm, Flags, all_slices, Before, first, only_kept, derived, may_stand}

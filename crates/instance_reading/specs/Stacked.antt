@@ -9,7 +9,7 @@ use Rattle.ice_prims.specs.Rest.{Rest, ◌>>=◌}
 use Rattle.ice_prims.specs.Taking.{Fails}
 use Rattle.ice_encoding.specs.Port.{Reader, nowhere}
 use Rattle.ice_encoding.specs.Pausing.{Inside}
-use Rattle.ice_optionals.specs.Members as defs
+use Rattle.ice_graphs.specs.OptionalMembers as defs
 use Rattle.ice_graphs.specs.Exceptions.{Raised, of_exceptions, raised_slices}
 use Rattle.ice_graphs.specs.Graph as graphs
 use Rattle.ice_graphs.specs.Flags.{first, all_slices}

@@ -2,13 +2,13 @@
 
 ghost use Rattle.std.specs.Prelude.{◌≡◌};
 ghost use Rattle.ice_graphs.specs.Classes as classes;
-ghost use Rattle.ice_members.specs.Shapes.{handed};
+ghost use Rattle.ice_values.specs.Shapes.{handed};
 ghost use Rattle.instance_reading.specs.Seen.{by_flag, members_of, own_fields};
 ghost use Rattle.instance_reading.specs.Sorts.{rows_of};
 
 use crate::sort::Sort;
-use ice_members::{Fields, Optionals};
 use ice_types::{Member, Schema};
+use ice_values::{Fields, Optionals};
 
 /// The class or the exception of a type id.
 pub(crate) fn class_named(sort: Sort, schema: &Schema, id: &str) -> Option<u32>

@@ -3,15 +3,15 @@
 ghost use Rattle.std.specs.Prelude.{◌≡◌};
 ghost use Rattle.ice_graphs.specs.Flags.{all_slices};
 ghost use Rattle.ice_graphs.specs.Instances.{graph_at};
-ghost use Rattle.ice_members.specs.Shapes.{shape_seen};
+ghost use Rattle.ice_values.specs.Shapes.{shape_seen};
 ghost use Rattle.instance_reading.specs.Stacked.{ReadsGraph, ReadsRoots, roots_at};
 
 use crate::arena::Arena;
 use crate::nesting::read_instance;
 use graph_arena::{Instance, Members};
-use ice_members::{Fields, MembersReader, Optionals, PausedMembers};
 use ice_prims::{Cursor, ReadFault};
 use ice_types::Schema;
+use ice_values::{Fields, MembersReader, Optionals, PausedMembers};
 use std::alloc::Global;
 
 /// The members of a whole content, and the instances that begin in it, each named by its place.

@@ -4,11 +4,11 @@
 
 ghost use Rattle.std.specs.Prelude.{◌≡◌, true, false};
 ghost use Rattle.ice_encoding.specs.Pausing.{Inside, in_place};
-ghost use Rattle.ice_optionals.specs.Members.{slice_members_at};
+ghost use Rattle.ice_graphs.specs.OptionalMembers.{slice_members_at};
 ghost use Rattle.ice_graphs.specs.Classes.{own_members};
 ghost use Rattle.ice_graphs.specs.Classes as classes;
 ghost use Rattle.ice_graphs.specs.Flags.{flags_of};
-ghost use Rattle.ice_members.specs.Advancing.{ReadsMembers};
+ghost use Rattle.ice_values.specs.Advancing.{ReadsMembers};
 ghost use Rattle.instance_reading.specs.Seen.{view_next, view_references};
 ghost use Rattle.instance_reading.specs.Slices.{Ends, OpensKept, OpensSized, ReadsPlaces, ReadsSized, SeesTable, first_outside};
 ghost use Rattle.instance_reading.specs.Sorts.{rows_of};
@@ -21,10 +21,9 @@ use crate::slice::Before;
 use crate::sort::Sort;
 use crate::table_port::{InTable, Untabled};
 use graph_arena::Members;
-use ice_members::read_members;
 use ice_prims::{Cursor, Fault, Kind, ReadFault};
 use ice_types::{List, Schema};
-use ice_values::RefPort;
+use ice_values::{RefPort, read_members};
 use preserved::{KeptPart, skip_slice, slice_bound};
 use std::alloc::Global;
 

@@ -13,9 +13,9 @@ use crate::class::{base_of, class_named, optionals};
 use crate::flags::{is_odd, take_flags};
 use crate::sized::{OpenSlice, behind_base, open_kept, open_sized};
 use crate::sort::Sort;
-use ice_members::MembersReader;
 use ice_prims::{Cursor, Fault, Kind, ReadFault};
 use ice_types::Schema;
+use ice_values::MembersReader;
 use std::alloc::Global;
 
 /// What a slice follows.

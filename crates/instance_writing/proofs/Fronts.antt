@@ -6,7 +6,7 @@ use Rattle.ice_types.specs.declared.declarations.Member.{Member}
 use Rattle.ice_types.specs.Tables.{Tables}
 use Rattle.ice_encoding.specs.Writing.{Piece}
 use Rattle.ice_encoding.specs.Pausing.{written_in_place}
-use Rattle.ice_optionals.specs.Members.{Members, shape_of}
+use Rattle.ice_graphs.specs.OptionalMembers.{Members, shape_of}
 use Rattle.ice_graphs.specs.Members.{written_slice_members}
 use Rattle.ice_graphs.specs.Classes.{own_members, members_in}
 use Rattle.ice_graphs.specs.Graph.{known}
@@ -14,7 +14,7 @@ use Rattle.ice_graphs.specs.Names.{names_of}
 use Rattle.ice_graphs.specs.Canonical.{table_of, sized_bytes}
 use Rattle.graph_arena.specs.Arena.{AreBelow}
 use Rattle.ice_values.specs.Putting.{InsideWritten}
-use Rattle.ice_members.specs.WritingMembers.{WritesPiece}
+use Rattle.ice_values.specs.WritingMembers.{WritesPiece}
 use Rattle.instance_writing.specs.declared.sort.Sort.{Sort}
 use Rattle.instance_writing.specs.Sorts.{rows_of}
 use Rattle.instance_writing.specs.Tabling.{Listed, no_names, place_put, HasPlaces}

@@ -10,15 +10,15 @@ use Rattle.ice_types.specs.declared.declarations.Shape.{Shape}
 use Rattle.ice_types.specs.Tables.{Tables}
 use Rattle.ice_types.specs.Formats.{optional_format}
 use Rattle.ice_prims.specs.Bytes.{size_bytes}
-use Rattle.ice_parts.specs.Parts.{size}
-use Rattle.ice_parts.specs.Skipping.{count as number_of_bytes}
-use Rattle.ice_parts.specs.Tags.{tag}
+use Rattle.ice_encoding.specs.Parts.{size}
+use Rattle.ice_encoding.specs.Skipping.{count as number_of_bytes}
+use Rattle.ice_encoding.specs.Tags.{tag}
 use Rattle.ice_encoding.specs.Tree.{Tree, boolean, byte, short, int, long, text, sequence, dictionary, struct, enumerator, proxy, reference, Trees, none, tree, tree_count, Entries, no_entry, entry, entry_count, InEach, InPairs, Everywhere}
 use Rattle.ice_encoding.specs.Writing.{Piece, Writer, exactly, ◌>>◌, written, written_each, written_pairs}
 use Rattle.ice_encoding.specs.Pausing.{Put, written_begun, written_in_place}
-use Rattle.ice_optionals.specs.Prefixes.{Prefix, no_length, own_size, as_size, as_int, prefix_of}
-use Rattle.ice_optionals.specs.Optionals.{Present, kind_tagged}
-use Rattle.ice_optionals.specs.Members.{Members}
+use Rattle.ice_graphs.specs.Prefixes.{Prefix, no_length, own_size, as_size, as_int, prefix_of}
+use Rattle.ice_graphs.specs.Optionals.{Present, kind_tagged}
+use Rattle.ice_graphs.specs.OptionalMembers.{Members}
 use Rattle.ice_graphs.specs.Members.{framing, written_option, written_options, marked_options, written_slice_members}
 use Rattle.ice_graphs.specs.Names.{names, names_each, names_pairs, names_present, names_of, renamed, renamed_each, renamed_pairs, renamed_present, renamed_members}
 use Rattle.ice_graphs.specs.Visiting.{place, is_listed}

@@ -6,7 +6,7 @@ use Rattle.ice_types.specs.Tables.{Tables}
 use Rattle.ice_prims.specs.Bytes.{size_bytes, Grows}
 use Rattle.ice_encoding.specs.Writing.{Piece, exactly, ◌>>◌, written_each}
 use Rattle.ice_encoding.specs.Pausing.{Put, written_begun, written_in_place}
-use Rattle.ice_optionals.specs.Members.{Members, shape_of}
+use Rattle.ice_graphs.specs.OptionalMembers.{Members, shape_of}
 use Rattle.ice_graphs.specs.Graph.{Slice, Graph}
 use Rattle.ice_graphs.specs.Instances.{slices_of}
 use Rattle.ice_graphs.specs.Visiting.{most}
@@ -18,9 +18,9 @@ use Rattle.ice_graphs.specs.Names.{instance_names}
 use Rattle.graph_arena.specs.Arena.{AreBelow}
 use Rattle.graph_arena.specs.Seen.{view_slices}
 use Rattle.ice_values.specs.Putting.{InsideWritten, Written, onto}
-use Rattle.ice_members.proofs.WritingSteps.{options-of-tagged, all-left, stands-grown, grows-longer}
-use Rattle.ice_members.specs.declared.ending.Ending.TheVariants.{Bound}
-use Rattle.ice_members.specs.WritingMembers.{Remaining, all_of, members_left, RemainingFits}
+use Rattle.ice_values.proofs.WritingSteps.{options-of-tagged, all-left, stands-grown, grows-longer}
+use Rattle.ice_values.specs.declared.ending.Ending.TheVariants.{Bound}
+use Rattle.ice_values.specs.WritingMembers.{Remaining, all_of, members_left, RemainingFits}
 use Rattle.instance_writing.specs.declared.open_slice.OpenSlice.{OpenSlice}
 use Rattle.instance_writing.specs.declared.open_slice.OpenSlice.TheVariants as opens
 use Rattle.instance_writing.specs.declared.sort.Sort.TheVariants.{Class, Exception}

@@ -20,12 +20,12 @@ use Rattle.ice_graphs.proofs.Agreeing.{written_same}
 use Rattle.graph_arena.specs.declared.instance.Slice as arena
 use Rattle.graph_arena.specs.Arena.{AreBelow}
 use Rattle.graph_arena.specs.Seen.{view_slices}
-use Rattle.ice_optionals.specs.Members.{Members, shape_of}
+use Rattle.ice_graphs.specs.OptionalMembers.{Members, shape_of}
 use Rattle.ice_graphs.specs.Members.{written_slice_members}
 use Rattle.ice_graphs.specs.Classes.{members_in, own_members}
-use Rattle.ice_members.proofs.WritingSteps.{fits-grown, all-left}
-use Rattle.ice_members.specs.declared.ending.Ending.TheVariants.{Marked}
-use Rattle.ice_members.specs.WritingMembers.{Remaining, remaining, all_of, members_left}
+use Rattle.ice_values.proofs.WritingSteps.{fits-grown, all-left}
+use Rattle.ice_values.specs.declared.ending.Ending.TheVariants.{Marked}
+use Rattle.ice_values.specs.WritingMembers.{Remaining, remaining, all_of, members_left}
 use Rattle.ice_values.specs.Putting.{InsideWritten, Written, onto}
 use Rattle.ice_values.proofs.Levels.{onto-then, onto-nothing}
 use Rattle.instance_writing.specs.declared.open_slice.OpenSlice.{OpenSlice}

@@ -6,8 +6,8 @@ use Rattle.ice_types.specs.declared.declarations.Member.{Member}
 use Rattle.ice_prims.specs.Bytes.{size_bytes}
 use Rattle.ice_encoding.specs.Pausing.{Put}
 use Rattle.ice_encoding.specs.Tree.{Tree, boolean, byte, short, int, long, text, sequence, dictionary, struct, enumerator, proxy, reference, Entries, no_entry, entry, InEach, Everywhere}
-use Rattle.ice_optionals.specs.Optionals.{Present, kind_tagged}
-use Rattle.ice_optionals.specs.Members.{Members}
+use Rattle.ice_graphs.specs.Optionals.{Present, kind_tagged}
+use Rattle.ice_graphs.specs.OptionalMembers.{Members}
 use Rattle.ice_graphs.specs.Names.{names}
 use Rattle.ice_graphs.specs.Visiting.{place, is_listed, most}
 

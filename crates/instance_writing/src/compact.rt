@@ -4,7 +4,7 @@ ghost use Rattle.std.specs.Prelude.{◌≡◌, false, ℕ, List, IfOk};
 ghost use Rattle.ice_graphs.specs.Canonical.{Pen, members_bytes};
 ghost use Rattle.graph_arena.specs.Seen.{view_slice};
 ghost use Rattle.ice_values.specs.Putting.{InsideWritten, Written, onto};
-ghost use Rattle.ice_members.specs.WritingMembers.{WritesPiece};
+ghost use Rattle.ice_values.specs.WritingMembers.{WritesPiece};
 ghost use Rattle.instance_writing.specs.Opened.{OpenFits, open_left, refer_to};
 ghost use Rattle.instance_writing.specs.Opened as spec;
 ghost use Rattle.instance_writing.specs.Sorts.{has_plain_id, plain_head, rows_of};
@@ -18,8 +18,8 @@ use crate::pen::Pen;
 use crate::position::Position;
 use crate::sort::Sort;
 use graph_arena::Slice;
-use ice_members::{Ending, MembersWriter};
 use ice_prims::put_byte;
+use ice_values::{Ending, MembersWriter};
 use std::alloc::AllocError;
 
 /// Puts the flags of a slice without a size, and its type id where it is the first of an instance, or one of

@@ -21,9 +21,8 @@ use crate::slice::Desk;
 use crate::sort::Sort;
 use crate::unfinished::Unfinished;
 use graph_arena::{Graph, Slice};
-use ice_members::{Ending, MembersWriter};
 use ice_types::{List, Member, Schema};
-use ice_values::WritePaused;
+use ice_values::{Ending, MembersWriter, WritePaused};
 use std::alloc::{AllocError, Global};
 
 /// Puts the canonical bytes, in the format, of a graph whose instances are named by the order of their

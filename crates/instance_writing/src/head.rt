@@ -4,7 +4,7 @@ ghost use Rattle.std.specs.Prelude.{◌≡◌, ◌+◌, ◌<◌, ◌++◌, ◌�
 ghost use Rattle.ice_prims.specs.Bytes.{text_bytes};
 ghost use Rattle.ice_graphs.specs.Flags.{no_id};
 ghost use Rattle.ice_graphs.specs.Canonical.{flags_byte, written_head};
-ghost use Rattle.ice_members.specs.WritingMembers.{WritesPiece};
+ghost use Rattle.ice_values.specs.WritingMembers.{WritesPiece};
 ghost use Rattle.instance_writing.specs.Sorts.{head_of};
 
 use crate::pen::Pen;

@@ -5,15 +5,14 @@ ghost use Rattle.ice_types.specs.Tables.{Tables};
 ghost use Rattle.ice_graphs.specs.Visiting.{most};
 ghost use Rattle.ice_graphs.specs.Canonical.{Pen};
 ghost use Rattle.ice_values.specs.Putting.{InsideWritten, NarrowsOnPause};
-ghost use Rattle.ice_members.specs.WritingMembers.{GoesOn, RemainingFits, remaining};
+ghost use Rattle.ice_values.specs.WritingMembers.{GoesOn, RemainingFits, remaining};
 ghost use Rattle.instance_writing.specs.Pens.{room};
 ghost use Rattle.instance_writing.specs.Opened.{IsTabled, OpenFits, entries_in, members_of, open_left};
 ghost use Rattle.instance_writing.specs.Opened as spec;
 
 use crate::pen::Pen;
-use ice_members::MembersWriter;
 use ice_types::{List, Member, Schema};
-use ice_values::{PutPort, WritePaused};
+use ice_values::{MembersWriter, PutPort, WritePaused};
 use std::alloc::{AllocError, Global};
 
 /// Members of a known class that are being written with references in place.

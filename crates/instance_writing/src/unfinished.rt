@@ -7,7 +7,7 @@ ghost use Rattle.ice_graphs.specs.Canonical.{Pen};
 ghost use Rattle.graph_arena.specs.Arena.{AreBelow};
 ghost use Rattle.graph_arena.specs.Seen.{view_slice};
 ghost use Rattle.ice_values.specs.Putting.{InsideWritten, NarrowsOnPause, onto};
-ghost use Rattle.ice_members.specs.WritingMembers.{GoesOn};
+ghost use Rattle.ice_values.specs.WritingMembers.{GoesOn};
 ghost use Rattle.instance_writing.specs.declared.open_slice.OpenSlice.TheVariants as opens;
 ghost use Rattle.instance_writing.specs.Formats.{view_format};
 ghost use Rattle.instance_writing.specs.Pens.{room};

@@ -12,7 +12,7 @@ use Rattle.message_dump.specs.declared.dump.Dump.TheVariants.{Finished, Refused,
 use Rattle.message_dump.specs.declared.telling.Telling.{Telling}
 use Rattle.message_dump.specs.Lines.{message_line}
 use Rattle.message_dump.specs.Dumps.{Tells}
-use Rattle.sink_writes.specs.Writing.{Writes}
+use Rattle.ice_ports.specs.Writing.{Writes}
 use Rattle.message_dump.specs.Sources.{GetsLines, is_write_failed}
 use Rattle.message_dump.specs.Steps.{IsSound, Advances, fed, TakesNext, TellsOn}
 use Rattle.message_dump.proofs.Tellings.{tells_one, tells_then, tells_more, joined_fit}

@@ -4,7 +4,7 @@ use Rattle.std.specs.Prelude.{◌≢◌}
 use Rattle.std.specs.Io.KnownBytes.{Consumes, IsAtEnd}
 use Rattle.std.proofs.lemmas.List.{length-append}
 use Rattle.ice_prims.specs.declared.fault.Fault.{Fault}
-use Rattle.ice_parts.specs.declared.limits.TheConstants.{LARGEST}
+use Rattle.ice_encoding.specs.declared.limits.TheConstants.{LARGEST}
 use Rattle.ice_messages.specs.Streams.{next_at}
 use Rattle.message_dump.specs.declared.dump.Dump.{Dump}
 use Rattle.message_dump.specs.declared.dump.Dump.TheVariants.{Finished, Refused, ReadFailed, WriteFailed, Memory}

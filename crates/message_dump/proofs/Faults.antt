@@ -6,9 +6,9 @@ use Rattle.std.proofs.Math.ListN.{drop_of_length-le}
 use Rattle.ice_prims.specs.declared.fault.Fault.{Fault}
 use Rattle.ice_prims.specs.Rest.{Rest, ◌>>=◌, IsBytes, whole, after}
 use Rattle.ice_messages.specs.declared.message.Message.{Message}
-use Rattle.ice_parts.specs.declared.limits.TheConstants.{LARGEST}
-use Rattle.ice_parts.specs.Bounds.{claimed, filled}
-use Rattle.ice_parts.proofs.Bounded.{claimed_ok, claimed_is}
+use Rattle.ice_encoding.specs.declared.limits.TheConstants.{LARGEST}
+use Rattle.ice_encoding.specs.Bounds.{claimed, filled}
+use Rattle.ice_encoding.proofs.Bounded.{claimed_ok, claimed_is}
 use Rattle.ice_messages.specs.declared.message.TheConstants.{HEADER_BYTES}
 use Rattle.ice_messages.specs.Messages.{header, body_by, message_at}
 use Rattle.ice_messages.specs.Streams.{good_header, started, counted, next_at, IsFront}

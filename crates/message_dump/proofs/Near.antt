@@ -9,9 +9,9 @@ use Rattle.ice_prims.specs.declared.fault.Kind.{Kind}
 use Rattle.ice_prims.specs.declared.fault.Kind.TheVariants.{Short, TooLarge, BadSize}
 use Rattle.ice_prims.specs.Rest.{Rest, fault, ◌>>=◌, after, bytes_at}
 use Rattle.ice_prims.specs.Number.{byte_at, signed_at, size_at, text_at, checked_size, long_form_at}
-use Rattle.ice_parts.specs.Parts.{read_times}
-use Rattle.ice_parts.specs.Bounds.{claimed, ended, filled}
-use Rattle.ice_parts.specs.Identity.{identity, facet}
+use Rattle.ice_encoding.specs.Parts.{read_times}
+use Rattle.ice_encoding.specs.Bounds.{claimed, ended, filled}
+use Rattle.ice_encoding.specs.Identity.{identity, facet}
 use Rattle.ice_messages.specs.Context.{Entry, entries_at, value_of, with_entry, new_name, context}
 use Rattle.ice_messages.specs.Calls.{mode, encapsulation_at, call, missing, answer_by, answer}
 use Rattle.ice_messages.specs.declared.message.Message.TheVariants.{Validate, Close}

@@ -6,7 +6,7 @@ use Rattle.ice_prims.specs.declared.fault.Fault.{Fault}
 use Rattle.ice_prims.specs.declared.fault.ReadFault.TheVariants as read_faults
 use Rattle.ice_prims.specs.Rest.{IsBytes}
 use Rattle.ice_prims.proofs.Parts.{IsBytes-rest}
-use Rattle.ice_parts.specs.declared.limits.TheConstants.{LARGEST}
+use Rattle.ice_encoding.specs.declared.limits.TheConstants.{LARGEST}
 use Rattle.ice_messages.specs.declared.message.Message.{Message}
 use Rattle.ice_messages.specs.Messages.{SpellsMessage}
 use Rattle.ice_messages.specs.Streams.{next_at}

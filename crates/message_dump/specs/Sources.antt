@@ -2,7 +2,7 @@
 use Rattle.std.specs.Prelude.{ℕ, ◌≡◌, ◌≤◌, ◌<◌, ◌⊎◌, Bool, true, false, List, [], ◌++◌, length, Option, None, Some, Result, Ok, Err}
 use Rattle.std.specs.Io.KnownBytes.{Appends, Consumes, IsAtEnd}
 use Rattle.ice_ports.specs.declared.ports.TheConstants.{MOST_OF_A_READ}
-use Rattle.sink_writes.specs.Writing.{AppendsPrefix}
+use Rattle.ice_ports.specs.Writing.{AppendsPrefix}
 use Rattle.ice_messages.specs.Streams.{next_at}
 use Rattle.message_dump.specs.declared.dump.Dump.{Dump}
 use Rattle.message_dump.specs.declared.dump.Dump.TheVariants.{Finished, Refused, ReadFailed, WriteFailed, Memory}

@@ -6,7 +6,7 @@ use Rattle.ice_prims.specs.declared.fault.Kind.TheVariants.{Short, Endless}
 use Rattle.ice_prims.specs.Rest.{IsBytes}
 use Rattle.ice_ports.specs.Failures.{count_after}
 use Rattle.ice_messages.specs.declared.message.Message.{Message}
-use Rattle.ice_parts.specs.declared.limits.TheConstants.{LARGEST}
+use Rattle.ice_encoding.specs.declared.limits.TheConstants.{LARGEST}
 use Rattle.ice_messages.specs.Messages.{SpellsMessage}
 use Rattle.ice_messages.specs.Streams.{next_at}
 use Rattle.message_dump.specs.declared.dump.Dump.{Dump}

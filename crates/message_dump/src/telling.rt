@@ -8,9 +8,8 @@ ghost use Rattle.message_dump.specs.Steps.{IsSound, TakesNext, TellsOn, Steps, C
 use crate::dump::{Dump, MOST_MESSAGES};
 use crate::lines::message_line;
 use ice_messages::{Frames, Message};
-use ice_ports::{Failed, Sink};
+use ice_ports::{Failed, Sink, write_all};
 use ice_prims::{Fault, Kind, ReadFault};
-use sink_writes::write_all;
 use std::alloc::Global;
 
 /// How far the messages of an input are told.

@@ -1,20 +1,20 @@
 -- What the program did, from what its parts did.
 use Rattle.std.proofs.Common.{◌≡◌, ℕ, true, false, List, [], Option, Some, refl, inl, inr}
-use Rattle.command_words.specs.declared.words.Task.{Task}
-use Rattle.command_words.specs.Words.{Word, Command, values}
-use Rattle.command_answers.specs.Outside.{Files, Failures}
-use Rattle.command_answers.specs.Answers.{Answer, done, denied, usage, no_such_name, slice_refused, input_refused, json_refused, too_long, needs_sliced, text_refused, read_failed, write_failed, no_memory, refused_after, read_failed_after, no_memory_after}
-use Rattle.command_answers.specs.Decided.{Decides}
-use Rattle.command_answers.specs.Causes.{Causes}
-use Rattle.command_answers.proofs.Telling.{to_be_written}
-use Rattle.command_answers.proofs.Denying.{no_is_to_be_written}
-use Rattle.command_answers.specs.Effects.{TakesTask, TakesInput, Takes, Outputs}
-use Rattle.command_answers.specs.declared.found.Found.{Found}
-use Rattle.command_answers.specs.declared.found.Found.TheVariants as founds
-use Rattle.command_answers.specs.declared.outcome.Outcome.{Outcome}
-use Rattle.command_answers.specs.declared.outcome.Outcome.TheVariants as outcomes
-use Rattle.command_answers.specs.Outcomes.{Prints, PrintsFor, answer_of, verdict_line, found_answer, found_bytes, found_outcome}
-use Rattle.command_answers.proofs.Keeping.{keeps_itself}
+use Rattle.node_commands.specs.declared.words.Task.{Task}
+use Rattle.node_commands.specs.Words.{Word, Command, values}
+use Rattle.node_commands.specs.Outside.{Files, Failures}
+use Rattle.node_commands.specs.Answers.{Answer, done, denied, usage, no_such_name, slice_refused, input_refused, json_refused, too_long, needs_sliced, text_refused, read_failed, write_failed, no_memory, refused_after, read_failed_after, no_memory_after}
+use Rattle.node_commands.specs.Decided.{Decides}
+use Rattle.node_commands.specs.Causes.{Causes}
+use Rattle.node_commands.proofs.Telling.{to_be_written}
+use Rattle.node_commands.proofs.Denying.{no_is_to_be_written}
+use Rattle.node_commands.specs.Effects.{TakesTask, TakesInput, Takes, Outputs}
+use Rattle.node_commands.specs.declared.found.Found.{Found}
+use Rattle.node_commands.specs.declared.found.Found.TheVariants as founds
+use Rattle.node_commands.specs.declared.outcome.Outcome.{Outcome}
+use Rattle.node_commands.specs.declared.outcome.Outcome.TheVariants as outcomes
+use Rattle.node_commands.specs.Outcomes.{Prints, PrintsFor, answer_of, verdict_line, found_answer, found_bytes, found_outcome}
+use Rattle.node_commands.proofs.Keeping.{keeps_itself}
 use Rattle.std.proofs.KnownBytes.{Appends-nil}
 
 -- what was decided was written, or a write of it failed

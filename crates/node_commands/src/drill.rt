@@ -1,12 +1,12 @@
 //! `drill START COUNT`: a graph that is drawn from a number, relayed, and the line that tells what came of it.
 
 ghost use Rattle.std.specs.Prelude.{◌<◌, ◌≤◌, ℕ, List, Option};
-ghost use Rattle.graph_drill.specs.declared.drilling.TheConstants.{MOST_NODES};
-ghost use Rattle.command_words.specs.Words.{drill as wanted};
-ghost use Rattle.command_answers.specs.Outside.{Files, Failures};
-ghost use Rattle.command_answers.specs.Outcomes.{FindsBytes, text_found};
+ghost use Rattle.ice_relay.specs.declared.drilling.TheConstants.{MOST_NODES};
+ghost use Rattle.node_commands.specs.Words.{drill as wanted};
+ghost use Rattle.node_commands.specs.Outside.{Files, Failures};
+ghost use Rattle.node_commands.specs.Outcomes.{FindsBytes, text_found};
 
-use command_answers::Outcome;
+use crate::Outcome;
 use std::alloc::Global;
 
 /// The line on the graph of so many nodes that is drawn from the number, or why there is none.
@@ -16,5 +16,5 @@ pub fn drill(alloc: Global, start: u32, count: u32) -> Result<String, Outcome<'s
     ensures { (files : Option Files) (input : Option (List ℕ)) (counts : Failures)
         → FindsBytes (wanted start count) files input counts counts (text_found result) }
 {
-    Ok(graph_drill::drill(alloc, start, count)?)
+    Ok(ice_relay::drill(alloc, start, count)?)
 }

@@ -1,18 +1,16 @@
 //! What the words ask for, and what came of it.
 
 ghost use Rattle.std.specs.Prelude.{List, ℕ, Option};
-ghost use Rattle.command_words.specs.Words.{Command as Asked, Asks, words_of};
-ghost use Rattle.command_answers.specs.Outside.{counts};
-ghost use Rattle.command_answers.specs.Causes.{Causes};
-ghost use Rattle.command_answers.specs.Effects.{Takes, Outputs};
-ghost use Rattle.command_answers.specs.Outcomes.{answer_of};
+ghost use Rattle.node_commands.specs.Words.{Command as Asked, Asks, words_of};
+ghost use Rattle.node_commands.specs.Outside.{counts};
+ghost use Rattle.node_commands.specs.Causes.{Causes};
+ghost use Rattle.node_commands.specs.Effects.{Takes, Outputs};
+ghost use Rattle.node_commands.specs.Outcomes.{answer_of};
 
 use crate::drill::drill;
 use crate::messages::messages;
 use crate::proxy::proxy;
-use command_answers::{HELP, Outcome, VERSION, print, print_found};
-use command_words::{Command, command_of};
-use file_commands::{check, found_of};
+use crate::{Command, HELP, Outcome, VERSION, check, command_of, found_of, print, print_found};
 use ice_ports::{Shelf, Sink, Source};
 use std::alloc::Global;
 

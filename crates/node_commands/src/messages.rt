@@ -1,13 +1,13 @@
 //! `messages`: a line for each message of the input, as soon as it is there.
 
 ghost use Rattle.std.specs.Prelude.{ℕ, List, Option, Some};
-ghost use Rattle.command_words.specs.Words.{messages as wanted};
-ghost use Rattle.command_answers.specs.Outside.{Files, counts};
-ghost use Rattle.command_answers.specs.Causes.{Causes};
-ghost use Rattle.command_answers.specs.Effects.{Takes, Outputs};
-ghost use Rattle.command_answers.specs.Outcomes.{answer_of};
+ghost use Rattle.node_commands.specs.Words.{messages as wanted};
+ghost use Rattle.node_commands.specs.Outside.{Files, counts};
+ghost use Rattle.node_commands.specs.Causes.{Causes};
+ghost use Rattle.node_commands.specs.Effects.{Takes, Outputs};
+ghost use Rattle.node_commands.specs.Outcomes.{answer_of};
 
-use command_answers::Outcome;
+use crate::Outcome;
 use ice_ports::{Sink, Source};
 use message_dump::dump_messages;
 use std::alloc::Global;

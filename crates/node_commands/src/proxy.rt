@@ -1,14 +1,14 @@
 //! `proxy TEXT`: the printed form of a proxy, and its bytes.
 
 ghost use Rattle.std.specs.Prelude.{◌≡◌, ◌≤◌, ℕ, List, Option, Some, IfOk, length};
-ghost use Rattle.ice_parts.specs.Proxy.{HasProxySizes};
-ghost use Rattle.command_words.specs.declared.words.TheConstants.{MOST_OF_A_WORD};
-ghost use Rattle.command_words.specs.Words.{proxy as wanted};
-ghost use Rattle.command_answers.specs.Outside.{Files, Failures, NoneFailed};
-ghost use Rattle.command_answers.specs.Decided.{proxy_lines};
-ghost use Rattle.command_answers.specs.Outcomes.{FindsBytes, bytes_found};
+ghost use Rattle.ice_encoding.specs.Proxy.{HasProxySizes};
+ghost use Rattle.node_commands.specs.declared.words.TheConstants.{MOST_OF_A_WORD};
+ghost use Rattle.node_commands.specs.Words.{proxy as wanted};
+ghost use Rattle.node_commands.specs.Outside.{Files, Failures, NoneFailed};
+ghost use Rattle.node_commands.specs.Decided.{proxy_lines};
+ghost use Rattle.node_commands.specs.Outcomes.{FindsBytes, bytes_found};
 
-use command_answers::Outcome;
+use crate::Outcome;
 use ice_proxy::{parse_text, print_text, write_proxy};
 use ice_types::Proxy;
 use std::alloc::{AllocError, Global};

@@ -6,7 +6,7 @@ use Rattle.ice_prims.specs.Bytes.{signed_bytes}
 use Rattle.ice_prims.specs.Rest.{Rest, IsBytes}
 use Rattle.ice_prims.proofs.Once.{int_once}
 use Rattle.ice_prims.proofs.Parts.{IsBytes-front}
-use Rattle.ice_parts.specs.Skipping.{is_natural, natural_of}
+use Rattle.ice_encoding.specs.Skipping.{is_natural, natural_of}
 use Rattle.ice_graphs.specs.Slices.{slice_size, kept_bytes, kept_at}
 use Rattle.ice_graphs.proofs.Sizes.{kept_lawful}
 use Rattle.preserved.specs.Kept.{kept_part}

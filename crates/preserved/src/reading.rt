@@ -2,7 +2,7 @@
 
 ghost use Rattle.std.specs.Prelude.{◌≡◌, IfOk};
 ghost use Rattle.ice_prims.specs.Taking.{Takes};
-ghost use Rattle.ice_parts.specs.Skipping.{bound_behind};
+ghost use Rattle.ice_encoding.specs.Skipping.{bound_behind};
 ghost use Rattle.ice_graphs.specs.Flags.{flags_of};
 ghost use Rattle.ice_graphs.specs.Flags as spec;
 ghost use Rattle.ice_graphs.specs.Graph.{kept};

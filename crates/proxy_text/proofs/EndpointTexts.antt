@@ -9,11 +9,11 @@ use Rattle.std.proofs.lemmas.Bool.{eqb-true, and_parts}
 use Rattle.ice_prims.specs.Rest.{Rest, Took}
 use Rattle.ice_types.specs.declared.proxy.Endpoint.{Endpoint}
 use Rattle.ice_types.specs.declared.proxy.Endpoint.TheVariants.{Tcp, Opaque}
-use Rattle.proxy_words.specs.Escapes.{text_of}
-use Rattle.proxy_words.specs.Printed.{printed_text}
-use Rattle.proxy_words.specs.Laws.{Ends, IsWord}
-use Rattle.proxy_words.proofs.Standing.{texts_stand}
-use Rattle.proxy_words.proofs.Readings.{texts_read}
+use Rattle.proxy_text.specs.Escapes.{text_of}
+use Rattle.proxy_text.specs.PrintedWords.{printed_text}
+use Rattle.proxy_text.specs.Laws.{Ends, IsWord}
+use Rattle.proxy_text.proofs.StandingWords.{texts_stand}
+use Rattle.proxy_text.proofs.Readings.{texts_read}
 use Rattle.proxy_text.specs.Numbers.{number, timeout, version, hexadecimal, printed_timeout, printed_version, printed_bytes}
 use Rattle.proxy_text.specs.declared.tcp.TcpOptions.{TcpOptions}
 use Rattle.proxy_text.specs.declared.tcp.TcpFlag.TheVariants as tcp_kinds

@@ -5,7 +5,7 @@ use Rattle.std.specs.Str.{bytes_eq}
 use Rattle.ice_types.specs.declared.proxy.Endpoint.{Endpoint}
 use Rattle.ice_types.specs.declared.proxy.Endpoint.TheVariants.{Opaque}
 use Rattle.ice_prims.specs.Rest.{Rest}
-use Rattle.proxy_words.specs.Escapes.{text_of}
+use Rattle.proxy_text.specs.Escapes.{text_of}
 use Rattle.proxy_text.specs.declared.options.Options.{Options}
 use Rattle.proxy_text.specs.declared.options.Flag.{Flag}
 use Rattle.proxy_text.specs.declared.options.Flag.TheVariants as kinds

@@ -15,3 +15,15 @@ pub mod Typed
 pub mod Shorter
 pub mod Measured
 pub mod Sized
+pub mod Letters
+pub mod EscapeCases
+pub mod Written
+pub mod Readings
+pub mod StandingWords
+pub mod Following
+pub mod Sole
+pub mod DigitRuns
+pub mod AppendedWords
+pub mod Quotes
+pub mod Found
+pub mod Kept

@@ -6,8 +6,8 @@ use Rattle.std.proofs.lemmas.List.{length-append, length-drop, take-append-drop}
 use Rattle.ice_types.specs.declared.proxy.Endpoint.{Endpoint}
 use Rattle.ice_types.specs.declared.proxy.Endpoint.TheVariants.{Tcp, Opaque}
 use Rattle.ice_prims.specs.Rest.{Rest}
-use Rattle.proxy_words.specs.Words.{bare, word_length, blanks, Token, word, colon, at, end, Next, first_token, next}
-use Rattle.proxy_words.specs.Escapes.{text_of}
+use Rattle.proxy_text.specs.Words.{bare, word_length, blanks, Token, word, colon, at, end, Next, first_token, next}
+use Rattle.proxy_text.specs.Escapes.{text_of}
 use Rattle.proxy_text.specs.declared.options.Options.{Options}
 use Rattle.proxy_text.specs.declared.options.Flag.{Flag}
 use Rattle.proxy_text.specs.declared.options.Flag.TheVariants as kinds

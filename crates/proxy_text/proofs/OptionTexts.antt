@@ -4,11 +4,11 @@ use Rattle.std.specs.Str.{IsUtf8}
 use Rattle.std.specs.Prelude.{if◌then◌else◌}
 use Rattle.ice_prims.specs.Rest.{Rest}
 use Rattle.ice_types.specs.declared.proxy.Proxy.{Proxy}
-use Rattle.proxy_words.specs.Escapes.{text_of}
-use Rattle.proxy_words.specs.Printed.{printed_text}
-use Rattle.proxy_words.specs.Laws.{IsWord}
-use Rattle.proxy_words.proofs.Standing.{texts_stand}
-use Rattle.proxy_words.proofs.Readings.{texts_read}
+use Rattle.proxy_text.specs.Escapes.{text_of}
+use Rattle.proxy_text.specs.PrintedWords.{printed_text}
+use Rattle.proxy_text.specs.Laws.{IsWord}
+use Rattle.proxy_text.proofs.StandingWords.{texts_stand}
+use Rattle.proxy_text.proofs.Readings.{texts_read}
 use Rattle.proxy_text.specs.Numbers.{version, printed_version}
 use Rattle.proxy_text.specs.declared.options.Options.{Options}
 use Rattle.proxy_text.specs.declared.options.Flag.{Flag}

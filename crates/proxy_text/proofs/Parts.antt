@@ -3,9 +3,9 @@ use Rattle.std.proofs.Common.{◌≡◌, ℕ, zero, suc, ◌+◌, ◌<◌, Bool,
 use Rattle.std.specs.List.{list_all}
 use Rattle.ice_prims.specs.Rest.{Rest, Took}
 use Rattle.ice_prims.proofs.Parts.{Took-none-is}
-use Rattle.proxy_words.specs.Words.{is_blank, Token, word, colon, at, end, Next, next}
-use Rattle.proxy_words.specs.Laws.{Ends, IsWord}
-use Rattle.proxy_words.proofs.Following.{word_behind}
+use Rattle.proxy_text.specs.Words.{is_blank, Token, word, colon, at, end, Next, next}
+use Rattle.proxy_text.specs.Laws.{Ends, IsWord}
+use Rattle.proxy_text.proofs.Following.{word_behind}
 use Rattle.proxy_text.specs.Looking.{Parsed, ◌>>=◌, place_at, word_from, word_ahead, or_refused, word_as, at_from, at_ahead, colon_from, colon_at, end_from, end_at}
 use Rattle.proxy_text.specs.Options.{listed, option_of, option_from, options_within}
 

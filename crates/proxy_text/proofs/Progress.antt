@@ -2,9 +2,9 @@
 use Rattle.std.proofs.Common.{◌≡◌, ℕ, ◌<◌, Bool, true, false, List, [], ◌∷◌, length, drop, Option, None, Some, Ok, refl, sym, ap, subst, arith, eqb, one-add}
 use Rattle.std.proofs.lemmas.List.{length-drop}
 use Rattle.ice_prims.specs.Rest.{Rest}
-use Rattle.proxy_words.specs.declared.words.Stand.{Stand}
-use Rattle.proxy_words.specs.declared.words.Stand.TheVariants.{Bare, BareEscape, Quoted}
-use Rattle.proxy_words.specs.Words.{is_blank, bare, behind, word_length, blanks, Token, word, colon, at, end, Next, first_token, next}
+use Rattle.proxy_text.specs.declared.words.Stand.{Stand}
+use Rattle.proxy_text.specs.declared.words.Stand.TheVariants.{Bare, BareEscape, Quoted}
+use Rattle.proxy_text.specs.Words.{is_blank, bare, behind, word_length, blanks, Token, word, colon, at, end, Next, first_token, next}
 use Rattle.proxy_text.specs.Looking.{Parsed, ◌>>=◌, place_at, word_from, word_ahead, or_refused, word_as, colon_from, colon_at}
 
 abbrev pub answer : {A : Type 0} → A → Parsed A

@@ -12,8 +12,8 @@ use Rattle.hex.specs.declared.error.FromHexError.{FromHexError}
 use Rattle.hex.proofs.HexLemmas.{decode_of-ok}
 use Rattle.ice_prims.proofs.Parts.{chosen}
 use Rattle.ice_types.specs.declared.identity.Identity.{Identity}
-use Rattle.proxy_words.specs.Escapes.{Letter, with_front, plain, escaped, short_escapes, found_in, Escape, octal, digits, character, escape, letters_within, letters, is_plain, is_quote, until_quote, unquoted, bytes_of, utf8, utf8_of, text_of, parted, with_name, joined, named, identity_of}
-use Rattle.proxy_words.proofs.Letters.{some_is, then_some}
+use Rattle.proxy_text.specs.Escapes.{Letter, with_front, plain, escaped, short_escapes, found_in, Escape, octal, digits, character, escape, letters_within, letters, is_plain, is_quote, until_quote, unquoted, bytes_of, utf8, utf8_of, text_of, parted, with_name, joined, named, identity_of}
+use Rattle.proxy_text.proofs.Letters.{some_is, then_some}
 use Rattle.proxy_text.specs.Numbers.{known, hexadecimal}
 
 -- a test that passed

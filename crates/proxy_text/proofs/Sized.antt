@@ -7,10 +7,10 @@ use Rattle.ice_types.specs.declared.proxy.Endpoint.TheVariants.{Tcp, Opaque}
 use Rattle.ice_types.specs.declared.proxy.Proxy.{Proxy}
 use Rattle.ice_prims.specs.Rest.{Rest, whole}
 use Rattle.ice_prims.specs.Bytes.{bool_bytes, signed_bytes, size_bytes, text_bytes}
-use Rattle.ice_parts.specs.Parts.{Each}
-use Rattle.ice_parts.specs.Endpoint.{EndpointHasSize}
-use Rattle.ice_parts.specs.Proxy.{HasProxySizes}
-use Rattle.proxy_words.specs.Escapes.{text_of, identity_of}
+use Rattle.ice_encoding.specs.Parts.{Each}
+use Rattle.ice_encoding.specs.Endpoint.{EndpointHasSize}
+use Rattle.ice_encoding.specs.Proxy.{HasProxySizes}
+use Rattle.proxy_text.specs.Escapes.{text_of, identity_of}
 use Rattle.proxy_text.specs.Looking.{Parsed, ◌>>=◌, word_as, at_ahead, colon_at, end_at}
 use Rattle.proxy_text.specs.Options.{no_options, flags, is_given, with_flag, options_at}
 use Rattle.proxy_text.specs.Grammar.{or, endpoint_at, endpoints_from, endpoints_within, endpoints_at, location_from, location_at, proxy_of, proxy_text}

@@ -11,9 +11,9 @@ use Rattle.std.proofs.lemmas.Bool.{and_parts, and_from, agree_below_at}
 use Rattle.std.proofs.lemmas.Bool.Decides.{nat_tests}
 use Rattle.hex.specs.Hex.{encode_with, encode_lower, lower_digits}
 use Rattle.ice_prims.specs.Rest.{IsBytes}
-use Rattle.proxy_words.specs.Words.{is_end, bare, behind, word_length}
-use Rattle.proxy_words.specs.Laws.{Ends, IsWord}
-use Rattle.proxy_words.proofs.Standing.{texts_stand}
+use Rattle.proxy_text.specs.Words.{is_end, bare, behind, word_length}
+use Rattle.proxy_text.specs.Laws.{Ends, IsWord}
+use Rattle.proxy_text.proofs.StandingWords.{texts_stand}
 use Rattle.proxy_text.specs.Numbers.{digits_behind, printed_timeout, printed_version, printed_bytes}
 use Rattle.proxy_text.proofs.ReadBack.{first_digit, digits_read}
 

@@ -9,7 +9,7 @@ use Rattle.ice_types.specs.declared.identity.Identity.{Identity}
 use Rattle.ice_types.specs.declared.proxy.Endpoint.{Endpoint}
 use Rattle.ice_types.specs.declared.proxy.Endpoint.TheVariants.{Opaque}
 use Rattle.ice_types.specs.declared.proxy.Proxy.{Proxy}
-use Rattle.proxy_words.specs.Escapes.{text_of, identity_of}
+use Rattle.proxy_text.specs.Escapes.{text_of, identity_of}
 use Rattle.proxy_text.specs.declared.options.Options.{Options}
 use Rattle.proxy_text.specs.declared.options.Flag.{Flag}
 use Rattle.proxy_text.specs.declared.options.Flag.TheVariants as kinds

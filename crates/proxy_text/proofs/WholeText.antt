@@ -6,11 +6,11 @@ use Rattle.std.proofs.lemmas.Bool.{eqb-true, and_parts}
 use Rattle.ice_prims.specs.Rest.{Rest, Took, whole}
 use Rattle.ice_types.specs.declared.proxy.Endpoint.{Endpoint}
 use Rattle.ice_types.specs.declared.proxy.Proxy.{Proxy}
-use Rattle.proxy_words.specs.Escapes.{text_of, identity_of}
-use Rattle.proxy_words.specs.Printed.{printed_text, printed_identity}
-use Rattle.proxy_words.specs.Laws.{Ends}
-use Rattle.proxy_words.proofs.Standing.{texts_stand, identities_stand}
-use Rattle.proxy_words.proofs.Readings.{texts_read, identities_read}
+use Rattle.proxy_text.specs.Escapes.{text_of, identity_of}
+use Rattle.proxy_text.specs.PrintedWords.{printed_text, printed_identity}
+use Rattle.proxy_text.specs.Laws.{Ends}
+use Rattle.proxy_text.proofs.StandingWords.{texts_stand, identities_stand}
+use Rattle.proxy_text.proofs.Readings.{texts_read, identities_read}
 use Rattle.proxy_text.specs.Looking.{Parsed, ◌>>=◌, word_ahead, word_as, at_ahead, end_at}
 use Rattle.proxy_text.specs.Options.{no_options, flags, is_given, with_flag, options_at}
 use Rattle.proxy_text.specs.Grammar.{or, location_from, location_at, proxy_of, proxy_text}

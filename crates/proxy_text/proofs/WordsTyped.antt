@@ -12,7 +12,7 @@ use Rattle.hex.specs.declared.error.FromHexError.{FromHexError}
 use Rattle.hex.proofs.HexLemmas.{decode_of-ok}
 use Rattle.ice_prims.specs.Rest.{IsBytes}
 use Rattle.ice_types.specs.declared.identity.Identity.{Identity}
-use Rattle.proxy_words.specs.Escapes.{Letter, letters, unquoted, bytes_of, utf8, utf8_of, text_of, is_plain, parted, with_name, joined, named, identity_of}
+use Rattle.proxy_text.specs.Escapes.{Letter, letters, unquoted, bytes_of, utf8, utf8_of, text_of, is_plain, parted, with_name, joined, named, identity_of}
 use Rattle.proxy_text.specs.Numbers.{integer, fits, number, timeout, byte_of, at_point, small, version, known, hexadecimal}
 use Rattle.proxy_text.specs.Printed.{IsVersion}
 

@@ -6,7 +6,7 @@ use Rattle.ice_types.specs.declared.proxy.Endpoint.{Endpoint}
 use Rattle.ice_types.specs.declared.proxy.Endpoint.TheVariants.{Tcp, Opaque}
 use Rattle.ice_types.specs.declared.proxy.Proxy.{Proxy}
 use Rattle.ice_prims.specs.Rest.{Rest, whole}
-use Rattle.proxy_words.specs.Escapes.{text_of, identity_of}
+use Rattle.proxy_text.specs.Escapes.{text_of, identity_of}
 use Rattle.proxy_text.specs.declared.options.Options.{Options}
 use Rattle.proxy_text.specs.declared.tcp.TcpOptions.{TcpOptions}
 use Rattle.proxy_text.specs.declared.endpoints.Transport.{Transport}

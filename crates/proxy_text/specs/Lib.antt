@@ -4,3 +4,9 @@ pub mod Options
 pub mod Grammar
 pub mod Printed
 pub mod Telling
+pub mod Words
+pub mod Escapes
+pub mod PrintedWords
+pub mod IdentityText
+pub mod Taking
+pub mod Laws

@@ -1,7 +1,7 @@
 -- What is looked for where a text goes on. (Ice manual, "Proxy and Endpoint Syntax".)
 use Rattle.std.specs.Prelude.{ℕ, List, Option, None, Some, Result, Ok, Err}
 use Rattle.ice_prims.specs.Rest.{Rest}
-use Rattle.proxy_words.specs.Words.{Token, word, colon, at, end, next}
+use Rattle.proxy_text.specs.Words.{Token, word, colon, at, end, next}
 
 -- what a text is read as, or the place of the first word that cannot stand
 abbrev pub Parsed : Type 0 → Type 0

@@ -3,7 +3,7 @@ use Rattle.std.specs.Prelude.{ℕ, zero, suc, Bool, true, false, List, [], ◌�
 use Rattle.std.specs.Option.{is_some}
 use Rattle.std.specs.Str.{bytes_eq}
 use Rattle.ice_prims.specs.Rest.{Rest}
-use Rattle.proxy_words.specs.Escapes.{text_of}
+use Rattle.proxy_text.specs.Escapes.{text_of}
 use Rattle.proxy_text.specs.declared.options.Options.{Options}
 use Rattle.proxy_text.specs.declared.options.Flag.{Flag}
 use Rattle.proxy_text.specs.declared.options.Flag.TheVariants as kinds

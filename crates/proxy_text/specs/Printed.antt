@@ -8,7 +8,7 @@ use Rattle.ice_types.specs.declared.proxy.Endpoint.{Endpoint}
 use Rattle.ice_types.specs.declared.proxy.Endpoint.TheVariants.{Tcp, Opaque}
 use Rattle.ice_types.specs.declared.proxy.Proxy.{Proxy}
 use Rattle.ice_prims.specs.Rest.{IsBytes}
-use Rattle.proxy_words.specs.Printed.{printed_text, printed_identity}
+use Rattle.proxy_text.specs.PrintedWords.{printed_text, printed_identity}
 use Rattle.proxy_text.specs.Numbers.{printed_timeout, printed_version, printed_bytes}
 
 -- an option and its text, left out where the text is empty

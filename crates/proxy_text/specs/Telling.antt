@@ -3,8 +3,8 @@ use Rattle.std.specs.Prelude.{ℕ, ◌≡◌, Bool, true, false, List, Option, N
 use Rattle.std.specs.Option.{option_and_then}
 use Rattle.std.specs.Borrow.{Bor}
 use Rattle.ice_prims.specs.Rest.{Rest}
-use Rattle.proxy_words.specs.declared.fault.TextFault.{TextFault}
-use Rattle.proxy_words.specs.declared.fault.TextFault.TheVariants as faults
+use Rattle.proxy_text.specs.declared.fault.TextFault.{TextFault}
+use Rattle.proxy_text.specs.declared.fault.TextFault.TheVariants as faults
 use Rattle.proxy_text.specs.Looking.{Parsed}
 
 -- a number that is not greater

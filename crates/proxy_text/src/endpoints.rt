@@ -10,8 +10,8 @@ use crate::taking::{
     place_of, take_bytes, take_colon, take_exactly, take_short, take_transport, take_version,
 };
 use crate::tcp::{TcpOptions, take_tcp_options};
+use crate::{TextFault, Words};
 use ice_types::{Endpoint, List, Name};
-use proxy_words::{TextFault, Words};
 use std::alloc::{AllocError, Global};
 
 /// How an endpoint is reached.

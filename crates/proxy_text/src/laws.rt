@@ -2,7 +2,7 @@
 
 ghost use Rattle.std.specs.Prelude.{ℕ, ◌≡◌, ◌<◌, ◌^◌, List, length, Some, Ok};
 ghost use Rattle.ice_types.specs.declared.proxy.Proxy.{Proxy};
-ghost use Rattle.ice_parts.specs.Proxy.{HasProxySizes};
+ghost use Rattle.ice_encoding.specs.Proxy.{HasProxySizes};
 ghost use Rattle.proxy_text.specs.Grammar.{proxy_text};
 ghost use Rattle.proxy_text.specs.Printed.{printed_proxy, HasText};
 

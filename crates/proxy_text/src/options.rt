@@ -5,8 +5,8 @@ ghost use Rattle.proxy_text.specs.Options.{flags, is_given, listed, no_options, 
 ghost use Rattle.proxy_text.specs.Telling.{Reads};
 
 use crate::taking::{take_text, take_version, word_ahead};
+use crate::{TextFault, Words};
 use ice_types::Name;
-use proxy_words::{TextFault, Words};
 use std::alloc::Global;
 
 /// The options that stand in a text.

@@ -7,8 +7,8 @@ ghost use Rattle.proxy_text.specs.Telling.{Tells};
 use crate::endpoints::{or_empty, take_endpoints};
 use crate::options::{Options, take_options};
 use crate::taking::{at_ahead, take_end, take_identity, take_text};
+use crate::{TextFault, Words};
 use ice_types::{Endpoint, Identity, List, Name, Proxy};
-use proxy_words::{TextFault, Words};
 use std::alloc::{AllocError, Global};
 
 /// Endpoints, or an adapter.

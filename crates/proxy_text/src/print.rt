@@ -4,9 +4,9 @@ ghost use Rattle.std.specs.Prelude.{◌≡◌, ◌++◌, ℕ, List, IfOk, OnOk, 
 ghost use Rattle.proxy_text.specs.Numbers as numbers;
 ghost use Rattle.proxy_text.specs.Printed as spec;
 
+use crate::{print_identity, print_word};
 use ice_types::{Endpoint, Name, Proxy};
 use itoa::Buffer;
-use proxy_words::{print_identity, print_word};
 use std::alloc::{AllocError, Global};
 
 /// The text of the proxy, from which the same proxy is read where it has a name, a mode that there

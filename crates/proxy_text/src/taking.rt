@@ -1,7 +1,7 @@
 //! Words by what they mean. Each call refuses what stands in the place of such a word.
 
 ghost use Rattle.std.specs.Prelude.{◌≡◌};
-ghost use Rattle.proxy_words.specs.Escapes as escapes;
+ghost use Rattle.proxy_text.specs.Escapes as escapes;
 ghost use Rattle.proxy_text.specs.Numbers as spec;
 ghost use Rattle.proxy_text.specs.Options.{listed};
 ghost use Rattle.proxy_text.specs.Looking.{at_ahead, colon_at, end_at, place_at, word_ahead, word_as, word_at};
@@ -10,8 +10,8 @@ ghost use Rattle.proxy_text.specs.Telling.{FindsColon, Reads, ReadsWord, Tells, 
 
 use crate::endpoints::{Transport, transport_of};
 use crate::numbers::{hexadecimal, int, short, timeout, version};
+use crate::{TextFault, Token, Words, identity_of, text_of};
 use ice_types::{Bytes, Identity, Name};
-use proxy_words::{TextFault, Token, Words, identity_of, text_of};
 use std::alloc::Global;
 
 /// The word that stands next, its place and the words behind it. None where no word stands next.

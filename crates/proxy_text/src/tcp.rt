@@ -6,8 +6,8 @@ ghost use Rattle.proxy_text.specs.Options.{listed, option_of, options_at};
 ghost use Rattle.proxy_text.specs.Telling.{Reads};
 
 use crate::taking::{take_int, take_text, take_timeout, word_ahead};
+use crate::{TextFault, Words};
 use ice_types::Name;
-use proxy_words::{TextFault, Words};
 use std::alloc::Global;
 
 /// The options that stand behind `tcp`.

@@ -1,5 +1,4 @@
-use crate::{parse_text, print_text};
-use proxy_words::TextFault;
+use crate::{TextFault, parse_text, print_text};
 use std::process::Abort;
 use std::test::Fail;
 

@@ -3,7 +3,7 @@ use Rattle.std.proofs.Common.{◌≡◌, ℕ, ◌↔◌, Bool, true, false, IsTr
 use Rattle.std.proofs.lemmas.Bool.{false≢true}
 use Rattle.ice_types.specs.declared.declarations.Shape.{Shape}
 use Rattle.ice_types.specs.Tables.{Tables}
-use Rattle.ice_optionals.specs.Members.{Members}
+use Rattle.ice_graphs.specs.OptionalMembers.{Members}
 use Rattle.ice_graphs.specs.Graph.{Graph}
 use Rattle.ice_graphs.specs.Typed.{AreMembers, RefersIn, OfType}
 use Rattle.value_checks.specs.First.{IsFine, IsFirstInstance, IsFirstIll, IsPart, ComesBefore, IsWell}

@@ -5,12 +5,12 @@ use Rattle.ice_types.specs.declared.declarations.ExceptionDecl.{ExceptionDecl}
 use Rattle.ice_types.specs.declared.declarations.Member.{Member}
 use Rattle.ice_types.specs.Tables.{Tables}
 use Rattle.ice_encoding.specs.Typed.{Refers}
-use Rattle.ice_optionals.specs.Members.{Members, shape_of}
+use Rattle.ice_graphs.specs.OptionalMembers.{Members, shape_of}
 use Rattle.ice_graphs.specs.Classes.{members_in, own_members}
 use Rattle.ice_graphs.specs.Exceptions.{as_class, of_exceptions}
 use Rattle.ice_graphs.specs.Typed.{AreMembers, IsKnown}
 use Rattle.ice_graphs.proofs.Agreeing.{members_to, members_from}
-use Rattle.graph_typing.proofs.ExceptionRows.{as_row, row_is}
+use Rattle.graph_laws.proofs.ExceptionRows.{as_row, row_is}
 use Rattle.value_checks.specs.declared.instances.Rows.{Rows}
 use Rattle.value_checks.specs.declared.instances.Rows.TheVariants.{Classes, Exceptions}
 use Rattle.value_checks.specs.Rows.{rows_of, HasOwn}

@@ -9,7 +9,7 @@ use Rattle.ice_types.specs.declared.declarations.DictDecl.{DictDecl}
 use Rattle.ice_types.specs.declared.declarations.StructDecl.{StructDecl}
 use Rattle.ice_types.specs.declared.declarations.EnumDecl.{EnumDecl}
 use Rattle.ice_types.specs.Tables.{Tables}
-use Rattle.ice_parts.specs.Proxy as parts
+use Rattle.ice_encoding.specs.Proxy as parts
 use Rattle.ice_encoding.specs.Enum.{HasNumber}
 use Rattle.ice_encoding.specs.Order.{IsRising}
 use Rattle.ice_encoding.specs.Tree.{Tree, boolean, byte, short, int, long, text, sequence, dictionary, struct, enumerator, proxy, reference, tree_count, entry_count}

@@ -4,14 +4,14 @@ ghost use Rattle.std.specs.Prelude.{◌≡◌, ◌<◌, ◌↔◌, IfOk, IfSome,
 ghost use Rattle.ice_graphs.specs.Typed.{OfType};
 ghost use Rattle.graph_arena.specs.Arena.{AreBelow};
 ghost use Rattle.graph_arena.specs.Listing.{Marks};
-ghost use Rattle.ice_members.specs.Shapes.{shape_seen};
+ghost use Rattle.ice_values.specs.Shapes.{shape_seen};
 ghost use Rattle.value_checks.specs.First.{AreMarkedFine, IsFirstIll, IsFirstInstance, IsFirstOf, IsLeast};
 
 use crate::instances::is_fine;
 use crate::members::are_members;
 use graph_arena::Graph;
-use ice_members::Fields;
 use ice_types::Schema;
+use ice_values::Fields;
 use std::alloc::{AllocError, Global};
 
 /// The first part of a graph that is not of its type: the roots, which are None, of these members; then

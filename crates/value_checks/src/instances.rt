@@ -13,8 +13,8 @@ ghost use Rattle.value_checks.specs.Rows.{HasOwn, rows_of};
 use crate::members::are_members;
 use crate::references::References;
 use graph_arena::{Graph, Members, Slice};
-use ice_members::Fields;
 use ice_types::{Member, Name, Schema};
+use ice_values::Fields;
 
 /// Which rows of a schema slices are of.
 #[derive(Clone, Copy)]

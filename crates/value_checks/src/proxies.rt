@@ -4,13 +4,13 @@ ghost use Rattle.std.specs.Prelude.{◌≡◌, ◌≤◌, ◌<◌, ◌^◌, ◌�
 ghost use Rattle.ice_prims.specs.Bytes.{size_bytes};
 ghost use Rattle.ice_prims.specs.Laws.{IsTextSize};
 ghost use Rattle.ice_types.specs.declared.proxy.Endpoint.TheVariants.{Opaque, Tcp};
-ghost use Rattle.ice_parts.specs.Parts.{Each};
-ghost use Rattle.ice_parts.specs.Parts as parts;
-ghost use Rattle.ice_parts.specs.Identity as names;
-ghost use Rattle.ice_parts.specs.Endpoint as served;
-ghost use Rattle.ice_parts.specs.Proxy as form;
+ghost use Rattle.ice_encoding.specs.Parts.{Each};
+ghost use Rattle.ice_encoding.specs.Parts as parts;
+ghost use Rattle.ice_encoding.specs.Identity as names;
+ghost use Rattle.ice_encoding.specs.Endpoint as served;
+ghost use Rattle.ice_encoding.specs.Proxy as form;
 
-use ice_parts::{LARGEST, SIZE_BYTES};
+use ice_encoding::{LARGEST, SIZE_BYTES};
 use ice_types::{Endpoint, Identity, Name, Proxy};
 
 /// Whether a size can count so many.

@@ -4,7 +4,7 @@ ghost use Rattle.std.specs.Prelude.{◌≡◌, ◌<◌, ◌↔◌, FitsSigned, I
 ghost use Rattle.std.specs.Int.{w16, w32, w64};
 ghost use Rattle.ice_types.specs.declared.kind.TypeRef.TheVariants as kinds;
 ghost use Rattle.ice_types.specs.declared.schema.TheConstants.{MOST_DEPTH};
-ghost use Rattle.ice_parts.specs.Proxy as parts;
+ghost use Rattle.ice_encoding.specs.Proxy as parts;
 ghost use Rattle.ice_encoding.specs.Tree.{dictionary, sequence, struct};
 ghost use Rattle.ice_encoding.specs.Typed.{AllOf, EachOf, HasType, PairsOf, no_reference};
 ghost use Rattle.graph_arena.specs.View.{byte_trees, unboxed, view, view_all, view_pairs};

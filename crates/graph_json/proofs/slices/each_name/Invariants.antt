@@ -1,6 +1,6 @@
 use Rattle.std.proofs.Common.{◌≡◌, drop}
 use Rattle.serde_json.specs.View.{items_view}
-use Rattle.value_json.specs.Reading.{name_of}
+use Rattle.graph_json.specs.ReadingValues.{name_of}
 use Rattle.graph_json.specs.Reading.{items_of}
 use Rattle.graph_json.proofs.Walking.{joined}
 use Rattle.graph_json.proofs.slices.each_name.Given as goal

@@ -1,5 +1,5 @@
 use Rattle.serde_json.specs.View.{view as json_view}
-use Rattle.ice_members.specs.Shapes.{shape_seen}
+use Rattle.ice_values.specs.Shapes.{shape_seen}
 use Rattle.graph_json.proofs.Texts.{text_is, text_reads}
 use Rattle.graph_json.proofs.text.to_text.Goals as goal
 

@@ -1,4 +1,4 @@
-use Rattle.value_json.specs.Notation.{name_noted}
+use Rattle.graph_json.specs.ValueNotation.{name_noted}
 use Rattle.graph_json.proofs.Walking.{all_written}
 use Rattle.graph_json.proofs.writing.names_json.Goals as goal
 

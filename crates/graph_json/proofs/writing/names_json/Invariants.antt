@@ -1,6 +1,6 @@
 use Rattle.std.proofs.Common.{◌≡◌, map, take}
 use Rattle.serde_json.specs.View.{view as json_view}
-use Rattle.value_json.specs.Notation.{name_noted}
+use Rattle.graph_json.specs.ValueNotation.{name_noted}
 use Rattle.graph_json.proofs.writing.names_json.Given as goal
 
 abbrev pub invariant-loop-name : goal.invariant-loop-name

@@ -1,7 +1,7 @@
 use Rattle.std.proofs.Common.{◌++◌, subst, arith}
 use Rattle.std.proofs.lemmas.List.{length-append}
-use Rattle.ice_parts.specs.Parts.{text}
-use Rattle.ice_parts.specs.Identity.{identity, facet}
+use Rattle.ice_encoding.specs.Parts.{text}
+use Rattle.ice_encoding.specs.Identity.{identity, facet}
 use Rattle.ice_messages.specs.Written.{IsAnswer}
 use Rattle.ice_messages.proofs.Sums.{missing_put}
 use Rattle.ice_messages.proofs.lengths.answered_length.Goals as goal

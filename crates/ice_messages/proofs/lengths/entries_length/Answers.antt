@@ -1,6 +1,6 @@
 use Rattle.std.proofs.Common.{length}
 use Rattle.std.specs.List.{flat_map}
-use Rattle.ice_parts.specs.Parts.{both, text}
+use Rattle.ice_encoding.specs.Parts.{both, text}
 use Rattle.ice_messages.proofs.Sums.{none_more}
 use Rattle.ice_messages.proofs.lengths.entries_length.Goals as goal
 

@@ -1,6 +1,6 @@
 use Rattle.std.proofs.Common.{◌≡◌, ◌+◌, ◌^◌, ◌<◌, length, drop}
 use Rattle.std.specs.List.{flat_map}
-use Rattle.ice_parts.specs.Parts.{both, text}
+use Rattle.ice_encoding.specs.Parts.{both, text}
 use Rattle.ice_messages.specs.Written.{told}
 use Rattle.ice_messages.proofs.lengths.entries_length.Given as goal
 

@@ -1,5 +1,5 @@
 use Rattle.std.proofs.Common.{◌∙◌}
-use Rattle.ice_parts.proofs.Times.{some_left}
+use Rattle.ice_encoding.proofs.Times.{some_left}
 use Rattle.ice_messages.proofs.reading.end.Goals as goal
 
 pub returns-else-left-eq0 : goal.returns-else-left-eq0

@@ -1,6 +1,6 @@
 use Rattle.std.proofs.lemmas.Result.{err_from_is_err_and}
-use Rattle.ice_parts.specs.Parts.{read_times}
-use Rattle.ice_parts.proofs.Times.{goes_on, ends}
+use Rattle.ice_encoding.specs.Parts.{read_times}
+use Rattle.ice_encoding.proofs.Times.{goes_on, ends}
 use Rattle.ice_messages.specs.Calls.{call}
 use Rattle.ice_messages.proofs.reading.take_each.Goals as goal
 

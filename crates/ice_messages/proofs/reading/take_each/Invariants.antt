@@ -1,6 +1,6 @@
 use Rattle.std.proofs.Common.{◌≡◌, ◌-◌}
-use Rattle.ice_parts.specs.Parts.{read_times}
-use Rattle.ice_parts.proofs.Times.{with_front}
+use Rattle.ice_encoding.specs.Parts.{read_times}
+use Rattle.ice_encoding.proofs.Times.{with_front}
 use Rattle.ice_messages.specs.Calls.{call}
 use Rattle.ice_messages.proofs.reading.take_each.Given as goal
 

@@ -1,7 +1,7 @@
 use Rattle.std.proofs.Common.{◌∙◌, sym, ap}
 use Rattle.std.proofs.lemmas.Result.{err_from_is_err_and}
 use Rattle.ice_prims.specs.Rest.{whole}
-use Rattle.ice_parts.proofs.Times.{filled_done, filled_over}
+use Rattle.ice_encoding.proofs.Times.{filled_done, filled_over}
 use Rattle.ice_messages.specs.Messages.{message_at}
 use Rattle.ice_messages.proofs.reading.whole_message.Goals as goal
 

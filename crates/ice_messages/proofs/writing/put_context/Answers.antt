@@ -2,7 +2,7 @@ use Rattle.std.proofs.Common.{length, arith}
 use Rattle.std.specs.List.{flat_map}
 use Rattle.std.proofs.lemmas.List.{length-append}
 use Rattle.ice_prims.specs.Bytes.{size_bytes}
-use Rattle.ice_parts.specs.Parts.{both, text}
+use Rattle.ice_encoding.specs.Parts.{both, text}
 use Rattle.ice_messages.proofs.Putting.{entries_few}
 use Rattle.ice_messages.proofs.writing.put_context.Goals as goal
 

@@ -1,7 +1,7 @@
-use Rattle.command_words.specs.Words.{words_of}
-use Rattle.command_answers.specs.Outcomes.{answer_of}
+use Rattle.node_commands.specs.Words.{words_of}
+use Rattle.node_commands.specs.Outcomes.{answer_of}
 use Rattle.ice_node.proofs.Carrying.{answer_carries}
-use Rattle.command_answers.proofs.OneAnswer.{ends}
+use Rattle.node_commands.proofs.OneAnswer.{ends}
 use Rattle.ice_node.proofs.top_call.node.Goals as goal
 
 pub returns-clause-answered : goal.returns-clause-answered

@@ -1,6 +1,6 @@
 use Rattle.std.proofs.lemmas.Result.{err_from_is_err_and}
-use Rattle.ice_parts.specs.Parts.{read_times}
-use Rattle.ice_parts.specs.Endpoint.{endpoint}
+use Rattle.ice_encoding.specs.Parts.{read_times}
+use Rattle.ice_encoding.specs.Endpoint.{endpoint}
 use Rattle.ice_proxy.proofs.Reading.{goes_on, ends}
 use Rattle.ice_proxy.proofs.read.take_endpoints.Goals as goal
 

@@ -1,6 +1,6 @@
 use Rattle.std.proofs.Common.{◌≡◌, ◌-◌}
-use Rattle.ice_parts.specs.Parts.{read_times}
-use Rattle.ice_parts.specs.Endpoint.{endpoint}
+use Rattle.ice_encoding.specs.Parts.{read_times}
+use Rattle.ice_encoding.specs.Endpoint.{endpoint}
 use Rattle.ice_proxy.proofs.Reading.{with_front}
 use Rattle.ice_proxy.proofs.read.take_endpoints.Given as goal
 

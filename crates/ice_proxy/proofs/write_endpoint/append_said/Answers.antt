@@ -1,6 +1,6 @@
 use Rattle.std.proofs.Common.{◌≡◌, OnOk, rules, ◌++◌, [], ◌∷◌}
 use Rattle.ice_types.specs.declared.proxy.Endpoint.TheVariants.{Tcp}
-use Rattle.ice_parts.specs.Endpoint.{tcp}
+use Rattle.ice_encoding.specs.Endpoint.{tcp}
 use Rattle.ice_proxy.proofs.Putting.{then_put}
 use Rattle.ice_proxy.proofs.write_endpoint.append_said.Goals as goal
 

@@ -1,11 +1,11 @@
 use Rattle.std.proofs.Common.{◌≡◌, length}
 use Rattle.ice_encoding.specs.Pausing.{written_in_place}
-use Rattle.ice_optionals.specs.Members.{shape_of}
+use Rattle.ice_graphs.specs.OptionalMembers.{shape_of}
 use Rattle.ice_graphs.specs.Visiting.{most}
 use Rattle.ice_graphs.specs.Members.{written_content}
 use Rattle.ice_graphs.specs.Canonical.{blank}
 use Rattle.ice_values.specs.Putting.{onto}
-use Rattle.ice_members.specs.WritingMembers.{remaining, members_left, RemainingFits}
+use Rattle.ice_values.specs.WritingMembers.{remaining, members_left, RemainingFits}
 use Rattle.instance_writing.specs.Formats.{view_format}
 use Rattle.instance_writing.specs.Pens.{put_counted, room}
 use Rattle.instance_writing.specs.Tabling.{no_names}

@@ -1,6 +1,6 @@
 use Rattle.std.proofs.Common.{◌≡◌, ℕ, List, ◌+◌, ◌-◌, ◌*◌, length}
 use Rattle.std.specs.Io.KnownBytes.{Appends, Consumes}
-use Rattle.ice_parts.specs.declared.limits.TheConstants.{LARGEST}
+use Rattle.ice_encoding.specs.declared.limits.TheConstants.{LARGEST}
 use Rattle.message_dump.specs.declared.dump.TheConstants.{MOST_MESSAGES}
 use Rattle.message_dump.specs.Sources.{Waits}
 use Rattle.message_dump.specs.Steps.{Advances, untold}

@@ -1,10 +1,10 @@
 use Rattle.std.proofs.Common.{[], Some, string_bytes, refl}
-use Rattle.command_words.specs.Words.{values, check, proxy, drill, messages, help}
-use Rattle.command_answers.specs.declared.help.TheConstants.{HELP}
-use Rattle.command_answers.specs.Outside.{counts}
-use Rattle.command_answers.specs.Outcomes.{answer_of, found_bytes}
+use Rattle.node_commands.specs.Words.{values, check, proxy, drill, messages, help}
+use Rattle.node_commands.specs.declared.help.TheConstants.{HELP}
+use Rattle.node_commands.specs.Outside.{counts}
+use Rattle.node_commands.specs.Outcomes.{answer_of, found_bytes}
 use Rattle.node_commands.proofs.Answering.{printed, found_printed, outputs_nothing, takes_nothing}
-use Rattle.command_answers.proofs.Keeping.{keeps_itself}
+use Rattle.node_commands.proofs.Keeping.{keeps_itself}
 use Rattle.node_commands.proofs.execution.run.Goals as goal
 
 pub returns-in-Ok : goal.returns-in-Ok

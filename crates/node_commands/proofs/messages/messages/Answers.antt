@@ -1,4 +1,4 @@
-use Rattle.command_answers.proofs.Telling.{dump_causes, dump_takes, dump_outputs}
+use Rattle.node_commands.proofs.Telling.{dump_causes, dump_takes, dump_outputs}
 use Rattle.node_commands.proofs.messages.messages.Goals as goal
 
 pub returns : goal.returns

@@ -3,7 +3,7 @@ use Rattle.std.specs.Str.{IsUtf8}
 use Rattle.ice_types.specs.Tables.{class_ids, exception_ids}
 use Rattle.ice_graphs.specs.Classes.{class_named}
 use Rattle.ice_graphs.specs.Exceptions.{of_exceptions}
-use Rattle.graph_typing.proofs.ExceptionRows.{ids_are}
+use Rattle.graph_laws.proofs.ExceptionRows.{ids_are}
 use Rattle.value_checks.specs.declared.instances.Rows.{Rows}
 use Rattle.value_checks.specs.Rows.{rows_of}
 use Rattle.value_checks.proofs.Sliced.{unknown_told}

@@ -3,7 +3,7 @@ use Rattle.ice_types.specs.declared.schema.TheConstants.{MOST_DEPTH}
 use Rattle.ice_encoding.specs.Typed.{EachOf, HasType}
 use Rattle.ice_graphs.specs.Typed.{RefersIn}
 use Rattle.graph_arena.specs.View.{view_all}
-use Rattle.ice_members.specs.Shapes.{without_tag}
+use Rattle.ice_values.specs.Shapes.{without_tag}
 use Rattle.value_checks.proofs.members.are_required.Given as goal
 
 abbrev pub invariant-loop-member : goal.invariant-loop-member

@@ -1,4 +1,4 @@
-use Rattle.graph_typing.proofs.Related.{related}
+use Rattle.graph_laws.proofs.Related.{related}
 use Rattle.value_checks.proofs.references.is_a.Goals as goal
 
 pub returns : goal.returns

@@ -3,7 +3,7 @@ use Rattle.ice_prims.specs.declared.fault.Fault.{Fault}
 use Rattle.ice_prims.specs.Rest.{Rest}
 use Rattle.ice_graphs.specs.Graph.{Slice}
 use Rattle.ice_graphs.specs.References.{State}
-use Rattle.ice_members.specs.Shapes.{handed}
+use Rattle.ice_values.specs.Shapes.{handed}
 use Rattle.instance_reading.specs.Unfinished.{Advances}
 use Rattle.instance_reading.proofs.Places.{fault_along}
 use Rattle.instance_reading.proofs.Stages.{members_whole, members_paused, members_fail, left_same}

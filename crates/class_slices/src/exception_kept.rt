@@ -1,0 +1,35 @@
+//! Whether compact format can carry an exception: it has no place for slices that are not known.
+
+ghost use Rattle.ice_graphs.specs.Canonical.{compact};
+ghost use Rattle.instance_writing.specs.Formats.{view_format};
+ghost use Rattle.graph_arena.specs.Seen.{view_slices};
+ghost use Rattle.class_slices.specs.ExceptionKept.{Allows};
+
+use crate::raised_fault::RaisedFault;
+use crate::{Format, begins_kept, first_kept};
+use graph_arena::{Graph, Slice};
+
+/// Refuses an exception with these slices that the format cannot carry, by the first part of it that has a
+/// kept slice: its own slices, or an instance of the graph whose roots they stand for. It is refused too where
+/// there is no memory to look. (Ice manual, "Data Encoding for Class and Exception Types".)
+pub(crate) fn allow(slices: &[Slice], graph: &Graph, format: Format) -> Result<(), RaisedFault>
+    ensures { Allows (view_format format) (view_slices slices.now) graph.now result }
+{
+    match format {
+        Format::Sliced => Ok(()),
+        Format::Compact => allow_compact(slices, graph),
+    }
+}
+
+/// The same of compact format.
+fn allow_compact(slices: &[Slice], graph: &Graph) -> Result<(), RaisedFault>
+    ensures { Allows compact (view_slices slices.now) graph.now result }
+{
+    if begins_kept(slices) {
+        return Err(RaisedFault::UnknownNeedsSliced(None));
+    }
+    match first_kept(graph)? {
+        Some(place) => Err(RaisedFault::UnknownNeedsSliced(Some(place))),
+        None => Ok(()),
+    }
+}

@@ -1,4 +1,0 @@
-pub mod Keeping
-pub mod Telling
-pub mod OneAnswer
-pub mod Denying

@@ -1,7 +1,0 @@
-pub mod Outside
-pub mod Answers
-pub mod Decided
-pub mod Causes
-pub mod Effects
-pub mod Statuses
-pub mod Outcomes

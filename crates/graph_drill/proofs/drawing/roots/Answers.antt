@@ -1,5 +1,0 @@
-use Rattle.graph_drill.proofs.Views.{root-view}
-use Rattle.graph_drill.proofs.drawing.roots.Goals as goal
-
-pub returns : goal.returns
-returns c = root-view c.first.result c.new-required.result c.push.new.self c.new.result c.first.ensures c.new-required.ensures c.in_ok-push.ensures.ok c.new.ensures

@@ -1,0 +1,126 @@
+//! Members from JSON, by their names.
+
+ghost use Rattle.std.specs.Prelude.{◌≡◌, ◌+◌, ◌==◌, [], IfOk, option_map, option_and_then};
+ghost use Rattle.serde_json.specs.Find.{get_member};
+ghost use Rattle.serde_json.specs.View.{view as json_view, members_view};
+ghost use Rattle.graph_arena.specs.View.{view, view_all};
+ghost use Rattle.graph_arena.specs.Seen.{view_content, view_present};
+ghost use Rattle.ice_values.specs.Shapes.{shape_seen, with_tag, without_tag};
+ghost use Rattle.graph_json.specs.ReadingValues.{members_of, noted_value};
+ghost use Rattle.graph_json.specs.Contents.{noted_content, options_of};
+
+use crate::leaves::named;
+use crate::read::value_of;
+use graph_arena::{Members, Value};
+use ice_types::{List, Member, Schema};
+use ice_values::Fields;
+use serde_json::{Map, Value as Json};
+use std::alloc::{AllocError, Global};
+use std::collections::BTreeMap;
+
+/// The values of these members that the JSON notes, or None where it notes none: an object with the names of
+/// the required members, of the optional ones that are present, and no more. Want of memory is the only
+/// refusal.
+pub fn content_of(
+    alloc: Global,
+    schema: &Schema,
+    fields: Fields<'_>,
+    json: &Json,
+) -> Result<Option<Members>, AllocError>
+    ensures { IfOk result (λ o. option_map view_content o ≡ noted_content schema.now (shape_seen fields.entry) (json_view json.now)) }
+{
+    let Some(found) = json.as_object() else {
+        return Ok(None);
+    };
+    let Some(required) = required_of(alloc, schema, fields.required, found)? else {
+        return Ok(None);
+    };
+    let Some(optional) = optional_of(alloc, schema, fields.optional, found)? else {
+        return Ok(None);
+    };
+    if is_sum(found.len(), required.len(), optional.len()) {
+        Ok(Some(Members { required, optional }))
+    } else {
+        Ok(None)
+    }
+}
+
+/// Whether the whole is the sum of the two.
+fn is_sum(whole: usize, a: usize, b: usize) -> bool
+    ensures { result ≡ (whole == a + b) }
+{
+    a <= whole && whole - a == b
+}
+
+/// The values of the members without a tag, in order.
+fn required_of(
+    alloc: Global,
+    schema: &Schema,
+    members: &[Member],
+    found: &Map<String, Json>,
+) -> Result<Option<List<Value>>, AllocError>
+    ensures { IfOk result (λ o. option_map view_all o ≡ members_of (noted_value schema.now) (without_tag members.now) (members_view found.now.entries)) }
+{
+    let mut values = List::new(alloc);
+    for member in members {
+        if member.tag.is_some() {
+            continue;
+        }
+        let Some(value) = member_of(alloc, schema, member, found)? else {
+            return Ok(None);
+        };
+        values.push(value)?;
+    }
+    Ok(Some(values))
+}
+
+/// The value that stands at the member's name.
+fn member_of(
+    alloc: Global,
+    schema: &Schema,
+    member: &Member,
+    found: &Map<String, Json>,
+) -> Result<Option<Value>, AllocError>
+    ensures { IfOk result (λ o. option_map view o ≡ option_and_then (noted_value schema.now member.now.kind) (get_member member.now.name (members_view found.now.entries))) }
+{
+    match named(found, member.name.as_str()) {
+        Some(json) => value_of(alloc, schema, member.kind, json),
+        None => Ok(None),
+    }
+}
+
+/// The values of the members with a tag that are present, by rising tag.
+fn optional_of(
+    alloc: Global,
+    schema: &Schema,
+    members: &[Member],
+    found: &Map<String, Json>,
+) -> Result<Option<List<(u32, Value)>>, AllocError>
+    ensures { IfOk result (λ o. option_map view_present o ≡ options_of (noted_value schema.now) (with_tag members.now) (members_view found.now.entries) []) }
+{
+    let mut values = BTreeMap::new(alloc);
+    for member in members {
+        let Some(tag) = member.tag else {
+            continue;
+        };
+        let Some(json) = named(found, member.name.as_str()) else {
+            continue;
+        };
+        let Some(value) = value_of(alloc, schema, member.kind, json)? else {
+            return Ok(None);
+        };
+        values.insert(tag, value)?;
+    }
+    Ok(Some(by_tag(alloc, values)?))
+}
+
+/// The values of a map, in the order of their tags.
+fn by_tag(alloc: Global, mut map: BTreeMap<u32, Value>) -> Result<List<(u32, Value)>, AllocError>
+    ensures { IfOk result (λ values. values ≡ map.entries) }
+{
+    let mut values = List::new(alloc);
+    while let Some(value) = map.pop_first() {
+        values.push(value)?;
+    }
+    Ok(values)
+}

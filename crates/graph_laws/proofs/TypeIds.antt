@@ -1,0 +1,39 @@
+-- Type ids that are written spell themselves.
+use Rattle.std.proofs.Common.{ℕ, zero, suc, ◌<◌, ◌^◌, ◌≡◌, List, [], ◌∷◌, length, refl, arith, Option, Some, None, inr}
+use Rattle.std.specs.Prelude.{slice_get}
+use Rattle.std.specs.Str.{IsUtf8}
+use Rattle.ice_types.specs.Tables.{Tables}
+use Rattle.ice_prims.specs.Bytes.{text_bytes, size_bytes}
+use Rattle.ice_graphs.specs.Graph.{Slice, known, kept}
+use Rattle.ice_graphs.specs.References.{State, GoesBack}
+use Rattle.ice_graphs.specs.Flags.{as_text, as_index, Reach}
+use Rattle.ice_graphs.specs.TypeIds.{with_id, SpellsId}
+use Rattle.ice_graphs.specs.Instances.{instances}
+use Rattle.ice_graphs.specs.Canonical.{id_in}
+use Rattle.graph_laws.proofs.WrittenValues.{size_spelled}
+
+abbrev pub Spelled : Type 0
+Spelled = State (Unit {0})
+
+-- the type id of each slice of a known class is UTF-8
+abbrev pub HaveTexts : Tables → List Slice → Type 0
+HaveTexts t [] = Unit {0}
+HaveTexts t (known class content ∷ ss) = IsUtf8 (id_in (slice_get t.classes class)) × HaveTexts t ss
+HaveTexts t (kept id bytes optionals table ∷ ss) = HaveTexts t ss
+
+pub text_spelled : (id : List ℕ) (s : Spelled) → IsUtf8 id → length id < 2 ^ 31 → SpellsId as_text (text_bytes id) id s (with_id id s)
+text_spelled id s utf8 lt = ((size_bytes (length id), size_spelled (length id) lt, utf8, refl), refl)
+
+pub index_spelled : (i : ℕ) (id : List ℕ) (s : Spelled) → suc i < 2 ^ 31 → slice_get s.ids i ≡ Some id → SpellsId as_index (size_bytes (suc i)) id s s
+index_spelled i id s lt row = (i, size_spelled (suc i) lt, row, refl)
+
+-- ---- what stands at a reference
+
+module _ (t : Tables) (reach : Reach) (room : ℕ) where
+  pub null_at : (more : ℕ) (declared : Option ℕ) (s : Spelled) → (instances t reach room more).Spells declared (size_bytes 0) None s s
+  null_at zero declared s = (size_spelled 0 (omega arith), refl)
+  null_at (suc more) declared s = (size_spelled 0 (omega arith), refl)
+
+  pub back_at : (more : ℕ) (declared : Option ℕ) (bytes : List ℕ) (n : ℕ) (from to : Spelled) → GoesBack room declared bytes n from to → (instances t reach room more).Spells declared bytes (Some n) from to
+  back_at zero declared bytes n from to h = inr h
+  back_at (suc more) declared bytes n from to h = inr h

@@ -1,5 +1,0 @@
-use Rattle.graph_typing.proofs.Related.{related}
-use Rattle.graph_typing.proofs.laws.classes_related.Goals as goal
-
-pub returns : goal.returns
-returns c t class base rules = related t class base rules

@@ -1,5 +1,0 @@
-use Rattle.graph_typing.proofs.Sound.{numbered_typed}
-use Rattle.graph_typing.proofs.laws.graphs_typed.Goals as goal
-
-pub returns : goal.returns
-returns c t reach shape bytes g rules fits h = numbered_typed t reach shape rules bytes g fits h

@@ -1,8 +1,0 @@
-use Rattle.ice_parts.proofs.Tagged.{tag_lawful}
-use Rattle.ice_parts.proofs.laws.tags_read.Goals as goal
-
-pub returns-clause-found : goal.returns-clause-found
-returns-clause-found c = tag_lawful.found
-
-pub returns-clause-only : goal.returns-clause-only
-returns-clause-only c = tag_lawful.only

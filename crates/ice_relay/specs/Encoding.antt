@@ -1,0 +1,24 @@
+-- The encapsulation of a value that a text notes.
+use Rattle.std.specs.Prelude.{ℕ, ◌≡◌, ◌<◌, ◌≤◌, List, length, Result, Ok, Err, Vec}
+use Rattle.std.specs.declared.alloc.Global.{Global}
+use Rattle.ice_types.specs.declared.kind.TypeRef.{TypeRef}
+use Rattle.ice_types.specs.Tables.{Tables}
+use Rattle.ice_encoding.specs.declared.limits.TheConstants.{LARGEST}
+use Rattle.ice_graphs.specs.Graph.{Graph}
+use Rattle.ice_graphs.specs.Canonical.{Format, IsWritable}
+use Rattle.class_slices.specs.Encoding.{NeedsSliced}
+use Rattle.graph_json.specs.Texts.{IsRefused, Lists}
+use Rattle.ice_relay.specs.Relaying.{one_value, canonical_bytes}
+use Rattle.ice_relay.specs.declared.text_fault.TextRelayFault.{TextRelayFault}
+use Rattle.ice_relay.specs.declared.text_fault.TextRelayFault.TheVariants as faults
+
+-- The canonical encapsulation of the graph that the text lists; or why it lists none; or that an instance which the graph
+-- reaches has a kept slice, and the format is compact; or the length of the encapsulation, which is more than the limit.
+abbrev pub Encodes : Tables → TypeRef → Format → List ℕ → Result (Vec ℕ Global) TextRelayFault → Type 0
+Encodes t kind f text (Ok bytes) = (g : Graph) × Lists t (one_value kind) text g × IsWritable f g
+    × (bytes.items ≡ canonical_bytes t kind f g) × (length bytes.items ≤ LARGEST)
+Encodes t kind f text (Err (faults.Refused kind_of_text)) = IsRefused t (one_value kind) text kind_of_text
+Encodes t kind f text (Err faults.NeedsSliced) = (g : Graph) × Lists t (one_value kind) text g × NeedsSliced f g
+Encodes t kind f text (Err (faults.TooLong n)) = (g : Graph) × Lists t (one_value kind) text g × IsWritable f g
+    × (n ≡ length (canonical_bytes t kind f g)) × (LARGEST < n)
+Encodes t kind f text (Err faults.Memory) = Unit {0}

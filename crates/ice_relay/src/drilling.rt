@@ -1,0 +1,35 @@
+//! A drill: a graph that is drawn from a number, and the line that tells what came of it.
+
+ghost use Rattle.std.specs.Prelude.{◌<◌, ◌≤◌};
+ghost use Rattle.ice_relay.specs.declared.drilling.TheConstants.{MOST_NODES};
+ghost use Rattle.ice_relay.specs.Telling.{Drills};
+
+use crate::drawing::drawn;
+use crate::drill_fault::DrillFault;
+use crate::node_schema::{node_schema, root};
+use crate::telling::tell;
+use ice_values::Fields;
+use std::alloc::Global;
+
+/// How many nodes a graph has at most.
+pub const MOST_NODES: u32 = 50_000;
+
+/// The line that tells what came of the graph of so many nodes that is drawn from the number: how many nodes
+/// the root reaches, how long the graph is in compact format and, relayed from there, in sliced format, and
+/// that relaying it again gives the same bytes. Or the length of the first of these encapsulations that has
+/// more than 1,048,576 bytes, which cannot be relayed.
+/// (Ice manual, "Data Encoding for Class and Exception Types".)
+pub fn drill(alloc: Global, start: u32, count: u32) -> Result<String, DrillFault>
+    requires some { 0 < count }
+    requires few { count ≤ MOST_NODES }
+    ensures { Drills start count result }
+{
+    let schema = node_schema(alloc)?;
+    let root = [root(alloc)?];
+    let fields = Fields {
+        required: &root,
+        optional: &[],
+    };
+    let graph = drawn(alloc, start, count)?;
+    tell(alloc, &schema, fields, count, graph)
+}

@@ -1,0 +1,155 @@
+//! The members of a shape, in pieces.
+
+ghost use Rattle.std.specs.Prelude.{◌≡◌, None, Some, []};
+ghost use Rattle.ice_encoding.specs.Pausing.{Inside};
+ghost use Rattle.ice_values.specs.Shapes.{handed, shape_seen};
+ghost use Rattle.ice_values.specs.Unread.{left_of_members, from_stage};
+ghost use Rattle.ice_values.specs.Advancing.{Goes, NarrowsOnPause, ReadsMembers, fresh_members, members_at};
+
+use crate::RefPort;
+use crate::fields::{Fields, Optionals};
+use crate::options::OptionsReader;
+use crate::required::RequiredReader;
+use graph_arena::{Members, Value};
+use ice_prims::{Cursor, ReadFault};
+use ice_types::{List, Schema};
+use std::alloc::Global;
+use std::mem;
+
+/// What a piece of reading ends with.
+#[derive(Debug, Drop)]
+pub enum PausedMembers {
+    /// The members, read whole.
+    Done(Members),
+    /// The instance of this name begins here. Once it is read, reading goes on.
+    Begins(u32),
+}
+
+/// Members that are being read. It takes memory for what is read, and never for what a size merely claims.
+#[derive(Debug, Drop)]
+pub struct MembersReader<'a> {
+    optionals: Optionals,
+    required: RequiredReader,
+    /// The optional members, from where the required ones end.
+    options: Option<OptionsReader<'a>>,
+}
+
+impl<'a> MembersReader<'a> {
+    /// Before the first byte of members whose optional ones stand so. It takes no memory.
+    pub fn new(alloc: Global, optionals: Optionals) -> MembersReader<'a>
+        ensures { result ≡ fresh_members optionals }
+    {
+        MembersReader {
+            optionals,
+            required: RequiredReader::new(alloc),
+            options: None,
+        }
+    }
+
+    /// Reads on, up to the end of the members or to the next reference at which an instance begins. The
+    /// same members are handed over, and the same cursor, each time; inside a value behind a length it
+    /// is over that bound alone, for an instance that begins there too. A refusal is the first fault
+    /// from the left, or out of memory; it leaves reader, cursor and port anywhere on the way.
+    /// (Ice manual, "Data Encoding for Class and Exception Types".)
+    pub fn go<P: RefPort>(
+        &mut self,
+        alloc: Global,
+        schema: &Schema,
+        fields: Fields<'_>,
+        cursor: &mut Cursor<'a>,
+        port: &mut P,
+    ) -> Result<PausedMembers, ReadFault>
+        ensures goes { (inside : Inside P) → Goes inside (left_of_members P.take schema.now inside (handed fields.entry) self.new) result (left_of_members P.take schema.now inside (handed fields.entry) self.old port.old cursor.old) port.new cursor.new }
+        ensures room { NarrowsOnPause result (P.room port.old) (P.room port.new) }
+    {
+        match mem::replace(&mut self.options, None) {
+            Some(options) => self.go_optional(alloc, schema, fields, options, cursor, port),
+            None => self.go_required(alloc, schema, fields, cursor, port),
+        }
+    }
+
+    /// Reads on in the required members, and then in the optional ones.
+    fn go_required<P: RefPort>(
+        &mut self,
+        alloc: Global,
+        schema: &Schema,
+        fields: Fields<'_>,
+        cursor: &mut Cursor<'a>,
+        port: &mut P,
+    ) -> Result<PausedMembers, ReadFault>
+        requires { self.old.options ≡ None }
+        ensures goes { (inside : Inside P) → Goes inside (left_of_members P.take schema.now inside (handed fields.entry) self.new) result (from_stage P.take schema.now inside self.old.optionals (handed fields.entry) self.old.required None port.old cursor.old) port.new cursor.new }
+        ensures room { NarrowsOnPause result (P.room port.old) (P.room port.new) }
+    {
+        match self
+            .required
+            .go(alloc, schema, fields.required, cursor, port)?
+        {
+            Some(name) => Ok(PausedMembers::Begins(name)),
+            None => match self.optionals {
+                Optionals::Absent => Ok(PausedMembers::Done(self.with(alloc, List::new(alloc)))),
+                Optionals::Marked | Optionals::ToEnd => {
+                    let options = OptionsReader::new(alloc, cursor);
+                    self.go_optional(alloc, schema, fields, options, cursor, port)
+                }
+            },
+        }
+    }
+
+    /// Reads on in these optional members.
+    fn go_optional<P: RefPort>(
+        &mut self,
+        alloc: Global,
+        schema: &Schema,
+        fields: Fields<'_>,
+        mut options: OptionsReader<'a>,
+        cursor: &mut Cursor<'a>,
+        port: &mut P,
+    ) -> Result<PausedMembers, ReadFault>
+        requires { self.old.options ≡ None }
+        ensures goes { (inside : Inside P) → Goes inside (left_of_members P.take schema.now inside (handed fields.entry) self.new) result (from_stage P.take schema.now inside self.old.optionals (handed fields.entry) self.old.required (Some options.entry) port.old cursor.old) port.new cursor.new }
+        ensures room { NarrowsOnPause result (P.room port.old) (P.room port.new) }
+    {
+        let marked = self.optionals.is_marked();
+        match options.go(alloc, schema, marked, fields.optional, cursor, port)? {
+            Some(name) => {
+                self.options = Some(options);
+                Ok(PausedMembers::Begins(name))
+            }
+            None => Ok(PausedMembers::Done(self.with(alloc, options.done))),
+        }
+    }
+
+    /// The required members that are read, with these optional ones.
+    fn with(&mut self, alloc: Global, optional: List<(u32, Value)>) -> Members
+        ensures { result ≡ record { required = self.old.required.done; optional = optional } }
+    {
+        Members {
+            required: mem::replace(&mut self.required.done, List::new(alloc)),
+            optional,
+        }
+    }
+}
+
+/// The members of a shape at the front, with the first fault from the left, at a port at which nothing
+/// begins. A refusal leaves cursor and port anywhere on the way. Memory is taken for what is read, never
+/// for what a size merely claims.
+/// (Ice manual, "Data Encoding for Class and Exception Types".)
+pub fn read_members<P: RefPort>(
+    alloc: Global,
+    schema: &Schema,
+    fields: Fields<'_>,
+    optionals: Optionals,
+    cursor: &mut Cursor<'_>,
+    port: &mut P,
+) -> Result<Members, ReadFault>
+    requires { P.room port.old ≡ 0 }
+    ensures { (inside : Inside P) → ReadsMembers result (members_at P.take schema.now inside optionals (shape_seen fields.entry) port.old cursor.old) port.new cursor.new }
+{
+    let mut reader = MembersReader::new(alloc, optionals);
+    match reader.go(alloc, schema, fields, cursor, port) {
+        Ok(PausedMembers::Done(members)) => Ok(members),
+        Ok(PausedMembers::Begins(_)) => unreachable!(),
+        Err(fault) => Err(fault),
+    }
+}

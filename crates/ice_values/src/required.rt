@@ -1,0 +1,109 @@
+//! The required members, one after the other.
+
+ghost use Rattle.std.specs.Prelude.{◌≡◌, ◌+◌, ◌<◌, ◌^◌, IfSome, option_copied, slice_get};
+ghost use Rattle.ice_encoding.specs.Pausing.{Inside};
+ghost use Rattle.graph_arena.specs.View.{view_all};
+ghost use Rattle.ice_values.specs.Unread.{left_required, from_member, kinds_left, required_work};
+ghost use Rattle.ice_values.specs.Advancing.{Advances, GoesOn, NarrowsOnAdvance, NarrowsOnBegin, LessOnAdvance, fresh_required};
+
+use crate::advanced::Advanced;
+use crate::{Paused, RefPort, ValueReader};
+use graph_arena::Value;
+use ice_prims::{Cursor, ReadFault};
+use ice_types::{List, Member, Schema};
+use std::alloc::Global;
+use std::mem;
+
+/// Required members of which some are read.
+#[derive(Debug, Drop)]
+pub struct RequiredReader {
+    /// The values of those that are read.
+    pub done: List<Value>,
+    /// The first member that has not begun.
+    pub next: usize,
+    /// The member that has begun and is not read whole.
+    pub reader: Option<ValueReader>,
+}
+
+impl RequiredReader {
+    /// Before the first byte. It takes no memory.
+    pub(crate) fn new(alloc: Global) -> RequiredReader
+        ensures { result ≡ fresh_required }
+    {
+        RequiredReader {
+            done: List::new(alloc),
+            next: 0,
+            reader: None,
+        }
+    }
+
+    /// Reads on, up to the last member's end, answering None, or to the next reference at which an
+    /// instance begins. Members with a tag are none of these.
+    pub(crate) fn go<P: RefPort>(
+        &mut self,
+        alloc: Global,
+        schema: &Schema,
+        members: &[Member],
+        cursor: &mut Cursor<'_>,
+        port: &mut P,
+    ) -> Result<Option<u32>, ReadFault>
+        ensures goes { (inside : Inside P) → GoesOn inside (left_required P.take schema.now inside members.now self.new) (view_all self.new.done) result (left_required P.take schema.now inside members.now self.old port.old cursor.old) port.new cursor.new }
+        ensures room { NarrowsOnBegin result (P.room port.old) (P.room port.new) }
+    {
+        loop {
+            match self.step(alloc, schema, members, cursor, port)? {
+                Advanced::On => {}
+                Advanced::Done => return Ok(None),
+                Advanced::Begins(name) => return Ok(Some(name)),
+            }
+        }
+    }
+
+    /// Reads on in the member that has begun, or begins the next one.
+    fn step<P: RefPort>(
+        &mut self,
+        alloc: Global,
+        schema: &Schema,
+        members: &[Member],
+        cursor: &mut Cursor<'_>,
+        port: &mut P,
+    ) -> Result<Advanced, ReadFault>
+        ensures advances { (inside : Inside P) → Advances inside (left_required P.take schema.now inside members.now self.new) (view_all self.new.done) result (left_required P.take schema.now inside members.now self.old port.old cursor.old) port.new cursor.new }
+        ensures room { NarrowsOnAdvance result (P.room port.old) (P.room port.new) }
+        ensures less { LessOnAdvance result (required_work members.now self.old) (required_work members.now self.new) }
+    {
+        match mem::replace(&mut self.reader, None) {
+            Some(mut reader) => match reader.go(alloc, schema, cursor, port)? {
+                Paused::Done(value) => {
+                    self.done.push(value)?;
+                    Ok(Advanced::On)
+                }
+                Paused::Begins(name) => {
+                    self.reader = Some(reader);
+                    Ok(Advanced::Begins(name))
+                }
+            },
+            None => match self.next_member(members) {
+                Some(member) => {
+                    self.next += 1;
+                    if member.tag.is_none() {
+                        self.reader = Some(ValueReader::new(alloc, member.kind));
+                    }
+                    Ok(Advanced::On)
+                }
+                None => Ok(Advanced::Done),
+            },
+        }
+    }
+
+    /// The first member that has not begun.
+    fn next_member<'m>(&self, members: &'m [Member]) -> Option<&'m Member>
+        ensures next { option_copied result ≡ slice_get members.now self.now.next }
+        ensures room { IfSome result (λ _. self.now.next + 1 < 2 ^ 64) }
+    {
+        if self.next >= members.len() {
+            return None;
+        }
+        members.get(self.next)
+    }
+}

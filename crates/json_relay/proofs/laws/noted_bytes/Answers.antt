@@ -1,6 +1,0 @@
-use Rattle.ice_relay.specs.Relaying.{one_value}
-use Rattle.json_relay.proofs.Noted.{bytes_same}
-use Rattle.json_relay.proofs.laws.noted_bytes.Goals as goal
-
-pub returns : goal.returns
-returns c = λ t kind. bytes_same t (one_value kind)

@@ -1,4 +1,0 @@
-pub mod Streams
-pub mod Faults
-pub mod Dumping
-pub mod Encoding

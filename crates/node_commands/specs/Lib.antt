@@ -1,0 +1,9 @@
+pub mod Words
+pub mod TypeWords
+pub mod Outside
+pub mod Answers
+pub mod Decided
+pub mod Causes
+pub mod Effects
+pub mod Statuses
+pub mod Outcomes

@@ -1,0 +1,60 @@
+//! Bytes to a sink: an answer, or the line that says why there is none.
+
+ghost use Rattle.std.specs.Prelude.{◌≡◌, ℕ, List};
+ghost use Rattle.node_commands.specs.Answers.{status};
+ghost use Rattle.node_commands.specs.Effects.{Outputs, GetsLine};
+ghost use Rattle.node_commands.specs.Outcomes.{Prints, PrintsFor, answer_of, found_bytes, found_outcome, verdict, verdict_line};
+
+use crate::found::Found;
+use crate::outcome::Outcome;
+use ice_ports::{Failed, Sink, write_all, write_pieces};
+use itoa::Buffer;
+
+/// Writes the whole answer. A sink that fails has taken a prefix of it, and is not asked again.
+pub fn print<K: Sink>(bytes: &[u8], sink: &mut K) -> Outcome<'static>
+    ensures outcome { Prints (K.failures sink.old) (K.failures sink.new) result }
+    ensures output { Outputs (K.taken sink.old) (K.taken sink.new) (answer_of result bytes.now) }
+{
+    match write_all(sink, bytes) {
+        Ok(()) => Outcome::Done,
+        Err(Failed) => Outcome::WriteFailed,
+    }
+}
+
+/// Writes the word for whether two values are the same, and where they are not the outcome is
+/// `Denied`. A sink that fails has taken a prefix of it, and is not asked again.
+fn print_verdict<K: Sink>(same: bool, sink: &mut K) -> Outcome<'static>
+    ensures outcome { PrintsFor (verdict same) (K.failures sink.old) (K.failures sink.new) result }
+    ensures output { Outputs (K.taken sink.old) (K.taken sink.new) (answer_of result (verdict_line same)) }
+{
+    if same {
+        return print("same\n".as_bytes(), sink);
+    }
+    match print("different\n".as_bytes(), sink) {
+        Outcome::Done => Outcome::Denied,
+        _ => Outcome::WriteFailed,
+    }
+}
+
+/// Writes what was found: bytes, or the word for whether two values are the same.
+pub fn print_found<K: Sink>(found: Found, sink: &mut K) -> Outcome<'static>
+    ensures outcome { PrintsFor (found_outcome found) (K.failures sink.old) (K.failures sink.new) result }
+    ensures output { Outputs (K.taken sink.old) (K.taken sink.new) (answer_of result (found_bytes found)) }
+{
+    match found {
+        Found::Bytes(bytes) => print(bytes.as_slice(), sink),
+        Found::Verdict(same) => print_verdict(same, sink),
+    }
+}
+
+/// Writes the outcome's line to the sink of errors, and answers the status to end with. A line that
+/// cannot be written leaves the status as it is.
+pub fn report<E: Sink>(outcome: Outcome<'_>, errors: &mut E) -> u8
+    ensures status { (bytes : List ℕ) → result ≡ status (answer_of outcome.entry bytes) }
+    ensures line { (bytes : List ℕ) → GetsLine (E.taken errors.old) (E.taken errors.new)
+        (E.failures errors.old) (E.failures errors.new) (answer_of outcome.entry bytes) }
+{
+    let mut digits = Buffer::new();
+    let _ = write_pieces(errors, &outcome.line(&mut digits));
+    outcome.status()
+}

@@ -1,0 +1,178 @@
+//! The command line.
+
+ghost use Rattle.std.specs.Prelude.{◌≡◌, ◌≢◌, List, [], ◌∷◌, codes};
+ghost use Rattle.node_commands.specs.Words.{Word, Command as Asked, Form, Asks, SpellsWithin, asked_of, words_of};
+
+use class_slices::Format;
+use ice_relay::MOST_NODES;
+use itoa::Buffer;
+
+/// The most bytes of a word that is the file, the type or the text of a listed form.
+pub const MOST_OF_A_WORD: usize = 8192;
+
+/// The greatest number that a drill starts from.
+pub(crate) const MOST_OF_A_START: u32 = 2_147_483_647;
+
+/// The option for compact format.
+const COMPACT: &str = "--compact";
+
+/// What is done with values that are read.
+#[derive(Clone, Copy, Debug, PartialEq, Eq)]
+pub enum Task {
+    /// To relay one, in the format.
+    Relay(Format),
+    /// To tell whether two are the same.
+    Same,
+    /// To tell one in JSON.
+    Dump,
+    /// To write one that is told in JSON, in the format.
+    Encode(Format),
+}
+
+/// What the words ask the program to do.
+#[derive(Clone, Copy, Debug, PartialEq, Eq)]
+pub enum Command<'a> {
+    /// To do a task with values of the type `kind`, which the Slice file defines.
+    Values {
+        task: Task,
+        file: &'a str,
+        kind: &'a str,
+    },
+    /// To check the Slice file and all that it includes.
+    Check {
+        file: &'a str,
+    },
+    /// To print the proxy that the text stands for, and its bytes.
+    Proxy {
+        text: &'a str,
+    },
+    /// To relay a graph of so many nodes that is drawn from the number.
+    Drill {
+        start: u32,
+        count: u32,
+    },
+    /// To tell the messages of the input.
+    Messages,
+    /// To print how the program is called.
+    Help,
+    /// To print the program's version.
+    Version,
+}
+
+/// The command that the words ask for, None where they are no listed form.
+pub fn command_of(words: &[String]) -> Option<Command<'_>>
+    ensures { Asks (words_of words.now) (asked_of result) }
+{
+    match words {
+        [word] => of_one_word(word.as_str()),
+        [command, word] => of_two_words(command.as_str(), word.as_str()),
+        [command, one, two] => of_three_words(command.as_str(), one.as_str(), two.as_str()),
+        [task, option, file, kind] => of_four_words(
+            task.as_str(),
+            option.as_str(),
+            file.as_str(),
+            kind.as_str(),
+        ),
+        _ => None,
+    }
+}
+
+fn of_one_word(word: &str) -> Option<Command<'_>>
+    ensures { Asks (word.now ∷ []) (asked_of result) }
+{
+    match word {
+        "messages" => Some(Command::Messages),
+        "--help" => Some(Command::Help),
+        "--version" => Some(Command::Version),
+        _ => None,
+    }
+}
+
+fn of_two_words<'a>(command: &'a str, word: &'a str) -> Option<Command<'a>>
+    ensures { Asks (command.now ∷ word.now ∷ []) (asked_of result) }
+{
+    if word.len() > MOST_OF_A_WORD {
+        return None;
+    }
+    match command {
+        "check" => Some(Command::Check { file: word }),
+        "proxy" => Some(Command::Proxy { text: word }),
+        _ => None,
+    }
+}
+
+fn of_three_words<'a>(command: &'a str, one: &'a str, two: &'a str) -> Option<Command<'a>>
+    ensures { Asks (command.now ∷ one.now ∷ two.now ∷ []) (asked_of result) }
+{
+    match command {
+        "drill" => drill_of(one, two),
+        _ => task_of_three(command, one, two),
+    }
+}
+
+/// The drill from the number that the one word spells, of as many nodes as the other spells.
+fn drill_of<'a>(start: &str, count: &str) -> Option<Command<'a>>
+    ensures { Asks (codes "drill" ∷ start.now ∷ count.now ∷ []) (asked_of result) }
+{
+    let start = number_of(start, 0, MOST_OF_A_START)?;
+    let count = number_of(count, 1, MOST_NODES)?;
+    Some(Command::Drill { start, count })
+}
+
+/// The number from the least to the most that the word spells in decimal digits, without a sign or a leading zero;
+/// None where it spells none.
+fn number_of(word: &str, least: u32, most: u32) -> Option<u32>
+    ensures { SpellsWithin word.now least most result }
+{
+    let number = word.parse::<u32>().ok()?;
+    let mut digits = Buffer::new();
+    if digits.format(number) == word && least <= number && number <= most {
+        return Some(number);
+    }
+    None
+}
+
+/// Of a task of one word.
+fn task_of_three<'a>(word: &'a str, file: &'a str, kind: &'a str) -> Option<Command<'a>>
+    requires { word.now ≢ codes "drill" }
+    ensures { Asks (word.now ∷ file.now ∷ kind.now ∷ []) (asked_of result) }
+{
+    if file.len() > MOST_OF_A_WORD || kind.len() > MOST_OF_A_WORD {
+        return None;
+    }
+    let task = match word {
+        "relay" if file != COMPACT => Task::Relay(Format::Sliced),
+        "same" => Task::Same,
+        "dump" => Task::Dump,
+        "encode" if file != COMPACT => Task::Encode(Format::Sliced),
+        _ => return None,
+    };
+    Some(Command::Values { task, file, kind })
+}
+
+fn of_four_words<'a>(
+    word: &'a str,
+    option: &'a str,
+    file: &'a str,
+    kind: &'a str,
+) -> Option<Command<'a>>
+    ensures { Asks (word.now ∷ option.now ∷ file.now ∷ kind.now ∷ []) (asked_of result) }
+{
+    if file.len() > MOST_OF_A_WORD || kind.len() > MOST_OF_A_WORD {
+        return None;
+    }
+    if option != COMPACT || file == COMPACT {
+        return None;
+    }
+    let task = match word {
+        "relay" => Task::Relay(Format::Compact),
+        "encode" => Task::Encode(Format::Compact),
+        _ => return None,
+    };
+    Some(Command::Values { task, file, kind })
+}
+
+/// Words ask for one command at most.
+pub fn forms_apart()
+    ensures { (words : List Word) (a b : Asked) → Form words a → Form words b → a ≡ b }
+{}

@@ -1,9 +1,0 @@
-use Rattle.proxy_words.proofs.Readings.{identities_read}
-use Rattle.proxy_words.proofs.Sole.{identities_alone}
-use Rattle.proxy_words.proofs.laws.identities_printed.Goals as goal
-
-pub returns-clause-word : goal.returns-clause-word
-returns-clause-word c = identities_read
-
-pub returns-clause-whole : goal.returns-clause-whole
-returns-clause-whole c = identities_alone

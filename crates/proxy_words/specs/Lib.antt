@@ -1,6 +1,0 @@
-pub mod Words
-pub mod Escapes
-pub mod Printed
-pub mod IdentityText
-pub mod Taking
-pub mod Laws

@@ -1,5 +1,0 @@
-use Rattle.user_exceptions.proofs.Named.{all-put}
-use Rattle.user_exceptions.proofs.naming.references.Goals as goal
-
-pub returns : goal.returns
-returns c = all-put c.loop-name.values c.args.names.now c.loop-name.name-index c.loop-name-test.false c.loop-name.invariant

@@ -1,3 +1,0 @@
-pub mod Encoding
-pub mod Kept
-pub mod Seen

@@ -1,5 +1,0 @@
-use Rattle.value_json.proofs.ContentNoted.{content_only}
-use Rattle.value_json.proofs.laws.content_only.Goals as goal
-
-pub returns : goal.returns
-returns c = λ t shape d c rules. content_only t shape rules d c

@@ -1,5 +1,0 @@
-pub mod Notation
-pub mod Reading
-pub mod Canonical
-pub mod Contents
-pub mod Typed
