@@ -5,9 +5,10 @@ ghost use Rattle.instance_writing.specs.Formats.{view_format};
 ghost use Rattle.graph_arena.specs.Seen.{view_slices};
 ghost use Rattle.class_slices.specs.ExceptionKept.{Allows};
 
+use crate::kept::{begins_kept, first_kept};
 use crate::raised_fault::RaisedFault;
-use crate::{Format, begins_kept, first_kept};
 use graph_arena::{Graph, Slice};
+use instance_writing::Format;
 
 /// Refuses an exception with these slices that the format cannot carry, by the first part of it that has a
 /// kept slice: its own slices, or an instance of the graph whose roots they stand for. It is refused too where

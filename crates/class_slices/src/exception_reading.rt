@@ -11,8 +11,8 @@ ghost use Rattle.graph_arena.specs.Seen.{view_content};
 ghost use Rattle.class_slices.specs.Seen.{no_members, view_raised};
 ghost use Rattle.instance_reading.specs.Stacked.{view_raised as view_read};
 
+use crate::enclosing::{end, left_are_bytes};
 use crate::raised::Raised;
-use crate::{end, left_are_bytes};
 use encaps_optionals::open_encaps;
 use graph_arena::{Graph, Members};
 use ice_prims::{Cursor, ReadFault};

@@ -5,13 +5,13 @@ ghost use Rattle.instance_writing.specs.Formats.{view_format};
 ghost use Rattle.class_slices.specs.ExceptionEncoding.{Encodes};
 ghost use Rattle.class_slices.specs.Seen.{IsRooted, view_raised};
 
+use crate::enclosing::{begin_encaps, end_encaps};
 use crate::exception_kept::allow;
 use crate::naming::{numbered, rooted};
 use crate::raised::Raised;
 use crate::raised_fault::RaisedFault;
-use crate::{Format, begin_encaps, end_encaps};
 use ice_types::Schema;
-use instance_writing::write_raised;
+use instance_writing::{Format, write_raised};
 use std::alloc::Global;
 use value_checks::{first_ill_instance, is_raised};
 

@@ -9,7 +9,7 @@ ghost use Rattle.graph_json.specs.Reading as spec;
 ghost use Rattle.graph_json.specs.Reading.{at_name, items_of, list_of, listed_graph};
 ghost use Rattle.graph_json.specs.Listed.{view_listed};
 
-use crate::content_of;
+use crate::content_read::content_of;
 use crate::slices::{named, slices_of};
 use graph_arena::{Instance, Members};
 use ice_types::Schema;

@@ -10,7 +10,8 @@ ghost use Rattle.graph_json.specs.ReadingValues as values;
 ghost use Rattle.graph_json.specs.Reading as spec;
 ghost use Rattle.graph_json.specs.Reading.{at_name, items_of, list_of};
 
-use crate::{content_of, name_of};
+use crate::content_read::content_of;
+use crate::leaves::name_of;
 use graph_arena::Slice;
 use hex::FromHexError;
 use ice_types::{Bytes, List, Member, Name, Schema};

@@ -11,8 +11,9 @@ ghost use Rattle.ice_values.specs.Shapes.{shape_seen};
 ghost use Rattle.graph_json.specs.ValueNotation.{name_noted};
 ghost use Rattle.graph_json.specs.Canonical.{graph_noted, instance_noted, items_noted, slice_noted};
 
+use crate::content_write::content_json;
 use crate::slices::own_members;
-use crate::{content_json, name_json};
+use crate::write::name_json;
 use graph_arena::{Graph, Members, Slice};
 use ice_types::{Bytes, Name, Schema};
 use ice_values::Fields;

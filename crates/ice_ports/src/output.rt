@@ -3,7 +3,7 @@
 ghost use Rattle.std.specs.List.{flat_map};
 ghost use Rattle.ice_ports.specs.Writing.{Writes};
 
-use crate::{Failed, Sink};
+use crate::ports::{Failed, Sink};
 
 /// Writes all of the bytes. A sink that fails has taken a prefix of them, and is not asked again.
 pub fn write_all<K: Sink>(sink: &mut K, bytes: &[u8]) -> Result<(), Failed>

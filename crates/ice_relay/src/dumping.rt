@@ -2,7 +2,7 @@
 
 ghost use Rattle.ice_relay.specs.Dumping.{Dumps};
 
-use crate::root_of;
+use crate::relay::root_of;
 use class_slices::decode;
 use graph_json::to_text;
 use ice_prims::ReadFault;

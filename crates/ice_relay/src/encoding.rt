@@ -3,7 +3,7 @@
 ghost use Rattle.instance_writing.specs.Formats.{view_format};
 ghost use Rattle.ice_relay.specs.Encoding.{Encodes};
 
-use crate::root_of;
+use crate::relay::root_of;
 use crate::text_fault::TextRelayFault;
 use class_slices::{Format, encode_typed};
 use graph_json::from_text;

@@ -5,7 +5,7 @@ ghost use Rattle.ice_ports.specs.Failures.{count_after};
 ghost use Rattle.ice_ports.specs.Files.{is_failed};
 ghost use Rattle.ice_relay.specs.TextStreams.{ReadsText, TakesText};
 
-use crate::read_up_to;
+use crate::input::read_up_to;
 use graph_json::MOST_TEXT;
 use ice_ports::{PortFault, Source};
 use std::alloc::Global;

@@ -6,9 +6,9 @@ ghost use Rattle.ice_values.specs.Shapes.{handed, shape_seen};
 ghost use Rattle.ice_values.specs.Unread.{left_of_members, from_stage};
 ghost use Rattle.ice_values.specs.Advancing.{Goes, NarrowsOnPause, ReadsMembers, fresh_members, members_at};
 
-use crate::RefPort;
 use crate::fields::{Fields, Optionals};
 use crate::options::OptionsReader;
+use crate::port::RefPort;
 use crate::required::RequiredReader;
 use graph_arena::{Members, Value};
 use ice_prims::{Cursor, ReadFault};

@@ -14,8 +14,9 @@ ghost use Rattle.ice_values.specs.WritingMembers.{remaining, all_of, is_marked, 
 use crate::ending::Ending;
 use crate::length_place::LengthPlace;
 use crate::prefix::prefix_of;
+use crate::put_port::PutPort;
 use crate::tagged::kind_tagged;
-use crate::{PutPort, ValueWriter, WritePaused};
+use crate::writer::{ValueWriter, WritePaused};
 use encaps_optionals::put_tag;
 use graph_arena::{Members, Value};
 use ice_prims::put_byte;

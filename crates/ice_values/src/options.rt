@@ -15,9 +15,10 @@ ghost use Rattle.ice_values.specs.Unread.{left_options, from_item, option_behind
 ghost use Rattle.ice_values.specs.Advancing.{Advances, GoesOn, NarrowsOnAdvance, NarrowsOnBegin, LessOnAdvance, fresh_options};
 
 use crate::advanced::Advanced;
+use crate::port::{Met, RefPort};
 use crate::prefix::{enter, leave, prefix_of};
+use crate::reader::{Paused, ValueReader};
 use crate::tagged::kind_tagged;
-use crate::{Met, Paused, RefPort, ValueReader};
 use encaps_optionals::{Skipped, skip_format, take_tag};
 use graph_arena::Value;
 use ice_prims::{Cursor, Fault, Kind, ReadFault};

@@ -7,7 +7,8 @@ ghost use Rattle.ice_values.specs.Unread.{left_required, from_member, kinds_left
 ghost use Rattle.ice_values.specs.Advancing.{Advances, GoesOn, NarrowsOnAdvance, NarrowsOnBegin, LessOnAdvance, fresh_required};
 
 use crate::advanced::Advanced;
-use crate::{Paused, RefPort, ValueReader};
+use crate::port::RefPort;
+use crate::reader::{Paused, ValueReader};
 use graph_arena::Value;
 use ice_prims::{Cursor, ReadFault};
 use ice_types::{List, Member, Schema};

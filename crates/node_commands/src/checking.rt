@@ -6,8 +6,8 @@ ghost use Rattle.node_commands.specs.Outside.{counts};
 ghost use Rattle.node_commands.specs.Decided.{count_line, summary};
 ghost use Rattle.node_commands.specs.Outcomes.{FindsBytes, text_found};
 
-use crate::Outcome;
 use crate::loading::load_schema;
+use crate::outcome::Outcome;
 use ice_ports::Shelf;
 use ice_types::Schema;
 use std::alloc::{AllocError, Global};

@@ -6,7 +6,7 @@ ghost use Rattle.node_commands.specs.Words.{drill as wanted};
 ghost use Rattle.node_commands.specs.Outside.{Files, Failures};
 ghost use Rattle.node_commands.specs.Outcomes.{FindsBytes, text_found};
 
-use crate::Outcome;
+use crate::outcome::Outcome;
 use std::alloc::Global;
 
 /// The line on the graph of so many nodes that is drawn from the number, or why there is none.

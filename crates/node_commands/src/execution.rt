@@ -7,10 +7,15 @@ ghost use Rattle.node_commands.specs.Causes.{Causes};
 ghost use Rattle.node_commands.specs.Effects.{Takes, Outputs};
 ghost use Rattle.node_commands.specs.Outcomes.{answer_of};
 
+use crate::checking::check;
 use crate::drill::drill;
+use crate::help::{HELP, VERSION};
 use crate::messages::messages;
+use crate::outcome::Outcome;
+use crate::output::{print, print_found};
 use crate::proxy::proxy;
-use crate::{Command, HELP, Outcome, VERSION, check, command_of, found_of, print, print_found};
+use crate::values::found_of;
+use crate::words::{Command, command_of};
 use ice_ports::{Shelf, Sink, Source};
 use std::alloc::Global;
 

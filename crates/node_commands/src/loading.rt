@@ -2,7 +2,7 @@
 
 ghost use Rattle.node_commands.specs.Outcomes.{FindsSchema};
 
-use crate::Outcome;
+use crate::outcome::Outcome;
 use ice_ports::Shelf;
 use ice_types::Schema;
 use slice_check::load;

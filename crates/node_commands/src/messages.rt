@@ -7,7 +7,7 @@ ghost use Rattle.node_commands.specs.Causes.{Causes};
 ghost use Rattle.node_commands.specs.Effects.{Takes, Outputs};
 ghost use Rattle.node_commands.specs.Outcomes.{answer_of};
 
-use crate::Outcome;
+use crate::outcome::Outcome;
 use ice_ports::{Sink, Source};
 use message_dump::dump_messages;
 use std::alloc::Global;

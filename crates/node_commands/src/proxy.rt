@@ -8,7 +8,7 @@ ghost use Rattle.node_commands.specs.Outside.{Files, Failures, NoneFailed};
 ghost use Rattle.node_commands.specs.Decided.{proxy_lines};
 ghost use Rattle.node_commands.specs.Outcomes.{FindsBytes, bytes_found};
 
-use crate::Outcome;
+use crate::outcome::Outcome;
 use ice_proxy::{parse_text, print_text, write_proxy};
 use ice_types::Proxy;
 use std::alloc::{AllocError, Global};

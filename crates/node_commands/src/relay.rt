@@ -4,7 +4,8 @@ ghost use Rattle.node_commands.specs.declared.words.Task.TheVariants as tasks;
 ghost use Rattle.node_commands.specs.Effects.{TakesTask};
 ghost use Rattle.node_commands.specs.Outcomes.{FindsTask};
 
-use crate::{Found, Outcome};
+use crate::found::Found;
+use crate::outcome::Outcome;
 use class_slices::Format;
 use ice_ports::Source;
 use ice_relay::{canonical_of, read_input};

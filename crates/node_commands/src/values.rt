@@ -8,10 +8,13 @@ ghost use Rattle.node_commands.specs.Outcomes.{FindsType, FindsTask, Finds, Take
 
 use crate::dump::dump;
 use crate::encode::encode;
+use crate::found::Found;
 use crate::loading::load_schema;
+use crate::outcome::Outcome;
 use crate::relay::relay;
 use crate::same::same;
-use crate::{Found, Outcome, Task, type_of_word};
+use crate::type_words::type_of_word;
+use crate::words::Task;
 use ice_ports::{Shelf, Source};
 use ice_types::{Schema, TypeRef};
 use std::alloc::Global;

@@ -6,11 +6,12 @@ ghost use Rattle.proxy_text.specs.Grammar.{not_tcp, or, tcp_of, transports};
 ghost use Rattle.proxy_text.specs.Grammar.{endpoint_at, endpoint_by, endpoints_at, opaque_at};
 ghost use Rattle.proxy_text.specs.Telling.{Reads, Tells};
 
+use crate::fault::TextFault;
 use crate::taking::{
     place_of, take_bytes, take_colon, take_exactly, take_short, take_transport, take_version,
 };
 use crate::tcp::{TcpOptions, take_tcp_options};
-use crate::{TextFault, Words};
+use crate::words::Words;
 use ice_types::{Endpoint, List, Name};
 use std::alloc::{AllocError, Global};
 

@@ -4,8 +4,9 @@ ghost use Rattle.std.specs.Prelude.{◌≡◌};
 ghost use Rattle.proxy_text.specs.Options.{flags, is_given, listed, no_options, option_of, options_at, with_flag};
 ghost use Rattle.proxy_text.specs.Telling.{Reads};
 
+use crate::fault::TextFault;
 use crate::taking::{take_text, take_version, word_ahead};
-use crate::{TextFault, Words};
+use crate::words::Words;
 use ice_types::Name;
 use std::alloc::Global;
 

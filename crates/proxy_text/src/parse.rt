@@ -5,9 +5,10 @@ ghost use Rattle.proxy_text.specs.Grammar.{location_at, proxy_of, proxy_text};
 ghost use Rattle.proxy_text.specs.Telling.{Tells};
 
 use crate::endpoints::{or_empty, take_endpoints};
+use crate::fault::TextFault;
 use crate::options::{Options, take_options};
 use crate::taking::{at_ahead, take_end, take_identity, take_text};
-use crate::{TextFault, Words};
+use crate::words::Words;
 use ice_types::{Endpoint, Identity, List, Name, Proxy};
 use std::alloc::{AllocError, Global};
 

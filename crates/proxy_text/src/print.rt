@@ -4,7 +4,7 @@ ghost use Rattle.std.specs.Prelude.{◌≡◌, ◌++◌, ℕ, List, IfOk, OnOk, 
 ghost use Rattle.proxy_text.specs.Numbers as numbers;
 ghost use Rattle.proxy_text.specs.Printed as spec;
 
-use crate::{print_identity, print_word};
+use crate::printing::{print_identity, print_word};
 use ice_types::{Endpoint, Name, Proxy};
 use itoa::Buffer;
 use std::alloc::{AllocError, Global};

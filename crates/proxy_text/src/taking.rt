@@ -9,8 +9,10 @@ ghost use Rattle.proxy_text.specs.Grammar as grammar;
 ghost use Rattle.proxy_text.specs.Telling.{FindsColon, Reads, ReadsWord, Tells, ahead_of};
 
 use crate::endpoints::{Transport, transport_of};
+use crate::fault::TextFault;
 use crate::numbers::{hexadecimal, int, short, timeout, version};
-use crate::{TextFault, Token, Words, identity_of, text_of};
+use crate::reading::{identity_of, text_of};
+use crate::words::{Token, Words};
 use ice_types::{Bytes, Identity, Name};
 use std::alloc::Global;
 

@@ -5,8 +5,9 @@ ghost use Rattle.proxy_text.specs.Options.{is_tcp_given, no_tcp_options, tcp_fla
 ghost use Rattle.proxy_text.specs.Options.{listed, option_of, options_at};
 ghost use Rattle.proxy_text.specs.Telling.{Reads};
 
+use crate::fault::TextFault;
 use crate::taking::{take_int, take_text, take_timeout, word_ahead};
-use crate::{TextFault, Words};
+use crate::words::Words;
 use ice_types::Name;
 use std::alloc::Global;
 
