@@ -1,5 +1,5 @@
 pub mod Encoded
-pub mod FirstKept
+pub mod FirstUnknown
 pub mod Sound
 pub mod Writable
 pub mod Read

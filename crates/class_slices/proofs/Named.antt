@@ -5,11 +5,11 @@ use Rattle.ice_types.specs.Tables.{Tables}
 use Rattle.ice_encoding.specs.Tree.{InEach, reference, tree}
 use Rattle.ice_encoding.specs.Order.{KeysRise}
 use Rattle.ice_graphs.specs.OptionalMembers.{Members, with_optional}
-use Rattle.ice_graphs.specs.Exceptions.{of_exceptions, Raised}
+use Rattle.ice_graphs.specs.Exceptions.{of_exceptions, UserException}
 use Rattle.ice_graphs.specs.Graph.{Slice, Graph}
 use Rattle.ice_graphs.specs.Names.{names_of, instance_names, renamed_slice}
-use Rattle.ice_graphs.specs.RaisedTyped.{OfRaised}
-use Rattle.ice_graphs.specs.RaisedWritten.{references_to, graph_of, numbered_raised, form_of}
+use Rattle.ice_graphs.specs.UserExceptionTyped.{OfUserException}
+use Rattle.ice_graphs.specs.UserExceptionWritten.{references_to, graph_of, numbered_user_exception, form_of}
 use Rattle.ice_graphs.specs.References.{entry_in}
 use Rattle.ice_graphs.specs.Same.{form}
 use Rattle.ice_graphs.specs.Typed.{RefersIn}
@@ -23,14 +23,14 @@ use Rattle.graph_arena.specs.declared.value.Value.{Value}
 use Rattle.graph_arena.proofs.Agreeing.{slices-agree}
 use Rattle.graph_arena.proofs.Closed.{order-is}
 use Rattle.graph_arena.proofs.Formed.{numbered-sound}
-use Rattle.instance_writing.specs.Writable.{RaisedCanBeWritten}
-use Rattle.graph_laws.proofs.RaisedForms.{root_names, graph_numbered}
+use Rattle.instance_writing.specs.Writable.{UserExceptionCanBeWritten}
+use Rattle.graph_laws.proofs.UserExceptionForms.{root_names, graph_numbered}
 use Rattle.class_slices.proofs.Sound.{below}
 use Rattle.class_slices.proofs.Writable.{instance-writable, each-writable, moves-to-places}
-use Rattle.class_slices.specs.ExceptionEncoding.{AreRaised}
+use Rattle.class_slices.specs.ExceptionEncoding.{AreUserException}
 
 -- the names in its slices are those of its instances
-pub own-below : (t : Tables) (x : Raised) → AreRaised t x → AreBelow (length x.instances) (instance_names x.slices)
+pub own-below : (t : Tables) (x : UserException) → AreUserException t x → AreBelow (length x.instances) (instance_names x.slices)
 own-below t x are = below (length x.instances) (instance_names x.slices) (instance_below (of_exceptions t) (length x.instances) (RefersIn t x.instances) (in_instances t x.instances) x.slices are)
 
 -- ---- the roots
@@ -39,18 +39,18 @@ references-rise : (ns : List ℕ) → InEach KeysRise (references_to ns)
 references-rise [] = tt
 references-rise (n ∷ ns) = (tt, references-rise ns)
 
-roots-fit : (count : ℕ) (x : Raised) (roots : Members) → roots ≡ (graph_of x).roots → AreBelow count (instance_names x.slices) → ContentFits count roots
+roots-fit : (count : ℕ) (x : UserException) (roots : Members) → roots ≡ (graph_of x).roots → AreBelow count (instance_names x.slices) → ContentFits count roots
 roots-fit count x roots is names =
     subst (ContentFits count) (sym is) (record { names = subst (AreBelow count) (sym (root_names x)) names; order = (references-rise (instance_names x.slices), tt) })
 
-pub roots-put : (count : ℕ) (x : Raised) (values : List Value) (options : List (ℕ × Value)) (names : List ℕ) → view_all values ≡ references_to names → names ≡ instance_names x.slices → options ≡ [] → AreBelow count (instance_names x.slices)
+pub roots-put : (count : ℕ) (x : UserException) (values : List Value) (options : List (ℕ × Value)) (names : List ℕ) → view_all values ≡ references_to names → names ≡ instance_names x.slices → options ≡ [] → AreBelow count (instance_names x.slices)
     → ContentFits count (with_optional (view_all values) (view_present options))
 roots-put count x values options names put are none names_below =
     roots-fit count x (with_optional (view_all values) (view_present options)) (λ i. with_optional ((put ∙ ap references_to are) i) (view_present (none i))) names_below
 
 -- ---- its form
 
-module _ (x : Raised) (sound : IsSound (graph_of x)) where
+module _ (x : UserException) (sound : IsSound (graph_of x)) where
   abbrev g : Graph
   g = graph_of x
 
@@ -68,10 +68,10 @@ module _ (x : Raised) (sound : IsSound (graph_of x)) where
       λ i. record { slices = same i; instances = (is i).instances }
 
   -- it can be written
-  pub form-writable : (t : Tables) → OfRaised t x → RaisedCanBeWritten t (form_of x)
+  pub form-writable : (t : Tables) → OfUserException t x → UserExceptionCanBeWritten t (form_of x)
   unfolding form_of
   form-writable t typed =
-      let k : Raised = numbered_raised ns x in
+      let k : UserException = numbered_user_exception ns x in
       let moves = moves-to-places t g sound in
       let in_order = numbered-sound g ns sound (order-is g sound) in
       record {
@@ -81,7 +81,7 @@ module _ (x : Raised) (sound : IsSound (graph_of x)) where
       }
 
 -- from what each step of the renumbering answers
-pub numbered-is : (x : Raised) (arena : Graph) → arena ≡ graph_of x → IsSound arena → (count : ℕ) → count ≡ length arena.instances → (places index table : List ℕ) → places ≡ order arena → IsIndex count places index → table ≡ index
+pub numbered-is : (x : UserException) (arena : Graph) → arena ≡ graph_of x → IsSound arena → (count : ℕ) → count ≡ length arena.instances → (places index table : List ℕ) → places ≡ order arena → IsIndex count places index → table ≡ index
     → (slices : List Slice) → slices ≡ map (renamed_slice (entry_in table)) x.slices → (k : Graph) → k ≡ form arena → record { slices = slices; instances = k.instances } ≡ form_of x
 numbered-is x arena rooted sound count size places index table listed indexed tabled slices slices_are k is =
     let count_is : count ≡ length x.instances = size ∙ ap (λ (h : Graph). length h.instances) rooted in

@@ -11,7 +11,7 @@ use Rattle.ice_encoding.specs.Order.{KeysRise}
 use Rattle.ice_graphs.specs.Optionals.{Present}
 use Rattle.ice_graphs.specs.OptionalMembers.{Members}
 use Rattle.ice_graphs.specs.Classes.{base_of, own_members}
-use Rattle.ice_graphs.specs.Graph.{Slice, known, kept, Graph}
+use Rattle.ice_graphs.specs.Graph.{Slice, known, unknown, Graph}
 use Rattle.ice_graphs.specs.Flags.{Reach}
 use Rattle.ice_graphs.specs.Instances.{slices_of, most_instances, graph_at}
 use Rattle.ice_graphs.specs.Visiting.{most}
@@ -44,13 +44,13 @@ module _ (t : Tables) (is : List (List Slice)) where
   bases-order : (base : Option ℕ) (ss : List Slice) → AreBases t (RefersIn t is) base ss → HaveOrder ss
   bases-order None ss h = subst HaveOrder (sym h) tt
   bases-order (Some class) [] h = absurd h
-  bases-order (Some class) (kept id bytes optionals table ∷ ss) h = absurd h
+  bases-order (Some class) (unknown id bytes optionals table ∷ ss) h = absurd h
   bases-order (Some class) (known other content ∷ ss) h = (known-order class content h.1, bases-order (base_of t class) ss h.2)
 
   instance-order : (ss : List Slice) → IsInstance t (RefersIn t is) ss → HaveOrder ss
   instance-order [] h = absurd h
-  instance-order (kept id bytes optionals table ∷ []) h = (tt, tt)
-  instance-order (kept id bytes optionals table ∷ s ∷ ss) h = (tt, instance-order (s ∷ ss) h.1)
+  instance-order (unknown id bytes optionals table ∷ []) h = (tt, tt)
+  instance-order (unknown id bytes optionals table ∷ s ∷ ss) h = (tt, instance-order (s ∷ ss) h.1)
   instance-order (known class content ∷ ss) h = (known-order class content h.0, bases-order (base_of t class) ss h.1)
 
 each-fits : (count : ℕ) (is : List (List Slice)) → ((n : ℕ) → n < length is → InstanceFits count (slices_of is n)) → EachFits count is

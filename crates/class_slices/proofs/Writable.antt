@@ -13,7 +13,7 @@ use Rattle.ice_encoding.specs.Typed.{AllOf, EachOf, PairsOf, Refers, no_referenc
 use Rattle.ice_graphs.specs.Optionals.{Present}
 use Rattle.ice_graphs.specs.OptionalMembers.{Members, required_kinds}
 use Rattle.ice_graphs.specs.Classes.{base_of, own_members}
-use Rattle.ice_graphs.specs.Graph.{Slice, known, kept, Graph}
+use Rattle.ice_graphs.specs.Graph.{Slice, known, unknown, Graph}
 use Rattle.ice_graphs.specs.Names.{names, names_each, names_pairs, renamed_members, renamed_slice}
 use Rattle.ice_graphs.specs.Instances.{slices_of}
 use Rattle.ice_graphs.specs.Visiting.{place, order}
@@ -130,7 +130,7 @@ module _ (t : Tables) where
     bases-writable : (base : Option ℕ) (ss : List Slice) → AreBases t Refer base ss → SlicesCanBeWritten t (map (renamed_slice f) ss)
     bases-writable None ss h = subst (λ (l : List Slice). SlicesCanBeWritten t (map (renamed_slice f) l)) (sym h) tt
     bases-writable (Some class) [] h = absurd h
-    bases-writable (Some class) (kept id bytes optionals table ∷ ss) h = absurd h
+    bases-writable (Some class) (unknown id bytes optionals table ∷ ss) h = absurd h
     bases-writable (Some class) (known other content ∷ ss) h = (
       subst (λ (c : ℕ). SliceCanBeWritten t (known c (renamed_members f content))) (sym h.0) (known-writable class content h.1),
       bases-writable (base_of t class) ss h.2,
@@ -138,8 +138,8 @@ module _ (t : Tables) where
 
     pub instance-writable : (ss : List Slice) → IsInstance t Refer ss → SlicesCanBeWritten t (map (renamed_slice f) ss)
     instance-writable [] h = absurd h
-    instance-writable (kept id bytes optionals table ∷ []) h = (tt, tt)
-    instance-writable (kept id bytes optionals table ∷ s ∷ ss) h = (tt, instance-writable (s ∷ ss) h.1)
+    instance-writable (unknown id bytes optionals table ∷ []) h = (tt, tt)
+    instance-writable (unknown id bytes optionals table ∷ s ∷ ss) h = (tt, instance-writable (s ∷ ss) h.1)
     instance-writable (known class content ∷ ss) h = (known-writable class content h.0, bases-writable (base_of t class) ss h.1)
 
 -- ---- a graph

@@ -3,7 +3,7 @@ use Rattle.std.specs.Prelude.{ℕ, ◌≡◌, ◌<◌, ◌≤◌, List, [], ◌�
 use Rattle.std.specs.declared.alloc.Global.{Global}
 use Rattle.ice_types.specs.declared.declarations.Shape.{Shape}
 use Rattle.ice_types.specs.Tables.{Tables}
-use Rattle.ice_graphs.specs.Graph.{Slice, known, kept, Graph}
+use Rattle.ice_graphs.specs.Graph.{Slice, known, unknown, Graph}
 use Rattle.ice_graphs.specs.Instances.{slices_of}
 use Rattle.ice_graphs.specs.Typed.{OfType}
 use Rattle.ice_graphs.specs.Visiting.{place, order}
@@ -16,23 +16,23 @@ use Rattle.class_slices.specs.declared.encode_fault.EncodeFault.TheVariants as e
 
 -- ---- kept slices, which stand before the known ones of an instance
 
-abbrev pub BeginsKept : List Slice → Type 0
-BeginsKept [] = ⊥
-BeginsKept (known class content ∷ ss) = ⊥
-BeginsKept (kept id bytes optionals table ∷ ss) = Unit {0}
+abbrev pub BeginsUnknown : List Slice → Type 0
+BeginsUnknown [] = ⊥
+BeginsUnknown (known class content ∷ ss) = ⊥
+BeginsUnknown (unknown id bytes optionals table ∷ ss) = Unit {0}
 
 -- the instance at this place is reached, and has one
-abbrev pub ReachesKept : Graph → ℕ → Type 0
-ReachesKept g n = (place (order g) n < length (order g)) × BeginsKept (slices_of g.instances n)
+abbrev pub ReachesUnknown : Graph → ℕ → Type 0
+ReachesUnknown g n = (place (order g) n < length (order g)) × BeginsUnknown (slices_of g.instances n)
 
 -- compact format cannot carry one
 abbrev pub NeedsSliced : Format → Graph → Type 0
 NeedsSliced sliced g = ⊥
-NeedsSliced compact g = (n : ℕ) × ReachesKept g n
+NeedsSliced compact g = (n : ℕ) × ReachesUnknown g n
 
 -- the first that is reached and has one, in the order of first visits
-abbrev pub IsFirstKept : Graph → ℕ → Type 0
-IsFirstKept g n = ReachesKept g n × ((m : ℕ) → place (order g) m < place (order g) n → BeginsKept (slices_of g.instances m) → ⊥)
+abbrev pub IsFirstUnknown : Graph → ℕ → Type 0
+IsFirstUnknown g n = ReachesUnknown g n × ((m : ℕ) → place (order g) m < place (order g) n → BeginsUnknown (slices_of g.instances m) → ⊥)
 
 -- ---- what comes of writing
 
@@ -40,7 +40,7 @@ IsFirstKept g n = ReachesKept g n × ((m : ℕ) → place (order g) m < place (o
 -- else the first instance that has a kept slice, or the length
 abbrev pub Writes : Tables → Shape → Format → Graph → ℕ → Result (Vec ℕ Global) WriteFault → Type 0
 Writes t shape f g limit (Ok out) = IsWritable f g × (out.items ≡ graph_bytes t shape f g) × (length out.items ≤ limit)
-Writes t shape f g limit (Err (write_faults.UnknownNeedsSliced n)) = NeedsSliced f g × IsFirstKept g n
+Writes t shape f g limit (Err (write_faults.UnknownNeedsSliced n)) = NeedsSliced f g × IsFirstUnknown g n
 Writes t shape f g limit (Err (write_faults.TooLong n)) = IsWritable f g × (n ≡ length (graph_bytes t shape f g)) × (limit < n)
 Writes t shape f g limit (Err write_faults.Memory) = Unit {0}
 

@@ -3,40 +3,40 @@ use Rattle.std.specs.Prelude.{ℕ, ◌≡◌, ◌<◌, ◌≤◌, length, Option
 use Rattle.std.specs.declared.alloc.Global.{Global}
 use Rattle.ice_types.specs.Tables.{Tables}
 use Rattle.ice_graphs.specs.Canonical.{Format, sliced, compact}
-use Rattle.ice_graphs.specs.Exceptions.{of_exceptions, Raised}
-use Rattle.ice_graphs.specs.RaisedTyped.{OfRaised}
-use Rattle.ice_graphs.specs.RaisedWritten.{graph_of, exception_bytes, CanBeWritten}
+use Rattle.ice_graphs.specs.Exceptions.{of_exceptions, UserException}
+use Rattle.ice_graphs.specs.UserExceptionTyped.{OfUserException}
+use Rattle.ice_graphs.specs.UserExceptionWritten.{graph_of, exception_bytes, CanBeWritten}
 use Rattle.ice_graphs.specs.Typed.{IsInstance, RefersIn}
 use Rattle.value_checks.specs.First.{IsFirstInstance}
 use Rattle.class_slices.specs.Encoding as graphs
-use Rattle.class_slices.specs.declared.raised_fault.RaisedFault.{RaisedFault}
-use Rattle.class_slices.specs.declared.raised_fault.RaisedFault.TheVariants as faults
+use Rattle.class_slices.specs.declared.user_exception_fault.UserExceptionFault.{UserExceptionFault}
+use Rattle.class_slices.specs.declared.user_exception_fault.UserExceptionFault.TheVariants as faults
 
 -- its own slices are of their types
-abbrev pub AreRaised : Tables → Raised → Type 0
-AreRaised t x = IsInstance (of_exceptions t) (RefersIn t x.instances) x.slices
+abbrev pub AreUserException : Tables → UserException → Type 0
+AreUserException t x = IsInstance (of_exceptions t) (RefersIn t x.instances) x.slices
 
 -- The first part that is not of its type: its own slices, which are None, or the first of its instances, in the order of
 -- their first visits from the names in its slices, and then by place.
-abbrev pub IsFirstIll : Tables → Raised → Option ℕ → Type 0
-IsFirstIll t x None = AreRaised t x → ⊥
-IsFirstIll t x (Some n) = AreRaised t x × IsFirstInstance t (graph_of x) (Some n)
+abbrev pub IsFirstIll : Tables → UserException → Option ℕ → Type 0
+IsFirstIll t x None = AreUserException t x → ⊥
+IsFirstIll t x (Some n) = AreUserException t x × IsFirstInstance t (graph_of x) (Some n)
 
 -- The first part with a kept slice: its own slices, which are None, or the first of the instances that they lead to.
-abbrev pub IsFirstKept : Raised → Option ℕ → Type 0
-IsFirstKept x None = graphs.BeginsKept x.slices
-IsFirstKept x (Some n) = (graphs.BeginsKept x.slices → ⊥) × graphs.IsFirstKept (graph_of x) n
+abbrev pub IsFirstUnknown : UserException → Option ℕ → Type 0
+IsFirstUnknown x None = graphs.BeginsUnknown x.slices
+IsFirstUnknown x (Some n) = (graphs.BeginsUnknown x.slices → ⊥) × graphs.IsFirstUnknown (graph_of x) n
 
 -- compact format cannot carry it
-abbrev pub NeedsSliced : Format → Raised → Option ℕ → Type 0
+abbrev pub NeedsSliced : Format → UserException → Option ℕ → Type 0
 NeedsSliced sliced x at = ⊥
-NeedsSliced compact x at = IsFirstKept x at
+NeedsSliced compact x at = IsFirstUnknown x at
 
 -- The encapsulation in the format, where the exception is of its type, can be written in the format, and it is not longer
 -- than the limit; else the first part that is not of its type, the first that has a kept slice, or the length.
-abbrev pub Encodes : Tables → Format → Raised → ℕ → Result (Vec ℕ Global) RaisedFault → Type 0
-Encodes t f x limit (Ok out) = OfRaised t x × CanBeWritten f x × (out.items ≡ exception_bytes t f x) × (length out.items ≤ limit)
+abbrev pub Encodes : Tables → Format → UserException → ℕ → Result (Vec ℕ Global) UserExceptionFault → Type 0
+Encodes t f x limit (Ok out) = OfUserException t x × CanBeWritten f x × (out.items ≡ exception_bytes t f x) × (length out.items ≤ limit)
 Encodes t f x limit (Err (faults.IllTyped at)) = IsFirstIll t x at
-Encodes t f x limit (Err (faults.UnknownNeedsSliced at)) = OfRaised t x × NeedsSliced f x at
-Encodes t f x limit (Err (faults.TooLong n)) = OfRaised t x × CanBeWritten f x × (n ≡ length (exception_bytes t f x)) × (limit < n)
+Encodes t f x limit (Err (faults.UnknownNeedsSliced at)) = OfUserException t x × NeedsSliced f x at
+Encodes t f x limit (Err (faults.TooLong n)) = OfUserException t x × CanBeWritten f x × (n ≡ length (exception_bytes t f x)) × (limit < n)
 Encodes t f x limit (Err faults.Memory) = Unit {0}

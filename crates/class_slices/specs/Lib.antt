@@ -1,6 +1,6 @@
 pub mod Enclosing
 pub mod Encoding
-pub mod Kept
+pub mod Unknown
 pub mod ExceptionEncoding
-pub mod ExceptionKept
+pub mod ExceptionUnknown
 pub mod Seen

@@ -1,19 +1,19 @@
 //! The encapsulation of an exception, or why there is none.
 
-ghost use Rattle.ice_graphs.specs.RaisedTyped.{OfRaised};
+ghost use Rattle.ice_graphs.specs.UserExceptionTyped.{OfUserException};
 ghost use Rattle.instance_writing.specs.Formats.{view_format};
 ghost use Rattle.class_slices.specs.ExceptionEncoding.{Encodes};
-ghost use Rattle.class_slices.specs.Seen.{IsRooted, view_raised};
+ghost use Rattle.class_slices.specs.Seen.{IsRooted, view_user_exception};
 
 use crate::enclosing::{begin_encaps, end_encaps};
-use crate::exception_kept::allow;
+use crate::exception_unknown::allow;
 use crate::naming::{numbered, rooted};
-use crate::raised::Raised;
-use crate::raised_fault::RaisedFault;
+use crate::user_exception::UserException;
+use crate::user_exception_fault::UserExceptionFault;
 use ice_types::Schema;
-use instance_writing::{Format, write_raised};
+use instance_writing::{Format, write_user_exception};
 use std::alloc::Global;
-use value_checks::{first_ill_instance, is_raised};
+use value_checks::{first_ill_instance, is_user_exception};
 
 /// The canonical encapsulation of the exception in the format, where the exception is of its type, the format
 /// can carry it, and the encapsulation is not longer than the limit; else the first part that is not of its
@@ -23,40 +23,40 @@ use value_checks::{first_ill_instance, is_raised};
 pub fn write_exception(
     alloc: Global,
     schema: &Schema,
-    raised: Raised,
+    user_exception: UserException,
     format: Format,
     limit: u32,
-) -> Result<Vec<u8>, RaisedFault>
-    ensures { Encodes schema.now (view_format format) (view_raised raised) limit result }
+) -> Result<Vec<u8>, UserExceptionFault>
+    ensures { Encodes schema.now (view_format format) (view_user_exception user_exception) limit result }
 {
-    if !is_raised(schema, &raised.graph, raised.slices.as_slice()) {
-        return Err(RaisedFault::IllTyped(None));
+    if !is_user_exception(schema, &user_exception.graph, user_exception.slices.as_slice()) {
+        return Err(UserExceptionFault::IllTyped(None));
     }
-    let raised = rooted(alloc, raised)?;
-    if let Some(place) = first_ill_instance(alloc, schema, &raised.graph)? {
-        return Err(RaisedFault::IllTyped(Some(place)));
+    let user_exception = rooted(alloc, user_exception)?;
+    if let Some(place) = first_ill_instance(alloc, schema, &user_exception.graph)? {
+        return Err(UserExceptionFault::IllTyped(Some(place)));
     }
-    write_typed(alloc, schema, raised, format, limit)
+    write_typed(alloc, schema, user_exception, format, limit)
 }
 
 /// The same of an exception of its type, whose slices stand for the roots of its graph.
 fn write_typed(
     alloc: Global,
     schema: &Schema,
-    raised: Raised,
+    user_exception: UserException,
     format: Format,
     limit: u32,
-) -> Result<Vec<u8>, RaisedFault>
-    requires typed { OfRaised schema.now (view_raised raised) }
-    requires rooted { IsRooted raised }
-    ensures { Encodes schema.now (view_format format) (view_raised raised) limit result }
+) -> Result<Vec<u8>, UserExceptionFault>
+    requires typed { OfUserException schema.now (view_user_exception user_exception) }
+    requires rooted { IsRooted user_exception }
+    ensures { Encodes schema.now (view_format format) (view_user_exception user_exception) limit result }
 {
     // Its contract says what every graph keeps.
-    raised.graph.len();
-    allow(raised.slices.as_slice(), &raised.graph, format)?;
-    let numbered = numbered(alloc, raised)?;
+    user_exception.graph.len();
+    allow(user_exception.slices.as_slice(), &user_exception.graph, format)?;
+    let numbered = numbered(alloc, user_exception)?;
     let mut out = begin_encaps(alloc)?;
-    write_raised(
+    write_user_exception(
         alloc,
         schema,
         format,
@@ -66,6 +66,6 @@ fn write_typed(
     )?;
     match end_encaps(out, limit) {
         Ok(out) => Ok(out),
-        Err(length) => Err(RaisedFault::TooLong(length)),
+        Err(length) => Err(UserExceptionFault::TooLong(length)),
     }
 }

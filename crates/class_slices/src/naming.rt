@@ -3,34 +3,34 @@
 ghost use Rattle.std.specs.Prelude.{◌≡◌, IfOk, Some, length};
 ghost use Rattle.ice_encoding.specs.Tree.{reference};
 ghost use Rattle.ice_graphs.specs.Names.{instance_names};
-ghost use Rattle.ice_graphs.specs.RaisedWritten.{form_of, references_to};
+ghost use Rattle.ice_graphs.specs.UserExceptionWritten.{form_of, references_to};
 ghost use Rattle.graph_arena.specs.Arena.{AreBelow};
 ghost use Rattle.graph_arena.specs.Seen.{view_slices};
 ghost use Rattle.graph_arena.specs.View.{view, view_all};
-ghost use Rattle.class_slices.specs.Seen.{IsRooted, view_raised};
+ghost use Rattle.class_slices.specs.Seen.{IsRooted, view_user_exception};
 
-use crate::raised::Raised;
+use crate::user_exception::UserException;
 use graph_arena::{Members, Value, index_of, push_slices, resolve_slices};
 use ice_types::List;
 use std::alloc::{AllocError, Global};
 
 /// Puts in the place of the graph's roots a reference to each instance that the slices name, slice by slice in
 /// order of occurrence.
-pub(crate) fn rooted(alloc: Global, raised: Raised) -> Result<Raised, AllocError>
-    requires { AreBelow (length raised.graph.instances) (instance_names (view_slices raised.slices)) }
-    ensures same { IfOk result (λ rooted. view_raised rooted ≡ view_raised raised) }
+pub(crate) fn rooted(alloc: Global, user_exception: UserException) -> Result<UserException, AllocError>
+    requires { AreBelow (length user_exception.graph.instances) (instance_names (view_slices user_exception.slices)) }
+    ensures same { IfOk result (λ rooted. view_user_exception rooted ≡ view_user_exception user_exception) }
     ensures rooted { IfOk result IsRooted }
 {
     let mut names = List::new(alloc);
-    push_slices(&mut names, raised.slices.as_slice())?;
+    push_slices(&mut names, user_exception.slices.as_slice())?;
     let roots = Members {
         required: references(alloc, names.as_slice())?,
         optional: List::new(alloc),
     };
-    let mut graph = raised.graph;
+    let mut graph = user_exception.graph;
     graph.set_roots(roots);
-    Ok(Raised {
-        slices: raised.slices,
+    Ok(UserException {
+        slices: user_exception.slices,
         graph,
     })
 }
@@ -55,15 +55,15 @@ fn reference(name: u32) -> Value
 /// The exception with the instances that its slices lead to, in the order of their first visits, each named by
 /// its place in that order; the others are left out. What they hold is moved, and not copied.
 /// (Ice manual, "Data Encoding for Class and Exception Types".)
-pub(crate) fn numbered(alloc: Global, raised: Raised) -> Result<Raised, AllocError>
-    requires { IsRooted raised }
-    ensures { IfOk result (λ numbered. view_raised numbered ≡ form_of (view_raised raised)) }
+pub(crate) fn numbered(alloc: Global, user_exception: UserException) -> Result<UserException, AllocError>
+    requires { IsRooted user_exception }
+    ensures { IfOk result (λ numbered. view_user_exception numbered ≡ form_of (view_user_exception user_exception)) }
 {
-    let count = raised.graph.len();
-    let order = raised.graph.first_visit()?;
+    let count = user_exception.graph.len();
+    let order = user_exception.graph.first_visit()?;
     let index = index_of(alloc, count, order.as_slice())?;
-    let mut slices = raised.slices;
+    let mut slices = user_exception.slices;
     resolve_slices(slices.as_mut_slice(), index.as_slice());
-    let graph = raised.graph.renumbered()?;
-    Ok(Raised { slices, graph })
+    let graph = user_exception.graph.renumbered()?;
+    Ok(UserException { slices, graph })
 }

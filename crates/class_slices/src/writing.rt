@@ -6,7 +6,7 @@ ghost use Rattle.instance_writing.specs.Formats.{view_format};
 ghost use Rattle.class_slices.specs.Encoding.{Writes};
 
 use crate::enclosing::{begin_encaps, end_encaps};
-use crate::kept::allow;
+use crate::unknown::allow;
 use crate::write_fault::WriteFault;
 use graph_arena::Graph;
 use ice_types::Schema;

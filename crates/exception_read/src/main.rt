@@ -9,7 +9,7 @@
 #[cfg(test)]
 mod tests;
 
-use class_slices::{Format, RaisedFault, read_exception, write_exception};
+use class_slices::{Format, UserExceptionFault, read_exception, write_exception};
 use ice_encoding::LARGEST;
 use ice_ports::{FolderShelf, Shelf, Source, StdSink, StdSource};
 use ice_prims::ReadFault;
@@ -45,8 +45,8 @@ fn written<H: Shelf, S: Source>(
     let (file, format) = asked(words).ok_or(Outcome::Usage)?;
     let schema = load(alloc, shelf, file)?;
     let input = read_input(alloc, source)?;
-    let raised = read_exception(alloc, &schema, input.as_slice()).map_err(of_reading)?;
-    write_exception(alloc, &schema, raised, format, LARGEST as u32).map_err(of_writing)
+    let user_exception = read_exception(alloc, &schema, input.as_slice()).map_err(of_reading)?;
+    write_exception(alloc, &schema, user_exception, format, LARGEST as u32).map_err(of_writing)
 }
 
 fn of_reading(fault: ReadFault) -> Outcome<'static> {
@@ -57,12 +57,12 @@ fn of_reading(fault: ReadFault) -> Outcome<'static> {
 }
 
 /// What was read is of its type, so the status 1 of `IllTyped` comes of no input.
-fn of_writing(fault: RaisedFault) -> Outcome<'static> {
+fn of_writing(fault: UserExceptionFault) -> Outcome<'static> {
     match fault {
-        RaisedFault::IllTyped(_) => Outcome::Denied,
-        RaisedFault::UnknownNeedsSliced(_) => Outcome::NeedsSliced,
-        RaisedFault::TooLong(length) => Outcome::TooLong(length),
-        RaisedFault::Memory => Outcome::Memory,
+        UserExceptionFault::IllTyped(_) => Outcome::Different,
+        UserExceptionFault::UnknownNeedsSliced(_) => Outcome::NeedsSliced,
+        UserExceptionFault::TooLong(length) => Outcome::TooLong(length),
+        UserExceptionFault::Memory => Outcome::Memory,
     }
 }
 

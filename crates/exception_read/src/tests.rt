@@ -2,7 +2,7 @@
 
 ghost use Rattle.std.specs.Prelude.{IfOk};
 ghost use Rattle.graph_arena.specs.Seen.{view_slice};
-ghost use Rattle.preserved.specs.Kept.{IsKept};
+ghost use Rattle.preserved.specs.Unknown.{IsUnknown};
 
 use graph_arena::{Slice, Value};
 use ice_ports::MemShelf;
@@ -52,10 +52,10 @@ fn bytes(alloc: Global, items: &[u8]) -> Result<Bytes, AllocError> {
     Ok(List::from_vec(Vec::from_slice(alloc, items)?))
 }
 
-fn kept(alloc: Global, data: &[u8], optionals: bool, table: &[u32]) -> Result<Slice, AllocError>
-    ensures { IfOk result (λ slice. IsKept (view_slice slice)) }
+fn unknown(alloc: Global, data: &[u8], optionals: bool, table: &[u32]) -> Result<Slice, AllocError>
+    ensures { IfOk result (λ slice. IsUnknown (view_slice slice)) }
 {
-    Ok(Slice::Kept {
+    Ok(Slice::Unknown {
         id: Name::of(alloc, "::M::D")?,
         bytes: bytes(alloc, data)?,
         optionals,
@@ -79,14 +79,14 @@ fn is_of(slice: &Slice, class: u32, text: &str, other: Option<u32>) -> bool {
 }
 
 #[test]
-fn kept_slices_are_reopened(rt: HostRuntime) -> Result<(), Fail> {
+fn unknown_slices_are_reopened(rt: HostRuntime) -> Result<(), Fail> {
     let alloc = rt.alloc();
     let schema = schema(alloc)?;
     let Some(class) = schema.class("::M::D") else {
         return Err(Fail::from("no class"));
     };
     for (at, (data, optionals, table, wanted)) in ROWS.iter().enumerate() {
-        let slice = kept(alloc, data, *optionals, table)?;
+        let slice = unknown(alloc, data, *optionals, table)?;
         let came = match (reopen(alloc, &schema, class, &slice), wanted) {
             (Ok(found), Ok((text, other))) => is_of(&found, class, text, *other),
             (Err(ReadFault::Broken(fault)), Err(wanted)) => fault == *wanted,

@@ -3,7 +3,7 @@ use Rattle.std.proofs.Common.{◌≡◌, ℕ, ◌<◌, List, [], ◌∷◌, ◌+
 use Rattle.ice_encoding.specs.Tree.{Tree, boolean, byte, short, int, long, text, sequence, dictionary, struct, enumerator, proxy, reference, Trees, none, tree, Entries, no_entry, entry}
 use Rattle.ice_graphs.specs.Optionals.{Present}
 use Rattle.ice_graphs.specs.OptionalMembers.{Members, with_optional}
-use Rattle.ice_graphs.specs.Graph.{Slice, known, kept}
+use Rattle.ice_graphs.specs.Graph.{Slice, known, unknown}
 use Rattle.ice_graphs.specs.Names.{listed_name, names, names_each, names_pairs, names_present, names_of, slice_names, instance_names, renamed_name, renamed, renamed_each, renamed_pairs, renamed_present, renamed_members, renamed_slice}
 use Rattle.graph_arena.specs.Arena.{AreBelow}
 
@@ -58,7 +58,7 @@ module _ (limit : ℕ) (f g : ℕ → ℕ) (agree : (n : ℕ) → n < limit → 
 
   slice-agrees : (s : Slice) → AreBelow limit (slice_names s) → renamed_slice f s ≡ renamed_slice g s
   slice-agrees (known class content) below = ap (known class) (members-agree content below)
-  slice-agrees (kept id bytes optionals table) below = ap (kept id bytes optionals) (table-agrees table below)
+  slice-agrees (unknown id bytes optionals table) below = ap (unknown id bytes optionals) (table-agrees table below)
 
   pub slices-agree : (ss : List Slice) → AreBelow limit (instance_names ss) → map (renamed_slice f) ss ≡ map (renamed_slice g) ss
   slices-agree [] below = refl

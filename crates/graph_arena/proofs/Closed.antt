@@ -100,9 +100,9 @@ few limit ns once below = length-le_from_distinct_below ns limit (distinct ns on
 abbrev Keeps : List ℕ → List ℕ → Type 0
 Keeps a b = (m : ℕ) → place a m < length a → place b m < length b
 
-AreListed-kept : (a b xs : List ℕ) → Keeps a b → AreListed a xs → AreListed b xs
-AreListed-kept a b [] keeps listed = tt
-AreListed-kept a b (x ∷ xs) keeps listed = (keeps x listed.0, AreListed-kept a b xs keeps listed.1)
+AreListed-unknown : (a b xs : List ℕ) → Keeps a b → AreListed a xs → AreListed b xs
+AreListed-unknown a b [] keeps listed = tt
+AreListed-unknown a b (x ∷ xs) keeps listed = (keeps x listed.0, AreListed-unknown a b xs keeps listed.1)
 
 -- the names listed so far
 record Fine (g : Graph) (seen : List ℕ) : Type 0 where
@@ -133,7 +133,7 @@ each-closes g depth visit step (x ∷ xs) seen below fine enough =
       longer = omega (arith, one.longer, others.longer);
       visited = (others.keeps x one.visited.0, others.visited);
       closed = λ m lt. elim (others.closed m lt) [
-        | inl in_mid ↦ elim (one.closed m in_mid) [ inl before ↦ inl before | inr listed ↦ inr (AreListed-kept mid out (instance_names (slices_of g.instances m)) others.keeps listed) ]
+        | inl in_mid ↦ elim (one.closed m in_mid) [ inl before ↦ inl before | inr listed ↦ inr (AreListed-unknown mid out (instance_names (slices_of g.instances m)) others.keeps listed) ]
         | inr listed ↦ inr listed
       ];
     }

@@ -5,7 +5,7 @@ use Rattle.ice_encoding.specs.Tree.{Tree, boolean, byte, short, int, long, text,
 use Rattle.ice_encoding.specs.Order.{IsRising, KeysRise, IsOrdered}
 use Rattle.ice_graphs.specs.Optionals.{Present}
 use Rattle.ice_graphs.specs.OptionalMembers.{Members}
-use Rattle.ice_graphs.specs.Graph.{Slice, known, kept}
+use Rattle.ice_graphs.specs.Graph.{Slice, known, unknown}
 use Rattle.ice_graphs.specs.Names.{listed_name, names, names_each, names_pairs, names_present, names_of, slice_names, instance_names, renamed_name, renamed, renamed_each, renamed_pairs, renamed_present, renamed_members, renamed_slice}
 use Rattle.graph_arena.specs.Arena.{AreOrdered, HasOrder, SliceHasOrder, HaveOrder}
 
@@ -50,7 +50,7 @@ module _ (f : ℕ → ℕ) where
 
   slice-renamed : (s : Slice) → slice_names (renamed_slice f s) ≡ map f (slice_names s)
   slice-renamed (known class content) = members-renamed content
-  slice-renamed (kept id bytes optionals table) = refl
+  slice-renamed (unknown id bytes optionals table) = refl
 
   pub instance-renamed : (ss : List Slice) → instance_names (map (renamed_slice f) ss) ≡ map f (instance_names ss)
   instance-renamed [] = refl
@@ -95,7 +95,7 @@ module _ (f : ℕ → ℕ) where
 
   slice-ordered : (s : Slice) → SliceHasOrder s → SliceHasOrder (renamed_slice f s)
   slice-ordered (known class content) h = order-renamed content h
-  slice-ordered (kept id bytes optionals table) h = tt
+  slice-ordered (unknown id bytes optionals table) h = tt
 
   pub orders-renamed : (ss : List Slice) → HaveOrder ss → HaveOrder (map (renamed_slice f) ss)
   orders-renamed [] h = tt

@@ -21,7 +21,7 @@ pub record AreLeft (now old : List (List Slice)) (ns : List ℕ) : Type 0 where
   pub once : HasEachOnce ns
   pub below : AreBelow (length old) ns
   pub size : length now ≡ length old
-  pub kept : AreOld now old ns
+  pub unknown : AreOld now old ns
 
 -- the table has the places of the names from one place on
 pub record HasPlacesFrom (at count : ℕ) (names index : List ℕ) : Type 0 where
@@ -40,10 +40,10 @@ old-all is (n ∷ ns) = (refl, old-all is ns)
 
 -- another instance in the place of one that is taken
 old-set : (now old : List (List Slice)) (n : ℕ) (slices : List Slice) (ns : List ℕ) → place ns n ≡ length ns → AreOld now old ns → AreOld (slice_set now n slices) old ns
-old-set now old n slices [] new kept = tt
-old-set now old n slices (m ∷ ns) new kept = elim (cases_eq m n) [
+old-set now old n slices [] new unknown = tt
+old-set now old n slices (m ∷ ns) new unknown = elim (cases_eq m n) [
   | inl same ↦ absurd (omega (arith, new, place-head m ns n same))
-  | inr apart ↦ (get_or-set_other now n m slices [] apart ∙ kept.0, old-set now old n slices ns (omega (arith, new, place-tail m ns n apart)) kept.1)
+  | inr apart ↦ (get_or-set_other now n m slices [] apart ∙ unknown.0, old-set now old n slices ns (omega (arith, new, place-tail m ns n apart)) unknown.1)
 ]
 
 module _ {A : Type 0} (view : A → List Slice) where
@@ -52,7 +52,7 @@ module _ {A : Type 0} (view : A → List Slice) where
     once = once;
     below = subst (λ (n : ℕ). AreBelow n ns) (sym (length-map {A = A} {B = List Slice} items view)) below;
     size = refl;
-    kept = old-all (map view items) ns;
+    unknown = old-all (map view items) ns;
   }
 
   pub taken-first : (at : ℕ → List Slice) (ns : List ℕ) (taken : List A) → taken ≡ [] → map view taken ++ map at ns ≡ map at ns
@@ -76,7 +76,7 @@ module _ {A : Type 0} (view : A → List Slice) where
           once = here.once.1;
           below = here.below.1;
           size = ap length set_is ∙ (length-set (map view items) n (view x) ∙ here.size);
-          kept = subst (λ (is : List (List Slice)). AreOld is old (drop (i + 1) names)) (sym set_is) (old-set (map view items) old n (view x) (drop (i + 1) names) here.once.0 here.kept.1);
+          unknown = subst (λ (is : List (List Slice)). AreOld is old (drop (i + 1) names)) (sym set_is) (old-set (map view items) old n (view x) (drop (i + 1) names) here.once.0 here.unknown.1);
         }
 
     pub taken-next : (f : List Slice → List Slice) (taken now : List A) (x : A) → now ≡ taken ++ x ∷ [] → view x ≡ f (slices_of (map view items) (slice_index_or names i 0))
@@ -85,7 +85,7 @@ module _ {A : Type 0} (view : A → List Slice) where
     taken-next f taken now x put is all =
         let at : ℕ → List Slice = λ n. f (slices_of old n) in
         let rest : List (List Slice) = map at (drop (i + 1) names) in
-        let seen : map view now ≡ map view taken ++ at (slice_index_or names i 0) ∷ [] = ap (map view) put ∙ (map-append view taken (x ∷ []) ∙ ap (λ (s : List Slice). map view taken ++ s ∷ []) (is ∙ ap f here.kept.0)) in
+        let seen : map view now ≡ map view taken ++ at (slice_index_or names i 0) ∷ [] = ap (map view) put ∙ (map-append view taken (x ∷ []) ∙ ap (λ (s : List Slice). map view taken ++ s ∷ []) (is ∙ ap f here.unknown.0)) in
         ap (λ (l : List (List Slice)). l ++ rest) seen
         ∙ (append_assoc (map view taken) (at (slice_index_or names i 0) ∷ []) rest
         ∙ (ap (λ (l : List ℕ). map view taken ++ map at l) (sym next) ∙ all))

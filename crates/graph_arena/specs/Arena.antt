@@ -4,7 +4,7 @@ use Rattle.ice_encoding.specs.Tree.{InEach, none}
 use Rattle.ice_encoding.specs.Order.{KeysRise, IsOrdered}
 use Rattle.ice_graphs.specs.Optionals.{Present}
 use Rattle.ice_graphs.specs.OptionalMembers.{Members}
-use Rattle.ice_graphs.specs.Graph.{Slice, known, kept, Graph}
+use Rattle.ice_graphs.specs.Graph.{Slice, known, unknown, Graph}
 use Rattle.ice_graphs.specs.Names.{names_of, instance_names}
 use Rattle.ice_graphs.specs.References.{replaced}
 use Rattle.ice_graphs.specs.Visiting.{most}
@@ -24,7 +24,7 @@ HasOrder c = InEach KeysRise c.required × AreOrdered c.optional
 
 abbrev pub SliceHasOrder : Slice → Type 0
 SliceHasOrder (known class content) = HasOrder content
-SliceHasOrder (kept id bytes optionals table) = Unit {0}
+SliceHasOrder (unknown id bytes optionals table) = Unit {0}
 
 abbrev pub HaveOrder : List Slice → Type 0
 HaveOrder [] = Unit {0}

@@ -3,12 +3,12 @@ use Rattle.std.specs.Prelude.{ℕ, List, map}
 use Rattle.ice_encoding.specs.Tree.{Tree}
 use Rattle.ice_graphs.specs.OptionalMembers as members
 use Rattle.ice_graphs.specs.Optionals.{Present}
-use Rattle.ice_graphs.specs.Graph.{known, kept}
+use Rattle.ice_graphs.specs.Graph.{known, unknown}
 use Rattle.ice_graphs.specs.Graph as graphs
 use Rattle.graph_arena.specs.declared.value.Value.{Value}
 use Rattle.graph_arena.specs.declared.instance.Members.{Members}
 use Rattle.graph_arena.specs.declared.instance.Slice.{Slice}
-use Rattle.graph_arena.specs.declared.instance.Slice.TheVariants.{Known, Kept}
+use Rattle.graph_arena.specs.declared.instance.Slice.TheVariants.{Known, Unknown}
 use Rattle.graph_arena.specs.declared.instance.Instance.{Instance}
 use Rattle.graph_arena.specs.View.{view, view_all}
 
@@ -23,7 +23,7 @@ view_content c = members.with_optional (view_all c.required) (view_present c.opt
 
 abbrev pub view_slice : Slice → graphs.Slice
 view_slice (Known class content) = known class (view_content content)
-view_slice (Kept id bytes optionals table) = kept id bytes optionals table
+view_slice (Unknown id bytes optionals table) = unknown id bytes optionals table
 
 abbrev pub view_slices : List Slice → List graphs.Slice
 view_slices slices = map view_slice slices

@@ -9,7 +9,7 @@ use Rattle.ice_types.specs.declared.proxy.Endpoint.{Endpoint}
 use Rattle.ice_types.specs.declared.proxy.Endpoint.TheVariants.{Tcp, Opaque}
 use Rattle.ice_encoding.specs.Tree.{Tree, boolean, byte, short, int, long, text, sequence, dictionary, struct, enumerator, proxy, reference, Trees, none, tree, Entries, no_entry, entry}
 use Rattle.ice_graphs.specs.OptionalMembers.{Members}
-use Rattle.ice_graphs.specs.Graph.{Slice, known, kept, Graph}
+use Rattle.ice_graphs.specs.Graph.{Slice, known, unknown, Graph}
 
 -- how the values of a type are stored, and got back
 record Stores (A : Type 0) : Type 0 where
@@ -231,26 +231,26 @@ members = by_way (pairs (record { to = trees_to; from = trees_from; back = trees
 abbrev known_slices : Stores (ℕ × Members)
 known_slices = pairs numbers members
 
-abbrev kept_slices : Stores (List ℕ × (List ℕ × (Bool × List ℕ)))
-kept_slices = pairs texts (pairs texts (pairs truths texts))
+abbrev unknown_slices : Stores (List ℕ × (List ℕ × (Bool × List ℕ)))
+unknown_slices = pairs texts (pairs texts (pairs truths texts))
 
 abbrev slice_to : Slice → Gv
 slice_to (known class content) = gcons (gnum 0) (known_slices.to (class, content))
-slice_to (kept id bytes optionals table) = gcons (gnum 1) (kept_slices.to (id, (bytes, (optionals, table))))
+slice_to (unknown id bytes optionals table) = gcons (gnum 1) (unknown_slices.to (id, (bytes, (optionals, table))))
 
 abbrev as_known : ℕ × Members → Slice
 as_known s = known s.0 s.1
 
-abbrev as_kept : List ℕ × (List ℕ × (Bool × List ℕ)) → Slice
-as_kept s = kept s.0 s.1.0 s.1.1.0 s.1.1.1
+abbrev as_unknown : List ℕ × (List ℕ × (Bool × List ℕ)) → Slice
+as_unknown s = unknown s.0 s.1.0 s.1.1.0 s.1.1.1
 
 abbrev slice_by : ℕ → Gv → Slice
 slice_by zero g = as_known (known_slices.from g)
-slice_by (suc k) g = as_kept (kept_slices.from g)
+slice_by (suc k) g = as_unknown (unknown_slices.from g)
 
 slice-back : (s : Slice) → slice_by (num (first (slice_to s))) (second (slice_to s)) ≡ s
 slice-back (known class content) = ap as_known (known_slices.back (class, content))
-slice-back (kept id bytes optionals table) = ap as_kept (kept_slices.back (id, (bytes, (optionals, table))))
+slice-back (unknown id bytes optionals table) = ap as_unknown (unknown_slices.back (id, (bytes, (optionals, table))))
 
 abbrev slices : Stores Slice
 slices = record { to = slice_to; from = λ g. slice_by (num (first g)) (second g); back = slice-back }

@@ -14,7 +14,7 @@ use std::alloc::{AllocError, Global};
 use std::marker::Model;
 
 /// How many instances a graph has at most.
-pub const MOST_INSTANCES: u32 = 100_000_000;
+pub const MOST_PLACES: u32 = 100_000_000;
 
 /// Members, which are the roots, and instances, each named by its place. Every name in it is the place
 /// of an instance, and every dictionary stands in rising key order.
@@ -82,7 +82,7 @@ impl Graph {
     pub fn is_full(&self) -> bool
         ensures { IsTrue result ↔ (length self.now.instances ≡ most) }
     {
-        self.len() == MOST_INSTANCES
+        self.len() == MOST_PLACES
     }
 
     /// Adds an instance without slices, and answers its place. Out of memory leaves the graph as it was.

@@ -25,7 +25,7 @@ pub enum Slice {
     },
     /// A class that the schema lacks: its type id, the bytes of its members without the end marker of
     /// optional ones, whether that marker stood behind them, and the names in the slice's table.
-    Kept {
+    Unknown {
         id: Name,
         bytes: Bytes,
         optionals: bool,

@@ -21,7 +21,7 @@ mod tests;
 mod value;
 mod visiting;
 
-pub use graph::{Graph, MOST_INSTANCES};
+pub use graph::{Graph, MOST_PLACES};
 pub use instance::{Instance, Members, Slice, class_of};
 pub use laws::{equal_keys_repeat, sorting_keeps_the_value};
 pub use names::push_slices;

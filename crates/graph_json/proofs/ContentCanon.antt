@@ -172,14 +172,14 @@ or_else None y = y
 or_else (Some x) y = Some x
 
 module _ (write : TypeRef → Write) (os : List Member) where
-  member_kept : (name : List ℕ) (r : Option Member) (v : Tree) (f : json.Members) → ((m : Member) → r ≡ Some m → name ≢ m.name) → get_member name (put_member write r v f) ≡ get_member name f
-  member_kept name None v f other = refl
-  member_kept name (Some m) v f other = get_member-put_other name m.name (write m.kind v) f (other m refl)
+  member_unknown : (name : List ℕ) (r : Option Member) (v : Tree) (f : json.Members) → ((m : Member) → r ≡ Some m → name ≢ m.name) → get_member name (put_member write r v f) ≡ get_member name f
+  member_unknown name None v f other = refl
+  member_unknown name (Some m) v f other = get_member-put_other name m.name (write m.kind v) f (other m refl)
 
   -- what stands at a name of no optional member stays there
-  pub kept : (name : List ℕ) (ps : Present) (f : json.Members) → ((k : ℕ) (m : Member) → member_tagged k os ≡ Some m → name ≢ m.name) → get_member name (options_noted write f os ps) ≡ get_member name f
-  kept name [] f other = refl
-  kept name (o ∷ ps) f other = kept name ps (put_member write (member_tagged o.0 os) o.1 f) other ∙ member_kept name (member_tagged o.0 os) o.1 f (other o.0)
+  pub unknown : (name : List ℕ) (ps : Present) (f : json.Members) → ((k : ℕ) (m : Member) → member_tagged k os ≡ Some m → name ≢ m.name) → get_member name (options_noted write f os ps) ≡ get_member name f
+  unknown name [] f other = refl
+  unknown name (o ∷ ps) f other = unknown name ps (put_member write (member_tagged o.0 os) o.1 f) other ∙ member_unknown name (member_tagged o.0 os) o.1 f (other o.0)
 
   module _ (apart : AreApart (names_of os)) (tags : ApartTags os) (m : Member) (in_it : In m os) where
     got_at : (b : Bool) (k : ℕ) (o : ℕ × Tree) (ps : Present) (f : json.Members) → m.tag ≡ Some k → nat_eq k o.0 ≡ b → Above o.0 ps
@@ -194,7 +194,7 @@ module _ (write : TypeRef → Write) (os : List Member) where
     got_at false k o ps f is test above later =
         let other = λ (x : Member) (e : member_tagged o.0 os ≡ Some x). names_differ os m x apart in_it (tagged_in o.0 os x e).0
         (λ same. different k o.0 test (same_Some k o.0 (sym is ∙ same ∙ (tagged_in o.0 os x e).1))) in
-        later ∙ ap (or_else (option_map (write m.kind) (value_tagged k ps))) (member_kept m.name (member_tagged o.0 os) o.1 f other)
+        later ∙ ap (or_else (option_map (write m.kind) (value_tagged k ps))) (member_unknown m.name (member_tagged o.0 os) o.1 f other)
       where
         different : (k l : ℕ) → nat_eq k l ≡ false → k ≡ l → ⊥
         different k l test e = clash (nat_eq k l) (eq-eqb k l e) test
@@ -208,7 +208,7 @@ module _ (write : TypeRef → Write) (os : List Member) where
     got k (o ∷ ps) f is rising = got_at (nat_eq k o.0) k o ps f is refl rising.0 (got k ps (put_member write (member_tagged o.0 os) o.1 f) is rising.1)
 
     got_by : (t : Option ℕ) (ps : Present) (f : json.Members) → m.tag ≡ t → Rising ps → get_member m.name f ≡ None → get_member m.name (options_noted write f os ps) ≡ option_map (write m.kind) (value_for t ps)
-    got_by None ps f is rising lacks = kept m.name ps f (λ k x e. names_differ os m x apart in_it (tagged_in k os x e).0 (λ same. none-some k (sym is ∙ same ∙ (tagged_in k os x e).1))) ∙ lacks
+    got_by None ps f is rising lacks = unknown m.name ps f (λ k x e. names_differ os m x apart in_it (tagged_in k os x e).0 (λ same. none-some k (sym is ∙ same ∙ (tagged_in k os x e).1))) ∙ lacks
     got_by (Some k) ps f is rising lacks = got k ps f is rising ∙ rw lacks (plain (option_map (write m.kind) (value_tagged k ps)))
       where
         plain : (x : Option Data) → or_else x None ≡ x
@@ -343,17 +343,17 @@ module _ (q : ℕ) (ps : Present) where
   step_same m ms before k None same here (inr h) = inl (h.0 ∙ sym (ap (λ (n : ℕ). value_tagged n ps) same ∙ here))
   step_same m ms before k (Some v) same here h = inl (ap (λ (n : ℕ). value_tagged n (put_at k v before)) same ∙ put_found k v before ∙ sym (ap (λ (n : ℕ). value_tagged n ps) same ∙ here))
 
-  kept_at : (before : Present) (k : ℕ) (r : Option Tree) → nat_eq q k ≡ false → value_tagged q (add (Some k) r before) ≡ value_tagged q before
-  kept_at before k None other = refl
-  kept_at before k (Some v) other = put_others q k v before other
+  unknown_at : (before : Present) (k : ℕ) (r : Option Tree) → nat_eq q k ≡ false → value_tagged q (add (Some k) r before) ≡ value_tagged q before
+  unknown_at before k None other = refl
+  unknown_at before k (Some v) other = put_others q k v before other
 
   step_other : (m : Member) (ms : List Member) (before : Present) (k : ℕ) (r : Option Tree) → m.tag ≡ Some k → nat_eq q k ≡ false → SoFar (m ∷ ms) before → SoFar ms (add (Some k) r before)
-  step_other m ms before k r is other (inl e) = inl (kept_at before k r other ∙ e)
+  step_other m ms before k r is other (inl e) = inl (unknown_at before k r other ∙ e)
   step_other m ms before k r is other (inr (n, (x, inl same, it))) = absurd (clash (nat_eq q k) (eq-eqb q k (same_Some q k (sym it ∙ ap (λ (y : Member). y.tag) same ∙ is))) other)
     where
       clash : (b : Bool) → b ≡ true → b ≡ false → ⊥
       clash b p r' = absurd cc
-  step_other m ms before k r is other (inr (n, (x, inr later, it))) = inr (kept_at before k r other ∙ n, (x, later, it))
+  step_other m ms before k r is other (inr (n, (x, inr later, it))) = inr (unknown_at before k r other ∙ n, (x, later, it))
 
   step_test : (b : Bool) (m : Member) (ms : List Member) (before : Present) (k : ℕ) → m.tag ≡ Some k → nat_eq q k ≡ b → SoFar (m ∷ ms) before → SoFar ms (add (Some k) (value_tagged k ps) before)
   step_test true m ms before k is test h = step_same m ms before k (value_tagged k ps) (eqb-true q k test) refl h
@@ -540,7 +540,7 @@ module _ (t : Tables) (rules : IsSchema t) (Refer : Refers) (sizes : AreSizes Re
       let rising = rising_of t Refer shape.optional None c.optional typed.optional in
       let known = known_of t Refer shape.optional None c.optional typed.optional in
       let required = members_canon (HasType t Refer MOST_DEPTH) write (Notes t) one no_members shape.required c.required typed.required left required_short in
-      let same = λ (m : Member) (in_it : In m shape.required). kept write shape.optional m.name c.optional start
+      let same = λ (m : Member) (in_it : In m shape.required). unknown write shape.optional m.name c.optional start
       (λ k x e same. lacks_in x.name shape.required m (cross shape.required shape.optional x apart (tagged_in k shape.optional x e).0) in_it (sym same)) in
       let there = λ (m : Member) (in_it : In m shape.optional). got_by write shape.optional names tags m in_it m.tag c.optional start refl rising (absent m in_it) in
       let each = λ (m : Member) (v : Tree) (in_it : In m shape.optional) (e : value_for m.tag c.optional ≡ Some v).

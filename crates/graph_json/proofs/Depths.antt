@@ -26,7 +26,7 @@ use Rattle.ice_encoding.specs.Tree.{Tree, Trees, none, Entries, no_entry, entry}
 use Rattle.ice_graphs.specs.Optionals.{Present}
 use Rattle.ice_graphs.specs.OptionalMembers.{Members}
 use Rattle.ice_graphs.specs.Classes.{members_in, own_members}
-use Rattle.ice_graphs.specs.Graph.{Slice, known, kept, Graph}
+use Rattle.ice_graphs.specs.Graph.{Slice, known, unknown, Graph}
 use Rattle.ice_graphs.specs.Same.{form}
 use Rattle.graph_json.specs.ValueNotation.{name_noted}
 use Rattle.graph_json.specs.CanonicalValues.{Write, name_numbered, each_noted, pairs_noted, members_noted, noted, notation_step, notation_levels, notation}
@@ -183,7 +183,7 @@ module _ (t : Tables) (rules : IsSchema t) where
 
   slice_deep : (s : Slice) → depth (slice_noted t s) ≤ 102
   slice_deep (known class content) = omega (arith, content_deep t (own_members t class) (own_notable class) content)
-  slice_deep (kept id bytes optionals table) = omega (arith, list_deep 1 name_noted (λ n. omega arith) table)
+  slice_deep (unknown id bytes optionals table) = omega (arith, list_deep 1 name_noted (λ n. omega arith) table)
 
   instance_deep : (slices : List Slice) → depth (instance_noted t slices) ≤ 104
   instance_deep slices = omega (arith, list_deep 102 (slice_noted t) slice_deep slices)

@@ -19,7 +19,7 @@ use Rattle.ice_encoding.specs.Tree.{Tree, Trees, none, Entries, no_entry, entry}
 use Rattle.ice_graphs.specs.Optionals.{Present}
 use Rattle.ice_graphs.specs.OptionalMembers.{Members}
 use Rattle.ice_graphs.specs.Classes.{own_members}
-use Rattle.ice_graphs.specs.Graph.{Slice, known, kept, Graph}
+use Rattle.ice_graphs.specs.Graph.{Slice, known, unknown, Graph}
 use Rattle.ice_graphs.specs.Same.{form}
 use Rattle.graph_json.specs.ValueNotation.{name_noted}
 use Rattle.graph_json.specs.CanonicalValues.{Write, name_numbered, each_noted, pairs_noted, members_noted, noted, notation_step, notation_levels, notation}
@@ -136,7 +136,7 @@ module _ (t : Tables) where
 
   slice_whole : (s : Slice) → IsWhole (slice_noted t s)
   slice_whole (known class content) = rw (content_whole (own_members t class) content) refl
-  slice_whole (kept id bytes optionals table) = rw (list_whole name_noted (λ n. refl) table) refl
+  slice_whole (unknown id bytes optionals table) = rw (list_whole name_noted (λ n. refl) table) refl
 
   instance_whole : (slices : List Slice) → IsWhole (instance_noted t slices)
   instance_whole slices = rw (list_whole (slice_noted t) slice_whole slices) refl

@@ -13,7 +13,7 @@ use Rattle.ice_types.specs.Rules.{IsSchema}
 use Rattle.ice_encoding.specs.Port.{size_of}
 use Rattle.ice_encoding.specs.Typed.{Refers}
 use Rattle.ice_graphs.specs.Classes.{class_named, base_of, own_members}
-use Rattle.ice_graphs.specs.Graph.{Slice, known, kept, Graph}
+use Rattle.ice_graphs.specs.Graph.{Slice, known, unknown, Graph}
 use Rattle.ice_graphs.specs.Canonical.{sliced, id_in, id_of}
 use Rattle.ice_graphs.specs.Flags.{all_slices}
 use Rattle.ice_graphs.specs.Instances.{slices_of}
@@ -65,7 +65,7 @@ module _ (t : Tables) (rules : IsSchema t) (Refer : Refers) (sizes : (declared n
   -- a slice of its type
   abbrev IsSlice : Slice → Type 0
   IsSlice (known class content) = IsKnown t Refer class content
-  IsSlice (kept id bytes optionals table) = AreReferred Refer table
+  IsSlice (unknown id bytes optionals table) = AreReferred Refer table
 
   abbrev IsFine : Slice → Type 0
   IsFine s = IsSlice s × SliceNotable s
@@ -84,7 +84,7 @@ module _ (t : Tables) (rules : IsSchema t) (Refer : Refers) (sizes : (declared n
       let found = put (codes "members") inside (put (codes "class") (string id) no_members) in
       let named : class_named t id ≡ Some class = ap (λ (row : Option ClassDecl). class_named t (id_in row)) is ∙ are_named t rules class d is in
       (found, (refl, refl), id, refl, named, inside, refl, content_canon t rules Refer sizes (own_members t class) fits.names fits.apart content h.0.2 h.1.0 h.1.1)
-  slice_canon (kept id bytes optionals table) h =
+  slice_canon (unknown id bytes optionals table) h =
       let names = list_noted name_noted table in
       let found = put (codes "table") names (put (codes "optionals") (boolean optionals) (put (codes "kept") (string id) (put (codes "bytes") (string (encode_lower bytes)) no_members))) in (
         found,
@@ -102,13 +102,13 @@ module _ (t : Tables) (rules : IsSchema t) (Refer : Refers) (sizes : (declared n
   base_slices : (base : Option ℕ) (ss : List Slice) → AreBases t Refer base ss → AllAre IsSlice ss
   base_slices None ss h = subst (AllAre IsSlice) (sym h) tt
   base_slices (Some class) [] h = absurd h
-  base_slices (Some class) (kept id bytes optionals table ∷ ss) h = absurd h
+  base_slices (Some class) (unknown id bytes optionals table ∷ ss) h = absurd h
   base_slices (Some class) (known other content ∷ ss) h = (subst (λ (c : ℕ). IsKnown t Refer c content) (sym h.0) h.1, base_slices (base_of t class) ss h.2)
 
   are_slices : (ss : List Slice) → IsInstance t Refer ss → AllAre IsSlice ss
   are_slices [] h = absurd h
-  are_slices (kept id bytes optionals table ∷ []) h = (h.2, tt)
-  are_slices (kept id bytes optionals table ∷ s ∷ ss) h = (h.0.2, are_slices (s ∷ ss) h.1)
+  are_slices (unknown id bytes optionals table ∷ []) h = (h.2, tt)
+  are_slices (unknown id bytes optionals table ∷ s ∷ ss) h = (h.0.2, are_slices (s ∷ ss) h.1)
   are_slices (known class content ∷ ss) h = (h.0, base_slices (base_of t class) ss h.1)
 
   notable_slices : (ss : List Slice) → InstanceNotable ss → AllAre SliceNotable ss

@@ -12,14 +12,14 @@ use Rattle.ice_types.specs.declared.declarations.Shape.{Shape}
 use Rattle.ice_types.specs.Tables.{Tables}
 use Rattle.ice_types.specs.Rules.{IsSchema}
 use Rattle.ice_graphs.specs.Classes.{class_named, own_members}
-use Rattle.ice_graphs.specs.Graph.{Slice, known, kept, Graph}
+use Rattle.ice_graphs.specs.Graph.{Slice, known, unknown, Graph}
 use Rattle.graph_json.specs.ValueNotation.{Noting, NotesName}
 use Rattle.graph_json.specs.ReadingValues.{Read, name_of, whole}
 use Rattle.graph_json.specs.Contents.{NotesContent, noted_content}
 use Rattle.graph_json.proofs.Shapes.{then_some, map_some, true_then, str_is, bool_is, array_is, object_is}
 use Rattle.graph_json.proofs.NotedValues.{Found, Only, name_found, name_only}
 use Rattle.graph_json.specs.Notation.{HasNames, Has, NotesEach, NotesList, NotesBytes, NotesSlice, NotesInstance, NotesListed}
-use Rattle.graph_json.specs.Reading.{of_object, at_name, items_of, list_of, decoded, bytes_of, class_of, known_in, kept_in, slice_in, slice_of, instance_of, with_roots, graph_in, listed_graph}
+use Rattle.graph_json.specs.Reading.{of_object, at_name, items_of, list_of, decoded, bytes_of, class_of, known_in, unknown_in, slice_in, slice_of, instance_of, with_roots, graph_in, listed_graph}
 use Rattle.graph_json.proofs.ContentNoted.{content_found, content_only}
 
 -- ---- objects and arrays
@@ -103,27 +103,27 @@ module _ (t : Tables) where
       some : Data → Option Data
       some x = Some x
 
-  kept_found : (d : Data) (found : json.Members) (s : Slice) → HasNames 4 d found → kept_in found ≡ Some s → NotesSlice t d s
-  kept_found d found s has e =
-      let bytes = then_some (at_name (codes "bytes") bytes_of found) (λ bytes. option_and_then (λ id. option_and_then (λ optionals. option_map (kept id bytes optionals)
+  unknown_found : (d : Data) (found : json.Members) (s : Slice) → HasNames 4 d found → unknown_in found ≡ Some s → NotesSlice t d s
+  unknown_found d found s has e =
+      let bytes = then_some (at_name (codes "bytes") bytes_of found) (λ bytes. option_and_then (λ id. option_and_then (λ optionals. option_map (unknown id bytes optionals)
       (at_name (codes "table") (list_of name_of) found)) (at_name (codes "optionals") as_bool found)) (at_name (codes "kept") as_str found)) s e in
-      let id = then_some (at_name (codes "kept") as_str found) (λ id. option_and_then (λ optionals. option_map (kept id bytes.0 optionals)
+      let id = then_some (at_name (codes "kept") as_str found) (λ id. option_and_then (λ optionals. option_map (unknown id bytes.0 optionals)
       (at_name (codes "table") (list_of name_of) found)) (at_name (codes "optionals") as_bool found)) s bytes.2 in
-      let optionals = then_some (at_name (codes "optionals") as_bool found) (λ optionals. option_map (kept id.0 bytes.0 optionals) (at_name (codes "table") (list_of name_of) found)) s id.2 in
-      let table = map_some (at_name (codes "table") (list_of name_of) found) (kept id.0 bytes.0 optionals.0) s optionals.2 in
+      let optionals = then_some (at_name (codes "optionals") as_bool found) (λ optionals. option_map (unknown id.0 bytes.0 optionals) (at_name (codes "table") (list_of name_of) found)) s id.2 in
+      let table = map_some (at_name (codes "table") (list_of name_of) found) (unknown id.0 bytes.0 optionals.0) s optionals.2 in
       let digits = at_found (codes "bytes") bytes_of NotesBytes bytes_found found bytes.0 bytes.1 in
       let names = at_found (codes "table") (list_of name_of) (NotesList NotesName) (list_found name_of NotesName name_found) found table.0 table.1 in
       let text = read_at (codes "kept") as_str string str_is found id.0 id.1 in
       let flag = read_at (codes "optionals") as_bool boolean bool_is found optionals.0 optionals.1 in
-      let all : NotesSlice t d (kept id.0 bytes.0 optionals.0 table.0) = (found, has, text, flag, digits.0, digits.1, digits.2, names.0, names.1, names.2) in
-      subst (NotesSlice t d) {x = kept id.0 bytes.0 optionals.0 table.0} table.2 all
+      let all : NotesSlice t d (unknown id.0 bytes.0 optionals.0 table.0) = (found, has, text, flag, digits.0, digits.1, digits.2, names.0, names.1, names.2) in
+      subst (NotesSlice t d) {x = unknown id.0 bytes.0 optionals.0 table.0} table.2 all
 
   slice_found : Found (slice_of t) (NotesSlice t)
   slice_found d s e =
       let o = then_some (as_object d) (slice_in t) s e in
-      elim (either (members_len o.0 == 2) (known_in t o.0) (whole 4 kept_in o.0) s o.2) [
+      elim (either (members_len o.0 == 2) (known_in t o.0) (whole 4 unknown_in o.0) s o.2) [
         | inl h ↦ known_found d o.0 s (object_is d o.0 o.1, eqb-true (members_len o.0) 2 h.0) h.1
-        | inr h ↦ (let w = whole_found 4 kept_in d o.0 s o.1 h in kept_found d o.0 s w.0 w.1)
+        | inr h ↦ (let w = whole_found 4 unknown_in d o.0 s o.1 h in unknown_found d o.0 s w.0 w.1)
       ]
 
   instance_found : Found (instance_of t) (NotesInstance t)
@@ -146,7 +146,7 @@ module _ (t : Tables) where
     slice_only d (known class content) h =
         let inside = at_only (codes "members") (noted_content t (own_members t class)) (NotesContent t (own_members t class)) (content_only t (own_members t class) rules) h.0 h.5 content h.6 h.7 in
         rw (h.1.0, h.1.1, h.3, h.4, inside) refl
-    slice_only d (kept id bytes optionals table) h =
+    slice_only d (unknown id bytes optionals table) h =
         let first = at_only (codes "bytes") bytes_of NotesBytes bytes_only h.0 h.4 bytes h.5 h.6 in
         let last = at_only (codes "table") (list_of name_of) (NotesList NotesName) (list_only name_of NotesName name_only) h.0 h.7 table h.8 h.9 in
         rw (h.1.0, h.1.1, first, h.2, h.3, last) refl

@@ -3,7 +3,7 @@ use Rattle.std.proofs.Common.{ℕ, List, [], ◌∷◌, map}
 use Rattle.ice_encoding.specs.Tree.{Tree, boolean, byte, short, int, long, text, sequence, dictionary, struct, enumerator, proxy, reference, Trees, none, tree, Entries, no_entry, entry, InEach, InPairs}
 use Rattle.ice_graphs.specs.Optionals.{Present}
 use Rattle.ice_graphs.specs.OptionalMembers.{Members}
-use Rattle.ice_graphs.specs.Graph.{Slice, known, kept}
+use Rattle.ice_graphs.specs.Graph.{Slice, known, unknown}
 use Rattle.ice_graphs.specs.Names.{renamed, renamed_each, renamed_pairs, renamed_present, renamed_members, renamed_slice}
 use Rattle.graph_json.specs.TypedValues.{IsShort, HasShortTexts}
 use Rattle.graph_json.specs.Contents.{AreShort, ContentIsShort}
@@ -43,4 +43,4 @@ module _ (f : ℕ → ℕ) where
   pub instance_renamed : (ss : List Slice) → InstanceNotable ss → InstanceNotable (map (renamed_slice f) ss)
   instance_renamed [] h = tt
   instance_renamed (known class content ∷ ss) h = (members_renamed content h.0, instance_renamed ss h.1)
-  instance_renamed (kept id bytes optionals table ∷ ss) h = (h.0, instance_renamed ss h.1)
+  instance_renamed (unknown id bytes optionals table ∷ ss) h = (h.0, instance_renamed ss h.1)

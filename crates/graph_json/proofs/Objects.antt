@@ -14,7 +14,7 @@ use Rattle.ice_types.specs.Tables.{Tables}
 use Rattle.graph_arena.specs.declared.instance.Slice.{Slice}
 use Rattle.graph_arena.specs.Seen.{view_slice}
 use Rattle.graph_json.specs.ReadingValues.{some, whole}
-use Rattle.graph_json.specs.Reading.{of_object, known_in, kept_in, slice_of}
+use Rattle.graph_json.specs.Reading.{of_object, known_in, unknown_in, slice_of}
 
 module _ (es : List Entry) (d : Data) (n : ℕ) (is : Some (members_view es) ≡ as_object d) (len : n ≡ length es) where
   size : (k : ℕ) → n ≡ k → nat_eq (members_len (members_view es)) k ≡ true
@@ -34,9 +34,9 @@ module _ (t : Tables) (es : List Entry) (d : Data) (n : ℕ) where
       → IfOk r (λ o. option_map view_slice o ≡ known_in t (members_view es)) → IfOk r (λ o. option_map view_slice o ≡ slice_of t d)
   known_there r is len same h = rw (← is, size es d n is len 2 same) h
 
-  pub kept_there : (r : Result (Option Slice) AllocError) → Some (members_view es) ≡ as_object d → n ≡ length es → n ≡ 4
-      → IfOk r (λ o. option_map view_slice o ≡ kept_in (members_view es)) → IfOk r (λ o. option_map view_slice o ≡ slice_of t d)
-  kept_there r is len same h =
+  pub unknown_there : (r : Result (Option Slice) AllocError) → Some (members_view es) ≡ as_object d → n ≡ length es → n ≡ 4
+      → IfOk r (λ o. option_map view_slice o ≡ unknown_in (members_view es)) → IfOk r (λ o. option_map view_slice o ≡ slice_of t d)
+  unknown_there r is len same h =
       let two : nat_eq (members_len (members_view es)) 2 ≡ false = other_size es d n is len 2 (four n same) in
       rw (← is, two, size es d n is len 4 same) h
     where

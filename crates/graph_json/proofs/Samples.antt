@@ -12,7 +12,7 @@ use Rattle.ice_types.specs.declared.declarations.Shape.{Shape}
 use Rattle.ice_types.specs.Tables.{Tables, no_types}
 use Rattle.ice_encoding.specs.Tree.{int, reference, Trees, none, tree}
 use Rattle.ice_graphs.specs.OptionalMembers.{Members}
-use Rattle.ice_graphs.specs.Graph.{Slice, known, kept, Graph}
+use Rattle.ice_graphs.specs.Graph.{Slice, known, unknown, Graph}
 use Rattle.ice_graphs.specs.Visiting.{most, order}
 use Rattle.ice_graphs.specs.Same.{form}
 use Rattle.graph_json.specs.CanonicalValues.{notation}
@@ -49,7 +49,7 @@ itself = refl
 -- Class D extends B { string d; B other; } is not known: the slice of D is kept, behind it stands that of B. The other instance
 -- comes first in the list, and second by first visit.
 other_first : compact_text (canonical_noted bases shape (rooted 1 ((known 0 (values (tree (int (pos 2)) none)) ∷ [])
-    ∷ (kept (codes "::M::D") (1 ∷ 120 ∷ 1 ∷ []) false (0 ∷ []) ∷ known 0 (values (tree (int (pos 1)) none)) ∷ []) ∷ [])))
+    ∷ (unknown (codes "::M::D") (1 ∷ 120 ∷ 1 ∷ []) false (0 ∷ []) ∷ known 0 (values (tree (int (pos 1)) none)) ∷ []) ∷ [])))
     ≡ codes "{\"instances\":[{\"slices\":[{\"bytes\":\"017801\",\"kept\":\"::M::D\",\"optionals\":false,\"table\":[{\"$\":3}]},{\"class\":\"::M::B\",\"members\":{\"b\":1}}]},{\"slices\":[{\"class\":\"::M::B\",\"members\":{\"b\":2}}]}],\"roots\":{\"$value\":{\"$\":2}}}"
 unfolding serde_json_on_literals hex_on_literals digits form order most notation
 other_first = refl

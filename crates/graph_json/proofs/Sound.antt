@@ -22,7 +22,7 @@ use Rattle.ice_encoding.proofs.Typed.{typed_ordered}
 use Rattle.ice_graphs.specs.OptionalMembers.{Members, required_kinds}
 use Rattle.ice_graphs.specs.Optionals.{Present}
 use Rattle.ice_graphs.specs.Classes.{own_members}
-use Rattle.ice_graphs.specs.Graph.{Slice, known, kept, Graph}
+use Rattle.ice_graphs.specs.Graph.{Slice, known, unknown, Graph}
 use Rattle.ice_graphs.specs.Instances.{slices_of, most_instances}
 use Rattle.ice_graphs.specs.Names.{instance_names, names_of}
 use Rattle.ice_graphs.specs.Typed.{AreMembers, AreOptions, OfType}
@@ -60,7 +60,7 @@ module _ (t : Tables) where
   slices_ordered : (ss : List Slice) → InstanceHasValues t ss → HaveOrder ss
   slices_ordered [] h = tt
   slices_ordered (known class content ∷ ss) h = (members_ordered (own_members t class) content h.0.2, slices_ordered ss h.1)
-  slices_ordered (kept id bytes optionals table ∷ ss) h = (tt, slices_ordered ss h.1)
+  slices_ordered (unknown id bytes optionals table ∷ ss) h = (tt, slices_ordered ss h.1)
 
   all_ordered : (is : List (List Slice)) → HaveValues t is → AllHaveOrder is
   all_ordered [] h = tt

@@ -18,7 +18,7 @@ use Rattle.ice_encoding.specs.Typed.{by_size, HasType}
 use Rattle.ice_graphs.specs.Optionals.{Present, kind_tagged}
 use Rattle.ice_graphs.specs.OptionalMembers.{Members}
 use Rattle.ice_graphs.specs.Classes.{own_members}
-use Rattle.ice_graphs.specs.Graph.{Slice, known, kept, Graph}
+use Rattle.ice_graphs.specs.Graph.{Slice, known, unknown, Graph}
 use Rattle.ice_graphs.specs.Typed.{AreReferred, AreOptions, AreMembers}
 use Rattle.graph_laws.proofs.Bases.{row_of_id}
 use Rattle.graph_json.specs.ValueNotation.{NotesName, Notes}
@@ -130,7 +130,7 @@ module _ (t : Tables) (rules : IsSchema t) where
       let row = row_of_id t.classes h.2 class h.4 in
       let fits = class_fits t rules class row.0 row.1 in
       (row.0, row.1, content_values t rules (own_members t class) fits.tags fits.small h.5 content h.7)
-  slice_values d (kept id bytes optionals table) h = names_are h.9.0 table h.9.2
+  slice_values d (unknown id bytes optionals table) h = names_are h.9.0 table h.9.2
 
   slices_values : (ds : Items) (ss : List Slice) → NotesEach (NotesSlice t) ds ss → InstanceHasValues t ss
   slices_values no_items ss h = subst (InstanceHasValues t) (sym h) tt

@@ -5,7 +5,7 @@ use Rattle.serde_json.specs.Data.{Data, boolean, string, array, object, Items, n
 use Rattle.ice_types.specs.declared.declarations.Shape.{Shape}
 use Rattle.ice_types.specs.Tables.{Tables}
 use Rattle.ice_graphs.specs.Classes.{own_members}
-use Rattle.ice_graphs.specs.Graph.{Slice, known, kept, Graph}
+use Rattle.ice_graphs.specs.Graph.{Slice, known, unknown, Graph}
 use Rattle.ice_graphs.specs.Canonical.{id_of}
 use Rattle.ice_graphs.specs.Same.{form}
 use Rattle.graph_json.specs.ValueNotation.{name_noted}
@@ -22,7 +22,7 @@ module _ (t : Tables) where
   abbrev pub slice_noted : Slice → Data
   slice_noted (known class content) = object (put (codes "members") (content_noted t (own_members t class) content)
       (put (codes "class") (string (id_of t (known class content))) no_members))
-  slice_noted (kept id bytes optionals table) = object (put (codes "table") (list_noted name_noted table)
+  slice_noted (unknown id bytes optionals table) = object (put (codes "table") (list_noted name_noted table)
       (put (codes "optionals") (boolean optionals)
       (put (codes "kept") (string id)
       (put (codes "bytes") (string (encode_lower bytes)) no_members))))

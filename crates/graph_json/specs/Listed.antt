@@ -1,7 +1,7 @@
 -- What JSON lists, without where it lies in memory, and the graph that it is.
 use Rattle.std.specs.Prelude.{ℕ, ◌≡◌, ◌≤◌, List, [], ◌∷◌, length, map, Option, None, Some}
 use Rattle.ice_graphs.specs.OptionalMembers.{Members}
-use Rattle.ice_graphs.specs.Graph.{Slice, known, kept, Graph}
+use Rattle.ice_graphs.specs.Graph.{Slice, known, unknown, Graph}
 use Rattle.ice_graphs.specs.Names.{instance_names}
 use Rattle.ice_graphs.specs.Visiting.{most}
 use Rattle.graph_arena.specs.Seen.{view_content, view_instance}
@@ -35,4 +35,4 @@ Names g None = IsSound g → ⊥
 -- the members of a known slice
 abbrev pub MembersOf : Slice → Option Members → Type 0
 MembersOf (known class content) o = o ≡ Some content
-MembersOf (kept id bytes optionals table) o = o ≡ None
+MembersOf (unknown id bytes optionals table) o = o ≡ None

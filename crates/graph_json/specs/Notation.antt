@@ -8,7 +8,7 @@ use Rattle.serde_json.specs.Events.{members_len}
 use Rattle.ice_types.specs.declared.declarations.Shape.{Shape}
 use Rattle.ice_types.specs.Tables.{Tables}
 use Rattle.ice_graphs.specs.Classes.{class_named, own_members}
-use Rattle.ice_graphs.specs.Graph.{Slice, known, kept, Graph}
+use Rattle.ice_graphs.specs.Graph.{Slice, known, unknown, Graph}
 use Rattle.ice_graphs.specs.Same.{Same}
 use Rattle.ice_graphs.specs.Typed.{OfType}
 use Rattle.graph_json.specs.ValueNotation.{Noting, NotesName}
@@ -45,7 +45,7 @@ module _ (t : Tables) where
   NotesSlice d (known class content) = (found : json.Members) × HasNames 2 d found
       × (id : List ℕ) × Has found (codes "class") (string id) × (class_named t id ≡ Some class)
       × (inside : Data) × Has found (codes "members") inside × NotesContent t (own_members t class) inside content
-  NotesSlice d (kept id bytes optionals table) = (found : json.Members) × HasNames 4 d found
+  NotesSlice d (unknown id bytes optionals table) = (found : json.Members) × HasNames 4 d found
       × Has found (codes "kept") (string id) × Has found (codes "optionals") (boolean optionals)
       × (digits : Data) × Has found (codes "bytes") digits × NotesBytes digits bytes
       × (names : Data) × Has found (codes "table") names × NotesList NotesName names table

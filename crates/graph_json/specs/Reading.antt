@@ -9,7 +9,7 @@ use Rattle.ice_types.specs.declared.declarations.Shape.{Shape}
 use Rattle.ice_types.specs.Tables.{Tables}
 use Rattle.ice_graphs.specs.OptionalMembers.{Members}
 use Rattle.ice_graphs.specs.Classes.{class_named, own_members}
-use Rattle.ice_graphs.specs.Graph.{Slice, known, kept, Graph}
+use Rattle.ice_graphs.specs.Graph.{Slice, known, unknown, Graph}
 use Rattle.graph_json.specs.ReadingValues.{Read, name_of, whole}
 use Rattle.graph_json.specs.Contents.{noted_content}
 
@@ -39,9 +39,9 @@ bytes_of d = option_and_then (λ text. decoded (decode_of text)) (as_str d)
 
 -- ---- graphs
 
-abbrev pub kept_in : json.Members → Option Slice
-kept_in found = option_and_then (λ bytes. option_and_then (λ id. option_and_then (λ optionals.
-    option_map (kept id bytes optionals)
+abbrev pub unknown_in : json.Members → Option Slice
+unknown_in found = option_and_then (λ bytes. option_and_then (λ id. option_and_then (λ optionals.
+    option_map (unknown id bytes optionals)
     (at_name (codes "table") (list_of name_of) found))
     (at_name (codes "optionals") as_bool found))
     (at_name (codes "kept") as_str found))
@@ -62,7 +62,7 @@ module _ (t : Tables) where
 
   -- a known slice has two names, and a kept one four
   abbrev pub slice_in : json.Members → Option Slice
-  slice_in found = if members_len found == 2 then known_in found else whole 4 kept_in found
+  slice_in found = if members_len found == 2 then known_in found else whole 4 unknown_in found
 
   abbrev pub slice_of : Read Slice
   slice_of d = option_and_then slice_in (as_object d)

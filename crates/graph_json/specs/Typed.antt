@@ -3,7 +3,7 @@ use Rattle.std.specs.Prelude.{ℕ, ◌<◌, List, [], ◌∷◌, length}
 use Rattle.ice_types.specs.Tables.{Tables}
 use Rattle.ice_prims.specs.Rest.{IsBytes}
 use Rattle.ice_encoding.specs.Typed.{by_size}
-use Rattle.ice_graphs.specs.Graph.{Slice, known, kept, Graph}
+use Rattle.ice_graphs.specs.Graph.{Slice, known, unknown, Graph}
 use Rattle.ice_graphs.specs.Instances.{slices_of}
 use Rattle.ice_graphs.specs.Typed.{AreReferred, IsKnown}
 use Rattle.ice_graphs.specs.Visiting.{place, order}
@@ -12,7 +12,7 @@ use Rattle.graph_json.specs.Contents.{ContentIsShort}
 -- the texts of proxies are short enough, and what is kept is bytes
 abbrev pub SliceNotable : Slice → Type 0
 SliceNotable (known class content) = ContentIsShort content
-SliceNotable (kept id bytes optionals table) = IsBytes bytes
+SliceNotable (unknown id bytes optionals table) = IsBytes bytes
 
 abbrev pub InstanceNotable : List Slice → Type 0
 InstanceNotable [] = Unit {0}
@@ -28,7 +28,7 @@ pub record IsNotable (g : Graph) : Type 0 where
 -- values of the members of a class, where each reference is a number; numbers in a table
 abbrev pub SliceHasValues : Tables → Slice → Type 0
 SliceHasValues t (known class content) = IsKnown t by_size class content
-SliceHasValues t (kept id bytes optionals table) = AreReferred by_size table
+SliceHasValues t (unknown id bytes optionals table) = AreReferred by_size table
 
 abbrev pub InstanceHasValues : Tables → List Slice → Type 0
 InstanceHasValues t [] = Unit {0}

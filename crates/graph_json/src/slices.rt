@@ -61,7 +61,7 @@ fn slice_of(alloc: Global, schema: &Schema, json: &Json) -> Result<Option<Slice>
     if count == 2 {
         known_in(alloc, schema, found)
     } else if count == 4 {
-        kept_in(alloc, found)
+        unknown_in(alloc, found)
     } else {
         Ok(None)
     }
@@ -120,8 +120,8 @@ pub(crate) fn own_members(schema: &Schema, class: u32) -> &[Member]
 }
 
 /// A kept slice, from its bytes, its type id, whether optional members stand in the bytes, and its table.
-fn kept_in(alloc: Global, found: &Map<String, Json>) -> Result<Option<Slice>, AllocError>
-    ensures { IfOk result (λ o. option_map view_slice o ≡ spec.kept_in (members_view found.now.entries)) }
+fn unknown_in(alloc: Global, found: &Map<String, Json>) -> Result<Option<Slice>, AllocError>
+    ensures { IfOk result (λ o. option_map view_slice o ≡ spec.unknown_in (members_view found.now.entries)) }
 {
     let Some(bytes) = bytes_in(alloc, found)? else {
         return Ok(None);
@@ -135,7 +135,7 @@ fn kept_in(alloc: Global, found: &Map<String, Json>) -> Result<Option<Slice>, Al
     let Some(table) = table_in(alloc, found)? else {
         return Ok(None);
     };
-    Ok(Some(Slice::Kept {
+    Ok(Some(Slice::Unknown {
         id: Name::of(alloc, id)?,
         bytes,
         optionals,

@@ -194,7 +194,7 @@ fn members_of(slice: Slice) -> Option<Members>
 {
     match slice {
         Slice::Known { members, .. } => Some(members),
-        Slice::Kept { .. } => None,
+        Slice::Unknown { .. } => None,
     }
 }
 

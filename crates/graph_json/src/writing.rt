@@ -5,7 +5,7 @@ ghost use Rattle.serde_json.specs.Data.{string};
 ghost use Rattle.serde_json.specs.View.{view as json_view, items_view};
 ghost use Rattle.ice_types.specs.Tables.{Tables};
 ghost use Rattle.ice_graphs.specs.Canonical.{id_in};
-ghost use Rattle.ice_graphs.specs.Graph.{kept, known};
+ghost use Rattle.ice_graphs.specs.Graph.{unknown, known};
 ghost use Rattle.graph_arena.specs.Seen.{view_content, view_slice, view_slices};
 ghost use Rattle.ice_values.specs.Shapes.{shape_seen};
 ghost use Rattle.graph_json.specs.ValueNotation.{name_noted};
@@ -66,12 +66,12 @@ fn slice_json(alloc: Global, schema: &Schema, slice: &Slice) -> Result<Json, All
 {
     match slice {
         Slice::Known { class, members } => known_json(alloc, schema, *class, members),
-        Slice::Kept {
+        Slice::Unknown {
             id,
             bytes,
             optionals,
             table,
-        } => kept_json(alloc, id, bytes, *optionals, table.as_slice()),
+        } => unknown_json(alloc, id, bytes, *optionals, table.as_slice()),
     }
 }
 
@@ -107,7 +107,7 @@ fn id_json(alloc: Global, schema: &Schema, class: u32) -> Result<Json, AllocErro
 }
 
 /// A kept slice: its bytes in hexadecimal digits, its type id, and its table.
-fn kept_json(
+fn unknown_json(
     alloc: Global,
     id: &Name,
     bytes: &Bytes,
@@ -115,7 +115,7 @@ fn kept_json(
     table: &[u32],
 ) -> Result<Json, AllocError>
     ensures { (t : Tables) → IfOk result (λ j. json_view j
-        ≡ slice_noted t (kept id.now bytes.now optionals table.now)) }
+        ≡ slice_noted t (unknown id.now bytes.now optionals table.now)) }
 {
     let mut found = Map::new(alloc);
     let digits = hex::encode(alloc, bytes.as_slice())?;

@@ -9,9 +9,9 @@ use Rattle.ice_types.proofs.RowIdentity.{one_id}
 use Rattle.ice_encoding.specs.Port.{Port}
 use Rattle.ice_graphs.specs.OptionalMembers.{Members}
 use Rattle.ice_graphs.specs.Classes.{class_named, base_of}
-use Rattle.ice_graphs.specs.Graph.{Slice, known, kept}
+use Rattle.ice_graphs.specs.Graph.{Slice, known, unknown}
 use Rattle.ice_graphs.specs.References.{State}
-use Rattle.ice_graphs.specs.Flags.{Flags, all_slices, Before, first, only_kept, derived, may_stand}
+use Rattle.ice_graphs.specs.Flags.{Flags, all_slices, Before, first, only_unknown, derived, may_stand}
 use Rattle.ice_graphs.specs.TypeIds.{class_in, is_base, can_be_read, ends_well, same_bool, before_base, before_next}
 use Rattle.ice_graphs.specs.Slices.{SpellsBody, SpellsSlices}
 use Rattle.ice_graphs.specs.Slices.{Behind as Others}
@@ -24,20 +24,20 @@ use Rattle.graph_laws.proofs.Standing.{Follow, Stands}
 pub known_is : {C : Type 0} (a b : ℕ) (x y : Members) → known a x ≡ known b y → (a ≡ b → C) → C
 known_is a b x y e go = go cc
 
-pub kept_id : {C : Type 0} (i j x y : List ℕ) (o p : Bool) (k l : List ℕ) → kept i x o k ≡ kept j y p l → (i ≡ j → C) → C
-kept_id i j x y o p k l e go = go cc
+pub unknown_id : {C : Type 0} (i j x y : List ℕ) (o p : Bool) (k l : List ℕ) → unknown i x o k ≡ unknown j y p l → (i ≡ j → C) → C
+unknown_id i j x y o p k l e go = go cc
 
-pub known_kept : {C : Type 0} (a : ℕ) (c : Members) (i x : List ℕ) (o : Bool) (k : List ℕ) → known a c ≡ kept i x o k → C
-known_kept a c i x o k e = absurd cc
+pub known_unknown : {C : Type 0} (a : ℕ) (c : Members) (i x : List ℕ) (o : Bool) (k : List ℕ) → known a c ≡ unknown i x o k → C
+known_unknown a c i x o k e = absurd cc
 
 -- the class of a slice
 abbrev pub slice_class : Slice → Option ℕ
 slice_class (known class content) = Some class
-slice_class (kept id bytes optionals table) = None
+slice_class (unknown id bytes optionals table) = None
 
 -- a slice is of the class of its type id, or kept with it
 abbrev pub FormedAs : List ℕ → Bool → Option ℕ → Slice → Type 0
-FormedAs id sized d r = ((d ≡ None) × (sized ≡ true) × (x : List ℕ) × (o : Bool) × (table : List ℕ) × (r ≡ kept id x o table)) ⊎ ((e : ℕ) × (content : Members) × (d ≡ Some e) × (r ≡ known e content))
+FormedAs id sized d r = ((d ≡ None) × (sized ≡ true) × (x : List ℕ) × (o : Bool) × (table : List ℕ) × (r ≡ unknown id x o table)) ⊎ ((e : ℕ) × (content : Members) × (d ≡ Some e) × (r ≡ known e content))
 
 pub body_form : (port : Port (State ℕ) Spelled) (u : Tables) (f : Flags) (id : List ℕ) (sized : Bool) (d : Option ℕ) (bytes : List ℕ) (r : Slice) (from to : Spelled) → SpellsBody port u f id sized d bytes r from to → FormedAs id sized d r
 body_form port u f id true (Some e) bytes r from to (raw, uses, a, b, parts, members, (table, is, h)) = inr (e, _, refl, is)
@@ -48,18 +48,18 @@ body_form port u f id false None bytes r from to h = absurd h
 module _ (t u : Tables) (both : Both t u) (ks : List (List Slice)) where
   abbrev pub BackAs : Before → Before → Type 0
   BackAs y first = y ≡ first
-  BackAs y only_kept = y ≡ only_kept
-  BackAs y (derived z a) = ((z ≡ true) × (y ≡ only_kept)) ⊎ ((b : ℕ) × (y ≡ derived z b) × SameClassId t u a b)
+  BackAs y only_unknown = y ≡ only_unknown
+  BackAs y (derived z a) = ((z ≡ true) × (y ≡ only_unknown)) ⊎ ((b : ℕ) × (y ≡ derived z b) × SameClassId t u a b)
 
   -- what may come is what there is
   abbrev pub Ready : Before → List Slice → Type 0
   Ready first ss = Stands t ss
-  Ready only_kept ss = Stands t ss
+  Ready only_unknown ss = Stands t ss
   Ready (derived z a) ss = Follow t (Some a) ss
 
   pub flags_back : (y x : Before) → BackAs y x → (f : Flags) → may_stand y f ≡ may_stand x f
   flags_back y first e f = ap (λ (y : Before). may_stand y f) e
-  flags_back y only_kept e f = ap (λ (y : Before). may_stand y f) e
+  flags_back y only_unknown e f = ap (λ (y : Before). may_stand y f) e
   flags_back y (derived true a) (inl e) f = ap (λ (y : Before). may_stand y f) e.1
   flags_back y (derived false a) (inl e) f = absurd cc
   flags_back y (derived true a) (inr (b, e, tied)) f = ap (λ (y : Before). may_stand y f) e
@@ -68,7 +68,7 @@ module _ (t u : Tables) (both : Both t u) (ks : List (List Slice)) where
   named_both : (y x : Before) → BackAs y x → (id : List ℕ)
       → ((class_in t x id ≡ class_named t id) × (class_in u y id ≡ class_named u id)) ⊎ ((a b : ℕ) × (x ≡ derived false a) × (class_in t x id ≡ Some a) × (class_in u y id ≡ Some b) × SameClassId t u a b)
   named_both y first e id = inl (refl, ap (λ (y : Before). class_in u y id) e)
-  named_both y only_kept e id = inl (refl, ap (λ (y : Before). class_in u y id) e)
+  named_both y only_unknown e id = inl (refl, ap (λ (y : Before). class_in u y id) e)
   named_both y (derived true a) (inl e) id = inl (refl, ap (λ (y : Before). class_in u y id) e.1)
   named_both y (derived false a) (inl e) id = absurd cc
   named_both y (derived true a) (inr (b, e, tied)) id = inl (refl, ap (λ (y : Before). class_in u y id) e)
@@ -80,38 +80,38 @@ module _ (t u : Tables) (both : Both t u) (ks : List (List Slice)) where
 
   -- ---- the first slice, by what it is to be
 
-  kept_ready : (x : Before) (id bytes : List ℕ) (o : Bool) (table : List ℕ) (ss : List Slice) → Ready x (kept id bytes o table ∷ ss) → (class_named t id ≡ None) × ((x ≡ first) ⊎ (x ≡ only_kept))
-  kept_ready first id bytes o table [] h = (h, inl refl)
-  kept_ready first id bytes o table (s ∷ ss) h = (h.0, inl refl)
-  kept_ready only_kept id bytes o table [] h = (h, inr refl)
-  kept_ready only_kept id bytes o table (s ∷ ss) h = (h.0, inr refl)
-  kept_ready (derived z a) id bytes o table ss h = absurd h
+  unknown_ready : (x : Before) (id bytes : List ℕ) (o : Bool) (table : List ℕ) (ss : List Slice) → Ready x (unknown id bytes o table ∷ ss) → (class_named t id ≡ None) × ((x ≡ first) ⊎ (x ≡ only_unknown))
+  unknown_ready first id bytes o table [] h = (h, inl refl)
+  unknown_ready first id bytes o table (s ∷ ss) h = (h.0, inl refl)
+  unknown_ready only_unknown id bytes o table [] h = (h, inr refl)
+  unknown_ready only_unknown id bytes o table (s ∷ ss) h = (h.0, inr refl)
+  unknown_ready (derived z a) id bytes o table ss h = absurd h
 
   pub known_ready : (x : Before) (a : ℕ) (content : Members) (ss : List Slice) → Ready x (known a content ∷ ss) → Follow t (base_of t a) ss × IsRow t.classes a
   known_ready first a content ss h = (h.1, h.0)
-  known_ready only_kept a content ss h = (h.1, h.0)
+  known_ready only_unknown a content ss h = (h.1, h.0)
   known_ready (derived z b) a content ss h = subst (λ (k : ℕ). Follow t (base_of t k) ss × IsRow t.classes k) (sym h.0) (h.2, h.1)
 
   pub base_ready : (x : Before) (s : Slice) (ss : List Slice) → Ready x (s ∷ ss) → is_base x (slice_class s) ≡ true
   base_ready first s ss h = refl
-  base_ready only_kept s ss h = refl
+  base_ready only_unknown s ss h = refl
   base_ready (derived z b) (known a content) ss h = eq-eqb a b h.0
-  base_ready (derived z b) (kept id bytes o table) ss h = absurd h
+  base_ready (derived z b) (unknown id bytes o table) ss h = absurd h
 
-  not_plain : {C : Type 0} (x : Before) (a : ℕ) → x ≡ derived false a → (x ≡ first) ⊎ (x ≡ only_kept) → C
+  not_plain : {C : Type 0} (x : Before) (a : ℕ) → x ≡ derived false a → (x ≡ first) ⊎ (x ≡ only_unknown) → C
   not_plain x a e (inl f) = let h : derived false a ≡ first = sym e ∙ f in absurd cc
-  not_plain x a e (inr f) = let h : derived false a ≡ only_kept = sym e ∙ f in absurd cc
+  not_plain x a e (inr f) = let h : derived false a ≡ only_unknown = sym e ∙ f in absurd cc
 
   pub class_back : (y x : Before) → BackAs y x → (id : List ℕ) (sized : Bool) (s r : Slice) (ss : List Slice) → SeenAs t u ks s r → Ready x (s ∷ ss) → FormedAs id sized (class_in u y id) r → class_in t x id ≡ slice_class s
-  class_back y x sees id sized (kept i b o k) r ss (r_is, hidden) ready (inr (e, content, is, form)) = known_kept e content i b o k (sym form ∙ r_is)
-  class_back y x sees id sized (kept i b o k) r ss (r_is, hidden) ready (inl (is, big, x2, o2, k2, form)) =
-      kept_id id i x2 b o2 o k2 k (sym form ∙ r_is) λ same.
-      let h = kept_ready x i b o k ss ready in
+  class_back y x sees id sized (unknown i b o k) r ss (r_is, hidden) ready (inr (e, content, is, form)) = known_unknown e content i b o k (sym form ∙ r_is)
+  class_back y x sees id sized (unknown i b o k) r ss (r_is, hidden) ready (inl (is, big, x2, o2, k2, form)) =
+      unknown_id id i x2 b o2 o k2 k (sym form ∙ r_is) λ same.
+      let h = unknown_ready x i b o k ss ready in
       elim (named_both y x sees id) [
         | inl n ↦ n.0 ∙ ap (class_named t) same ∙ h.0
         | inr (a, c, plain, one, two, tied) ↦ not_plain x a plain h.1
       ]
-  class_back y x sees id sized (known a content) r ss (inl (b, r_is, tied)) ready (inl (is, big, x2, o2, k2, form)) = known_kept b content id x2 o2 k2 (sym r_is ∙ form)
+  class_back y x sees id sized (known a content) r ss (inl (b, r_is, tied)) ready (inl (is, big, x2, o2, k2, form)) = known_unknown b content id x2 o2 k2 (sym r_is ∙ form)
   class_back y x sees id sized (known a content) r ss (inl (b, r_is, tied)) ready (inr (e, other, is, form)) =
       known_is e b other content (sym form ∙ r_is) λ same.
       elim (named_both y x sees id) [
@@ -121,9 +121,9 @@ module _ (t u : Tables) (both : Both t u) (ks : List (List Slice)) where
     where
       bases_same : (x : Before) (c a : ℕ) (content : Members) (ss : List Slice) → x ≡ derived false c → Ready x (known a content ∷ ss) → a ≡ c
       bases_same x c a content ss e h = (subst (λ (x : Before). Ready x (known a content ∷ ss)) e h).0
-  class_back y x sees id sized (known a content) r ss (inr (i, b, o, k, r_is, named, hidden, opens)) ready (inr (e, other, is, form)) = known_kept e other i b o k (sym form ∙ r_is)
+  class_back y x sees id sized (known a content) r ss (inr (i, b, o, k, r_is, named, hidden, opens)) ready (inr (e, other, is, form)) = known_unknown e other i b o k (sym form ∙ r_is)
   class_back y x sees id sized (known a content) r ss (inr (i, b, o, k, r_is, named, hidden, opens)) ready (inl (is, big, x2, o2, k2, form)) =
-      kept_id id i x2 b o2 o k2 k (sym form ∙ r_is) λ same.
+      unknown_id id i x2 b o2 o k2 k (sym form ∙ r_is) λ same.
       elim (named_both y x sees id) [
         | inl n ↦ n.0 ∙ ap (class_named t) same ∙ named
         | inr (c, d, plain, one, two, tied) ↦ (let h : Some d ≡ None = sym two ∙ is in absurd cc)
@@ -131,13 +131,13 @@ module _ (t u : Tables) (both : Both t u) (ks : List (List Slice)) where
 
   pub read_back : (f : Flags) (id : List ℕ) (s r : Slice) (d : Option ℕ) → SeenAs t u ks s r → FormedAs id f.has_size d r → can_be_read all_slices (slice_class s) f ≡ true
   read_back f id (known a content) r d seen form = refl
-  read_back f id (kept i b o k) r d (r_is, hidden) (inl (is, big, x2, o2, k2, form)) = big
-  read_back f id (kept i b o k) r d (r_is, hidden) (inr (e, content, is, form)) = known_kept e content i b o k (sym form ∙ r_is)
+  read_back f id (unknown i b o k) r d (r_is, hidden) (inl (is, big, x2, o2, k2, form)) = big
+  read_back f id (unknown i b o k) r d (r_is, hidden) (inr (e, content, is, form)) = known_unknown e content i b o k (sym form ∙ r_is)
 
   pub before_back : (f : Flags) (id : List ℕ) (s r : Slice) (d : Option ℕ) → SeenAs t u ks s r → FormedAs id f.has_size d r → BackAs (before_next u d f) (before_next t (slice_class s) f)
-  before_back f id (kept i b o k) r d (r_is, hidden) (inr (e, content, is, form)) = known_kept e content i b o k (sym form ∙ r_is)
-  before_back f id (kept i b o k) r d (r_is, hidden) (inl (is, big, x2, o2, k2, form)) = ap (λ (d : Option ℕ). before_next u d f) is
-  before_back f id (known a content) r d (inl (b, r_is, tied)) (inl (is, big, x2, o2, k2, form)) = known_kept b content id x2 o2 k2 (sym r_is ∙ form)
+  before_back f id (unknown i b o k) r d (r_is, hidden) (inr (e, content, is, form)) = known_unknown e content i b o k (sym form ∙ r_is)
+  before_back f id (unknown i b o k) r d (r_is, hidden) (inl (is, big, x2, o2, k2, form)) = ap (λ (d : Option ℕ). before_next u d f) is
+  before_back f id (known a content) r d (inl (b, r_is, tied)) (inl (is, big, x2, o2, k2, form)) = known_unknown b content id x2 o2 k2 (sym r_is ∙ form)
   before_back f id (known a content) r d (inl (b, r_is, tied)) (inr (e, other, is, form)) =
       known_is e b other content (sym form ∙ r_is) λ same.
       subst (λ (d : Option ℕ). BackAs (before_next u d f) (before_base f.has_size (base_of t a))) (sym (is ∙ ap Some same)) (by_bases (base_of t a) (base_of u b) (tied_base t u both a b tied))
@@ -145,11 +145,11 @@ module _ (t u : Tables) (both : Both t u) (ks : List (List Slice)) where
       by_bases : (o p : Option ℕ) → SameBase t u rows.Class o p → BackAs (before_base f.has_size p) (before_base f.has_size o)
       by_bases None p e = ap (before_base f.has_size) e
       by_bases (Some x) p (y, e, tied) = inr (y, ap (before_base f.has_size) e, tied)
-  before_back f id (known a content) r d (inr (i, b, o, k, r_is, named, hidden, opens)) (inr (e, other, is, form)) = known_kept e other i b o k (sym form ∙ r_is)
+  before_back f id (known a content) r d (inr (i, b, o, k, r_is, named, hidden, opens)) (inr (e, other, is, form)) = known_unknown e other i b o k (sym form ∙ r_is)
   before_back f id (known a content) r d (inr (i, b, o, k, r_is, named, hidden, opens)) (inl (is, big, x2, o2, k2, form)) =
       subst (λ (d : Option ℕ). BackAs (before_next u d f) (before_base f.has_size (base_of t a))) (sym is) (by_base (base_of t a))
     where
-      by_base : (o : Option ℕ) → BackAs only_kept (before_base f.has_size o)
+      by_base : (o : Option ℕ) → BackAs only_unknown (before_base f.has_size o)
       by_base None = refl
       by_base (Some x) = inl (big, refl)
 
@@ -176,5 +176,5 @@ module _ (t u : Tables) (both : Both t u) (ks : List (List Slice)) where
         no_more (s ∷ ss) rs seen e = absurd cc
 
     pub well_back : (f : Flags) (x : Before) (s : Slice) → Ready x (s ∷ ss) → Others port u (SpellsSlices port u all_slices n) f.is_last y bytes rs from to → ends_well t (slice_class s) f ≡ true
-    well_back f x (kept i b o k) ready h = refl
+    well_back f x (unknown i b o k) ready h = refl
     well_back f x (known a content) ready h = ends_back f.is_last h (base_of t a) (known_ready x a content ss ready).0

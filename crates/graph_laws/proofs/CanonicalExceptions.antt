@@ -6,7 +6,7 @@ use Rattle.ice_types.specs.Rules.{IsSchema}
 use Rattle.ice_encoding.specs.declared.limits.TheConstants.{LARGEST}
 use Rattle.ice_encoding.specs.Pausing.{written_in_place}
 use Rattle.ice_graphs.specs.Canonical.{Format, compact, put_inline, written_instance, blank}
-use Rattle.ice_graphs.specs.Exceptions.{of_exceptions, Raised, RaisedSlices, SpellsRaised, SpellsException}
+use Rattle.ice_graphs.specs.Exceptions.{of_exceptions, UserException, UserExceptionSlices, SpellsUserException, SpellsException}
 use Rattle.ice_graphs.specs.Flags.{Reach, all_slices, known_classes, first}
 use Rattle.ice_graphs.specs.Graph.{Slice, Graph}
 use Rattle.ice_graphs.specs.Instances.{instances, slices_of, most_instances, AllFit}
@@ -24,15 +24,15 @@ use Rattle.graph_laws.proofs.Reached.{reached-few}
 use Rattle.graph_laws.proofs.Schemas.{utf8_texts, few-enough}
 use Rattle.graph_laws.proofs.TypeIds.{Spelled, HaveTexts}
 use Rattle.graph_laws.proofs.Upto.{upto, visit-grows}
-use Rattle.ice_graphs.specs.RaisedTyped.{OfRaised}
-use Rattle.ice_graphs.specs.RaisedWritten.{graph_of, order_of, numbered_raised, form_of, SameRaised, SpellsSame, raised_bytes, canonical_raised, exception_bytes, CanBeWritten}
-use Rattle.graph_laws.proofs.RaisedForms.{exceptions_named, exception_texts, root_names, graph_numbered, shape_of, graph_typed, slices_typed, form_same}
+use Rattle.ice_graphs.specs.UserExceptionTyped.{OfUserException}
+use Rattle.ice_graphs.specs.UserExceptionWritten.{graph_of, order_of, numbered_user_exception, form_of, SameUserException, SpellsSame, user_exception_bytes, canonical_user_exception, exception_bytes, CanBeWritten}
+use Rattle.graph_laws.proofs.UserExceptionForms.{exceptions_named, exception_texts, root_names, graph_numbered, shape_of, graph_typed, slices_typed, form_same}
 use Rattle.graph_laws.proofs.WrittenGraphs.{rising, refer_long, inline_instances}
-use Rattle.graph_laws.proofs.WrittenRaised.{raised_good}
+use Rattle.graph_laws.proofs.WrittenUserException.{user_exception_good}
 
 -- ---- an exception whose names are numbers by first visit
 
-module _ (t : Tables) (named : AreNamed t) (named_raised : AreNamed (of_exceptions t)) (reach : Reach) (format : Format) (k : Raised) (room : ℕ) (fits : length k.instances ≤ room) (small_graph : length k.instances + 2 < 2 ^ 31)
+module _ (t : Tables) (named : AreNamed t) (named_user_exception : AreNamed (of_exceptions t)) (reach : Reach) (format : Format) (k : UserException) (room : ℕ) (fits : length k.instances ≤ room) (small_graph : length k.instances + 2 < 2 ^ 31)
     (typed : (n : ℕ) → n < length k.instances → IsInstance t (RefersIn t k.instances) (slices_of k.instances n)) (asked : (n : ℕ) → n < length k.instances → Asked reach format (slices_of k.instances n) × HaveTexts t (slices_of k.instances n))
     (range : (n : ℕ) → n < length k.instances → AreBelow (length k.instances) (instance_names (slices_of k.instances n))) where
   abbrev g : Graph
@@ -42,10 +42,10 @@ module _ (t : Tables) (named : AreNamed t) (named_raised : AreNamed (of_exceptio
   limit = length k.instances
 
   slices_written : (more : ℕ) → Asked reach format k.slices → HaveTexts (of_exceptions t) k.slices → IsInstance (of_exceptions t) (RefersIn t k.instances) k.slices → AreBelow limit (instance_names k.slices) → limit ≤ most → limit ≤ more
-      → visit_each (visit_at most g) (instance_names k.slices) [] ≡ upto limit → length (raised_bytes t format k) < 2 ^ 31
-      → (end : Spelled) × ((n : ℕ) × RaisedSlices (instances t reach room more) (of_exceptions t) reach n first (raised_bytes t format k) k.slices opening end) × (end.instances ≡ k.instances) × AllFit t k.instances end.met
+      → visit_each (visit_at most g) (instance_names k.slices) [] ≡ upto limit → length (user_exception_bytes t format k) < 2 ^ 31
+      → (end : Spelled) × ((n : ℕ) × UserExceptionSlices (instances t reach room more) (of_exceptions t) reach n first (user_exception_bytes t format k) k.slices opening end) × (end.instances ≡ k.instances) × AllFit t k.instances end.met
   slices_written more can texts is below deep wide run small =
-      let e = raised_good t named_raised reach g (visit_at most g) (visit-grows most g) (λ i. (limit ≤ most + i) × (limit ≤ more + i)) (λ i j h le. (omega (arith, h.0, le), omega (arith, h.1, le))) (instances t reach room more)
+      let e = user_exception_good t named_user_exception reach g (visit_at most g) (visit-grows most g) (λ i. (limit ≤ most + i) × (limit ≤ more + i)) (λ i j h le. (omega (arith, h.0, le), omega (arith, h.1, le))) (instances t reach room more)
       (written_in_place put_inline (written_instance t format g most))
       (rising t named reach format g room fits small_graph typed asked range (instances t reach room) (inline_instances t reach format room) most more)
       (refer_long t named reach format g room fits small_graph typed asked range (instances t reach room) (inline_instances t reach format room) most)
@@ -58,7 +58,7 @@ small_enough : (a b : ℕ) → a ≡ b → b ≤ most_instances → a + 2 < 2 ^ 
 unfolding most_instances
 small_enough a b e le = omega (arith, e, le)
 
-module _ (t : Tables) (rules : IsSchema t) (reach : Reach) (format : Format) (x : Raised) (typed : OfRaised t x) (can : Asked reach format x.slices) (asked : (n : ℕ) → place (order_of x) n < length (order_of x) → Asked reach format (slices_of x.instances n))
+module _ (t : Tables) (rules : IsSchema t) (reach : Reach) (format : Format) (x : UserException) (typed : OfUserException t x) (can : Asked reach format x.slices) (asked : (n : ℕ) → place (order_of x) n < length (order_of x) → Asked reach format (slices_of x.instances n))
     (few : length (order_of x) ≤ most_instances) where
   reached : Reached (graph_of x)
   reached = reached-few t (shape_of x) (graph_of x) (graph_typed t x typed) (few-enough (length (order_of x)) few)
@@ -66,11 +66,11 @@ module _ (t : Tables) (rules : IsSchema t) (reach : Reach) (format : Format) (x 
   each_asked : EachAsked t reach format (graph_of x)
   each_asked n lt = (asked n lt, utf8_texts t rules (slices_of x.instances n))
 
-  form_spelled : length (canonical_raised t format x) < 2 ^ 31 → SpellsRaised t reach (canonical_raised t format x) (form_of x)
-  unfolding canonical_raised form_of SpellsRaised order
+  form_spelled : length (canonical_user_exception t format x) < 2 ^ 31 → SpellsUserException t reach (canonical_user_exception t format x) (form_of x)
+  unfolding canonical_user_exception form_of SpellsUserException order
   form_spelled small =
       let ns : List ℕ = order_of x in
-      let k : Raised = numbered_raised ns x in
+      let k : UserException = numbered_user_exception ns x in
       let size : length k.instances ≡ length ns = length-map ns (λ n. map (renamed_slice (place ns)) (slices_of x.instances n)) in
       let in_order : InOrder (graph_of k) = subst InOrder (sym (graph_numbered ns x)) (form-in_order (graph_of x) reached) in
       let of_type = form-typed t (shape_of x) reach format (graph_of x) reached (graph_typed t x typed) each_asked in
@@ -81,27 +81,27 @@ module _ (t : Tables) (rules : IsSchema t) (reach : Reach) (format : Format) (x 
       (w.0, w.1.0, w.1.1, w.2, subst (λ (is : List (List Slice)). AllFit t is w.0.met) (sym w.2) w.3)
 
   pub form_written : length (exception_bytes t format x) ≤ LARGEST → SpellsException t reach (exception_bytes t format x) (form_of x)
-  form_written small = (canonical_raised t format x, refl, small, form_spelled (omega (arith, six_more (canonical_raised t format x), small)))
+  form_written small = (canonical_user_exception t format x, refl, small, form_spelled (omega (arith, six_more (canonical_user_exception t format x), small)))
 
   pub written_same : length (exception_bytes t format x) ≤ LARGEST → SpellsSame t reach (exception_bytes t format x) x
   written_same small = (form_of x, form_written small, form_same x reached)
 
   -- no other exception is read from its bytes
-  pub read_same : (y : Raised) → SpellsException t reach (exception_bytes t format x) y → SameRaised y x
-  read_same y h = subst (λ (z : Raised). SameRaised z x) (exception_apart t reach (exception_bytes t format x) (form_of x) y (form_written h.2) h) (form_same x reached)
+  pub read_same : (y : UserException) → SpellsException t reach (exception_bytes t format x) y → SameUserException y x
+  read_same y h = subst (λ (z : UserException). SameUserException z x) (exception_apart t reach (exception_bytes t format x) (form_of x) y (form_written h.2) h) (form_same x reached)
 
 -- ---- of schemas
 
-pub exception_written : (t : Tables) (format : Format) (x : Raised) → IsSchema t → OfRaised t x → CanBeWritten format x → length (order_of x) ≤ most_instances → length (exception_bytes t format x) ≤ LARGEST
+pub exception_written : (t : Tables) (format : Format) (x : UserException) → IsSchema t → OfUserException t x → CanBeWritten format x → length (order_of x) ≤ most_instances → length (exception_bytes t format x) ≤ LARGEST
     → SpellsSame t all_slices (exception_bytes t format x) x
 exception_written t format x rules typed can few small = written_same t rules all_slices format x typed can.0 can.1 few small
 
-pub exception_known : (t : Tables) (format : Format) (x : Raised) → IsSchema t → OfRaised t x → CanBeWritten compact x → length (order_of x) ≤ most_instances → length (exception_bytes t format x) ≤ LARGEST
+pub exception_known : (t : Tables) (format : Format) (x : UserException) → IsSchema t → OfUserException t x → CanBeWritten compact x → length (order_of x) ≤ most_instances → length (exception_bytes t format x) ≤ LARGEST
     → SpellsSame t known_classes (exception_bytes t format x) x
 exception_known t format x rules typed can few small = written_same t rules known_classes format x typed can.0 can.1 few small
 
-pub exception_read : (t : Tables) (format : Format) (x y : Raised) → IsSchema t → OfRaised t x → CanBeWritten format x → length (order_of x) ≤ most_instances → SpellsException t all_slices (exception_bytes t format x) y → SameRaised y x
+pub exception_read : (t : Tables) (format : Format) (x y : UserException) → IsSchema t → OfUserException t x → CanBeWritten format x → length (order_of x) ≤ most_instances → SpellsException t all_slices (exception_bytes t format x) y → SameUserException y x
 exception_read t format x y rules typed can few h = read_same t rules all_slices format x typed can.0 can.1 few y h
 
-pub known_read : (t : Tables) (format : Format) (x y : Raised) → IsSchema t → OfRaised t x → CanBeWritten compact x → length (order_of x) ≤ most_instances → SpellsException t known_classes (exception_bytes t format x) y → SameRaised y x
+pub known_read : (t : Tables) (format : Format) (x y : UserException) → IsSchema t → OfUserException t x → CanBeWritten compact x → length (order_of x) ≤ most_instances → SpellsException t known_classes (exception_bytes t format x) y → SameUserException y x
 known_read t format x y rules typed can few h = read_same t rules known_classes format x typed can.0 can.1 few y h

@@ -9,7 +9,7 @@ use Rattle.ice_types.specs.Rules.{IsSchema}
 use Rattle.ice_types.specs.Lacking.{SameBase, Lacks}
 use Rattle.ice_types.proofs.RowIdentity.{one_id}
 use Rattle.ice_graphs.specs.Classes.{class_named, base_of}
-use Rattle.ice_graphs.specs.Flags.{Flags, all_slices, has_id, Before, first, only_kept, derived, may_stand}
+use Rattle.ice_graphs.specs.Flags.{Flags, all_slices, has_id, Before, first, only_unknown, derived, may_stand}
 use Rattle.ice_graphs.specs.TypeIds.{class_in, is_base, same_class, can_be_read, same_bool, ends_well, before_base, before_next}
 use Rattle.graph_laws.proofs.Bases.{row_of_id}
 use Rattle.graph_laws.proofs.Named.{are_named}
@@ -59,13 +59,13 @@ module _ (t u : Tables) (both : Both t u) where
 
   abbrev pub BeforeAs : Before → Before → Type 0
   BeforeAs first y = y ≡ first
-  BeforeAs only_kept y = y ≡ only_kept
-  BeforeAs (derived true a) y = (y ≡ only_kept) ⊎ ((b : ℕ) × (y ≡ derived true b) × SameClassId t u a b)
+  BeforeAs only_unknown y = y ≡ only_unknown
+  BeforeAs (derived true a) y = (y ≡ only_unknown) ⊎ ((b : ℕ) × (y ≡ derived true b) × SameClassId t u a b)
   BeforeAs (derived false a) y = (b : ℕ) × (y ≡ derived false b) × SameClassId t u a b
 
   pub class_before : (x y : Before) → BeforeAs x y → (id : List ℕ) → ClassAs id (class_in t x id) (class_in u y id)
   class_before first y sees id = subst (λ (y : Before). ClassAs id (class_named t id) (class_in u y id)) (sym sees) (class_as id)
-  class_before only_kept y sees id = subst (λ (y : Before). ClassAs id (class_named t id) (class_in u y id)) (sym sees) (class_as id)
+  class_before only_unknown y sees id = subst (λ (y : Before). ClassAs id (class_named t id) (class_in u y id)) (sym sees) (class_as id)
   class_before (derived true a) y (inl sees) id = subst (λ (y : Before). ClassAs id (class_named t id) (class_in u y id)) (sym sees) (class_as id)
   class_before (derived true a) y (inr (b, sees, tied)) id = subst (λ (y : Before). ClassAs id (class_named t id) (class_in u y id)) (sym sees) (class_as id)
   class_before (derived false a) y (b, sees, tied) id = subst (λ (y : Before). ClassAs id (Some a) (class_in u y id)) (sym sees) (inr (b, refl, tied))
@@ -91,7 +91,7 @@ module _ (t u : Tables) (both : Both t u) where
 
   pub base_as : (x y : Before) → BeforeAs x y → (id : List ℕ) (c d : Option ℕ) → ClassAs id c d → is_base x c ≡ true → is_base y d ≡ true
   base_as first y sees id c d class h = subst (λ (y : Before). is_base y d ≡ true) (sym sees) refl
-  base_as only_kept y sees id c d class h = subst (λ (y : Before). is_base y d ≡ true) (sym sees) refl
+  base_as only_unknown y sees id c d class h = subst (λ (y : Before). is_base y d ≡ true) (sym sees) refl
   base_as (derived true a) y (inl sees) id c d class h = subst (λ (y : Before). is_base y d ≡ true) (sym sees) refl
   base_as (derived true a) y (inr (b, sees, tied)) id c d class h = subst (λ (y : Before). is_base y d ≡ true) (sym sees) (base_tied true a b id c d tied class h)
   base_as (derived false a) y (b, sees, tied) id c d class h = subst (λ (y : Before). is_base y d ≡ true) (sym sees) (base_tied false a b id c d tied class h)
@@ -123,17 +123,17 @@ module _ (t u : Tables) (both : Both t u) where
   ends_as f id (Some c) d (inr (e, is, tied)) h = subst (λ (d : Option ℕ). ends_well u d f ≡ true) (sym is)
       (subst (λ (b : Bool). same_bool f.is_last b ≡ true) (none_tied (base_of t c) (base_of u e) (tied_base c e tied)) h)
 
-  before_hidden : (sized : Bool) → sized ≡ true → (o : Option ℕ) → BeforeAs (before_base sized o) only_kept
+  before_hidden : (sized : Bool) → sized ≡ true → (o : Option ℕ) → BeforeAs (before_base sized o) only_unknown
   before_hidden sized e None = refl
-  before_hidden sized e (Some a) = subst (λ (b : Bool). BeforeAs (derived b a) only_kept) (sym e) (inl refl)
+  before_hidden sized e (Some a) = subst (λ (b : Bool). BeforeAs (derived b a) only_unknown) (sym e) (inl refl)
 
   before_shown : (sized : Bool) (o p : Option ℕ) → SameBase t u rows.Class o p → BeforeAs (before_base sized o) (before_base sized p)
-  before_shown sized None p lone = subst (λ (p : Option ℕ). BeforeAs only_kept (before_base sized p)) (sym lone) refl
+  before_shown sized None p lone = subst (λ (p : Option ℕ). BeforeAs only_unknown (before_base sized p)) (sym lone) refl
   before_shown true (Some a) p (b, is, tied) = subst (λ (p : Option ℕ). BeforeAs (derived true a) (before_base true p)) (sym is) (inr (b, refl, tied))
   before_shown false (Some a) p (b, is, tied) = subst (λ (p : Option ℕ). BeforeAs (derived false a) (before_base false p)) (sym is) (b, refl, tied)
 
   pub next_as : (f : Flags) (id : List ℕ) (c d : Option ℕ) → SizedOr f.has_size d → ClassAs id c d → BeforeAs (before_next t c f) (before_next u d f)
-  next_as f id None d sized class = subst (λ (d : Option ℕ). BeforeAs only_kept (before_next u d f)) (sym class.0) refl
+  next_as f id None d sized class = subst (λ (d : Option ℕ). BeforeAs only_unknown (before_next u d f)) (sym class.0) refl
   next_as f id (Some c) d (inl sized) (inl (is, named, hidden)) = subst (λ (d : Option ℕ). BeforeAs (before_base f.has_size (base_of t c)) (before_next u d f)) (sym is) (before_hidden f.has_size sized (base_of t c))
   next_as f id (Some c) d (inr (b, here)) (inl (is, named, hidden)) = none_some d b is here
   next_as f id (Some c) d sized (inr (e, is, tied)) =
@@ -148,13 +148,13 @@ module _ (t u : Tables) (both : Both t u) where
   -- every slice behind one that can be read can be read
   pub sized_before : (x y : Before) → BeforeAs x y → (f : Flags) (id : List ℕ) → may_stand x f ≡ true → (x ≡ first → SizedOr f.has_size (class_in u y id)) → SizedOr f.has_size (class_in u y id)
   sized_before first y sees f id h start = start refl
-  sized_before only_kept y sees f id h start = inl (and_both (has_id f.id) f.has_size h).1
+  sized_before only_unknown y sees f id h start = inl (and_both (has_id f.id) f.has_size h).1
   sized_before (derived true a) y sees f id h start = inl (and_both (has_id f.id) f.has_size h).1
   sized_before (derived false a) y (b, sees, tied) f id h start = inr (b, ap (λ (y : Before). class_in u y id) sees)
 
   pub stands_as : (x y : Before) → BeforeAs x y → (f : Flags) → may_stand x f ≡ may_stand y f
   stands_as first y sees f = ap (λ (y : Before). may_stand y f) (sym sees)
-  stands_as only_kept y sees f = ap (λ (y : Before). may_stand y f) (sym sees)
+  stands_as only_unknown y sees f = ap (λ (y : Before). may_stand y f) (sym sees)
   stands_as (derived true a) y (inl sees) f = ap (λ (y : Before). may_stand y f) (sym sees)
   stands_as (derived true a) y (inr (b, sees, tied)) f = ap (λ (y : Before). may_stand y f) (sym sees)
   stands_as (derived false a) y (b, sees, tied) f = ap (λ (y : Before). may_stand y f) (sym sees)

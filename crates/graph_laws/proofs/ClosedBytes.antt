@@ -15,7 +15,7 @@ use Rattle.ice_graphs.specs.Prefixes.{Prefix, prefix_of}
 use Rattle.ice_graphs.specs.Optionals.{Present, kind_tagged}
 use Rattle.ice_graphs.specs.OptionalMembers.{Members}
 use Rattle.ice_graphs.specs.Classes.{own_members}
-use Rattle.ice_graphs.specs.Graph.{Slice, known, kept, Graph}
+use Rattle.ice_graphs.specs.Graph.{Slice, known, unknown, Graph}
 use Rattle.ice_graphs.specs.Names.{renamed_members}
 use Rattle.ice_graphs.specs.Slices.{slice_size}
 use Rattle.ice_graphs.specs.Instances.{slices_of}
@@ -62,7 +62,7 @@ module _ (t u : Tables) (agrees : Agrees t u) where
     bytes : sized_bytes u r ≡ sized_bytes t s
 
   closed_written : (s r : Slice) → ClosedAs t u s r → WrittenAs s r
-  closed_written (kept i x o k) r (is, hidden) = subst (WrittenAs (kept i x o k)) (sym is) (record { optional = refl; table = refl; id = refl; bytes = refl })
+  closed_written (unknown i x o k) r (is, hidden) = subst (WrittenAs (unknown i x o k)) (sym is) (record { optional = refl; table = refl; id = refl; bytes = refl })
   closed_written (known a content) r (inl (b, is, (id, here, there))) = subst (WrittenAs (known a content)) (sym is) (record {
     optional = refl;
     table = refl;

@@ -4,7 +4,7 @@ use Rattle.std.proofs.Common.{ℕ, zero, suc, ◌≡◌, ◌<◌, ◌≤◌, Lis
 use Rattle.std.proofs.lemmas.Bool.{cases_lt, le-ltb}
 use Rattle.ice_types.specs.Tables.{Tables}
 use Rattle.ice_graphs.specs.OptionalMembers.{Members}
-use Rattle.ice_graphs.specs.Graph.{Slice, known, kept, Graph}
+use Rattle.ice_graphs.specs.Graph.{Slice, known, unknown, Graph}
 use Rattle.ice_graphs.specs.Names.{names_of, slice_names, instance_names}
 use Rattle.ice_graphs.specs.Instances.{slices_of}
 use Rattle.ice_graphs.specs.Visiting.{place, is_listed, visit_each, visit_at, most, order}
@@ -31,7 +31,7 @@ module _ (t u : Tables) (k h : Graph) (closed : EachClosed t u k.instances h.ins
       ap (visit_each (visit_at depth h) xs) (go x i p.mid below.0 deep p.first) ∙ each_goes depth go xs p.mid j below.1 (omega (arith, deep, p.low)) p.second
 
   slice_goes : (depth : ℕ) → Goes depth → (s r : Slice) → ClosedAs t u s r → (i j : ℕ) → AreBelow limit (slice_names s) → Deep limit depth i → visit_each (visit_at depth k) (slice_names s) (upto i) ≡ upto j → visit_each (visit_at depth h) (slice_names r) (upto i) ≡ upto j
-  slice_goes depth go (kept id bytes o table) r (is, hidden) i j below deep e = subst (λ (s : Slice). visit_each (visit_at depth h) (slice_names s) (upto i) ≡ upto j) (sym is) (each_goes depth go table i j below deep e)
+  slice_goes depth go (unknown id bytes o table) r (is, hidden) i j below deep e = subst (λ (s : Slice). visit_each (visit_at depth h) (slice_names s) (upto i) ≡ upto j) (sym is) (each_goes depth go table i j below deep e)
   slice_goes depth go (known a content) r (inl (b, is, tied)) i j below deep e = subst (λ (s : Slice). visit_each (visit_at depth h) (slice_names s) (upto i) ≡ upto j) (sym is) (each_goes depth go (names_of content) i j below deep e)
   slice_goes depth go (known a content) r (inr (x, is, named, hidden, written)) i j below deep e = subst (λ (s : Slice). visit_each (visit_at depth h) (slice_names s) (upto i) ≡ upto j) (sym is)
       (each_goes depth go (each_once [] (names_of content)) i j (once-below limit [] (names_of content) below) deep (once-run k limit depth [] (names_of content) i j deep tt below e))
@@ -65,7 +65,7 @@ module _ (t u : Tables) (k h : Graph) (closed : EachClosed t u k.instances h.ins
 
   -- names stay below
   slice_below : (s r : Slice) → ClosedAs t u s r → AreBelow limit (slice_names s) → AreBelow limit (slice_names r)
-  slice_below (kept id bytes o table) r (is, hidden) below = subst (λ (s : Slice). AreBelow limit (slice_names s)) (sym is) below
+  slice_below (unknown id bytes o table) r (is, hidden) below = subst (λ (s : Slice). AreBelow limit (slice_names s)) (sym is) below
   slice_below (known a content) r (inl (b, is, tied)) below = subst (λ (s : Slice). AreBelow limit (slice_names s)) (sym is) below
   slice_below (known a content) r (inr (x, is, named, hidden, written)) below = subst (λ (s : Slice). AreBelow limit (slice_names s)) (sym is) (once-below limit [] (names_of content) below)
 

@@ -16,10 +16,10 @@ use Rattle.ice_encoding.specs.Enum.{HasNumber}
 use Rattle.ice_graphs.specs.Optionals.{Present, kind_tagged}
 use Rattle.ice_graphs.specs.OptionalMembers.{Members, required_kinds}
 use Rattle.ice_graphs.specs.Classes.{class_named, base_of, own_members}
-use Rattle.ice_graphs.specs.Graph.{Slice, known, kept, Graph}
+use Rattle.ice_graphs.specs.Graph.{Slice, known, unknown, Graph}
 use Rattle.ice_graphs.specs.Names.{names_of, instance_names}
 use Rattle.ice_graphs.specs.Instances.{slices_of}
-use Rattle.ice_graphs.specs.Typed.{AreReferred, AreOptions, AreMembers, IsKnown, AreBases, IsKept, IsInstance, RefersIn, OfType}
+use Rattle.ice_graphs.specs.Typed.{AreReferred, AreOptions, AreMembers, IsKnown, AreBases, IsUnknown, IsInstance, RefersIn, OfType}
 use Rattle.ice_graphs.specs.Canonical.{is_there, id_of, table_of}
 use Rattle.graph_arena.specs.Arena.{AreBelow}
 use Rattle.graph_arena.proofs.Agreeing.{below-left, below-right}
@@ -150,12 +150,12 @@ module _ (t u : Tables) (both : Both t u) (ks js : List (List Slice)) (closed : 
   referred_there (n ∷ ns) h = (moves_there None None (Some n) refl h.0, referred_there ns h.1)
 
   -- a slice that is kept as it is written
-  kept_there : (a : ℕ) (content : Members) (id : List ℕ) → class_named t id ≡ Some a → class_named u id ≡ None → AreBelow (length ks) (names_of content) → IsKept u Other id (table_of (known a content))
-  kept_there a content id named hidden below =
+  unknown_there : (a : ℕ) (content : Members) (id : List ℕ) → class_named t id ≡ Some a → class_named u id ≡ None → AreBelow (length ks) (names_of content) → IsUnknown u Other id (table_of (known a content))
+  unknown_there a content id named hidden below =
       (hidden, (both.reader.type_ids id (rows.Class a) (id_named t id a named)).1, referred (table_of (known a content)) (once-below (length ks) [] (names_of content) below))
 
-  before : (id bytes : List ℕ) (o : Bool) (table : List ℕ) (rs : List Slice) → IsKept u Other id table → (rs ≡ []) ⊎ IsInstance u Other rs → IsInstance u Other (kept id bytes o table ∷ rs)
-  before id bytes o table rs k (inl e) = subst (λ (l : List Slice). IsInstance u Other (kept id bytes o table ∷ l)) (sym e) k
+  before : (id bytes : List ℕ) (o : Bool) (table : List ℕ) (rs : List Slice) → IsUnknown u Other id table → (rs ≡ []) ⊎ IsInstance u Other rs → IsInstance u Other (unknown id bytes o table ∷ rs)
+  before id bytes o table rs k (inl e) = subst (λ (l : List Slice). IsInstance u Other (unknown id bytes o table ∷ l)) (sym e) k
   before id bytes o table [] k (inr h) = absurd h
   before id bytes o table (r ∷ rs) k (inr h) = (k, h)
 
@@ -163,7 +163,7 @@ module _ (t u : Tables) (both : Both t u) (ks js : List (List Slice)) (closed : 
   bases_there None p lone ss rs bases all =
       subst (λ (p : Option ℕ). AreBases u Other p rs) (sym lone) (subst (λ (l : List Slice). AllClosed t u l rs) bases all)
   bases_there (Some a) p (q, is, tied) [] rs bases all = absurd bases
-  bases_there (Some a) p (q, is, tied) (kept id bytes o table ∷ ss) rs bases all = absurd bases
+  bases_there (Some a) p (q, is, tied) (unknown id bytes o table ∷ ss) rs bases all = absurd bases
   bases_there (Some a) p (q, is, tied) (known b content ∷ ss) rs (same, is_known, bases) (r, others, split, inl (c, r_is, here), rest) =
       let one : c ≡ q = tied_once t u both a c q (subst (λ (k : ℕ). SameClassId t u k c) same here) tied in
       subst (λ (p : Option ℕ). AreBases u Other p rs) (sym is) (subst (AreBases u Other (Some q)) (sym split) (subst (λ (s : Slice). AreBases u Other (Some q) (s ∷ others)) (sym r_is)
@@ -175,7 +175,7 @@ module _ (t u : Tables) (both : Both t u) (ks js : List (List Slice)) (closed : 
   follow_there : (o : Option ℕ) (ss rs : List Slice) → AreBases t Refer o ss → AreBelow (length ks) (instance_names ss) → AllClosed t u ss rs → (rs ≡ []) ⊎ IsInstance u Other rs
   follow_there None ss rs bases below all = inl (subst (λ (l : List Slice). AllClosed t u l rs) bases all)
   follow_there (Some a) [] rs bases below all = absurd bases
-  follow_there (Some a) (kept id bytes o table ∷ ss) rs bases below all = absurd bases
+  follow_there (Some a) (unknown id bytes o table ∷ ss) rs bases below all = absurd bases
   follow_there (Some a) (known b content ∷ ss) rs (same, is_known, bases) below (r, others, split, inl (c, r_is, here), rest) =
       let tied : SameClassId t u a c = subst (λ (k : ℕ). SameClassId t u k c) same here in
       inr (subst (IsInstance u Other) (sym split) (subst (λ (s : Slice). IsInstance u Other (s ∷ others)) (sym r_is)
@@ -183,14 +183,14 @@ module _ (t u : Tables) (both : Both t u) (ks js : List (List Slice)) (closed : 
   follow_there (Some a) (known b content ∷ ss) rs (same, is_known, bases) below (r, others, split, inr (x, r_is, named, hidden, written), rest) =
       let more = follow_there (base_of t a) ss others bases (below-right (length ks) (names_of content) (instance_names ss) below) rest in
       inr (subst (IsInstance u Other) (sym split) (subst (λ (s : Slice). IsInstance u Other (s ∷ others)) (sym r_is)
-      (before (id_of t (known b content)) x (is_there content.optional) (table_of (known b content)) others (kept_there b content (id_of t (known b content)) named hidden (below-left (length ks) (names_of content) (instance_names ss) below)) more)))
+      (before (id_of t (known b content)) x (is_there content.optional) (table_of (known b content)) others (unknown_there b content (id_of t (known b content)) named hidden (below-left (length ks) (names_of content) (instance_names ss) below)) more)))
 
   instance_there : (ss rs : List Slice) → IsInstance t Refer ss → AreBelow (length ks) (instance_names ss) → AllClosed t u ss rs → IsInstance u Other rs
   instance_there [] rs h below all = absurd h
-  instance_there (kept id bytes o table ∷ []) rs h below (r, others, split, is, rest) =
+  instance_there (unknown id bytes o table ∷ []) rs h below (r, others, split, is, rest) =
       subst (IsInstance u Other) (sym split) (subst (λ (s : Slice). IsInstance u Other (s ∷ others)) (sym is.0)
       (before id bytes o table others (is.1, h.1, referred_there table h.2) (inl rest)))
-  instance_there (kept id bytes o table ∷ s ∷ ss) rs h below (r, others, split, is, rest) =
+  instance_there (unknown id bytes o table ∷ s ∷ ss) rs h below (r, others, split, is, rest) =
       let more = instance_there (s ∷ ss) others h.1 (below-right (length ks) table (instance_names (s ∷ ss)) below) rest in
       subst (IsInstance u Other) (sym split) (subst (λ (s : Slice). IsInstance u Other (s ∷ others)) (sym is.0)
       (before id bytes o table others (is.1, h.0.1, referred_there table h.0.2) (inr more)))
@@ -200,7 +200,7 @@ module _ (t u : Tables) (both : Both t u) (ks js : List (List Slice)) (closed : 
   instance_there (known a content ∷ ss) rs h below (r, others, split, inr (x, r_is, named, hidden, written), rest) =
       let more = follow_there (base_of t a) ss others h.1 (below-right (length ks) (names_of content) (instance_names ss) below) rest in
       subst (IsInstance u Other) (sym split) (subst (λ (s : Slice). IsInstance u Other (s ∷ others)) (sym r_is)
-      (before (id_of t (known a content)) x (is_there content.optional) (table_of (known a content)) others (kept_there a content (id_of t (known a content)) named hidden (below-left (length ks) (names_of content) (instance_names ss) below)) more))
+      (before (id_of t (known a content)) x (is_there content.optional) (table_of (known a content)) others (unknown_there a content (id_of t (known a content)) named hidden (below-left (length ks) (names_of content) (instance_names ss) below)) more))
 
 -- the graph that is closed is of its type
 pub closed_typed : (t u : Tables) (both : Both t u) (shape other : Shape) → SameShape t u shape other → (k h : Graph) → h.roots ≡ k.roots → EachClosed t u k.instances h.instances

@@ -9,9 +9,9 @@ use Rattle.ice_encoding.specs.Writing.{Writer, written_each}
 use Rattle.ice_graphs.specs.Optionals.{Present, kind_tagged}
 use Rattle.ice_graphs.specs.OptionalMembers.{Members}
 use Rattle.ice_graphs.specs.Classes.{class_named, base_of, own_members}
-use Rattle.ice_graphs.specs.Graph.{Slice, known, kept}
+use Rattle.ice_graphs.specs.Graph.{Slice, known, unknown}
 use Rattle.ice_graphs.specs.Names.{renamed_members, renamed_present}
-use Rattle.ice_graphs.specs.Slices.{kept_bytes}
+use Rattle.ice_graphs.specs.Slices.{unknown_bytes}
 use Rattle.ice_graphs.specs.Instances.{slices_of}
 use Rattle.ice_graphs.specs.Visiting.{place}
 use Rattle.ice_graphs.specs.Members.{written_option, written_options, marked_options, written_slice_members}
@@ -33,10 +33,10 @@ module _ {P : Type 0} (refer : Writer P (Option ℕ)) (t : Tables) where
       let rest = options_end members end os head.1 in
       (head.0 ++ rest.0, ap (λ (l : List ℕ). head.0 ++ l) rest.1 ∙ sym (append_assoc head.0 rest.0 end))
 
-  slice_marked : (shape : Shape) (c : Members) (p : P) → (x : List ℕ) × ((written_slice_members refer t shape c p).0 ≡ kept_bytes (is_there c.optional) x)
+  slice_marked : (shape : Shape) (c : Members) (p : P) → (x : List ℕ) × ((written_slice_members refer t shape c p).0 ≡ unknown_bytes (is_there c.optional) x)
   slice_marked shape c p = by_optional c.optional
     where
-      by_optional : (os : Present) → (x : List ℕ) × ((written_each refer c.required p).0 ++ (marked_options refer t shape.optional os (written_each refer c.required p).1).0 ≡ kept_bytes (is_there os) x)
+      by_optional : (os : Present) → (x : List ℕ) × ((written_each refer c.required p).0 ++ (marked_options refer t shape.optional os (written_each refer c.required p).1).0 ≡ unknown_bytes (is_there os) x)
       by_optional [] = ((written_each refer c.required p).0 ++ [], refl)
       by_optional (o ∷ os) =
           let front = (written_each refer c.required p).0 in
@@ -47,10 +47,10 @@ there_still : (f : ℕ → ℕ) (os : Present) → is_there (renamed_present f o
 there_still f [] = refl
 there_still f (o ∷ os) = refl
 
-sized_marked : (t : Tables) (a : ℕ) (content : Members) → (x : List ℕ) × (sized_bytes t (known a content) ≡ kept_bytes (is_there content.optional) x)
+sized_marked : (t : Tables) (a : ℕ) (content : Members) → (x : List ℕ) × (sized_bytes t (known a content) ≡ unknown_bytes (is_there content.optional) x)
 sized_marked t a content =
     let g = slice_marked by_size t (own_members t a) (renamed_members (place (table_of (known a content))) content) tt in
-    (g.0, g.1 ∙ ap (λ (b : Bool). kept_bytes b g.0) (there_still (place (table_of (known a content))) content.optional))
+    (g.0, g.1 ∙ ap (λ (b : Bool). unknown_bytes b g.0) (there_still (place (table_of (known a content))) content.optional))
 
 -- ---- the type id in a row
 
@@ -59,13 +59,13 @@ id_in_row t id a h = let r = row_there (λ c. c.id) t.classes a id h in ap id_in
 
 module _ (t u : Tables) where
   -- a slice of a class that the second schema lacks, kept as it is written
-  abbrev pub KeptWritten : ℕ → Members → Slice → Type 0
-  KeptWritten a content r = (x : List ℕ) × (r ≡ kept (id_of t (known a content)) x (is_there content.optional) (table_of (known a content)))
-      × (class_named t (id_of t (known a content)) ≡ Some a) × (class_named u (id_of t (known a content)) ≡ None) × (kept_bytes (is_there content.optional) x ≡ sized_bytes t (known a content))
+  abbrev pub UnknownWritten : ℕ → Members → Slice → Type 0
+  UnknownWritten a content r = (x : List ℕ) × (r ≡ unknown (id_of t (known a content)) x (is_there content.optional) (table_of (known a content)))
+      × (class_named t (id_of t (known a content)) ≡ Some a) × (class_named u (id_of t (known a content)) ≡ None) × (unknown_bytes (is_there content.optional) x ≡ sized_bytes t (known a content))
 
   abbrev pub ClosedAs : Slice → Slice → Type 0
-  ClosedAs (known a content) r = ((b : ℕ) × (r ≡ known b content) × SameClassId t u a b) ⊎ KeptWritten a content r
-  ClosedAs (kept id bytes optionals table) r = (r ≡ kept id bytes optionals table) × (class_named u id ≡ None)
+  ClosedAs (known a content) r = ((b : ℕ) × (r ≡ known b content) × SameClassId t u a b) ⊎ UnknownWritten a content r
+  ClosedAs (unknown id bytes optionals table) r = (r ≡ unknown id bytes optionals table) × (class_named u id ≡ None)
 
   abbrev pub AllClosed : List Slice → List Slice → Type 0
   AllClosed [] others = others ≡ []
@@ -88,7 +88,7 @@ module _ (t u : Tables) where
   like_closed : (s r : Slice) → ClosedAs s r → LikeAs t u s r
   like_closed (known a content) r (inl (b, is, tied)) = inl (b, content, is, tied)
   like_closed (known a content) r (inr (x, is, named, hidden, bytes)) = inr (id_of t (known a content), x, is_there content.optional, table_of (known a content), is, named, hidden)
-  like_closed (kept id bytes optionals table) r h = h.0
+  like_closed (unknown id bytes optionals table) r h = h.0
 
   pub all_like_closed : (ss rs : List Slice) → AllClosed ss rs → AllLike t u ss rs
   all_like_closed [] rs e = e
@@ -107,11 +107,11 @@ module _ (t u : Tables) where
         here = subst (λ (i : List ℕ). HasId (class_ids t) i a) (sym (ap id_in row)) (id_there (λ c. c.id) t.classes a d row)
 
         by_class : (o : Option ℕ) → class_named u id ≡ o → (r : Slice) × ClosedAs (known a content) r
-        by_class None e = let x = sized_marked t a content in (kept id x.0 (is_there content.optional) (table_of (known a content)), inr (x.0, refl, named_id t both.reader id a here, e, sym x.1))
+        by_class None e = let x = sized_marked t a content in (unknown id x.0 (is_there content.optional) (table_of (known a content)), inr (x.0, refl, named_id t both.reader id a here, e, sym x.1))
         by_class (Some b) e = (known b content, inl (b, refl, (id, here, id_named u id b e)))
 
-    close_kept : (id bytes : List ℕ) (optionals : Bool) (table : List ℕ) → class_named t id ≡ None → ClosedAs (kept id bytes optionals table) (kept id bytes optionals table)
-    close_kept id bytes optionals table none = (refl, by_class (class_named u id) refl)
+    close_unknown : (id bytes : List ℕ) (optionals : Bool) (table : List ℕ) → class_named t id ≡ None → ClosedAs (unknown id bytes optionals table) (unknown id bytes optionals table)
+    close_unknown id bytes optionals table none = (refl, by_class (class_named u id) refl)
       where
         by_class : (o : Option ℕ) → class_named u id ≡ o → class_named u id ≡ None
         by_class None e = e
@@ -120,7 +120,7 @@ module _ (t u : Tables) where
     close_follow : (o : Option ℕ) (ss : List Slice) → Follow t o ss → (rs : List Slice) × AllClosed ss rs
     close_follow None ss h = ([], subst (λ (l : List Slice). AllClosed l []) (sym h) refl)
     close_follow (Some a) [] h = absurd h
-    close_follow (Some a) (kept id bytes optionals table ∷ ss) h = absurd h
+    close_follow (Some a) (unknown id bytes optionals table ∷ ss) h = absurd h
     close_follow (Some a) (known b content ∷ ss) h =
         let one = close_known b content (subst (IsRow t.classes) (sym h.0) h.1) in
         let rest = close_follow (base_of t a) ss h.2 in
@@ -128,10 +128,10 @@ module _ (t u : Tables) where
 
     close_all : (ss : List Slice) → Stands t ss → (rs : List Slice) × AllClosed ss rs
     close_all [] h = absurd h
-    close_all (kept id bytes optionals table ∷ []) h = (kept id bytes optionals table ∷ [], (kept id bytes optionals table, [], refl, close_kept id bytes optionals table h, refl))
-    close_all (kept id bytes optionals table ∷ s ∷ ss) h =
+    close_all (unknown id bytes optionals table ∷ []) h = (unknown id bytes optionals table ∷ [], (unknown id bytes optionals table, [], refl, close_unknown id bytes optionals table h, refl))
+    close_all (unknown id bytes optionals table ∷ s ∷ ss) h =
         let rest = close_all (s ∷ ss) h.1 in
-        (kept id bytes optionals table ∷ rest.0, (kept id bytes optionals table, rest.0, refl, close_kept id bytes optionals table h.0, rest.1))
+        (unknown id bytes optionals table ∷ rest.0, (unknown id bytes optionals table, rest.0, refl, close_unknown id bytes optionals table h.0, rest.1))
     close_all (known a content ∷ ss) h =
         let one = close_known a content h.0 in
         let rest = close_follow (base_of t a) ss h.1 in

@@ -7,7 +7,7 @@ use Rattle.ice_types.specs.Tables.{Tables}
 use Rattle.ice_encoding.specs.Typed.{Refers}
 use Rattle.ice_graphs.specs.OptionalMembers.{Members}
 use Rattle.ice_graphs.specs.Classes.{base_of, own_members}
-use Rattle.ice_graphs.specs.Graph.{Slice, known, kept, Graph}
+use Rattle.ice_graphs.specs.Graph.{Slice, known, unknown, Graph}
 use Rattle.ice_graphs.specs.Names.{names_of, instance_names, renamed_members, renamed_slice}
 use Rattle.ice_graphs.specs.Instances.{class_of, slices_of, class_fits}
 use Rattle.ice_graphs.specs.Visiting.{place, order, most}
@@ -47,7 +47,7 @@ module _ (t : Tables) (f : ℕ → ℕ) (ns : List ℕ) (Refer Other : Refers) (
   bases-renamed : (base : Option ℕ) (ss : List Slice) → AreListed ns (instance_names ss) → AreBases t Refer base ss → AreBases t Other base (map (renamed_slice f) ss)
   bases-renamed None ss listed h = ap (map (renamed_slice f)) h
   bases-renamed (Some class) [] listed h = absurd h
-  bases-renamed (Some class) (kept id bytes optionals table ∷ ss) listed h = absurd h
+  bases-renamed (Some class) (unknown id bytes optionals table ∷ ss) listed h = absurd h
   bases-renamed (Some class) (known other content ∷ ss) listed h =
       (h.0, known-renamed class content (AreListed-left ns (names_of content) (instance_names ss) listed) h.1, bases-renamed (base_of t class) ss (AreListed-right ns (names_of content) (instance_names ss) listed) h.2)
 
@@ -57,8 +57,8 @@ module _ (t : Tables) (f : ℕ → ℕ) (ns : List ℕ) (Refer Other : Refers) (
 
   pub instance-typed : (ss : List Slice) → AreListed ns (instance_names ss) → IsInstance t Refer ss → IsInstance t Other (map (renamed_slice f) ss)
   instance-typed [] listed h = absurd h
-  instance-typed (kept id bytes optionals table ∷ []) listed h = (h.0, h.1, referred-renamed table (AreListed-left ns table [] listed) h.2)
-  instance-typed (kept id bytes optionals table ∷ s ∷ ss) listed h =
+  instance-typed (unknown id bytes optionals table ∷ []) listed h = (h.0, h.1, referred-renamed table (AreListed-left ns table [] listed) h.2)
+  instance-typed (unknown id bytes optionals table ∷ s ∷ ss) listed h =
       ((h.0.0, h.0.1, referred-renamed table (AreListed-left ns table (instance_names (s ∷ ss)) listed) h.0.2), instance-typed (s ∷ ss) (AreListed-right ns table (instance_names (s ∷ ss)) listed) h.1)
   instance-typed (known class content ∷ ss) listed h =
       (known-renamed class content (AreListed-left ns (names_of content) (instance_names ss) listed) h.0, bases-renamed (base_of t class) ss (AreListed-right ns (names_of content) (instance_names ss) listed) h.1)
@@ -66,7 +66,7 @@ module _ (t : Tables) (f : ℕ → ℕ) (ns : List ℕ) (Refer Other : Refers) (
 pub class-renamed : (f : ℕ → ℕ) (ss : List Slice) → class_of (map (renamed_slice f) ss) ≡ class_of ss
 class-renamed f [] = refl
 class-renamed f (known class content ∷ ss) = refl
-class-renamed f (kept id bytes optionals table ∷ ss) = class-renamed f ss
+class-renamed f (unknown id bytes optionals table ∷ ss) = class-renamed f ss
 
 -- ---- what can be written, and read within a reach
 
@@ -82,12 +82,12 @@ EachAsked t reach format g = (n : ℕ) → place (order g) n < length (order g) 
 texts-renamed : (t : Tables) (f : ℕ → ℕ) (ss : List Slice) → HaveTexts t ss → HaveTexts t (map (renamed_slice f) ss)
 texts-renamed t f [] h = tt
 texts-renamed t f (known class content ∷ ss) h = (h.0, texts-renamed t f ss h.1)
-texts-renamed t f (kept id bytes optionals table ∷ ss) h = texts-renamed t f ss h
+texts-renamed t f (unknown id bytes optionals table ∷ ss) h = texts-renamed t f ss h
 
 compact-renamed : (f : ℕ → ℕ) (ss : List Slice) → Compact ss → Compact (map (renamed_slice f) ss)
 compact-renamed f [] h = h
 compact-renamed f (known class content ∷ ss) h = tt
-compact-renamed f (kept id bytes optionals table ∷ ss) h = h
+compact-renamed f (unknown id bytes optionals table ∷ ss) h = h
 
 pub asked-renamed : (reach : Reach) (format : Format) (f : ℕ → ℕ) (ss : List Slice) → Asked reach format ss → Asked reach format (map (renamed_slice f) ss)
 asked-renamed all_slices sliced f ss h = tt

@@ -4,7 +4,7 @@ use Rattle.std.proofs.lemmas.List.{ext_get_or}
 use Rattle.ice_encoding.specs.Tree.{Tree, boolean, byte, short, int, long, text, sequence, dictionary, struct, enumerator, proxy, reference, Trees, none, tree, Entries, no_entry, entry}
 use Rattle.ice_graphs.specs.Optionals.{Present}
 use Rattle.ice_graphs.specs.OptionalMembers.{Members, with_optional}
-use Rattle.ice_graphs.specs.Graph.{Slice, known, kept, Graph}
+use Rattle.ice_graphs.specs.Graph.{Slice, known, unknown, Graph}
 use Rattle.ice_graphs.specs.Names.{names, names_each, names_pairs, names_present, names_of, slice_names, instance_names, renamed, renamed_each, renamed_pairs, renamed_present, renamed_members, renamed_slice}
 use Rattle.ice_graphs.specs.Instances.{slices_of}
 use Rattle.ice_graphs.specs.Visiting.{place}
@@ -55,7 +55,7 @@ module _ (f : ℕ → ℕ) (limit : ℕ) (same : (n : ℕ) → n < limit → f n
 
   slice_itself : (s : Slice) → AreBelow limit (slice_names s) → renamed_slice f s ≡ s
   slice_itself (known class content) h = ap (known class) (members_itself content h)
-  slice_itself (kept id bytes optionals table) h = ap (kept id bytes optionals) (table_itself table h)
+  slice_itself (unknown id bytes optionals table) h = ap (unknown id bytes optionals) (table_itself table h)
 
   slices_itself : (ss : List Slice) → AreBelow limit (instance_names ss) → map (renamed_slice f) ss ≡ ss
   slices_itself [] h = refl

@@ -31,12 +31,12 @@ pub mod Reached
 pub mod Canonicity
 pub mod OnlyKnown
 pub mod Schemas
-pub mod RaisedTexts
-pub mod RaisedStates
+pub mod UserExceptionTexts
+pub mod UserExceptionStates
 pub mod SoundExceptions
 pub mod Samples
-pub mod WrittenRaised
-pub mod RaisedForms
+pub mod WrittenUserException
+pub mod UserExceptionForms
 pub mod CanonicalExceptions
 pub mod Rows
 pub mod Measured

@@ -17,7 +17,7 @@ use Rattle.ice_graphs.specs.Graph.{Slice, Graph}
 use Rattle.ice_graphs.specs.References.{State, with_met, with_ended, resolved, beginning, opening, SpellsEntries, SpellsTable, SpellsInline}
 use Rattle.ice_graphs.specs.Flags.{IdForm, no_id, as_text, as_index, as_number, Flags, flags_of, all_slices, Before, first}
 use Rattle.ice_graphs.specs.TypeIds.{SpellsId, with_id, class_in, can_be_read, ends_well, before_next}
-use Rattle.ice_graphs.specs.Slices.{slice_size, kept_bytes, SpellsBody, FromId, SpellsSlices, SpellsInstance}
+use Rattle.ice_graphs.specs.Slices.{slice_size, unknown_bytes, SpellsBody, FromId, SpellsSlices, SpellsInstance}
 use Rattle.ice_graphs.specs.Slices.{Behind as Others}
 use Rattle.ice_graphs.specs.Instances.{instances, most_instances, SpellsGraph}
 use Rattle.ice_graphs.proofs.Sizes.{slice_size_lawful}
@@ -102,11 +102,11 @@ module _ (t u : Tables) (both : Both t u) where
         (λ z e. table_locked f.has_table uses uses' q j r s table table' from to begin end e h g rel) in
         (m.0, (m.2.0, (raw, uses, p, q, parts, (front, body, cut, many, members), (table, is, m.2.1))))
     body_locked f id true (Some c) None class a b r s x y from to begin end e (raw, uses, p, q, parts, (front, body, cut, many, members), (table, is, h)) (content', i, j, mid', parts', ((lead, cut', many'), still'), (table', is', g)) rel =
-        let m = joined a b r s p q i j parts parts' e (counted_apart p i (q ++ r) (j ++ s) front body lead (kept_bytes f.has_optional content') cut cut' many many')
+        let m = joined a b r s p q i j parts parts' e (counted_apart p i (q ++ r) (j ++ s) front body lead (unknown_bytes f.has_optional content') cut cut' many many')
         (λ z e. table_locked f.has_table uses [] q j r s table table' from to mid' end e h g (moved from from begin mid' refl still' rel)) in
         (m.0, (m.2.0, (raw, uses, p, q, parts, (front, body, cut, many, members), (table, is, m.2.1))))
     body_locked f id true None None class a b r s x y from to begin end e (content, p, q, mid, parts, ((front, cut, many), still), (table, is, h)) (content', i, j, mid', parts', ((lead, cut', many'), still'), (table', is', g)) rel =
-        let m = joined a b r s p q i j parts parts' e (counted_apart p i (q ++ r) (j ++ s) front (kept_bytes f.has_optional content) lead (kept_bytes f.has_optional content') cut cut' many many')
+        let m = joined a b r s p q i j parts parts' e (counted_apart p i (q ++ r) (j ++ s) front (unknown_bytes f.has_optional content) lead (unknown_bytes f.has_optional content') cut cut' many many')
         (λ z e. table_locked f.has_table [] [] q j r s table table' mid to mid' end e h g (moved from mid begin mid' still still' rel)) in
         (m.0, (m.2.0, (content, p, q, mid, parts, ((front, cut, many), still), (table, is, m.2.1))))
     body_locked f id true None (Some d) class a b r s x y from to begin end e h g rel = let no : Some d ≡ None = class.0 in absurd cc

@@ -74,9 +74,9 @@ module _ (t u : Tables) where
 
   -- ---- the members of a class, those without a tag and those with one
 
-  by_kept : (b : Bool) (m n : Member) (ms ns : List Member) → SameMember t u m n → SameMembers ms ns → SameMembers (cond b (m ∷ ms) ms) (cond b (n ∷ ns) ns)
-  by_kept true m n ms ns same rest = (same, rest)
-  by_kept false m n ms ns same rest = rest
+  by_unknown : (b : Bool) (m n : Member) (ms ns : List Member) → SameMember t u m n → SameMembers ms ns → SameMembers (cond b (m ∷ ms) ms) (cond b (n ∷ ns) ns)
+  by_unknown true m n ms ns same rest = (same, rest)
+  by_unknown false m n ms ns same rest = rest
 
   filtered : (test : Option ℕ → Bool) (ms ns : List Member) → SameMembers ms ns → SameMembers (filter (λ m. test m.tag) ms) (filter (λ m. test m.tag) ns)
   filtered test [] [] h = tt
@@ -84,7 +84,7 @@ module _ (t u : Tables) where
   filtered test (m ∷ ms) [] h = absurd h
   filtered test (m ∷ ms) (n ∷ ns) h =
       subst (λ (b : Bool). SameMembers (filter (λ m. test m.tag) (m ∷ ms)) (cond b (n ∷ filter (λ m. test m.tag) ns) (filter (λ m. test m.tag) ns))) (ap test h.0.2)
-      (by_kept (test m.tag) m n (filter (λ m. test m.tag) ms) (filter (λ m. test m.tag) ns) h.0 (filtered test ms ns h.1))
+      (by_unknown (test m.tag) m n (filter (λ m. test m.tag) ms) (filter (λ m. test m.tag) ns) h.0 (filtered test ms ns h.1))
 
   pub shapes_same : (ms ns : List Member) → SameMembers ms ns → SameShape t u (shape_of ms) (shape_of ns)
   shapes_same ms ns h = (filtered is_none ms ns h, filtered is_some ms ns h)

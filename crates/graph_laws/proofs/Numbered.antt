@@ -4,10 +4,10 @@ use Rattle.std.proofs.lemmas.List.{length-map, get_or-map}
 use Rattle.ice_types.specs.Tables.{Tables}
 use Rattle.ice_graphs.specs.OptionalMembers.{Members, SpellsSliceMembers}
 use Rattle.ice_graphs.specs.Classes.{own_members}
-use Rattle.ice_graphs.specs.Graph.{Slice, known, kept, Graph}
+use Rattle.ice_graphs.specs.Graph.{Slice, known, unknown, Graph}
 use Rattle.ice_graphs.specs.Names.{names_of, slice_names, instance_names, renamed_members, renamed_slice}
 use Rattle.ice_graphs.specs.References.{in_table, entry_in, resolved, AreWithin}
-use Rattle.ice_graphs.specs.Slices.{kept_bytes}
+use Rattle.ice_graphs.specs.Slices.{unknown_bytes}
 use Rattle.ice_graphs.specs.Instances.{class_of, slices_of, class_fits, AllFit}
 use Rattle.ice_graphs.specs.Visiting.{place}
 use Rattle.ice_graphs.specs.Same.{AreListed, Holds, Same, numbered}
@@ -101,12 +101,12 @@ module _ (t u : Tables) (g h : Graph) (seen : Seen t u g h) (ns : List ℕ) (hol
   f = place ns
 
   slice_listed : (s r : Slice) → SeenAs t u ks s r → AreListed ns (slice_names r) → AreListed ns (slice_names s)
-  slice_listed (kept id bytes optionals table) r (is, hidden) listed = subst (λ (s : Slice). AreListed ns (slice_names s)) is listed
+  slice_listed (unknown id bytes optionals table) r (is, hidden) listed = subst (λ (s : Slice). AreListed ns (slice_names s)) is listed
   slice_listed (known a content) r (inl (b, is, tied)) listed = subst (λ (s : Slice). AreListed ns (slice_names s)) is listed
   slice_listed (known a content) r (inr (id, bytes, optionals, table, is, named, hidden, (raw, uses, members, within, fits, equal))) listed =
       content_is a content (renamed_members (entry_in table) raw) equal λ e.
       let in_table_listed : AreListed ns table = subst (λ (s : Slice). AreListed ns (slice_names s)) is listed in
-      let below = places_within t (is_there table) optionals (own_members t a) (kept_bytes optionals bytes) raw uses (length table) members within in
+      let below = places_within t (is_there table) optionals (own_members t a) (unknown_bytes optionals bytes) raw uses (length table) members within in
       subst (λ (c : Members). AreListed ns (names_of c)) (sym e) (subst (AreListed ns) (sym (keeping.members-renamed (entry_in table) raw)) (entries_listed ns table (names_of raw) below in_table_listed))
 
   slices_listed : (ss rs : List Slice) → AllSeen t u ks ss rs → AreListed ns (instance_names rs) → AreListed ns (instance_names ss)
@@ -144,17 +144,17 @@ module _ (t u : Tables) (g h : Graph) (seen : Seen t u g h) (ns : List ℕ) (hol
 
   opens_renamed : (a : ℕ) (bytes : List ℕ) (optionals : Bool) (table : List ℕ) (content : Members) → AreListed ns table → OpensAs t ks a bytes optionals table content → OpensAs t ks' a bytes optionals (map f table) (renamed_members f content)
   opens_renamed a bytes optionals table content listed (raw, uses, members, within, fits, equal) =
-      let below = places_within t (is_there table) optionals (own_members t a) (kept_bytes optionals bytes) raw uses (length table) members within in (
+      let below = places_within t (is_there table) optionals (own_members t a) (unknown_bytes optionals bytes) raw uses (length table) members within in (
         raw,
         uses,
-        subst (λ (b : Bool). SpellsSliceMembers (in_table b) t optionals (own_members t a) (kept_bytes optionals bytes) raw [] uses) (sym (there-renamed f table)) members,
+        subst (λ (b : Bool). SpellsSliceMembers (in_table b) t optionals (own_members t a) (unknown_bytes optionals bytes) raw [] uses) (sym (there-renamed f table)) members,
         subst (λ (n : ℕ). AreWithin n uses) (sym (length-map {A = ℕ} {B = ℕ} table f)) within,
         fits_renamed table listed uses within fits,
         ap (renamed_slice f) equal ∙ by_table_renamed f table a raw below,
       )
 
   slice_renamed : (s r : Slice) → AreListed ns (slice_names r) → SeenAs t u ks s r → SeenAs t u ks' (renamed_slice f s) (renamed_slice f r)
-  slice_renamed (kept id bytes optionals table) r listed (is, hidden) = (ap (renamed_slice f) is, hidden)
+  slice_renamed (unknown id bytes optionals table) r listed (is, hidden) = (ap (renamed_slice f) is, hidden)
   slice_renamed (known a content) r listed (inl (b, is, tied)) = inl (b, ap (renamed_slice f) is, tied)
   slice_renamed (known a content) r listed (inr (id, bytes, optionals, table, is, named, hidden, opens)) =
       inr (id, bytes, optionals, map f table, ap (renamed_slice f) is, named, hidden, opens_renamed a bytes optionals table content (subst (λ (s : Slice). AreListed ns (slice_names s)) is listed) opens)

@@ -10,7 +10,7 @@ use Rattle.ice_encoding.specs.Port.{Port, Speller}
 use Rattle.ice_encoding.specs.Typed.{Refers}
 use Rattle.ice_graphs.specs.OptionalMembers.{Members, SpellsContent}
 use Rattle.ice_graphs.specs.Classes.{own_members}
-use Rattle.ice_graphs.specs.Graph.{Slice, known, kept, Graph}
+use Rattle.ice_graphs.specs.Graph.{Slice, known, unknown, Graph}
 use Rattle.ice_graphs.specs.Names.{renamed_members}
 use Rattle.ice_graphs.specs.References.{State, Reference, entry_in, SpellsEntries, SpellsTable, SpellsInline, replaced, beginning, opening}
 use Rattle.ice_graphs.specs.Flags.{IdForm, no_id, as_text, as_index, as_number, Flags, known_classes, Before, first}
@@ -28,7 +28,7 @@ use Rattle.graph_laws.proofs.Formed.{Reached, listed-below}
 abbrev AreKnown : List Slice → Type 0
 AreKnown [] = Unit {0}
 AreKnown (known class content ∷ ss) = AreKnown ss
-AreKnown (kept id bytes optionals table ∷ ss) = ⊥
+AreKnown (unknown id bytes optionals table ∷ ss) = ⊥
 
 abbrev pub EachKnown : List (List Slice) → Type 0
 EachKnown [] = Unit {0}
@@ -152,7 +152,7 @@ module _ (t : Tables) (shape : Shape) where
 compact_of : (t : Tables) (Refer : Refers) (ss : List Slice) → AreKnown ss → IsInstance t Refer ss → Compact ss
 compact_of t Refer [] one is = absurd is
 compact_of t Refer (known class content ∷ ss) one is = tt
-compact_of t Refer (kept id bytes optionals table ∷ ss) one is = absurd one
+compact_of t Refer (unknown id bytes optionals table ∷ ss) one is = absurd one
 
 -- what was read so can be written in each format
 pub read_compact : (t : Tables) (shape : Shape) (bytes : List ℕ) (g : Graph) → IsBytes bytes → SpellsNumbered t known_classes shape bytes g → OfType t shape g → Reached g → IsWritable compact g

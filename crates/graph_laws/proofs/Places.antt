@@ -5,7 +5,7 @@ use Rattle.std.proofs.lemmas.List.{length-map}
 use Rattle.ice_encoding.specs.Tree.{Tree, boolean, byte, short, int, long, text, sequence, dictionary, struct, enumerator, proxy, reference, Trees, none, tree, Entries, no_entry, entry}
 use Rattle.ice_graphs.specs.Optionals.{Present}
 use Rattle.ice_graphs.specs.OptionalMembers.{Members, with_optional}
-use Rattle.ice_graphs.specs.Graph.{Slice, known, kept}
+use Rattle.ice_graphs.specs.Graph.{Slice, known, unknown}
 use Rattle.ice_graphs.specs.Names.{listed_name, names, names_each, names_pairs, names_present, names_of, slice_names, instance_names, renamed_name, renamed, renamed_each, renamed_pairs, renamed_present, renamed_members, renamed_slice}
 use Rattle.ice_graphs.specs.Visiting.{place, is_listed}
 use Rattle.ice_graphs.specs.Same.{AreListed}
@@ -103,7 +103,7 @@ map-fused h f k ns fuse (n ∷ table) listed = cc (fuse n listed.0, map-fused h 
 
 slice-fused : (h f k : ℕ → ℕ) (ns : List ℕ) → Fuse h f k ns → (s : Slice) → AreListed ns (slice_names s) → renamed_slice h (renamed_slice f s) ≡ renamed_slice k s
 slice-fused h f k ns fuse (known class content) listed = ap (known class) (fused_members h f k ns fuse content listed)
-slice-fused h f k ns fuse (kept id bytes optionals table) listed = ap (kept id bytes optionals) (map-fused h f k ns fuse table listed)
+slice-fused h f k ns fuse (unknown id bytes optionals table) listed = ap (unknown id bytes optionals) (map-fused h f k ns fuse table listed)
 
 pub slices-fused : (h f k : ℕ → ℕ) (ns : List ℕ) → Fuse h f k ns → (ss : List Slice) → AreListed ns (instance_names ss) → map (renamed_slice h) (map (renamed_slice f) ss) ≡ map (renamed_slice k) ss
 slices-fused h f k ns fuse [] listed = refl

@@ -11,7 +11,7 @@ use Rattle.ice_encoding.specs.Typed.{AllOf, EachOf, PairsOf, Refers, no_referenc
 use Rattle.ice_graphs.specs.Optionals.{Present}
 use Rattle.ice_graphs.specs.OptionalMembers.{Members, required_kinds}
 use Rattle.ice_graphs.specs.Classes.{base_of, own_members}
-use Rattle.ice_graphs.specs.Graph.{Slice, known, kept, Graph}
+use Rattle.ice_graphs.specs.Graph.{Slice, known, unknown, Graph}
 use Rattle.ice_graphs.specs.Names.{listed_name, names, names_each, names_pairs, names_present, names_of, instance_names}
 use Rattle.ice_graphs.specs.Instances.{slices_of}
 use Rattle.ice_graphs.specs.Typed.{AreReferred, AreOptions, AreMembers, IsKnown, AreBases, IsInstance, RefersIn, OfType}
@@ -84,13 +84,13 @@ module _ (t : Tables) (limit : ℕ) (Refer : Refers) (bounded : (declared n : Op
   bases_below : (base : Option ℕ) (ss : List Slice) → AreBases t Refer base ss → AreBelow limit (instance_names ss)
   bases_below None ss h = subst (λ (l : List Slice). AreBelow limit (instance_names l)) (sym h) tt
   bases_below (Some class) [] h = absurd h
-  bases_below (Some class) (kept id bytes optionals table ∷ ss) h = absurd h
+  bases_below (Some class) (unknown id bytes optionals table ∷ ss) h = absurd h
   bases_below (Some class) (known other content ∷ ss) h = below_both limit (names_of content) (instance_names ss) (known_below class content h.1) (bases_below (base_of t class) ss h.2)
 
   pub instance_below : (ss : List Slice) → IsInstance t Refer ss → AreBelow limit (instance_names ss)
   instance_below [] h = absurd h
-  instance_below (kept id bytes optionals table ∷ []) h = below_both limit table [] (table_below table h.2) tt
-  instance_below (kept id bytes optionals table ∷ s ∷ ss) h = below_both limit table (instance_names (s ∷ ss)) (table_below table h.0.2) (instance_below (s ∷ ss) h.1)
+  instance_below (unknown id bytes optionals table ∷ []) h = below_both limit table [] (table_below table h.2) tt
+  instance_below (unknown id bytes optionals table ∷ s ∷ ss) h = below_both limit table (instance_names (s ∷ ss)) (table_below table h.0.2) (instance_below (s ∷ ss) h.1)
   instance_below (known class content ∷ ss) h = below_both limit (names_of content) (instance_names ss) (known_below class content h.0) (bases_below (base_of t class) ss h.1)
 
 pub in_instances : (t : Tables) (is : List (List Slice)) (declared n : Option ℕ) → RefersIn t is declared n → AreBelow (length is) (listed_name n)

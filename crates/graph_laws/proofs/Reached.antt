@@ -16,9 +16,9 @@ use Rattle.graph_arena.proofs.Closed.{listed-left, listed-end, listed-split, onc
 use Rattle.graph_laws.proofs.Upto.{each-grows, visit-grows}
 use Rattle.graph_laws.proofs.Formed.{Reached}
 
-kept-listed : (a more xs : List ℕ) → AreListed a xs → AreListed (a ++ more) xs
-kept-listed a more [] listed = tt
-kept-listed a more (x ∷ xs) listed = (listed-left a more x listed.0, kept-listed a more xs listed.1)
+unknown-listed : (a more xs : List ℕ) → AreListed a xs → AreListed (a ++ more) xs
+unknown-listed a more [] listed = tt
+unknown-listed a more (x ∷ xs) listed = (listed-left a more x listed.0, unknown-listed a more xs listed.1)
 
 below : (limit : ℕ) (ns : List ℕ) → ranged.AreBelow limit ns → AreBelow limit ns
 below limit [] h = tt
@@ -73,7 +73,7 @@ module _ (g : Graph) (range : (n : ℕ) → n < length g.instances → AreBelow 
         closed = λ m lt. elim (others.closed m lt) [
           | inl in_mid ↦ elim (one.closed m in_mid) [
             | inl earlier ↦ inl earlier
-            | inr listed ↦ inr (subst (λ (l : List ℕ). AreListed l (instance_names (slices_of g.instances m))) (sym grown.1) (kept-listed mid grown.0 (instance_names (slices_of g.instances m)) listed))
+            | inr listed ↦ inr (subst (λ (l : List ℕ). AreListed l (instance_names (slices_of g.instances m))) (sym grown.1) (unknown-listed mid grown.0 (instance_names (slices_of g.instances m)) listed))
           ]
           | inr listed ↦ inr listed
         ];

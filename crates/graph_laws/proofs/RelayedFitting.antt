@@ -10,7 +10,7 @@ use Rattle.ice_types.specs.Lacking.{SameBase}
 use Rattle.ice_types.proofs.RowIdentity.{one_id}
 use Rattle.ice_graphs.specs.OptionalMembers.{Members}
 use Rattle.ice_graphs.specs.Classes.{class_named, base_of, holds_of, leads_to, is_a}
-use Rattle.ice_graphs.specs.Graph.{Slice, known, kept}
+use Rattle.ice_graphs.specs.Graph.{Slice, known, unknown}
 use Rattle.ice_graphs.specs.Instances.{class_of, comes_from, class_fits, slices_of, AllFit}
 use Rattle.graph_laws.proofs.Related.{related, to_base}
 use Rattle.graph_laws.specs.Seeing.{SameClassId, SeenAs, AllSeen, EachSeen}
@@ -38,8 +38,8 @@ module _ (t u : Tables) where
   -- by their classes alone, a slice in the one schema and in the other
   abbrev pub LikeAs : Slice → Slice → Type 0
   LikeAs (known a content) r = ((b : ℕ) × (c : Members) × (r ≡ known b c) × SameClassId t u a b)
-      ⊎ ((id bytes : List ℕ) × (optionals : Bool) × (table : List ℕ) × (r ≡ kept id bytes optionals table) × (class_named t id ≡ Some a) × (class_named u id ≡ None))
-  LikeAs (kept id bytes optionals table) r = r ≡ kept id bytes optionals table
+      ⊎ ((id bytes : List ℕ) × (optionals : Bool) × (table : List ℕ) × (r ≡ unknown id bytes optionals table) × (class_named t id ≡ Some a) × (class_named u id ≡ None))
+  LikeAs (unknown id bytes optionals table) r = r ≡ unknown id bytes optionals table
 
   abbrev pub AllLike : List Slice → List Slice → Type 0
   AllLike [] others = others ≡ []
@@ -48,7 +48,7 @@ module _ (t u : Tables) where
   slice_like : (ks : List (List Slice)) (s r : Slice) → SeenAs t u ks s r → LikeAs s r
   slice_like ks (known a content) r (inl (b, is, tied)) = inl (b, content, is, tied)
   slice_like ks (known a content) r (inr (id, bytes, optionals, table, is, named, hidden, opens)) = inr (id, bytes, optionals, table, is, named, hidden)
-  slice_like ks (kept id bytes optionals table) r h = h.0
+  slice_like ks (unknown id bytes optionals table) r h = h.0
 
   all_like : (ks : List (List Slice)) (ss rs : List Slice) → AllSeen t u ks ss rs → AllLike ss rs
   all_like ks [] rs e = e
@@ -77,7 +77,7 @@ module _ (t u : Tables) (both : Both t u) where
   chain_seen : (n d e : ℕ) → SameClassId t u d e → (o : Option ℕ) (ss rs : List Slice) → Follow t o ss → AllLike t u ss rs → holds_of o (leads_to t n d) ≡ true → Comes e rs
   chain_seen n d e tied None ss rs bases seen h = absurd cc
   chain_seen n d e tied (Some c) [] rs bases seen h = absurd bases
-  chain_seen n d e tied (Some c) (kept id bytes optionals table ∷ ss) rs bases seen h = absurd bases
+  chain_seen n d e tied (Some c) (unknown id bytes optionals table ∷ ss) rs bases seen h = absurd bases
   chain_seen zero d e tied (Some c) (known other content ∷ ss) rs bases seen h = absurd cc
   chain_seen (suc n) d e tied (Some c) (known other content ∷ ss) rs (same, row, bases) (r, others, is, inl (b, own, r_is, here), rest) h =
       (suc n, b, ap class_of is ∙ ap (λ (s : Slice). class_of (s ∷ others)) r_is, leads_tied (suc n) c b d e (subst (λ (k : ℕ). SameClassId t u k b) same here) tied h)
@@ -90,8 +90,8 @@ module _ (t u : Tables) (both : Both t u) where
   instance_seen : (d e : ℕ) → SameClassId t u d e → (ss rs : List Slice) → Stands t ss → AllLike t u ss rs → comes_from t d (class_of ss) ≡ true → Comes e rs
   instance_seen d e tied [] rs one seen h = absurd one
   instance_seen d e tied (known c content ∷ ss) rs one seen h = chain_seen (suc (length t.classes)) d e tied (Some c) (known c content ∷ ss) rs (refl, one.0, one.1) seen h
-  instance_seen d e tied (kept id bytes optionals table ∷ []) rs one seen h = absurd cc
-  instance_seen d e tied (kept id bytes optionals table ∷ s ∷ ss) rs one (r, others, is, r_is, rest) h =
+  instance_seen d e tied (unknown id bytes optionals table ∷ []) rs one seen h = absurd cc
+  instance_seen d e tied (unknown id bytes optionals table ∷ s ∷ ss) rs one (r, others, is, r_is, rest) h =
       let g = instance_seen d e tied (s ∷ ss) others one.1 rest h in
       (g.0, g.1, ap class_of is ∙ ap (λ (x : Slice). class_of (x ∷ others)) r_is ∙ g.2, g.3)
 
@@ -125,7 +125,7 @@ module _ (t u : Tables) (both : Both t u) where
       let no : comes_from u e (class_of []) ≡ true = subst (λ (l : List Slice). comes_from u e (class_of l) ≡ true) none h in
       absurd cc
   chain_back d e tied (Some c) [] rs bases seen h = absurd bases
-  chain_back d e tied (Some c) (kept id bytes optionals table ∷ ss) rs bases seen h = absurd bases
+  chain_back d e tied (Some c) (unknown id bytes optionals table ∷ ss) rs bases seen h = absurd bases
   chain_back d e tied (Some c) (known other content ∷ ss) rs (same, row, bases) (r, others, is, inl (b, own, r_is, here), rest) h =
       let at : class_of rs ≡ Some b = ap class_of is ∙ ap (λ (s : Slice). class_of (s ∷ others)) r_is in
       (suc (length u.classes), leads_back (suc (length u.classes)) c b d e (subst (λ (k : ℕ). SameClassId t u k b) same here) tied (subst (λ (o : Option ℕ). comes_from u e o ≡ true) at h))
@@ -139,11 +139,11 @@ module _ (t u : Tables) (both : Both t u) where
   instance_back d e tied (known c content ∷ ss) rs one seen h =
       let g = chain_back d e tied (Some c) (known c content ∷ ss) rs (refl, one.0, one.1) seen h in
       short t both.reader g.0 d c g.1
-  instance_back d e tied (kept id bytes optionals table ∷ []) rs one (r, others, is, r_is, rest) h =
+  instance_back d e tied (unknown id bytes optionals table ∷ []) rs one (r, others, is, r_is, rest) h =
       let at : class_of rs ≡ None = ap class_of is ∙ ap (λ (x : Slice). class_of (x ∷ others)) r_is ∙ ap class_of rest in
       let no : comes_from u e None ≡ true = subst (λ (o : Option ℕ). comes_from u e o ≡ true) at h in
       absurd cc
-  instance_back d e tied (kept id bytes optionals table ∷ s ∷ ss) rs one (r, others, is, r_is, rest) h =
+  instance_back d e tied (unknown id bytes optionals table ∷ s ∷ ss) rs one (r, others, is, r_is, rest) h =
       let at : class_of rs ≡ class_of others = ap class_of is ∙ ap (λ (x : Slice). class_of (x ∷ others)) r_is in
       instance_back d e tied (s ∷ ss) others one.1 rest (subst (λ (o : Option ℕ). comes_from u e o ≡ true) at h)
 

@@ -7,12 +7,12 @@ use Rattle.ice_types.specs.Lacking.{SameBase, SameShape}
 use Rattle.ice_encoding.specs.Port.{Port}
 use Rattle.ice_graphs.specs.OptionalMembers.{Members}
 use Rattle.ice_graphs.specs.Classes.{base_of, own_members}
-use Rattle.ice_graphs.specs.Graph.{Slice, known, kept}
+use Rattle.ice_graphs.specs.Graph.{Slice, known, unknown}
 use Rattle.ice_graphs.specs.Names.{renamed_members}
 use Rattle.ice_graphs.specs.References.{State, with_met, resolved, entry_in, in_table, AreWithin, SpellsEntries, SpellsTable}
-use Rattle.ice_graphs.specs.Flags.{IdForm, no_id, as_text, as_index, as_number, Flags, all_slices, Before, first, only_kept, derived}
+use Rattle.ice_graphs.specs.Flags.{IdForm, no_id, as_text, as_index, as_number, Flags, all_slices, Before, first, only_unknown, derived}
 use Rattle.ice_graphs.specs.TypeIds.{SpellsId, with_id, class_in, ends_well, before_base, before_next}
-use Rattle.ice_graphs.specs.Slices.{kept_bytes, SpellsBody, SpellsSlices, FromId}
+use Rattle.ice_graphs.specs.Slices.{unknown_bytes, SpellsBody, SpellsSlices, FromId}
 use Rattle.ice_graphs.specs.Slices.{Behind as Others}
 use Rattle.ice_graphs.specs.Instances.{slices_of, class_of, class_fits, AllFit}
 use Rattle.ice_graphs.specs.Canonical.{is_there}
@@ -31,13 +31,13 @@ use Rattle.graph_laws.proofs.Classed.{Both, rows_agree}
 use Rattle.graph_laws.proofs.Standing.{Follow, Stands}
 use Rattle.graph_laws.proofs.RelayedFitting.{each_like, fits_back}
 use Rattle.graph_laws.proofs.Flipped.{base_flipped, shape_flipped, rows_flipped}
-use Rattle.graph_laws.proofs.Back.{known_is, known_kept, slice_class, FormedAs, body_form, BackAs, Ready, flags_back, known_ready, base_ready, class_back, read_back, before_back, none_back, slices_some, well_back}
+use Rattle.graph_laws.proofs.Back.{known_is, known_unknown, slice_class, FormedAs, body_form, BackAs, Ready, flags_back, known_ready, base_ready, class_back, read_back, before_back, none_back, slices_some, well_back}
 
 known_content : {C : Type 0} (a b : ℕ) (x y : Members) → known a x ≡ known b y → (x ≡ y → C) → C
 known_content a b x y e go = go cc
 
-kept_parts : {C : Type 0} (i j x y : List ℕ) (o p : Bool) (k l : List ℕ) → kept i x o k ≡ kept j y p l → (x ≡ y → o ≡ p → k ≡ l → C) → C
-kept_parts i j x y o p k l e go = let bytes : x ≡ y = cc in let flag : o ≡ p = cc in let table : k ≡ l = cc in go bytes flag table
+unknown_parts : {C : Type 0} (i j x y : List ℕ) (o p : Bool) (k l : List ℕ) → unknown i x o k ≡ unknown j y p l → (x ≡ y → o ≡ p → k ≡ l → C) → C
+unknown_parts i j x y o p k l e go = let bytes : x ≡ y = cc in let flag : o ≡ p = cc in let table : k ≡ l = cc in go bytes flag table
 
 slices_parts : {C : Type 0} (x y : Slice) (xs ys : List Slice) → x ∷ xs ≡ y ∷ ys → (x ≡ y → xs ≡ ys → C) → C
 slices_parts x y xs ys e go = let head : x ≡ y = cc in let tail : xs ≡ ys = cc in go head tail
@@ -113,12 +113,12 @@ module _ (t u : Tables) (both : Both t u) (ks hs : List (List Slice)) (seen : Ea
 
     body_back : (f : Flags) (id : List ℕ) (sized : Bool) (d : Option ℕ) (s r : Slice) → SeenAs t u ks s r → Goes f id sized d s r
     body_back f id false None s r seen = λ bytes from to begin h k good. absurd h
-    body_back f id true (Some e) (kept i x o l) r (r_is, hidden) = λ bytes from to begin (raw, uses, a, b, parts, members, (table, is, h)) k good. known_kept e _ i x o l (sym is ∙ r_is)
-    body_back f id false (Some e) (kept i x o l) r (r_is, hidden) = λ bytes from to begin (content, is, h) k good. known_kept e content i x o l (sym is ∙ r_is)
-    body_back f id true None (kept i x o l) r (r_is, hidden) = λ bytes from to begin (y, a, b, mid, parts, (is_kept, still), (table, is, h)) k good.
+    body_back f id true (Some e) (unknown i x o l) r (r_is, hidden) = λ bytes from to begin (raw, uses, a, b, parts, members, (table, is, h)) k good. known_unknown e _ i x o l (sym is ∙ r_is)
+    body_back f id false (Some e) (unknown i x o l) r (r_is, hidden) = λ bytes from to begin (content, is, h) k good. known_unknown e content i x o l (sym is ∙ r_is)
+    body_back f id true None (unknown i x o l) r (r_is, hidden) = λ bytes from to begin (y, a, b, mid, parts, (is_unknown, still), (table, is, h)) k good.
         let g = table_back f.has_table [] [] b table mid to begin (λ n e w. w) tt h (moved from mid begin still k) good in
-        (g.0, (y, a, b, begin, parts, (is_kept, refl), (table, sym r_is ∙ is, g.1)), g.2)
-    body_back f id true None (known a content) r (inl (b, r_is, tied)) = λ bytes from to begin (y, p, q, mid, parts, front, (table, is, h)) k good. known_kept b content id y f.has_optional table (sym r_is ∙ is)
+        (g.0, (y, a, b, begin, parts, (is_unknown, refl), (table, sym r_is ∙ is, g.1)), g.2)
+    body_back f id true None (known a content) r (inl (b, r_is, tied)) = λ bytes from to begin (y, p, q, mid, parts, front, (table, is, h)) k good. known_unknown b content id y f.has_optional table (sym r_is ∙ is)
     body_back f id true (Some e) (known a content) r (inl (b, r_is, tied)) = λ bytes from to begin (raw, uses, p, q, parts, (front, body, cut, size, members), (table, is, h)) k good.
         known_is e b (renamed_members (entry_in table) raw) content (sym is ∙ r_is) λ same.
         known_content e b (renamed_members (entry_in table) raw) content (sym is ∙ r_is) λ equal.
@@ -133,15 +133,15 @@ module _ (t u : Tables) (both : Both t u) (ks hs : List (List Slice)) (seen : Ea
         known_content e b c content (sym is ∙ r_is) λ equal.
         let m = (slice_carried (end_steps u hs) Rel two one u t (rows_flipped t u (rows_agree t u both)) refer f.has_optional (own_members u e) (own_members t a) (shapes_back a b e tied same) bytes c from to h).1 begin k good in
         (m.0, (c, ap (known a) (sym equal), m.1), m.2)
-    body_back f id true (Some e) (known a content) r (inr (i, x, o, l, r_is, named, hidden, opens)) = λ bytes from to begin (raw, uses, p, q, parts, members, (table, is, h)) k good. known_kept e _ i x o l (sym is ∙ r_is)
-    body_back f id false (Some e) (known a content) r (inr (i, x, o, l, r_is, named, hidden, opens)) = λ bytes from to begin (c, is, h) k good. known_kept e c i x o l (sym is ∙ r_is)
+    body_back f id true (Some e) (known a content) r (inr (i, x, o, l, r_is, named, hidden, opens)) = λ bytes from to begin (raw, uses, p, q, parts, members, (table, is, h)) k good. known_unknown e _ i x o l (sym is ∙ r_is)
+    body_back f id false (Some e) (known a content) r (inr (i, x, o, l, r_is, named, hidden, opens)) = λ bytes from to begin (c, is, h) k good. known_unknown e c i x o l (sym is ∙ r_is)
     body_back f id true None (known a content) r (inr (i, x, o, l, r_is, named, hidden, opens)) = λ bytes from to begin (y, p, q, mid, parts, ((front, cut, size), still), (table, is, h)) k good.
-        kept_parts i id x y o f.has_optional l table (sym r_is ∙ is) λ bytes_same flag_same table_same.
+        unknown_parts i id x y o f.has_optional l table (sym r_is ∙ is) λ bytes_same flag_same table_same.
         let there : OpensAs t ks a y f.has_optional table content =
         subst (λ (z : List ℕ). OpensAs t ks a z f.has_optional table content) bytes_same (subst (λ (z : Bool). OpensAs t ks a x z table content) flag_same (subst (λ (z : List ℕ). OpensAs t ks a x o z content) table_same opens)) in
-        let m = tabled_as t both.reader (is_there table) f.has_table f.has_optional (own_members t a) (own_itself t (agrees_itself t both.reader) a) (kept_bytes f.has_optional y) there.0 there.1 table (unlisted f.has_table q table mid to h) there.3 there.2 in
+        let m = tabled_as t both.reader (is_there table) f.has_table f.has_optional (own_members t a) (own_itself t (agrees_itself t both.reader) a) (unknown_bytes f.has_optional y) there.0 there.1 table (unlisted f.has_table q table mid to h) there.3 there.2 in
         let g = table_back f.has_table [] there.1 q table mid to begin (λ n e w. subst (λ (c : ℕ). AreWithin c there.1) e there.3) there.4 h (moved from mid begin still k) good in
-        (g.0, (there.0, there.1, p, q, parts, (front, kept_bytes f.has_optional y, cut, size, m), (table, there.5, g.1)), g.2)
+        (g.0, (there.0, there.1, p, q, parts, (front, unknown_bytes f.has_optional y, cut, size, m), (table, there.5, g.1)), g.2)
 
     id_back : (form : IdForm) (bytes id : List ℕ) (from to begin : Spelled) → SpellsId form bytes id from to → Rel from begin → (end : Spelled) × SpellsId form bytes id begin end × Rel to end
     id_back no_id bytes id from to begin h r = (begin, (h.0, h.1, refl), moved from to begin h.2 r)
@@ -153,11 +153,11 @@ module _ (t u : Tables) (both : Both t u) (ks hs : List (List Slice)) (seen : Ea
     -- ---- slices
 
     ready_next : (f : Flags) (x : Before) (s : Slice) (ss : List Slice) → Ready t u both ks x (s ∷ ss) → (ss ≡ [] → ⊥) → Ready t u both ks (before_next t (slice_class s) f) ss
-    ready_next f first (kept i y o l) [] h some = absurd (some refl)
-    ready_next f first (kept i y o l) (s ∷ ss) h some = h.1
-    ready_next f only_kept (kept i y o l) [] h some = absurd (some refl)
-    ready_next f only_kept (kept i y o l) (s ∷ ss) h some = h.1
-    ready_next f (derived z b) (kept i y o l) ss h some = absurd h
+    ready_next f first (unknown i y o l) [] h some = absurd (some refl)
+    ready_next f first (unknown i y o l) (s ∷ ss) h some = h.1
+    ready_next f only_unknown (unknown i y o l) [] h some = absurd (some refl)
+    ready_next f only_unknown (unknown i y o l) (s ∷ ss) h some = h.1
+    ready_next f (derived z b) (unknown i y o l) ss h some = absurd h
     ready_next f x (known a content) ss h some = by_base (base_of t a) (known_ready t u both ks x a content ss h).0
       where
         by_base : (o : Option ℕ) → Follow t o ss → Ready t u both ks (before_base f.has_size o) ss

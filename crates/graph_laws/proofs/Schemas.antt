@@ -10,7 +10,7 @@ use Rattle.ice_types.specs.Tables.{Tables}
 use Rattle.ice_types.specs.Rules.{IsSchema}
 use Rattle.ice_prims.specs.Rest.{IsBytes}
 use Rattle.ice_encoding.specs.declared.limits.TheConstants.{LARGEST}
-use Rattle.ice_graphs.specs.Graph.{Slice, known, kept, Graph}
+use Rattle.ice_graphs.specs.Graph.{Slice, known, unknown, Graph}
 use Rattle.ice_graphs.specs.Flags.{Reach, all_slices, known_classes}
 use Rattle.ice_graphs.specs.Instances.{slices_of, most_instances, SpellsNumbered}
 use Rattle.ice_graphs.specs.Visiting.{most, order}
@@ -35,7 +35,7 @@ row_text (Some d) texts = texts d refl
 pub utf8_texts : (t : Tables) → IsSchema t → (ss : List Slice) → HaveTexts t ss
 utf8_texts t rules [] = tt
 utf8_texts t rules (known class content ∷ ss) = (row_text (slice_get t.classes class) (λ d is. (rules.type_ids d.id (rows.Class class) (id_of_row t.classes class d is)).1), utf8_texts t rules ss)
-utf8_texts t rules (kept id bytes optionals table ∷ ss) = utf8_texts t rules ss
+utf8_texts t rules (unknown id bytes optionals table ∷ ss) = utf8_texts t rules ss
 
 pub equal_is_same : (t : Tables) (shape : Shape) (format : Format) (g h : Graph) → IsSchema t → OfType t shape g → OfType t shape h → IsWritable format g → IsWritable format h
     → length g.instances ≤ most → length h.instances ≤ most → length (graph_bytes t shape format g) < 2 ^ 31 → (graph_bytes t shape format g ≡ graph_bytes t shape format h) ↔ Same g h

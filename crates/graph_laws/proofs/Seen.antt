@@ -9,7 +9,7 @@ use Rattle.ice_types.specs.Lacking.{SameShape, SameBase}
 use Rattle.ice_encoding.specs.Port.{Port, Speller}
 use Rattle.ice_graphs.specs.OptionalMembers.{Members, SpellsSliceMembers, SpellsContent}
 use Rattle.ice_graphs.specs.Classes.{own_members}
-use Rattle.ice_graphs.specs.Graph.{Slice, known, kept}
+use Rattle.ice_graphs.specs.Graph.{Slice, known, unknown}
 use Rattle.ice_graphs.specs.References.{State, met_at, with_met, with_ended, beginning, opening, in_table, resolved, AreWithin, SpellsInline, SpellsTable}
 use Rattle.ice_graphs.specs.Flags.{IdForm, no_id, as_text, as_index, as_number, Flags, all_slices, Before, first, may_stand}
 use Rattle.ice_graphs.specs.TypeIds.{SpellsId, with_id, class_in, before_next}
@@ -26,7 +26,7 @@ use Rattle.graph_laws.proofs.Measured.{own_same}
 use Rattle.graph_laws.proofs.RelayedCarried.{Carries, slice_carried, content_carried}
 use Rattle.graph_laws.proofs.Keeping.{own_itself}
 use Rattle.graph_laws.proofs.Stays.{Uses, Stays, fit_before, fit_rest, rest_stays, slices_stay, readable_stay, table_fits}
-use Rattle.graph_laws.proofs.Tabled.{members_kept, kept_spelled, bare, entries_length, tabled_as, unlisted}
+use Rattle.graph_laws.proofs.Tabled.{members_unknown, unknown_spelled, bare, entries_length, tabled_as, unlisted}
 use Rattle.graph_laws.proofs.RelayedRelated.{any_steps, AllTied, Related, fit_steps, related_met, related_begun, related_ended, each_length, TiedUses, entries_carried, uses_within, uses_tied, table_carried}
 use Rattle.graph_laws.proofs.Classed.{none_some, Both, rows_agree, ClassAs, BeforeAs, class_before, hidden_untied, base_as, SizedOr, read_as, ends_as, next_as, sized_before, stands_as, not_first}
 use Rattle.graph_laws.proofs.Back.{FormedAs, body_form}
@@ -79,17 +79,17 @@ module _ (t u : Tables) (both : Both t u) (ks : List (List Slice)) where
         let p = (slice_carried (fit_steps t u ks) Rel one two t u (rows_agree t u both) refer f.has_optional (own_members t c) (own_members u o) (own_same t u (rows_agree t u both) c o tied) bytes content from to h).1 begin r good in
         (known o content, p.0, (content, refl, p.1), subst (λ (s : Slice). SeenAs t u ks s (known o content)) (sym is) (inl (o, refl, tied)), p.2))
     body_seen f id true None d e class = subst (λ (d : Option ℕ). Shows (SeenAs t u ks) (SpellsBody one t f id true None) (SpellsBody two u f id true d)) (sym class.0)
-        (λ bytes x from to begin (content, a, b, mid, parts, (is_kept, still), (table, is, h)) r good.
+        (λ bytes x from to begin (content, a, b, mid, parts, (is_unknown, still), (table, is, h)) r good.
         let g = table_seen f.has_table [] [] (λ n w. w) b table mid to begin h (moved from mid begin still r) good tt in (
-          kept id content f.has_optional table,
+          unknown id content f.has_optional table,
           g.0,
-          (content, a, b, begin, parts, (is_kept, refl), (table, refl, g.1)),
-          subst (λ (s : Slice). SeenAs t u ks s (kept id content f.has_optional table)) (sym is) (refl, class.1),
+          (content, a, b, begin, parts, (is_unknown, refl), (table, refl, g.1)),
+          subst (λ (s : Slice). SeenAs t u ks s (unknown id content f.has_optional table)) (sym is) (refl, class.1),
           g.2,
         ))
     body_seen f id true (Some c) d e (inl (is_none, named, hidden)) = subst (λ (d : Option ℕ). Shows (SeenAs t u ks) (SpellsBody one t f id true (Some c)) (SpellsBody two u f id true d)) (sym is_none)
         (λ bytes x from to begin (raw, uses, a, b, parts, (front, body, cut, size, members), (table, is, h)) r good.
-        let k = members_kept (in_table f.has_table) t f.has_optional (own_members t c) body raw [] uses members in
+        let k = members_unknown (in_table f.has_table) t f.has_optional (own_members t c) body raw [] uses members in
         let none = bare t both.reader f.has_table f.has_optional c body raw uses members in
         let within = all_within f.has_table uses none b table from to h in
         let g = table_seen f.has_table uses [] (λ n w. tt) b table from to begin h r good tt in
@@ -102,10 +102,10 @@ module _ (t u : Tables) (both : Both t u) (ks : List (List Slice)) where
           table_fits t ks one f.has_table uses b table from to none h good,
           refl,
         ) in (
-          kept id k.0 f.has_optional table,
+          unknown id k.0 f.has_optional table,
           g.0,
-          (k.0, a, b, begin, parts, (kept_spelled f.has_optional a front body k.0 cut size k.1, refl), (table, refl, g.1)),
-          subst (λ (s : Slice). SeenAs t u ks s (kept id k.0 f.has_optional table)) (sym is) (inr (id, k.0, f.has_optional, table, refl, named, hidden, opens)),
+          (k.0, a, b, begin, parts, (unknown_spelled f.has_optional a front body k.0 cut size k.1, refl), (table, refl, g.1)),
+          subst (λ (s : Slice). SeenAs t u ks s (unknown id k.0 f.has_optional table)) (sym is) (inr (id, k.0, f.has_optional, table, refl, named, hidden, opens)),
           g.2,
         ))
     body_seen f id true (Some c) d e (inr (o, is_some, tied)) = subst (λ (d : Option ℕ). Shows (SeenAs t u ks) (SpellsBody one t f id true (Some c)) (SpellsBody two u f id true d)) (sym is_some)

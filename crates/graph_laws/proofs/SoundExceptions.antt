@@ -6,27 +6,27 @@ use Rattle.ice_types.specs.Rules.{IsSchema}
 use Rattle.ice_prims.specs.Rest.{IsBytes}
 use Rattle.ice_prims.specs.Bytes.{signed_bytes}
 use Rattle.ice_encoding.specs.declared.limits.TheConstants.{SMALLEST}
-use Rattle.ice_graphs.specs.Exceptions.{of_exceptions, Raised, SpellsRaised, SpellsException}
+use Rattle.ice_graphs.specs.Exceptions.{of_exceptions, UserException, SpellsUserException, SpellsException}
 use Rattle.ice_graphs.specs.Graph.{Slice}
 use Rattle.ice_graphs.specs.Flags.{Reach, first}
 use Rattle.ice_graphs.specs.References.{opening}
 use Rattle.ice_graphs.specs.Instances.{most_instances, instances, AllFit}
 use Rattle.graph_laws.proofs.Carried.{rest_fits}
-use Rattle.ice_graphs.specs.RaisedTyped.{OfRaised}
+use Rattle.ice_graphs.specs.UserExceptionTyped.{OfUserException}
 use Rattle.graph_laws.proofs.Texts.{instances_texts}
-use Rattle.graph_laws.proofs.RaisedTexts.{raised_texts}
-use Rattle.graph_laws.proofs.RaisedStates.{exception_typed}
+use Rattle.graph_laws.proofs.UserExceptionTexts.{user_exception_texts}
+use Rattle.graph_laws.proofs.UserExceptionStates.{exception_typed}
 
 module _ (t : Tables) (reach : Reach) (rules : IsSchema t) where
-  content_of : (bytes : List ℕ) (x : Raised) → IsBytes bytes → SpellsRaised t reach bytes x → OfRaised t x × (length x.instances ≤ most_instances)
-  unfolding SpellsRaised
+  content_of : (bytes : List ℕ) (x : UserException) → IsBytes bytes → SpellsUserException t reach bytes x → OfUserException t x × (length x.instances ≤ most_instances)
+  unfolding SpellsUserException
   content_of bytes x fits (end, n, h, same, fit) =
       let fit_x : AllFit t x.instances end.met = subst (λ (is : List (List Slice)). AllFit t is end.met) same fit in
-      let utf8 = raised_texts reach (of_exceptions t) (instances t reach most_instances most_instances) (instances_texts t reach most_instances most_instances) n first bytes x.slices opening end fits h tt in
+      let utf8 = user_exception_texts reach (of_exceptions t) (instances t reach most_instances most_instances) (instances_texts t reach most_instances most_instances) n first bytes x.slices opening end fits h tt in
       let r = exception_typed t rules reach x.instances most_instances most_instances n bytes x.slices end fits h same fit_x utf8 in
       (record { slices = r.0; instances = r.1 }, r.2)
 
-  pub raised_sound : (bytes : List ℕ) (x : Raised) → IsBytes bytes → SpellsException t reach bytes x → OfRaised t x × (length x.instances ≤ most_instances)
-  raised_sound bytes x fits (content, is, short, h) =
+  pub user_exception_sound : (bytes : List ℕ) (x : UserException) → IsBytes bytes → SpellsException t reach bytes x → OfUserException t x × (length x.instances ≤ most_instances)
+  user_exception_sound bytes x fits (content, is, short, h) =
       let inside = rest_fits bytes (signed_bytes w32 (pos (SMALLEST + length content))) (1 ∷ 1 ∷ content) is fits in
       content_of content x (rest_fits (1 ∷ 1 ∷ content) (1 ∷ 1 ∷ []) content refl inside) h

@@ -88,7 +88,7 @@ module _ (t : Tables) (agrees : Agrees t t) where
 
     pub body_stays : (f : Flags) (id : List ℕ) (sized : Bool) (class : Option ℕ) (bytes : List ℕ) (s : Slice) (from to : Spelled) → SpellsBody port t f id sized class bytes s from to → Stays from to
     body_stays f id true (Some class) bytes s from to (raw, uses, a, b, parts, members, (table, is, h)) = table_stays f.has_table uses b table from to h
-    body_stays f id true None bytes s from to (content, a, b, mid, parts, (is_kept, still), (table, is, h)) =
+    body_stays f id true None bytes s from to (content, a, b, mid, parts, (is_unknown, still), (table, is, h)) =
         stays_joined from mid to (here_stays from mid still) (table_stays f.has_table [] b table mid to h)
     body_stays f id false (Some class) bytes s from to (content, is, h) = members_keep port t agrees Stays stays_same stays_joined port_stays f.has_optional (own_members t class) (own_itself t agrees class) bytes content from to h
     body_stays f id false None bytes s from to h = absurd h

@@ -12,7 +12,7 @@ use Rattle.ice_graphs.specs.Optionals.{Present, Options}
 use Rattle.ice_graphs.specs.OptionalMembers.{Members, SpellsSliceMembers}
 use Rattle.ice_graphs.specs.Classes.{own_members}
 use Rattle.ice_graphs.specs.References.{State, Reference, met_at, in_table, AreWithin, SpellsEntries}
-use Rattle.ice_graphs.specs.Slices.{slice_size, kept_bytes, SpellsKept}
+use Rattle.ice_graphs.specs.Slices.{slice_size, unknown_bytes, SpellsUnknown}
 use Rattle.ice_graphs.specs.Canonical.{is_there}
 use Rattle.graph_laws.proofs.Carried.{Steps}
 use Rattle.graph_laws.proofs.TypeIds.{Spelled}
@@ -31,15 +31,15 @@ module _ {R S : Type 0} (port : Port R S) (t : Tables) where
       (lead ++ (a ++ g.0), parts ∙ ap (λ (l : List ℕ). lead ++ (a ++ l)) g.1 ∙ ap (λ (l : List ℕ). lead ++ l) (sym (append_assoc a g.0 (255 ∷ []))) ∙ sym (append_assoc lead (a ++ g.0) (255 ∷ [])))
 
   -- what is spelled as members can be kept
-  pub members_kept : (flagged : Bool) (shape : Shape) (bytes : List ℕ) (c : Members) (from to : S) → SpellsSliceMembers port t flagged shape bytes c from to → (x : List ℕ) × (bytes ≡ kept_bytes flagged x)
-  members_kept false shape bytes c from to h = (bytes, refl)
-  members_kept true shape bytes c from to (required, a, b, mid, parts, each, (optional, is, h)) =
+  pub members_unknown : (flagged : Bool) (shape : Shape) (bytes : List ℕ) (c : Members) (from to : S) → SpellsSliceMembers port t flagged shape bytes c from to → (x : List ℕ) × (bytes ≡ unknown_bytes flagged x)
+  members_unknown false shape bytes c from to h = (bytes, refl)
+  members_unknown true shape bytes c from to (required, a, b, mid, parts, each, (optional, is, h)) =
       let g = options_marked shape.optional h.0 None b optional mid to h.1 in
       (a ++ g.0, parts ∙ ap (λ (l : List ℕ). a ++ l) g.1 ∙ sym (append_assoc a g.0 (255 ∷ [])))
 
 -- behind their size
-pub kept_spelled : (flagged : Bool) (bytes front body x : List ℕ) → bytes ≡ front ++ body → slice_size.Spells front (length body) → body ≡ kept_bytes flagged x → SpellsKept flagged bytes x
-kept_spelled flagged bytes front body x parts size e = let g = subst (λ (l : List ℕ). (bytes ≡ front ++ l) × slice_size.Spells front (length l)) e (parts, size) in (front, g.0, g.1)
+pub unknown_spelled : (flagged : Bool) (bytes front body x : List ℕ) → bytes ≡ front ++ body → slice_size.Spells front (length body) → body ≡ unknown_bytes flagged x → SpellsUnknown flagged bytes x
+unknown_spelled flagged bytes front body x parts size e = let g = subst (λ (l : List ℕ). (bytes ≡ front ++ l) × slice_size.Spells front (length l)) e (parts, size) in (front, g.0, g.1)
 
 pub entries_length : (port : Port (State ℕ) Spelled) (n : ℕ) (bytes names : List ℕ) (from to : Spelled) → SpellsEntries port n bytes names from to → length names ≡ n
 entries_length port zero bytes names from to h = ap length h.1
@@ -47,9 +47,9 @@ entries_length port (suc n) bytes names from to h = ap length h.5 ∙ ap suc (en
 
 -- ---- as members again: a place is met only where there is a table
 
-no_entry_kept : (declared n : Option ℕ) (bytes : List ℕ) (from to : Uses) → (in_table false).Spells declared bytes n from to → to ≡ from
-no_entry_kept declared None bytes from to h = h.1
-no_entry_kept declared (Some n) bytes from to h = absurd cc
+no_entry_unknown : (declared n : Option ℕ) (bytes : List ℕ) (from to : Uses) → (in_table false).Spells declared bytes n from to → to ≡ from
+no_entry_unknown declared None bytes from to h = h.1
+no_entry_unknown declared (Some n) bytes from to h = absurd cc
 
 end_some : {C : Type 0} (l : Uses) (m : Reference (Unit {0})) → l ++ m ∷ [] ≡ [] → C
 end_some [] m e = absurd cc
@@ -84,7 +84,7 @@ module _ (t : Tables) (rules : IsSchema t) where
   -- without a table no reference is met
   none_met : (flagged : Bool) (shape : Shape) → SameShape t t shape shape → (bytes : List ℕ) (c : Members) (uses : Uses) → SpellsSliceMembers (in_table false) t flagged shape bytes c [] uses → uses ≡ []
   none_met flagged shape own bytes c uses h =
-      members_keep (in_table false) t (agrees_itself t rules) (λ (a b : Uses). b ≡ a) (λ s. refl) (λ a b c p q. q ∙ p) no_entry_kept flagged shape own bytes c [] uses h
+      members_keep (in_table false) t (agrees_itself t rules) (λ (a b : Uses). b ≡ a) (λ s. refl) (λ a b c p q. q ∙ p) no_entry_unknown flagged shape own bytes c [] uses h
 
   pub bare : (tabled flagged : Bool) (a : ℕ) (body : List ℕ) (raw : Members) (uses : Uses) → SpellsSliceMembers (in_table tabled) t flagged (own_members t a) body raw [] uses → tabled ≡ false → uses ≡ []
   bare tabled flagged a body raw uses m e =

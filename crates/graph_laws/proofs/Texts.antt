@@ -57,7 +57,7 @@ module _ (t : Tables) (reach : Reach) where
 
     pub body_texts : (f : Flags) (id : List ℕ) (sized : Bool) (class : Option ℕ) (bytes : List ℕ) (s : Slice) (from to : Spelled) → IsBytes bytes → SpellsBody port t f id sized class bytes s from to → Texts from to
     body_texts f id true (Some class) bytes s from to fits (raw, uses, a, b, parts, members, (table, is, h)) u = table_texts f.has_table uses b table from to (rest_fits bytes a b parts fits) h u
-    body_texts f id true None bytes s from to fits (content, a, b, mid, parts, (kept, still), (table, is, h)) u = table_texts f.has_table [] b table mid to (rest_fits bytes a b parts fits) h (stay from mid still u)
+    body_texts f id true None bytes s from to fits (content, a, b, mid, parts, (unknown, still), (table, is, h)) u = table_texts f.has_table [] b table mid to (rest_fits bytes a b parts fits) h (stay from mid still u)
     body_texts f id false (Some class) bytes s from to fits (content, is, h) u =
         (slice_carried port t text_steps any_reference refers f.has_optional (own_members t class) bytes content from to fits h tt).0 u
     body_texts f id false None bytes s from to fits h u = absurd h

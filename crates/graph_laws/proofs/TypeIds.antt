@@ -4,7 +4,7 @@ use Rattle.std.specs.Prelude.{slice_get}
 use Rattle.std.specs.Str.{IsUtf8}
 use Rattle.ice_types.specs.Tables.{Tables}
 use Rattle.ice_prims.specs.Bytes.{text_bytes, size_bytes}
-use Rattle.ice_graphs.specs.Graph.{Slice, known, kept}
+use Rattle.ice_graphs.specs.Graph.{Slice, known, unknown}
 use Rattle.ice_graphs.specs.References.{State, GoesBack}
 use Rattle.ice_graphs.specs.Flags.{as_text, as_index, Reach}
 use Rattle.ice_graphs.specs.TypeIds.{with_id, SpellsId}
@@ -19,7 +19,7 @@ Spelled = State (Unit {0})
 abbrev pub HaveTexts : Tables → List Slice → Type 0
 HaveTexts t [] = Unit {0}
 HaveTexts t (known class content ∷ ss) = IsUtf8 (id_in (slice_get t.classes class)) × HaveTexts t ss
-HaveTexts t (kept id bytes optionals table ∷ ss) = HaveTexts t ss
+HaveTexts t (unknown id bytes optionals table ∷ ss) = HaveTexts t ss
 
 pub text_spelled : (id : List ℕ) (s : Spelled) → IsUtf8 id → length id < 2 ^ 31 → SpellsId as_text (text_bytes id) id s (with_id id s)
 text_spelled id s utf8 lt = ((size_bytes (length id), size_spelled (length id) lt, utf8, refl), refl)

@@ -13,15 +13,15 @@ use Rattle.ice_encoding.specs.Port.{Port, Speller}
 use Rattle.ice_encoding.specs.Typed.{Refers}
 use Rattle.ice_graphs.specs.OptionalMembers.{Members, SpellsSliceMembers, SpellsContent}
 use Rattle.ice_graphs.specs.Classes.{class_named, base_of, own_members}
-use Rattle.ice_graphs.specs.Graph.{Slice, known, kept}
+use Rattle.ice_graphs.specs.Graph.{Slice, known, unknown}
 use Rattle.ice_graphs.specs.Names.{renamed_members}
 use Rattle.ice_graphs.specs.References.{State, Reference, met_at, SpellsEntry, in_table, entry_in, resolved, AreWithin, SpellsEntries, SpellsTable, SpellsInline, with_met, with_ended, replaced, beginning, opening}
-use Rattle.ice_graphs.specs.Flags.{IdForm, no_id, as_text, as_index, as_number, Flags, Reach, Before, first, only_kept, derived}
+use Rattle.ice_graphs.specs.Flags.{IdForm, no_id, as_text, as_index, as_number, Flags, Reach, Before, first, only_unknown, derived}
 use Rattle.ice_graphs.specs.TypeIds.{SpellsId, class_in, is_base, same_bool, ends_well, before_base, before_next}
 use Rattle.ice_graphs.specs.Slices.{SpellsBody, SpellsSlices, SpellsInstance}
 use Rattle.ice_graphs.specs.Slices.{Behind as Others}
 use Rattle.ice_graphs.specs.Instances.{instances, slices_of, class_of, class_fits, AllFit}
-use Rattle.ice_graphs.specs.Typed.{AreReferred, AreMembers, IsKnown, AreBases, IsKept, IsInstance, RefersIn}
+use Rattle.ice_graphs.specs.Typed.{AreReferred, AreMembers, IsKnown, AreBases, IsUnknown, IsInstance, RefersIn}
 use Rattle.graph_laws.proofs.Texts.{AllUtf8}
 use Rattle.graph_laws.proofs.Ranged.{AreBelow}
 use Rattle.graph_laws.proofs.Bases.{IsRow, row_named, base_is_row}
@@ -183,12 +183,12 @@ module _ (t : Tables) (rules : IsSchema t) (reach : Reach) (is : List (List Slic
     -- what a body is
     abbrev pub BodyIs : List ℕ → Option ℕ → Slice → Type 0
     BodyIs id (Some class) s = (content : Members) × (s ≡ known class content) × AreMembers u Refer (own_members u class) content
-    BodyIs id None s = (bytes : List ℕ) × (optionals : Bool) × (table : List ℕ) × (s ≡ kept id bytes optionals table) × AreBelow limit table
+    BodyIs id None s = (bytes : List ℕ) × (optionals : Bool) × (table : List ℕ) × (s ≡ unknown id bytes optionals table) × AreBelow limit table
 
     -- what the slices are, by what stands before them
     abbrev pub Come : Before → List Slice → Type 0
     Come first ss = IsInstance u Refer ss
-    Come only_kept ss = IsInstance u Refer ss
+    Come only_unknown ss = IsInstance u Refer ss
     Come (derived sized base) ss = AreBases u Refer (Some base) ss
 
     -- what follows a kept slice, or one of a class
@@ -200,15 +200,15 @@ module _ (t : Tables) (rules : IsSchema t) (reach : Reach) (is : List (List Slic
     referred [] below = tt
     referred (n ∷ ns) below = ((below.0, refl), referred ns below.1)
 
-    kept_comes : (id bytes : List ℕ) (optionals : Bool) (table : List ℕ) (others : List Slice) → IsKept u Refer id table → After None others → IsInstance u Refer (kept id bytes optionals table ∷ others)
-    kept_comes id bytes optionals table [] k (inl e) = k
-    kept_comes id bytes optionals table [] k (inr h) = absurd h
-    kept_comes id bytes optionals table (s ∷ ss) k (inl e) = absurd cc
-    kept_comes id bytes optionals table (s ∷ ss) k (inr h) = (k, h)
+    unknown_comes : (id bytes : List ℕ) (optionals : Bool) (table : List ℕ) (others : List Slice) → IsUnknown u Refer id table → After None others → IsInstance u Refer (unknown id bytes optionals table ∷ others)
+    unknown_comes id bytes optionals table [] k (inl e) = k
+    unknown_comes id bytes optionals table [] k (inr h) = absurd h
+    unknown_comes id bytes optionals table (s ∷ ss) k (inl e) = absurd cc
+    unknown_comes id bytes optionals table (s ∷ ss) k (inr h) = (k, h)
 
     known_comes : (ahead : Before) (class : ℕ) (content : Members) (others : List Slice) → is_base ahead (Some class) ≡ true → IsKnown u Refer class content → AreBases u Refer (base_of u class) others → Come ahead (known class content ∷ others)
     known_comes first class content others based k bases = (k, bases)
-    known_comes only_kept class content others based k bases = (k, bases)
+    known_comes only_unknown class content others based k bases = (k, bases)
     known_comes (derived sized base) class content others based k bases =
         let same : class ≡ base = eqb-true class base based in
         (same, subst (λ (c : ℕ). IsKnown u Refer c content) same k, subst (λ (c : ℕ). AreBases u Refer (base_of u c) others) same bases)
@@ -216,9 +216,9 @@ module _ (t : Tables) (rules : IsSchema t) (reach : Reach) (is : List (List Slic
     pub one_comes : (ahead : Before) (id : List ℕ) (class : Option ℕ) (slice : Slice) (others : List Slice) → (class ≡ None → class_named u id ≡ None) → ((c : ℕ) → class ≡ Some c → IsRow u.classes c) → IsUtf8 id → is_base ahead class ≡ true → BodyIs id class slice
         → After class others → Come ahead (slice ∷ others)
     one_comes first id None slice others lacks row utf8 based (bytes, optionals, table, s_is, below) after =
-        subst (λ (s : Slice). Come first (s ∷ others)) (sym s_is) (kept_comes id bytes optionals table others (lacks refl, utf8, referred table below) after)
-    one_comes only_kept id None slice others lacks row utf8 based (bytes, optionals, table, s_is, below) after =
-        subst (λ (s : Slice). Come only_kept (s ∷ others)) (sym s_is) (kept_comes id bytes optionals table others (lacks refl, utf8, referred table below) after)
+        subst (λ (s : Slice). Come first (s ∷ others)) (sym s_is) (unknown_comes id bytes optionals table others (lacks refl, utf8, referred table below) after)
+    one_comes only_unknown id None slice others lacks row utf8 based (bytes, optionals, table, s_is, below) after =
+        subst (λ (s : Slice). Come only_unknown (s ∷ others)) (sym s_is) (unknown_comes id bytes optionals table others (lacks refl, utf8, referred table below) after)
     one_comes (derived sized base) id None slice others lacks row utf8 based body after = absurd cc
     one_comes ahead id (Some class) slice others lacks row utf8 based (content, s_is, h) after =
         let d = row class refl in
@@ -271,7 +271,7 @@ module _ (t : Tables) (rules : IsSchema t) (reach : Reach) (is : List (List Slic
         let content : Members = renamed_members (entry_in table) raw in
         let typed = sized_typed table f.has_table (below_at table tb.below) f.has_optional shape body raw uses inner (alike.placed f.has_table f.has_optional shape body raw [] uses members) tb.placed in
         (tb.step, (content, s_is, alike.members shape content typed))
-    body_typed u alike f id true None bytes s from to fits (content, a, b, mid, parts, (is_kept, still), (table, s_is, h)) fine =
+    body_typed u alike f id true None bytes s from to fits (content, a, b, mid, parts, (is_unknown, still), (table, s_is, h)) fine =
         let tb = table_typed f.has_table [] b table mid to (rest_fits bytes a b parts fits) h fine in
         (joined_step from mid to (stays from mid still) tb.step, (content, f.has_optional, table, s_is, tb.below))
     body_typed u alike f id false (Some class) bytes s from to fits (content, s_is, h) fine =
@@ -285,7 +285,7 @@ module _ (t : Tables) (rules : IsSchema t) (reach : Reach) (is : List (List Slic
     -- a base that is awaited is a class of the tables
     abbrev InTable : Before → Type 0
     InTable first = Unit {0}
-    InTable only_kept = Unit {0}
+    InTable only_unknown = Unit {0}
     InTable (derived sized base) = IsRow t.classes base
 
     id_typed : (form : IdForm) (bytes id : List ℕ) (from to : Spelled) → SpellsId form bytes id from to → Step from to × (AllUtf8 to.ids → IsUtf8 id)
@@ -299,7 +299,7 @@ module _ (t : Tables) (rules : IsSchema t) (reach : Reach) (is : List (List Slic
     abbrev Rest : Bool → Before → List Slice → Type 0
     Rest last next others = (last ≡ true → others ≡ []) × (last ≡ false → Come t next others)
 
-    ended_or : (last : Bool) (others : List Slice) → Rest last only_kept others → After t None others
+    ended_or : (last : Bool) (others : List Slice) → Rest last only_unknown others → After t None others
     ended_or true others r = inl (r.0 refl)
     ended_or false others r = inr (r.1 refl)
 
@@ -316,13 +316,13 @@ module _ (t : Tables) (rules : IsSchema t) (reach : Reach) (is : List (List Slic
 
     lacks_in : (ahead : Before) (id : List ℕ) → class_in t ahead id ≡ None → class_named t id ≡ None
     lacks_in first id e = e
-    lacks_in only_kept id e = e
+    lacks_in only_unknown id e = e
     lacks_in (derived true base) id e = e
     lacks_in (derived false base) id e = absurd cc
 
     class_is_known : (ahead : Before) → InTable ahead → (id : List ℕ) (class : ℕ) → class_in t ahead id ≡ Some class → IsRow t.classes class
     class_is_known first in_table id class e = row_named t.classes id class e
-    class_is_known only_kept in_table id class e = row_named t.classes id class e
+    class_is_known only_unknown in_table id class e = row_named t.classes id class e
     class_is_known (derived true base) in_table id class e = row_named t.classes id class e
     class_is_known (derived false base) in_table id class e =
         let same : base ≡ class = cc in

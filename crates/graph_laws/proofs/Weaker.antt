@@ -125,7 +125,7 @@ module _ (t : Tables) (reach : Reach) where
 
     body_goes : (f : Flags) (id : List ℕ) (sized : Bool) (class : Option ℕ) → Goes (SpellsBody port t f id sized class) (SpellsBody other t f id sized class)
     body_goes f id true (Some class) bytes s from to (raw, uses, a, b, parts, members, (table, is, h)) = (raw, uses, a, b, parts, members, (table, is, table_goes f.has_table uses b table from to h))
-    body_goes f id true None bytes s from to (content, a, b, mid, parts, kept, (table, is, h)) = (content, a, b, mid, parts, kept, (table, is, table_goes f.has_table [] b table mid to h))
+    body_goes f id true None bytes s from to (content, a, b, mid, parts, unknown, (table, is, h)) = (content, a, b, mid, parts, unknown, (table, is, table_goes f.has_table [] b table mid to h))
     body_goes f id false (Some class) bytes s from to (content, is, h) = (content, is, slice_goes port other t refers f.has_optional (own_members t class) bytes content from to h)
     body_goes f id false None bytes s from to h = h
 

@@ -13,12 +13,12 @@ use Rattle.ice_encoding.specs.Writing.{Piece, exactly, ◌>>◌}
 use Rattle.ice_graphs.specs.Optionals.{Present}
 use Rattle.ice_graphs.specs.OptionalMembers.{Members, SpellsSliceMembers}
 use Rattle.ice_graphs.specs.Classes.{own_members}
-use Rattle.ice_graphs.specs.Graph.{Slice, known, kept, Graph}
+use Rattle.ice_graphs.specs.Graph.{Slice, known, unknown, Graph}
 use Rattle.ice_graphs.specs.Names.{names_of, renamed_present, renamed_members}
 use Rattle.ice_graphs.specs.References.{State, in_table, resolved, AreWithin, SpellsEntries, SpellsTable, with_met}
-use Rattle.ice_graphs.specs.Flags.{no_id, Before, first, only_kept, derived}
+use Rattle.ice_graphs.specs.Flags.{no_id, Before, first, only_unknown, derived}
 use Rattle.ice_graphs.specs.TypeIds.{is_base}
-use Rattle.ice_graphs.specs.Slices.{slice_size, kept_bytes, by_table, SpellsBody}
+use Rattle.ice_graphs.specs.Slices.{slice_size, unknown_bytes, by_table, SpellsBody}
 use Rattle.ice_graphs.specs.Instances.{AllFit}
 use Rattle.ice_graphs.specs.Visiting.{place, visit_each}
 use Rattle.ice_graphs.specs.Typed.{IsKnown, RefersIn}
@@ -38,12 +38,12 @@ use Rattle.graph_laws.proofs.InlineRules.{Good, inline_rules, exact_good, joined
 
 abbrev pub IsOpen : Before → Type 0
 IsOpen first = Unit {0}
-IsOpen only_kept = Unit {0}
+IsOpen only_unknown = Unit {0}
 IsOpen (derived sized base) = ⊥
 
 pub open_base : (ahead : Before) → IsOpen ahead → (class : Option ℕ) → is_base ahead class ≡ true
 open_base first free class = refl
-open_base only_kept free class = refl
+open_base only_unknown free class = refl
 open_base (derived sized base) free class = absurd free
 
 pub with_size : (b : Bool) → b ≡ true → (b && true) ≡ true
@@ -97,8 +97,8 @@ module _ (u t : Tables) (k : Graph) (visit : ℕ → List ℕ → List ℕ) (gro
   abbrev pub KnownBody : ℕ → Members → Relation Spelled
   KnownBody class content b from to = SpellsBody P u (record { id = no_id; has_optional = is_there content.optional; has_table = is_there (each_once [] (names_of content)); has_size = true; is_last = true }) [] true (Some class) b (known class content) from to
 
-  abbrev pub KeptBody : List ℕ → List ℕ → Bool → List ℕ → Relation Spelled
-  KeptBody id bytes optionals table b from to = SpellsBody P u (record { id = no_id; has_optional = optionals; has_table = is_there table; has_size = true; is_last = true }) id true None b (kept id bytes optionals table) from to
+  abbrev pub UnknownBody : List ℕ → List ℕ → Bool → List ℕ → Relation Spelled
+  UnknownBody id bytes optionals table b from to = SpellsBody P u (record { id = no_id; has_optional = optionals; has_table = is_there table; has_size = true; is_last = true }) id true None b (unknown id bytes optionals table) from to
 
   -- ---- without a size
 
@@ -156,15 +156,15 @@ module _ (u t : Tables) (k : Graph) (visit : ℕ → List ℕ → List ℕ) (gro
         (exact (size_part (length bytes) ++ bytes) (Counted bytes) (λ s. (refl, refl))) (table_good table m.0 few (once-below limit [] ns below) m.2 m.3))
         from p j stands is_ready (once ns p.begun j is_ready below run) small
 
-    pub kept_good : (id bytes : List ℕ) (optionals : Bool) (table : List ℕ) → AreBelow limit table → Ends (sized_body u refer (kept id bytes optionals table)) table (KeptBody id bytes optionals table)
-    kept_good id bytes optionals table below from p j stands is_ready run small =
-        let s : Slice = kept id bytes optionals table in
-        let all : List ℕ = kept_bytes optionals bytes in
+    pub unknown_good : (id bytes : List ℕ) (optionals : Bool) (table : List ℕ) → AreBelow limit table → Ends (sized_body u refer (unknown id bytes optionals table)) table (UnknownBody id bytes optionals table)
+    unknown_good id bytes optionals table below from p j stands is_ready run small =
+        let s : Slice = unknown id bytes optionals table in
+        let all : List ℕ = unknown_bytes optionals bytes in
         let parts = sized_parts s p in
         let few : length table < 2 ^ 31 = omega (arith, small, parts, table_long table p) in
         let fits : length all + 4 < 2 ^ 31 = omega (arith, small, parts) in
         let Table : Relation Spelled = λ b from to. SpellsTable P (is_there table) [] b table from to in
-        mapped (sized_body u refer s) table (Chain (Counted all) Table) (KeptBody id bytes optionals table)
+        mapped (sized_body u refer s) table (Chain (Counted all) Table) (UnknownBody id bytes optionals table)
         (λ b from to z. (bytes, z.0, z.1, from, z.3, ((size_part (length all), z.4.0, slice_size_spelled (length all) fits), refl), (table, refl, subst (λ (x : Spelled). SpellsTable P (is_there table) [] z.1 table x to) z.4.1 z.5)))
         (joined (exactly (size_part (length all) ++ all)) (written_table u refer table) [] table (Counted all) Table
         (exact (size_part (length all) ++ all) (Counted all) (λ s. (refl, refl))) (table_good table [] few below tt tt))

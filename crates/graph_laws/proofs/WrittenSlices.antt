@@ -8,15 +8,15 @@ use Rattle.ice_encoding.specs.Port.{Port}
 use Rattle.ice_encoding.specs.Writing.{Piece, exactly, ◌>>◌}
 use Rattle.ice_graphs.specs.OptionalMembers.{Members}
 use Rattle.ice_graphs.specs.Classes.{class_named, base_of}
-use Rattle.ice_graphs.specs.Graph.{Slice, known, kept, Graph}
+use Rattle.ice_graphs.specs.Graph.{Slice, known, unknown, Graph}
 use Rattle.ice_graphs.specs.Names.{names_of, instance_names}
 use Rattle.ice_graphs.specs.References.{State}
-use Rattle.ice_graphs.specs.Flags.{IdForm, no_id, Flags, Reach, all_slices, known_classes, is_all, Before, first, only_kept, derived, has_id, may_stand, SpellsFlags}
+use Rattle.ice_graphs.specs.Flags.{IdForm, no_id, Flags, Reach, all_slices, known_classes, is_all, Before, first, only_unknown, derived, has_id, may_stand, SpellsFlags}
 use Rattle.ice_graphs.specs.TypeIds.{class_in, is_base, can_be_read, same_bool, ends_well, before_base, before_next}
 use Rattle.ice_graphs.specs.Slices.{SpellsBody, FromId, SpellsSlices, SpellsInstance}
 use Rattle.ice_graphs.specs.Slices.{Behind as Others}
 use Rattle.ice_graphs.specs.Visiting.{visit_each}
-use Rattle.ice_graphs.specs.Typed.{IsKnown, AreBases, IsKept, IsInstance, RefersIn}
+use Rattle.ice_graphs.specs.Typed.{IsKnown, AreBases, IsUnknown, IsInstance, RefersIn}
 use Rattle.ice_graphs.specs.Canonical.{Pen, is_there, each_once, flags_byte, id_in, id_of, written_head, is_end, sized_body, written_slices, members_bytes, written_bases, written_plain, Format, sliced, compact, written_as, Compact}
 use Rattle.graph_arena.specs.Arena.{AreBelow}
 use Rattle.graph_arena.proofs.Agreeing.{below-left, below-right}
@@ -26,7 +26,7 @@ use Rattle.graph_laws.proofs.Formed.{Asked}
 use Rattle.graph_laws.proofs.FlagBytes.{flags_back, flags_small}
 use Rattle.graph_laws.proofs.Upto.{upto, Grows}
 use Rattle.graph_laws.proofs.WrittenValues.{Relation, Chain, ReferGood}
-use Rattle.graph_laws.proofs.WrittenBodies.{IsOpen, open_base, with_size, KnownBody, KeptBody, PlainBody, known_good, kept_good, plain_body}
+use Rattle.graph_laws.proofs.WrittenBodies.{IsOpen, open_base, with_size, KnownBody, UnknownBody, PlainBody, known_good, unknown_good, plain_body}
 use Rattle.graph_laws.proofs.InlineRules.{Good, inline_rules, exact_good, joined_good, mapped_good, Head, HasId, head_good, IsNone, bare_good}
 
 module _ (t : Tables) (found : AreNamed t) (reach : Reach) (k : Graph) (visit : ℕ → List ℕ → List ℕ) (grows : Grows visit) (Ready : ℕ → Type 0) (ready : (i j : ℕ) → Ready i → i ≤ j → Ready j) (P : Port (State ℕ) (State (Unit {0}))) (refer : Option ℕ → Piece Pen)
@@ -122,9 +122,9 @@ module _ (t : Tables) (found : AreNamed t) (reach : Reach) (k : Graph) (visit : 
   with_id b c p q = rw (p, q) refl
 
   bases_good : (base : Option ℕ) (ss : List Slice) → HaveTexts t ss → AreBases t (RefersIn t k.instances) base ss → AreBelow limit (instance_names ss) → Ends (written_slices t refer ss) (instance_names ss) (Later (is_end t refer ss) (before_base true base) ss)
-  bases_good None ss texts are below = subst (λ (l : List Slice). Ends (written_slices t refer l) (instance_names l) (Later (is_end t refer l) only_kept l)) (sym are) (last_later only_kept)
+  bases_good None ss texts are below = subst (λ (l : List Slice). Ends (written_slices t refer l) (instance_names l) (Later (is_end t refer l) only_unknown l)) (sym are) (last_later only_unknown)
   bases_good (Some base) [] texts are below = absurd are
-  bases_good (Some base) (kept id bytes optionals table ∷ ss) texts are below = absurd are
+  bases_good (Some base) (unknown id bytes optionals table ∷ ss) texts are below = absurd are
   bases_good (Some base) (known other content ∷ ss) texts (same, known_class, more) below =
       let bases = subst (λ (c : ℕ). AreBases t (RefersIn t k.instances) (base_of t c) ss) (sym same) more in
       known_step (derived true base) other content ss texts.0 (λ form ok. with_id (has_id form) true ok refl) (λ id. refl) (eq-eqb other base same)
@@ -133,23 +133,23 @@ module _ (t : Tables) (found : AreNamed t) (reach : Reach) (k : Graph) (visit : 
 
   open_class : (ahead : Before) → IsOpen ahead → (id : List ℕ) → class_in t ahead id ≡ class_named t id
   open_class first free id = refl
-  open_class only_kept free id = refl
+  open_class only_unknown free id = refl
   open_class (derived sized base) free id = absurd free
 
   open_may : (ahead : Before) → IsOpen ahead → (opt tabled last : Bool) (form : IdForm) → has_id form ≡ true → may_stand ahead (flags_with opt tabled true last form) ≡ true
   open_may first free opt tabled last form ok = with_id (has_id form) true ok refl
-  open_may only_kept free opt tabled last form ok = with_id (has_id form) true ok refl
+  open_may only_unknown free opt tabled last form ok = with_id (has_id form) true ok refl
   open_may (derived sized base) free opt tabled last form ok = absurd free
 
-  kept_step : is_all reach ≡ true → (ahead : Before) → IsOpen ahead → (id bytes : List ℕ) (optionals : Bool) (table : List ℕ) (ss : List Slice) → IsKept t (RefersIn t k.instances) id table → AreBelow limit table
-      → Ends (written_slices t refer ss) (instance_names ss) (Later (is_end t refer ss) only_kept ss)
-      → Ends (written_slices t refer (kept id bytes optionals table ∷ ss)) (instance_names (kept id bytes optionals table ∷ ss)) (Slices ahead (kept id bytes optionals table ∷ ss))
-  kept_step all ahead free id bytes optionals table ss lacks below rest =
-      let s : Slice = kept id bytes optionals table in
-      step_good ahead only_kept s ss optionals (is_there table) true (is_end t refer ss) (HasId t k visit grows Ready ready) id None (KeptBody t t k visit grows Ready ready P refer port_good id bytes optionals table)
+  unknown_step : is_all reach ≡ true → (ahead : Before) → IsOpen ahead → (id bytes : List ℕ) (optionals : Bool) (table : List ℕ) (ss : List Slice) → IsUnknown t (RefersIn t k.instances) id table → AreBelow limit table
+      → Ends (written_slices t refer ss) (instance_names ss) (Later (is_end t refer ss) only_unknown ss)
+      → Ends (written_slices t refer (unknown id bytes optionals table ∷ ss)) (instance_names (unknown id bytes optionals table ∷ ss)) (Slices ahead (unknown id bytes optionals table ∷ ss))
+  unknown_step all ahead free id bytes optionals table ss lacks below rest =
+      let s : Slice = unknown id bytes optionals table in
+      step_good ahead only_unknown s ss optionals (is_there table) true (is_end t refer ss) (HasId t k visit grows Ready ready) id None (UnknownBody t t k visit grows Ready ready P refer port_good id bytes optionals table)
       (open_may ahead free optionals (is_there table) (is_end t refer ss)) (open_class ahead free id ∙ lacks.0) (open_base ahead free None) (λ form. with_size (is_all reach) all) (λ form. refl) (λ form. refl) (λ form b from to z. z)
       (written_head (λ form. flags_byte form optionals (is_there table) true (is_end t refer ss)) id) (sized_body t refer s) (written_slices t refer ss) table (instance_names ss)
-      (head_good t k visit grows Ready ready (λ form. flags_byte form optionals (is_there table) true (is_end t refer ss)) id lacks.1) (kept_good t t k visit grows Ready ready P refer port_good refer_long once id bytes optionals table below) rest
+      (head_good t k visit grows Ready ready (λ form. flags_byte form optionals (is_there table) true (is_end t refer ss)) id lacks.1) (unknown_good t t k visit grows Ready ready P refer port_good refer_long once id bytes optionals table below) rest
 
   known_good_first : (ahead : Before) → IsOpen ahead → (class : ℕ) (content : Members) (ss : List Slice) → HaveTexts t (known class content ∷ ss) → IsInstance t (RefersIn t k.instances) (known class content ∷ ss) → AreBelow limit (instance_names (known class content ∷ ss))
       → Ends (written_slices t refer (known class content ∷ ss)) (instance_names (known class content ∷ ss)) (Slices ahead (known class content ∷ ss))
@@ -159,15 +159,15 @@ module _ (t : Tables) (found : AreNamed t) (reach : Reach) (k : Graph) (visit : 
 
   slices_good : is_all reach ≡ true → (ahead : Before) → IsOpen ahead → (ss : List Slice) → HaveTexts t ss → IsInstance t (RefersIn t k.instances) ss → AreBelow limit (instance_names ss) → Ends (written_slices t refer ss) (instance_names ss) (Slices ahead ss)
   slices_good all ahead free [] texts is below = absurd is
-  slices_good all ahead free (kept id bytes optionals table ∷ []) texts is below = kept_step all ahead free id bytes optionals table [] is (below-left limit table [] below) (last_later only_kept)
-  slices_good all ahead free (kept id bytes optionals table ∷ s ∷ ss) texts is below =
-      kept_step all ahead free id bytes optionals table (s ∷ ss) is.0 (below-left limit table (instance_names (s ∷ ss)) below) (slices_good all only_kept tt (s ∷ ss) texts is.1 (below-right limit table (instance_names (s ∷ ss)) below))
+  slices_good all ahead free (unknown id bytes optionals table ∷ []) texts is below = unknown_step all ahead free id bytes optionals table [] is (below-left limit table [] below) (last_later only_unknown)
+  slices_good all ahead free (unknown id bytes optionals table ∷ s ∷ ss) texts is below =
+      unknown_step all ahead free id bytes optionals table (s ∷ ss) is.0 (below-left limit table (instance_names (s ∷ ss)) below) (slices_good all only_unknown tt (s ∷ ss) texts is.1 (below-right limit table (instance_names (s ∷ ss)) below))
   slices_good all ahead free (known class content ∷ ss) texts is below = known_good_first ahead free class content ss texts is below
 
   -- of known classes alone
   sized_good : (ss : List Slice) → Compact ss → HaveTexts t ss → IsInstance t (RefersIn t k.instances) ss → AreBelow limit (instance_names ss) → Ends (written_slices t refer ss) (instance_names ss) (Slices first ss)
   sized_good [] asked texts is below = absurd asked
-  sized_good (kept id bytes optionals table ∷ ss) asked texts is below = absurd asked
+  sized_good (unknown id bytes optionals table ∷ ss) asked texts is below = absurd asked
   sized_good (known class content ∷ ss) asked texts is below = known_good_first first tt class content ss texts is below
 
   -- ---- without sizes
@@ -176,9 +176,9 @@ module _ (t : Tables) (found : AreNamed t) (reach : Reach) (k : Graph) (visit : 
   bare_may base opt last form ok = rw ok refl
 
   plain_bases : (base : Option ℕ) (ss : List Slice) → AreBases t (RefersIn t k.instances) base ss → AreBelow limit (instance_names ss) → Ends (written_bases t refer ss) (instance_names ss) (Later (is_end t refer ss) (before_base false base) ss)
-  plain_bases None ss are below = subst (λ (l : List Slice). Ends (written_bases t refer l) (instance_names l) (Later (is_end t refer l) only_kept l)) (sym are) (last_later only_kept)
+  plain_bases None ss are below = subst (λ (l : List Slice). Ends (written_bases t refer l) (instance_names l) (Later (is_end t refer l) only_unknown l)) (sym are) (last_later only_unknown)
   plain_bases (Some base) [] are below = absurd are
-  plain_bases (Some base) (kept id bytes optionals table ∷ ss) are below = absurd are
+  plain_bases (Some base) (unknown id bytes optionals table ∷ ss) are below = absurd are
   plain_bases (Some base) (known other content ∷ ss) (same, known_class, more) below =
       let bases = subst (λ (c : ℕ). AreBases t (RefersIn t k.instances) (base_of t c) ss) (sym same) more in
       step_good (derived false base) (before_base false (base_of t other)) (known other content) ss (is_there content.optional) false false (is_end t refer ss) (IsNone t k visit grows Ready ready) [] (Some other) (PlainBody t t k visit grows Ready ready P refer port_good other content)
@@ -190,7 +190,7 @@ module _ (t : Tables) (found : AreNamed t) (reach : Reach) (k : Graph) (visit : 
 
   plain_good : (ss : List Slice) → Compact ss → HaveTexts t ss → IsInstance t (RefersIn t k.instances) ss → AreBelow limit (instance_names ss) → Ends (written_plain t refer ss) (instance_names ss) (Slices first ss)
   plain_good [] asked texts is below = absurd asked
-  plain_good (kept id bytes optionals table ∷ ss) asked texts is below = absurd asked
+  plain_good (unknown id bytes optionals table ∷ ss) asked texts is below = absurd asked
   plain_good (known class content ∷ ss) asked texts (known_class, bases) below =
       let s : Slice = known class content in
       let d = known_class.0 in

@@ -5,7 +5,7 @@ use Rattle.ice_types.specs.Tables.{Tables}
 use Rattle.ice_encoding.specs.Port.{Port, nowhere}
 use Rattle.ice_encoding.specs.Encapsulation.{Encapsulated}
 use Rattle.ice_graphs.specs.OptionalMembers.{SpellsContent}
-use Rattle.ice_graphs.specs.Graph.{Slice, known, kept, Graph}
+use Rattle.ice_graphs.specs.Graph.{Slice, known, unknown, Graph}
 use Rattle.ice_graphs.specs.Flags.{all_slices}
 use Rattle.ice_graphs.specs.References.{State, opening, inline}
 use Rattle.ice_graphs.specs.Slices.{SpellsInstance, instance_at}
@@ -19,7 +19,7 @@ module _ (t u : Tables) where
   abbrev pub IsOfBoth : List Slice → Type 0
   IsOfBoth [] = ⊥
   IsOfBoth (known a content ∷ ss) = (b : ℕ) × SameClassId t u a b
-  IsOfBoth (kept id bytes optionals table ∷ ss) = ⊥
+  IsOfBoth (unknown id bytes optionals table ∷ ss) = ⊥
 
   -- Each slice has a size, or the node knows its class. It is so of all slices if it is so of the first.
   abbrev pub CanBeRead : List ℕ → List Slice → Type 0

@@ -5,9 +5,9 @@ use Rattle.ice_types.specs.Tables.{Tables}
 use Rattle.ice_types.specs.Lacking.{SameId}
 use Rattle.ice_graphs.specs.OptionalMembers.{Members, SpellsSliceMembers}
 use Rattle.ice_graphs.specs.Classes.{class_named, own_members}
-use Rattle.ice_graphs.specs.Graph.{Slice, known, kept, Graph}
+use Rattle.ice_graphs.specs.Graph.{Slice, known, unknown, Graph}
 use Rattle.ice_graphs.specs.References.{Reference, in_table, resolved, AreWithin}
-use Rattle.ice_graphs.specs.Slices.{by_table, kept_bytes}
+use Rattle.ice_graphs.specs.Slices.{by_table, unknown_bytes}
 use Rattle.ice_graphs.specs.Instances.{AllFit}
 use Rattle.ice_graphs.specs.Canonical.{is_there}
 
@@ -15,7 +15,7 @@ use Rattle.ice_graphs.specs.Canonical.{is_there}
 -- instances, each of a class that fits.
 abbrev pub OpensAs : Tables → List (List Slice) → ℕ → List ℕ → Bool → List ℕ → Members → Type 0
 OpensAs t is class bytes optionals table content = (raw : Members) × (uses : List (Reference (Unit {0})))
-    × SpellsSliceMembers (in_table (is_there table)) t optionals (own_members t class) (kept_bytes optionals bytes) raw [] uses
+    × SpellsSliceMembers (in_table (is_there table)) t optionals (own_members t class) (unknown_bytes optionals bytes) raw [] uses
     × AreWithin (length table) uses × AllFit t is (resolved table uses) × (known class content ≡ by_table class raw table)
 
 module _ (t u : Tables) where
@@ -26,14 +26,14 @@ module _ (t u : Tables) where
   -- among these instances of the first schema
   module _ (is : List (List Slice)) where
     -- a slice of a class that the second schema lacks, kept
-    abbrev pub KeptAs : ℕ → Members → Slice → Type 0
-    KeptAs a content s = (id bytes : List ℕ) × (optionals : Bool) × (table : List ℕ) × (s ≡ kept id bytes optionals table)
+    abbrev pub UnknownAs : ℕ → Members → Slice → Type 0
+    UnknownAs a content s = (id bytes : List ℕ) × (optionals : Bool) × (table : List ℕ) × (s ≡ unknown id bytes optionals table)
         × (class_named t id ≡ Some a) × (class_named u id ≡ None) × OpensAs t is a bytes optionals table content
 
     -- A slice under the first schema, and the same under the second: of a class that is left, or kept.
     abbrev pub SeenAs : Slice → Slice → Type 0
-    SeenAs (known a content) s = ((b : ℕ) × (s ≡ known b content) × SameClassId a b) ⊎ KeptAs a content s
-    SeenAs (kept id bytes optionals table) s = (s ≡ kept id bytes optionals table) × (class_named u id ≡ None)
+    SeenAs (known a content) s = ((b : ℕ) × (s ≡ known b content) × SameClassId a b) ⊎ UnknownAs a content s
+    SeenAs (unknown id bytes optionals table) s = (s ≡ unknown id bytes optionals table) × (class_named u id ≡ None)
 
     -- one by one
     abbrev pub AllSeen : List Slice → List Slice → Type 0

@@ -60,7 +60,7 @@ pub fn graphs_seen()
 {}
 
 /// What the node kept of a slice is members of its class for the reader, so it can be reopened.
-pub fn kept_slices_reopened()
+pub fn unknown_slices_reopened()
     ensures { (t : Tables) (is : List (List Slice)) (class : ℕ) (bytes : List ℕ) (optionals : Bool) (table : List ℕ) (content : Members)
         → OpensAs t is class bytes optionals table content → Reopens t class bytes optionals table (known class content) }
 {}

@@ -8,7 +8,7 @@ pub mod Exceptions
 pub mod Reopening
 pub mod Agreeing
 pub mod Samples
-mod RaisedSamples
+mod UserExceptionSamples
 pub mod Stepping
 pub mod Prefixed
 pub mod OwnSizes

@@ -19,7 +19,7 @@ use Rattle.ice_encoding.specs.Spelling.{SpellsValue}
 use Rattle.ice_encoding.specs.Reading.{made, value_at}
 use Rattle.ice_encoding.proofs.Values.{Lawful, lands, made_lawful, value_lawful}
 use Rattle.ice_graphs.specs.Prefixes.{no_length, own_size, as_size, as_int, counts_itself, prefix_of}
-use Rattle.ice_graphs.specs.Optionals.{Present, with_option, not_kept, kind_tagged, passed_over, PassedOver, skipped_by, SkippedBy, tagged, Tagged, Options, option_then, options_at, AllOptions, all_options}
+use Rattle.ice_graphs.specs.Optionals.{Present, with_option, not_unknown, kind_tagged, passed_over, PassedOver, skipped_by, SkippedBy, tagged, Tagged, Options, option_then, options_at, AllOptions, all_options}
 use Rattle.ice_graphs.proofs.Stepping.{tested_lawful}
 use Rattle.ice_graphs.proofs.Prefixed.{framed_lawful}
 use Rattle.ice_graphs.proofs.OwnSizes.{itself_long}
@@ -56,7 +56,7 @@ module _ {R S : Type 0} (port : Port R S) (lawful : IsLawful port) (t : Tables) 
   }
 
   skipped_lawful : (reference : Bool) (format : ℕ) → eqb format FORMAT_CLASS ≡ reference → format ≤ 7 → Law (skipped_by port.read t reference format) (SkippedBy port t reference format)
-  skipped_lawful true format test known = made_lawful port.seen not_kept _ _ (record { found = lawful.found None; only = lawful.only None })
+  skipped_lawful true format test known = made_lawful port.seen not_unknown _ _ (record { found = lawful.found None; only = lawful.only None })
   skipped_lawful false format test known = passed_lawful format (other (eqb-false format 7 test) known)
     where
       other : (format ≡ 7 → ⊥) → format ≤ 7 → format ≤ 6

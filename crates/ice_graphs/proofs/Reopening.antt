@@ -9,7 +9,7 @@ use Rattle.ice_graphs.proofs.Contents.{slice_members_lawful}
 use Rattle.ice_graphs.specs.Classes.{own_members}
 use Rattle.ice_graphs.specs.Graph.{Slice}
 use Rattle.ice_graphs.specs.References.{Reference, unplaced, in_table, entry_at, AreWithin, within}
-use Rattle.ice_graphs.specs.Slices.{by_table, kept_bytes}
+use Rattle.ice_graphs.specs.Slices.{by_table, unknown_bytes}
 use Rattle.ice_graphs.specs.Canonical.{is_there}
 use Rattle.ice_graphs.specs.Reopening.{Reopens, reopened}
 use Rattle.ice_graphs.proofs.Ending.{LawfulToEnd, ends, ended_ok, to_end}
@@ -17,7 +17,7 @@ use Rattle.ice_graphs.proofs.References.{in_table_lawful, within_ok, within_is}
 
 module _ (t : Tables) (class : ℕ) (bytes : List ℕ) (optionals : Bool) (table : List ℕ) where
   abbrev all : List ℕ
-  all = kept_bytes optionals bytes
+  all = unknown_bytes optionals bytes
 
   members : LawfulToEnd (map unplaced) (slice_members_at (entry_at (is_there table)) t optionals (own_members t class)) (SpellsSliceMembers (in_table (is_there table)) t optionals (own_members t class))
   members = to_end (map unplaced) _ _ (slice_members_lawful (in_table (is_there table)) (in_table_lawful (is_there table)) t (own_members t class) optionals)

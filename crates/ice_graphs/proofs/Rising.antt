@@ -29,15 +29,15 @@ module _ {R S : Type 0} (port : Port R S) (t : Tables) where
   skipped_none false format bytes v from to h = h.1
 
   -- what is kept is of a known tag
-  kept_known : (kind : Option TypeRef) (format : ℕ) (bytes : List ℕ) (v : Tree) (from to : S) → Tagged port t kind format bytes (Some v) from to → is_some kind ≡ true
-  kept_known None format bytes v from to h = let other : Some v ≡ None = skipped_none (eqb format FORMAT_CLASS) format bytes (Some v) from to h in absurd cc
-  kept_known (Some kind) format bytes v from to h = refl
+  unknown_known : (kind : Option TypeRef) (format : ℕ) (bytes : List ℕ) (v : Tree) (from to : S) → Tagged port t kind format bytes (Some v) from to → is_some kind ≡ true
+  unknown_known None format bytes v from to h = let other : Some v ≡ None = skipped_none (eqb format FORMAT_CLASS) format bytes (Some v) from to h in absurd cc
+  unknown_known (Some kind) format bytes v from to h = refl
 
   module _ (marked : Bool) (members : List Member) where
     one_present : (last : Option ℕ) (number format : ℕ) (bytes : List ℕ) (v : Option Tree) (others : Present) (from to : S) → rises last number ≡ true → Tagged port t (kind_tagged number members) format bytes v from to
         → ArePresent members (Some number) others → ArePresent members last (with_option number v others)
     one_present last number format bytes None others from to rise is are = from_below members last number others rise are
-    one_present last number format bytes (Some v) others from to rise is are = (rise, kept_known (kind_tagged number members) format bytes v from to is, are)
+    one_present last number format bytes (Some v) others from to rise is are = (rise, unknown_known (kind_tagged number members) format bytes v from to is, are)
 
     pub options_present : (n : ℕ) (last : Option ℕ) (bytes : List ℕ) (values : Present) (from to : S) → Options port t marked members n last bytes values from to → ArePresent members last values
     options_present zero last bytes values from to h = subst (ArePresent members last) (sym h.1) tt

@@ -17,7 +17,7 @@ use Rattle.ice_prims.specs.Rest.{fault, whole}
 use Rattle.ice_encoding.specs.Opening.{encapsulated_bytes}
 use Rattle.ice_encoding.specs.Tree.{short, int, byte, sequence, struct, text, reference, Trees, none, tree}
 use Rattle.ice_graphs.specs.OptionalMembers.{Members, with_optional, content_at}
-use Rattle.ice_graphs.specs.Graph.{Slice, known, kept, Graph}
+use Rattle.ice_graphs.specs.Graph.{Slice, known, unknown, Graph}
 use Rattle.ice_graphs.specs.References.{opening}
 use Rattle.ice_graphs.specs.Flags.{Reach, all_slices, known_classes}
 use Rattle.ice_graphs.specs.Instances.{most_instances, instances, graph_at, numbered_at}
@@ -149,14 +149,14 @@ unfolding graph_at most_instances measure is_utf8 chars encode
 with_base = refl
 
 -- the same where D is not known: its slice is kept
-kept_slice : reads fewer (kinds.Class (Some 0)) (1 ∷ 25 ∷ derived_id ++ 7 ∷ 0 ∷ 0 ∷ 0 ∷ 1 ∷ 120 ∷ 1 ∷ 1 ∷ 1 ∷ 49 ∷ base_id ++ 8 ∷ 0 ∷ 0 ∷ 0 ∷ 2 ∷ 0 ∷ 0 ∷ 0 ∷ 50 ∷ 2 ∷ 8 ∷ 0 ∷ 0 ∷ 0 ∷ 1 ∷ 0 ∷ 0 ∷ 0 ∷ []) ((kept (codes "::M::D") (1 ∷ 120 ∷ 1 ∷ []) false (1 ∷ []) ∷ known 0 (values (tree (int (pos 1)) none)) ∷ []) ∷ (known 0 (values (tree (int (pos 2)) none)) ∷ []) ∷ [])
+unknown_slice : reads fewer (kinds.Class (Some 0)) (1 ∷ 25 ∷ derived_id ++ 7 ∷ 0 ∷ 0 ∷ 0 ∷ 1 ∷ 120 ∷ 1 ∷ 1 ∷ 1 ∷ 49 ∷ base_id ++ 8 ∷ 0 ∷ 0 ∷ 0 ∷ 2 ∷ 0 ∷ 0 ∷ 0 ∷ 50 ∷ 2 ∷ 8 ∷ 0 ∷ 0 ∷ 0 ∷ 1 ∷ 0 ∷ 0 ∷ 0 ∷ []) ((unknown (codes "::M::D") (1 ∷ 120 ∷ 1 ∷ []) false (1 ∷ []) ∷ known 0 (values (tree (int (pos 1)) none)) ∷ []) ∷ (known 0 (values (tree (int (pos 2)) none)) ∷ []) ∷ [])
 unfolding graph_at most_instances measure is_utf8 chars encode
-kept_slice = refl
+unknown_slice = refl
 
 -- an instance of kept slices alone
-kept_alone : reads fewer (kinds.Class None) (1 ∷ 53 ∷ other_id ++ 6 ∷ 0 ∷ 0 ∷ 0 ∷ 7 ∷ 255 ∷ []) ((kept (codes "::Y") (7 ∷ []) true [] ∷ []) ∷ [])
+unknown_alone : reads fewer (kinds.Class None) (1 ∷ 53 ∷ other_id ++ 6 ∷ 0 ∷ 0 ∷ 0 ∷ 7 ∷ 255 ∷ []) ((unknown (codes "::Y") (7 ∷ []) true [] ∷ []) ∷ [])
 unfolding graph_at most_instances measure is_utf8 chars encode
-kept_alone = refl
+unknown_alone = refl
 
 -- a D in compact format
 compact_base : reads tables (kinds.Class (Some 3)) (1 ∷ 1 ∷ derived_id ++ 1 ∷ 120 ∷ 0 ∷ 32 ∷ 1 ∷ 0 ∷ 0 ∷ 0 ∷ []) ((known 4 (values (tree (text (codes "x")) (tree (reference None) none))) ∷ known 3 (values (tree (int (pos 1)) none)) ∷ []) ∷ [])
@@ -174,9 +174,9 @@ unfolding graph_at most_instances measure is_utf8 chars encode
 two_places = refl
 
 -- a kept slice whose table names its own instance
-kept_itself : reads fewer (kinds.Class None) (1 ∷ 57 ∷ other_id ++ 5 ∷ 0 ∷ 0 ∷ 0 ∷ 1 ∷ 1 ∷ 2 ∷ []) ((kept (codes "::Y") (1 ∷ []) false (0 ∷ []) ∷ []) ∷ [])
+unknown_itself : reads fewer (kinds.Class None) (1 ∷ 57 ∷ other_id ++ 5 ∷ 0 ∷ 0 ∷ 0 ∷ 1 ∷ 1 ∷ 2 ∷ []) ((unknown (codes "::Y") (1 ∷ []) false (0 ∷ []) ∷ []) ∷ [])
 unfolding graph_at most_instances measure is_utf8 chars encode
-kept_itself = refl
+unknown_itself = refl
 
 -- a table may name an instance twice
 table_twice : reads tables (kinds.Class (Some 0)) (1 ∷ 57 ∷ node_id ++ 9 ∷ 0 ∷ 0 ∷ 0 ∷ 7 ∷ 0 ∷ 0 ∷ 0 ∷ 1 ∷ 2 ∷ 2 ∷ 2 ∷ []) (node 7 0 ∷ [])
@@ -307,14 +307,14 @@ unfolding graph_at most_instances measure is_utf8 chars encode
 slice_short = refl
 
 -- what is kept does not end with the end marker
-kept_no_marker : breaks fewer (kinds.Class (Some 0)) (1 ∷ 53 ∷ other_id ++ 6 ∷ 0 ∷ 0 ∷ 0 ∷ 7 ∷ 8 ∷ []) 17 faults.BadTag
+unknown_no_marker : breaks fewer (kinds.Class (Some 0)) (1 ∷ 53 ∷ other_id ++ 6 ∷ 0 ∷ 0 ∷ 0 ∷ 7 ∷ 8 ∷ []) 17 faults.BadTag
 unfolding graph_at most_instances measure is_utf8 chars encode
-kept_no_marker = refl
+unknown_no_marker = refl
 
 -- what is kept has no room for the end marker
-kept_empty : breaks fewer (kinds.Class (Some 0)) (1 ∷ 53 ∷ other_id ++ 4 ∷ 0 ∷ 0 ∷ 0 ∷ []) 16 faults.Short
+unknown_empty : breaks fewer (kinds.Class (Some 0)) (1 ∷ 53 ∷ other_id ++ 4 ∷ 0 ∷ 0 ∷ 0 ∷ []) 16 faults.Short
 unfolding graph_at most_instances measure is_utf8 chars encode
-kept_empty = refl
+unknown_empty = refl
 
 -- ---- references
 
@@ -354,9 +354,9 @@ unfolding graph_at most_instances measure is_utf8 chars encode
 entry_before_past = refl
 
 -- a table of a kept slice that has a null
-kept_null_entry : breaks fewer (kinds.Class None) (1 ∷ 57 ∷ other_id ++ 4 ∷ 0 ∷ 0 ∷ 0 ∷ 1 ∷ 0 ∷ []) 17 faults.BadReference
+unknown_null_entry : breaks fewer (kinds.Class None) (1 ∷ 57 ∷ other_id ++ 4 ∷ 0 ∷ 0 ∷ 0 ∷ 1 ∷ 0 ∷ []) 17 faults.BadReference
 unfolding graph_at most_instances measure is_utf8 chars encode
-kept_null_entry = refl
+unknown_null_entry = refl
 
 -- a P where an N is declared
 wrong_class : breaks tables (kinds.Class (Some 0)) (1 ∷ 49 ∷ point_id ++ 8 ∷ 0 ∷ 0 ∷ 0 ∷ 5 ∷ 0 ∷ 0 ∷ 0 ∷ []) 6 faults.WrongClass
@@ -369,9 +369,9 @@ unfolding graph_at most_instances measure is_utf8 chars encode
 wrong_inside = refl
 
 -- no known class comes from B
-wrong_kept : breaks fewer (kinds.Class (Some 0)) (1 ∷ 49 ∷ other_id ++ 4 ∷ 0 ∷ 0 ∷ 0 ∷ []) 6 faults.WrongClass
+wrong_unknown : breaks fewer (kinds.Class (Some 0)) (1 ∷ 49 ∷ other_id ++ 4 ∷ 0 ∷ 0 ∷ 0 ∷ []) 6 faults.WrongClass
 unfolding graph_at most_instances measure is_utf8 chars encode
-wrong_kept = refl
+wrong_unknown = refl
 
 -- a fault behind a wrong class comes first
 wrong_last : breaks tables (kinds.Class (Some 0)) (1 ∷ 49 ∷ point_id ++ 8 ∷ 0 ∷ 0 ∷ 0 ∷ 5 ∷ 0 ∷ 0 ∷ 0 ∷ 248 ∷ []) 23 faults.BadTag
@@ -464,9 +464,9 @@ unfolding graph_at most_instances measure is_utf8 chars encode
 unsized = refl
 
 -- a class that is not known
-not_kept : read_to known_classes fewer (kinds.Class None) (1 ∷ 53 ∷ other_id ++ 6 ∷ 0 ∷ 0 ∷ 0 ∷ 7 ∷ 255 ∷ []) ≡ fault 8 faults.UnknownClass
+not_unknown : read_to known_classes fewer (kinds.Class None) (1 ∷ 53 ∷ other_id ++ 6 ∷ 0 ∷ 0 ∷ 0 ∷ 7 ∷ 255 ∷ []) ≡ fault 8 faults.UnknownClass
 unfolding graph_at most_instances measure is_utf8 chars encode
-not_kept = refl
+not_unknown = refl
 
 -- ---- what is written
 
@@ -496,9 +496,9 @@ unfolding canonical_graph form order most measure
 write_base = refl
 
 -- a slice that was kept
-write_kept : canonical_graph fewer (one (kinds.Class (Some 0))) sliced (graph ((kept (codes "::M::D") (1 ∷ 120 ∷ 1 ∷ []) false (1 ∷ []) ∷ known 0 (values (tree (int (pos 1)) none)) ∷ []) ∷ (known 0 (values (tree (int (pos 2)) none)) ∷ []) ∷ [])) ≡ 1 ∷ 25 ∷ derived_id ++ 7 ∷ 0 ∷ 0 ∷ 0 ∷ 1 ∷ 120 ∷ 1 ∷ 1 ∷ 1 ∷ 49 ∷ base_id ++ 8 ∷ 0 ∷ 0 ∷ 0 ∷ 2 ∷ 0 ∷ 0 ∷ 0 ∷ 50 ∷ 2 ∷ 8 ∷ 0 ∷ 0 ∷ 0 ∷ 1 ∷ 0 ∷ 0 ∷ 0 ∷ []
+write_unknown : canonical_graph fewer (one (kinds.Class (Some 0))) sliced (graph ((unknown (codes "::M::D") (1 ∷ 120 ∷ 1 ∷ []) false (1 ∷ []) ∷ known 0 (values (tree (int (pos 1)) none)) ∷ []) ∷ (known 0 (values (tree (int (pos 2)) none)) ∷ []) ∷ [])) ≡ 1 ∷ 25 ∷ derived_id ++ 7 ∷ 0 ∷ 0 ∷ 0 ∷ 1 ∷ 120 ∷ 1 ∷ 1 ∷ 1 ∷ 49 ∷ base_id ++ 8 ∷ 0 ∷ 0 ∷ 0 ∷ 2 ∷ 0 ∷ 0 ∷ 0 ∷ 50 ∷ 2 ∷ 8 ∷ 0 ∷ 0 ∷ 0 ∷ 1 ∷ 0 ∷ 0 ∷ 0 ∷ []
 unfolding canonical_graph form order most measure
-write_kept = refl
+write_unknown = refl
 
 -- an optional member
 write_optional : canonical_graph tables (one (kinds.Class (Some 2))) sliced (graph ((known 2 (with_optional none ((1, int (pos 5)) ∷ [])) ∷ []) ∷ [])) ≡ 1 ∷ 53 ∷ option_id ++ 10 ∷ 0 ∷ 0 ∷ 0 ∷ 10 ∷ 5 ∷ 0 ∷ 0 ∷ 0 ∷ 255 ∷ []

@@ -11,7 +11,7 @@ use Rattle.ice_encoding.specs.Skipping.{count, bound_behind}
 use Rattle.ice_encoding.proofs.Joined.{made_sorted, tested_lawful}
 use Rattle.ice_encoding.proofs.Passed.{count_lawful, bound_found, bound_only}
 use Rattle.ice_encoding.proofs.Values.{LawfulPart}
-use Rattle.ice_graphs.specs.Slices.{slice_size, kept_bytes, unmarked, without_marker, SpellsKept, kept_at}
+use Rattle.ice_graphs.specs.Slices.{slice_size, unknown_bytes, unmarked, without_marker, SpellsUnknown, unknown_at}
 
 -- ---- the size
 
@@ -46,27 +46,27 @@ unmarked_only place (b ∷ c ∷ cs) = goes_on b (c ∷ cs) (unmarked (suc place
 
 -- ---- kept bytes
 
-marker_found : (flagged : Bool) (bound : Rest) (front : List ℕ) → without_marker flagged bound ≡ Ok front → bound.bytes ≡ kept_bytes flagged front
+marker_found : (flagged : Bool) (bound : Rest) (front : List ℕ) → without_marker flagged bound ≡ Ok front → bound.bytes ≡ unknown_bytes flagged front
 marker_found true bound front e = unmarked_found bound.place bound.bytes front e
 marker_found false bound front e = ok_is bound.bytes front e
 
-marker_only : (flagged : Bool) (place : ℕ) (front : List ℕ) → without_marker flagged (record { place = place; bytes = kept_bytes flagged front }) ≡ Ok front
+marker_only : (flagged : Bool) (place : ℕ) (front : List ℕ) → without_marker flagged (record { place = place; bytes = unknown_bytes flagged front }) ≡ Ok front
 marker_only true place front = unmarked_only place front
 marker_only false place front = refl
 
-kept_is : (flagged : Bool) (r bound s : Rest) (x : List ℕ) → bound_behind slice_size r ≡ Ok (bound, s) → without_marker flagged bound ≡ Ok x → kept_at flagged r ≡ Ok (x, s)
-kept_is flagged r bound s x bounds is = rw (bounds, is) refl
+unknown_is : (flagged : Bool) (r bound s : Rest) (x : List ℕ) → bound_behind slice_size r ≡ Ok (bound, s) → without_marker flagged bound ≡ Ok x → unknown_at flagged r ≡ Ok (x, s)
+unknown_is flagged r bound s x bounds is = rw (bounds, is) refl
 
-pub kept_lawful : (flagged : Bool) → LawfulPart (kept_at flagged) (SpellsKept flagged)
-kept_lawful flagged = record {
+pub unknown_lawful : (flagged : Bool) → LawfulPart (unknown_at flagged) (SpellsUnknown flagged)
+unknown_lawful flagged = record {
   found = λ r y fits e.
       then_ok (bound_behind slice_size r) (λ bound. without_marker flagged bound.0 >>= λ x. Ok (x, bound.1)) y e λ bound bound_is later.
       then_ok (without_marker flagged bound.0) (λ x. Ok (x, bound.1)) y later λ x x_is last.
       let f = bound_found slice_size slice_size_lawful r bound fits bound_is in
       let same = marker_found flagged bound.0 x x_is in
-      subst (λ (z : List ℕ × Rest). (bytes : List ℕ) × Took r bytes z.1 × SpellsKept flagged bytes z.0) (ok_is (x, bound.1) y last)
+      subst (λ (z : List ℕ × Rest). (bytes : List ℕ) × Took r bytes z.1 × SpellsUnknown flagged bytes z.0) (ok_is (x, bound.1) y last)
       (f.0 ++ bound.0.bytes, f.1, (f.0, ap (λ (l : List ℕ). f.0 ++ l) same, subst (λ (l : List ℕ). slice_size.Spells f.0 (length l)) same f.2));
   only = λ r s bytes x k h.
-      let bound = bound_only slice_size slice_size_lawful r s h.0 (kept_bytes flagged x) (subst (λ (l : List ℕ). Took r l s) h.1 k) h.2 in
-      kept_is flagged r (record { place = r.place + length h.0; bytes = kept_bytes flagged x }) s x bound (marker_only flagged (r.place + length h.0) x);
+      let bound = bound_only slice_size slice_size_lawful r s h.0 (unknown_bytes flagged x) (subst (λ (l : List ℕ). Took r l s) h.1 k) h.2 in
+      unknown_is flagged r (record { place = r.place + length h.0; bytes = unknown_bytes flagged x }) s x bound (marker_only flagged (r.place + length h.0) x);
 }

@@ -18,14 +18,14 @@ use Rattle.ice_graphs.proofs.Stepping.{followed_lawful, given_lawful, tested_law
 use Rattle.ice_graphs.proofs.Prefixed.{prefixed_lawful}
 use Rattle.ice_graphs.proofs.Contents.{slice_members_lawful}
 use Rattle.ice_graphs.specs.Classes.{own_members}
-use Rattle.ice_graphs.specs.Graph.{Slice, known, kept}
+use Rattle.ice_graphs.specs.Graph.{Slice, known, unknown}
 use Rattle.ice_graphs.specs.References.{State, Reference, seen, unplaced, in_table, SpellsTable, table_at}
 use Rattle.ice_graphs.specs.Flags.{Flags, Reach, IdForm, no_id, as_text, as_index, as_number, flags_of, Before, first, may_stand, SpellsFlags, flags_at}
 use Rattle.ice_graphs.specs.TypeIds.{with_id, SpellsId, id_found, id_indexed, id_at, class_in, is_base, can_be_read, ends_well, before_next}
-use Rattle.ice_graphs.specs.Slices.{slice_size, SpellsKept, kept_at, by_table, SpellsBody, body_at, one_more, Behind, next_slices, FromId, from_id, SpellsSlices, slices_at, SpellsInstance, instance_at}
+use Rattle.ice_graphs.specs.Slices.{slice_size, SpellsUnknown, unknown_at, by_table, SpellsBody, body_at, one_more, Behind, next_slices, FromId, from_id, SpellsSlices, slices_at, SpellsInstance, instance_at}
 use Rattle.ice_graphs.specs.Instances.{instances}
 use Rattle.ice_graphs.proofs.Joining.{placed_lawful, by_itself_lawful, alike}
-use Rattle.ice_graphs.proofs.Sizes.{slice_size_lawful, kept_lawful}
+use Rattle.ice_graphs.proofs.Sizes.{slice_size_lawful, unknown_lawful}
 use Rattle.ice_graphs.proofs.References.{in_table_lawful, inline_lawful, table_lawful}
 
 -- ---- the flags
@@ -103,8 +103,8 @@ module _ (port : Port (State ℕ) (State (Unit {0}))) (same : port.seen ≡ seen
       (prefixed_lawful (map unplaced) _ _ (slice_members_lawful (in_table f.has_table) (in_table_lawful f.has_table) t (own_members t class) f.has_optional) slice_size slice_size_lawful)
       (λ content uses. made_lawful seen (by_table class content) _ _ (tables_lawful f.has_table uses))
   body_lawful f id true None =
-      followed_lawful seen _ _ _ _ (plain_lawful seen (kept_at f.has_optional) (SpellsKept f.has_optional) (kept_lawful f.has_optional))
-      (λ content. made_lawful seen (kept id content f.has_optional) _ _ (tables_lawful f.has_table []))
+      followed_lawful seen _ _ _ _ (plain_lawful seen (unknown_at f.has_optional) (SpellsUnknown f.has_optional) (unknown_lawful f.has_optional))
+      (λ content. made_lawful seen (unknown id content f.has_optional) _ _ (tables_lawful f.has_table []))
   body_lawful f id false (Some class) =
       made_lawful seen (known class) _ _ (subst (λ (see : State ℕ → State (Unit {0})). Lawful see (slice_members_at port.read t f.has_optional (own_members t class)) (SpellsSliceMembers port t f.has_optional (own_members t class))) same
       (slice_members_lawful port lawful t (own_members t class) f.has_optional))

@@ -28,8 +28,8 @@ with_option number None others = others
 with_option number (Some v) others = (number, v) ∷ others
 
 -- what is passed over is not kept
-abbrev pub not_kept : {A : Type 0} → A → Option Tree
-not_kept x = None
+abbrev pub not_unknown : {A : Type 0} → A → Option Tree
+not_unknown x = None
 
 -- the type of the member with this tag, None where there is none
 abbrev pub kind_tagged : ℕ → List Member → Option TypeRef
@@ -55,7 +55,7 @@ module _ {R : Type 0} (refer : Option ℕ → Reader R (Option ℕ)) (t : Tables
 
   -- by whether the format is that of references, which may change the state
   abbrev pub skipped_by : Bool → ℕ → Reader R (Option Tree)
-  skipped_by true format = made not_kept (refer None)
+  skipped_by true format = made not_unknown (refer None)
   skipped_by false format = passed_over format
 
   -- what stands behind a tag, by the type of the member that has it
@@ -85,7 +85,7 @@ module _ {R S : Type 0} (port : Port R S) (t : Tables) where
   PassedOver format bytes v from to = Passes format bytes × (v ≡ None) × (to ≡ from)
 
   abbrev pub SkippedBy : Bool → ℕ → Speller S (Option Tree)
-  SkippedBy true format = Made not_kept (port.Spells None)
+  SkippedBy true format = Made not_unknown (port.Spells None)
   SkippedBy false format = PassedOver format
 
   abbrev pub Tagged : Option TypeRef → ℕ → Speller S (Option Tree)

@@ -7,9 +7,9 @@ ghost use Rattle.ice_prims.specs.Rest.{IsBytes, whole};
 ghost use Rattle.ice_encoding.specs.Port.{IsLawful};
 ghost use Rattle.ice_graphs.specs.Graph.{Slice, Graph};
 ghost use Rattle.ice_graphs.specs.Flags.{Reach};
-ghost use Rattle.ice_graphs.specs.Slices.{kept_bytes};
+ghost use Rattle.ice_graphs.specs.Slices.{unknown_bytes};
 ghost use Rattle.ice_graphs.specs.Instances.{references, SpellsNumbered, numbered_at};
-ghost use Rattle.ice_graphs.specs.Exceptions.{Raised, SpellsException, exception_at};
+ghost use Rattle.ice_graphs.specs.Exceptions.{UserException, SpellsException, exception_at};
 ghost use Rattle.ice_graphs.specs.Reopening.{Reopens, reopened};
 
 /// Where a reference stands, what is read is spelled by the bytes that were taken, and what is spelled
@@ -40,19 +40,19 @@ pub fn graphs_apart()
 /// A user exception is read from an input exactly where the whole input is an encapsulation of it; so
 /// every other input has a first fault.
 pub fn exceptions_found()
-    ensures { (t : Tables) (reach : Reach) (bytes : List ℕ) (x : Raised)
+    ensures { (t : Tables) (reach : Reach) (bytes : List ℕ) (x : UserException)
         → IsBytes bytes → exception_at t reach (whole bytes) ≡ Ok x → SpellsException t reach bytes x }
 {}
 
 /// The other half: an encapsulation of an exception is read as it.
 pub fn exceptions_only()
-    ensures { (t : Tables) (reach : Reach) (bytes : List ℕ) (x : Raised)
+    ensures { (t : Tables) (reach : Reach) (bytes : List ℕ) (x : UserException)
         → SpellsException t reach bytes x → exception_at t reach (whole bytes) ≡ Ok x }
 {}
 
 /// An encapsulation holds one exception.
 pub fn exceptions_apart()
-    ensures { (t : Tables) (reach : Reach) (bytes : List ℕ) (x y : Raised)
+    ensures { (t : Tables) (reach : Reach) (bytes : List ℕ) (x y : UserException)
         → SpellsException t reach bytes x → SpellsException t reach bytes y → x ≡ y }
 {}
 
@@ -60,7 +60,7 @@ pub fn exceptions_apart()
 /// table.
 pub fn slices_reopened()
     ensures found { (t : Tables) (class : ℕ) (bytes : List ℕ) (optionals : Bool) (table : List ℕ) (s : Slice)
-        → IsBytes (kept_bytes optionals bytes) → reopened t class bytes optionals table ≡ Ok s
+        → IsBytes (unknown_bytes optionals bytes) → reopened t class bytes optionals table ≡ Ok s
         → Reopens t class bytes optionals table s }
     ensures only { (t : Tables) (class : ℕ) (bytes : List ℕ) (optionals : Bool) (table : List ℕ) (s : Slice)
         → Reopens t class bytes optionals table s → reopened t class bytes optionals table ≡ Ok s }

@@ -19,7 +19,7 @@ use Rattle.slice_meaning.proofs.Loads.{one_meaning}
 use Rattle.node_commands.specs.declared.words.Task.TheVariants as tasks
 use Rattle.node_commands.specs.Words.{Word, Command, values, check, proxy, drill, messages, help, version, Asks}
 use Rattle.node_commands.specs.Outside.{Files, Outside}
-use Rattle.node_commands.specs.Answers.{Answer, done, denied, usage, no_such_name, slice_refused, input_refused, json_refused, too_long, needs_sliced, text_refused, read_failed, write_failed, no_memory, refused_after, read_failed_after, no_memory_after, status}
+use Rattle.node_commands.specs.Answers.{Answer, done, different, usage, no_such_name, slice_refused, input_refused, json_refused, too_long, needs_sliced, text_refused, read_failed, write_failed, no_memory, refused_after, read_failed_after, no_memory_after, status}
 use Rattle.node_commands.specs.Decided.{DoesTask, Decides, Decided}
 use Rattle.ice_node.specs.Carrying.{IsReader, Carries}
 use Rattle.node_commands.specs.Statuses.{Answered}
@@ -68,7 +68,7 @@ relay_carries words files input out fits (asked, asks, decides) file word t kind
 
 done_at_zero : (came : Answer) → status came ≡ 0 → (out : List ℕ) × (came ≡ done out)
 done_at_zero (done out) e = (out, refl)
-done_at_zero (denied bytes) e = absurd cc
+done_at_zero (different bytes) e = absurd cc
 done_at_zero usage e = absurd cc
 done_at_zero (no_such_name word) e = absurd cc
 done_at_zero (slice_refused broken) e = absurd cc

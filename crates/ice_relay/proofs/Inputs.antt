@@ -55,12 +55,12 @@ rest_is_frugal before mid now old first n none r claims t =
     (first ++ t.more, Consumes-trans before mid now first t.more front t.consumed, inr (claims.0, n, on, claims.2, omega (arith, length-append first t.more, t.within)))
 
 pub nothing_is_frugal : (before now : Option (List ℕ)) → Keeps before now → TakesFrugally before now
-nothing_is_frugal before now kept = ([], Consumes-kept before before now [] (Consumes-nil before) kept, inl (omega arith))
+nothing_is_frugal before now unknown = ([], Consumes-kept before before now [] (Consumes-nil before) unknown, inl (omega arith))
 
 -- a read that failed took nothing more
 pub fails_within : (before mid now : Option (List ℕ)) (goal : ℕ) (old more : List ℕ) → length old + length more ≤ goal → Consumes before mid more → Keeps mid now → TakesUpTo goal before now old
-fails_within before mid now goal old more within consumed kept =
-    record { more = more; within = within; consumed = Consumes-kept before mid now more consumed kept }
+fails_within before mid now goal old more within consumed unknown =
+    record { more = more; within = within; consumed = Consumes-kept before mid now more consumed unknown }
 
 pub on_err : {T E P : Type 0} (r : Result T E) → P → OnErr r P
 on_err (Ok x) p = tt

@@ -93,4 +93,4 @@ second_taken before mid last now old first got n m none r claims s second t =
     (all, Consumes-trans before last now got t.more front t.consumed, inr (n, begins, inr (second.0, m, on, second.2, omega (arith, length-drop n all, length-append got t.more, t.within))))
 
 pub nothing_of_two : (before now : Option (List ℕ)) → Keeps before now → TakesTwoFrugally before now
-nothing_of_two before now kept = ([], Consumes-kept before before now [] (Consumes-nil before) kept, inl (omega arith))
+nothing_of_two before now unknown = ([], Consumes-kept before before now [] (Consumes-nil before) unknown, inl (omega arith))

@@ -16,12 +16,12 @@ use Rattle.ice_graphs.specs.Prefixes.{prefixed}
 use Rattle.ice_graphs.specs.OptionalMembers.{Members, slice_members_at}
 use Rattle.ice_graphs.specs.Classes.{own_members, base_of}
 use Rattle.ice_graphs.specs.Graph.{Slice, known}
-use Rattle.ice_graphs.specs.Exceptions.{of_exceptions, is_known_last, unless_ended, behind_raised, raised_slices}
-use Rattle.ice_graphs.specs.Flags.{Flags, Before, only_kept, all_slices, flags_at}
+use Rattle.ice_graphs.specs.Exceptions.{of_exceptions, is_known_last, unless_ended, behind_user_exception, user_exception_slices}
+use Rattle.ice_graphs.specs.Flags.{Flags, Before, only_unknown, all_slices, flags_at}
 use Rattle.ice_graphs.specs.TypeIds.{is_base, can_be_read, same_bool, before_base, before_next}
 use Rattle.ice_graphs.specs.Instances.{most_instances}
 use Rattle.ice_graphs.specs.References.{State, Reference, inline_at, entry_at, entries_at, table_at, resolved, with_met}
-use Rattle.ice_graphs.specs.Slices.{slice_size, kept_at, one_more, body_at, next_slices, from_id, slices_at}
+use Rattle.ice_graphs.specs.Slices.{slice_size, unknown_at, one_more, body_at, next_slices, from_id, slices_at}
 use Rattle.ice_values.specs.declared.fields.Optionals.{Optionals}
 use Rattle.ice_values.specs.Advancing.{fresh_members}
 use Rattle.ice_values.specs.Shapes.{told_apart}
@@ -29,7 +29,7 @@ use Rattle.ice_values.specs.Unread.{left_of_members}
 use Rattle.ice_values.proofs.Stages.{left-slice, left-bare}
 use Rattle.instance_reading.specs.Seen.{by_flag, own_fields, view_next}
 use Rattle.instance_reading.specs.Slices.{Front, members_of, bytes_of, slice_with, uses_of, Open, refer_by, left_table, left_next, left_open, left_members, left_compact, behind_tests, OpensKnown, OpensSlice, BeginsSlice}
-use Rattle.instance_reading.specs.Sorts.{rows_of, may_begin, id_by, class_by, ends_by, is_over, behind_base, behind_kept, behind_slice, port_by, unless_over, slices_by}
+use Rattle.instance_reading.specs.Sorts.{rows_of, may_begin, id_by, class_by, ends_by, is_over, behind_base, behind_unknown, behind_slice, port_by, unless_over, slices_by}
 use Rattle.instance_reading.specs.declared.sort.Sort.{Sort}
 use Rattle.instance_reading.specs.declared.sort.Sort.TheVariants as sorts
 use Rattle.instance_reading.specs.declared.slice.Before as code
@@ -45,16 +45,16 @@ fails_then (faults.Broken f) read next h = rw h refl
 -- ---- what follows a slice
 
 module _ (refer : Option ℕ → Reader (State ℕ) (Option ℕ)) (t : Tables) (steps : ℕ) where
-  abbrev raised_from : Before → Reader (State ℕ) (List Slice)
-  raised_from = raised_slices (port_by refer) (of_exceptions t) all_slices steps
+  abbrev user_exception_from : Before → Reader (State ℕ) (List Slice)
+  user_exception_from = user_exception_slices (port_by refer) (of_exceptions t) all_slices steps
 
   abbrev others : Sort → Flags → Option ℕ → Reader (State ℕ) (List Slice)
   others sorts.Class f class = next_slices refer t (slices_at refer t all_slices steps) f.is_last (before_next t class f)
-  others sorts.Exception f class = behind_raised (raised_from (before_next (of_exceptions t) class f)) (is_known_last (of_exceptions t) class f) class
+  others sorts.Exception f class = behind_user_exception (user_exception_from (before_next (of_exceptions t) class f)) (is_known_last (of_exceptions t) class f) class
 
-  kept_class : (last : Bool) → next_slices refer t (slices_at refer t all_slices steps) last only_kept ≡ left_next refer sorts.Class t steps (behind_kept last)
-  kept_class true = refl
-  kept_class false = refl
+  unknown_class : (last : Bool) → next_slices refer t (slices_at refer t all_slices steps) last only_unknown ≡ left_next refer sorts.Class t steps (behind_unknown last)
+  unknown_class true = refl
+  unknown_class false = refl
 
   known_class : (sized last : Bool) (base : Option ℕ) → same_bool last (is_none base) ≡ true → next_slices refer t (slices_at refer t all_slices steps) last (before_base sized base) ≡ left_next refer sorts.Class t steps (behind_base sized base)
   known_class sized true None ends = refl
@@ -62,22 +62,22 @@ module _ (refer : Option ℕ → Reader (State ℕ) (Option ℕ)) (t : Tables) (
   known_class sized true (Some base) ends = absurd cc
   known_class sized false (Some base) ends = refl
 
-  unless_same : (next : Reader (State ℕ) (List Slice)) (bytes : List ℕ) → unless_ended next bytes ≡ unless_over refer (is_over sorts.Exception only_kept bytes) next
+  unless_same : (next : Reader (State ℕ) (List Slice)) (bytes : List ℕ) → unless_ended next bytes ≡ unless_over refer (is_over sorts.Exception only_unknown bytes) next
   unless_same next [] = refl
   unless_same next (b ∷ bs) = refl
 
-  kept_exception : (last : Bool) → behind_raised (raised_from only_kept) last None ≡ left_next refer sorts.Exception t steps (behind_kept last)
-  kept_exception true = refl
-  kept_exception false = λ i s r. unless_same (raised_from only_kept) r.bytes i s r
+  unknown_exception : (last : Bool) → behind_user_exception (user_exception_from only_unknown) last None ≡ left_next refer sorts.Exception t steps (behind_unknown last)
+  unknown_exception true = refl
+  unknown_exception false = λ i s r. unless_same (user_exception_from only_unknown) r.bytes i s r
 
-  known_exception : (sized : Bool) (class : ℕ) (base : Option ℕ) → behind_raised (raised_from (before_base sized base)) (is_none base) (Some class) ≡ left_next refer sorts.Exception t steps (behind_base sized base)
+  known_exception : (sized : Bool) (class : ℕ) (base : Option ℕ) → behind_user_exception (user_exception_from (before_base sized base)) (is_none base) (Some class) ≡ left_next refer sorts.Exception t steps (behind_base sized base)
   known_exception sized class None = refl
   known_exception sized class (Some base) = refl
 
   same_others : (sort : Sort) (f : Flags) (class : Option ℕ) → ends_by sort (rows_of sort t) class f ≡ true → others sort f class ≡ left_next refer sort t steps (behind_slice (rows_of sort t) class f)
-  same_others sorts.Class f None ends = kept_class f.is_last
+  same_others sorts.Class f None ends = unknown_class f.is_last
   same_others sorts.Class f (Some class) ends = known_class f.has_size f.is_last (base_of t class) ends
-  same_others sorts.Exception f None ends = kept_exception f.is_last
+  same_others sorts.Exception f None ends = unknown_exception f.is_last
   same_others sorts.Exception f (Some class) ends = known_exception f.has_size class (base_of (of_exceptions t) class)
 
   -- ---- from the tests on
@@ -159,10 +159,10 @@ module _ (refer : Option ℕ → Reader (State ℕ) (Option ℕ)) (t : Tables) (
         (rw (sized, members) (ap (by_entries (members_of class content uses) next left s after) table))
 
     -- what is kept
-    pub kept_opened : (bytes : List ℕ) (optionals : Bool) → optionals ≡ f.has_optional → next ≡ behind_kept f.is_last → kept_at f.has_optional r ≡ Ok (bytes, mid)
+    pub unknown_opened : (bytes : List ℕ) (optionals : Bool) → optionals ≡ f.has_optional → next ≡ behind_unknown f.is_last → unknown_at f.has_optional r ≡ Ok (bytes, mid)
         → table_at refer f.has_table [] s mid ≡ entries (bytes_of id bytes f.has_optional) next left s after
         → behind_tests refer sort t steps f None id s r ≡ left_open refer sort t steps (opening (bytes_of id bytes optionals) next left s after) s after
-    kept_opened bytes optionals is follows keeps table =
+    unknown_opened bytes optionals is follows keeps table =
         slice_opened (bytes_of id bytes f.has_optional) next left s after sort f None id r follows
         (rw (sized, keeps) (ap (by_entries (bytes_of id bytes f.has_optional) next left s after) table))
         ∙ ap (λ (b : Bool). left_open refer sort t steps (opening (bytes_of id bytes b) next left s after) s after) (sym is)

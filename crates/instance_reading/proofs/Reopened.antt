@@ -13,7 +13,7 @@ use Rattle.ice_graphs.specs.Classes.{own_members}
 use Rattle.ice_graphs.specs.Graph.{Slice}
 use Rattle.ice_graphs.specs.References.{Reference, entry_at, within}
 use Rattle.ice_graphs.specs.Reopening.{reopened}
-use Rattle.ice_graphs.specs.Slices.{by_table, kept_bytes}
+use Rattle.ice_graphs.specs.Slices.{by_table, unknown_bytes}
 use Rattle.graph_arena.specs.declared.instance.Slice as stored
 use Rattle.graph_arena.specs.Seen.{view_slice}
 use Rattle.instance_reading.specs.Reopened.{members_reopened, resolved_by}
@@ -25,7 +25,7 @@ abbrev pub IsLeftOver : Rest → Fault → Type 0
 IsLeftOver r e = (byte : ℕ) × (bytes : List ℕ) × (r.bytes ≡ byte ∷ bytes) × (e ≡ record { place = r.place; kind = LeftOver })
 
 -- all bytes of the members, the end marker among them
-pub all_bytes : (t : Tables) (class : ℕ) (bytes : List ℕ) (optionals : Bool) (table : List ℕ) → reopened t class bytes optionals table ≡ members_reopened t class optionals table (whole (kept_bytes optionals bytes))
+pub all_bytes : (t : Tables) (class : ℕ) (bytes : List ℕ) (optionals : Bool) (table : List ℕ) → reopened t class bytes optionals table ≡ members_reopened t class optionals table (whole (unknown_bytes optionals bytes))
 unfolding reopened
 all_bytes t class bytes optionals table = refl
 
@@ -60,7 +60,7 @@ module _ (t : Tables) (class : ℕ) (optionals : Bool) (table bytes : List ℕ) 
     resolves empty result h = subst (λ (x : Result Slice Fault). GivesUnlessMemory view_slice result x) (sym (none_left empty)) h
 
 -- the bytes are all that were kept
-pub whole_along : (t : Tables) (class : ℕ) (bytes all : List ℕ) (optionals : Bool) (table : List ℕ) → kept_bytes optionals bytes ≡ all → (result : Result stored.Slice ReadFault)
+pub whole_along : (t : Tables) (class : ℕ) (bytes all : List ℕ) (optionals : Bool) (table : List ℕ) → unknown_bytes optionals bytes ≡ all → (result : Result stored.Slice ReadFault)
     → GivesUnlessMemory view_slice result (members_reopened t class optionals table (whole all)) → GivesUnlessMemory view_slice result (reopened t class bytes optionals table)
 whole_along t class bytes all optionals table is result h =
     subst (λ (x : Result Slice Fault). GivesUnlessMemory view_slice result x) (sym (all_bytes t class bytes optionals table ∙ ap (λ (l : List ℕ). members_reopened t class optionals table (whole l)) is)) h

@@ -66,12 +66,12 @@ module _ (refer : Option ℕ → Reader (State ℕ) (Option ℕ)) where
   abbrev by_names : Open → State ℕ → Rest → List ℕ → Result (Slice × State ℕ × Rest) Fault
   by_names o s r table = Ok (slice_with o.front table, with_met (resolved table (uses_of o.front)) s, r)
 
-  more : (o kept : Open) (n : ℕ) → kept ≡ with_entry o n → (read : Result (List ℕ × State ℕ × Rest) Fault) → (read >>= entry_first n >>= with_entries o) ≡ (read >>= with_entries kept)
-  more o kept n is (Err e) = refl
-  more o kept n is (Ok y) = ap (by_names o y.1 y.2) (sym (append_assoc o.table (n ∷ []) y.0)) ∙ ap (λ (k : Open). with_entries k y) (sym is)
+  more : (o unknown : Open) (n : ℕ) → unknown ≡ with_entry o n → (read : Result (List ℕ × State ℕ × Rest) Fault) → (read >>= entry_first n >>= with_entries o) ≡ (read >>= with_entries unknown)
+  more o unknown n is (Err e) = refl
+  more o unknown n is (Ok y) = ap (by_names o y.1 y.2) (sym (append_assoc o.table (n ∷ []) y.0)) ∙ ap (λ (k : Open). with_entries k y) (sym is)
 
-  left_is : (o kept : Open) (left n : ℕ) → o.left ≡ suc left → kept ≡ with_entry o n → kept.left ≡ left
-  left_is o kept left n some is = ap (λ (k : Open). k.left) is ∙ omega (arith, some)
+  left_is : (o unknown : Open) (left n : ℕ) → o.left ≡ suc left → unknown ≡ with_entry o n → unknown.left ≡ left
+  left_is o unknown left n some is = ap (λ (k : Open). k.left) is ∙ omega (arith, some)
 
   -- the name that a reference has, and what is read behind it
   abbrev entry_then : Open → ℕ → ℕ → Option ℕ × State ℕ × Rest → Result (Slice × State ℕ × Rest) Fault
@@ -86,10 +86,10 @@ module _ (refer : Option ℕ → Reader (State ℕ) (Option ℕ)) where
   table_is o left s r some = ap (λ (n : ℕ). entries_at refer n s r >>= with_entries o) some ∙ first_entry o r.place left (refer None s r)
 
   -- one that is known
-  entry_known : (o kept : Open) (left n : ℕ) (s s' : State ℕ) (r after : Rest) → o.left ≡ suc left → kept ≡ with_entry o n → refer None s r ≡ Ok (Some n, s', after) → left_table refer o s r ≡ left_table refer kept s' after
-  entry_known o kept left n s s' r after some is e =
+  entry_known : (o unknown : Open) (left n : ℕ) (s s' : State ℕ) (r after : Rest) → o.left ≡ suc left → unknown ≡ with_entry o n → refer None s r ≡ Ok (Some n, s', after) → left_table refer o s r ≡ left_table refer unknown s' after
+  entry_known o unknown left n s s' r after some is e =
       table_is o left s r some ∙ ap (λ (x : Result (Option ℕ × State ℕ × Rest) Fault). x >>= entry_then o r.place left) e
-      ∙ more o kept n is (entries_at refer left s' after) ∙ ap (λ (k : ℕ). entries_at refer k s' after >>= with_entries kept) (sym (left_is o kept left n some is))
+      ∙ more o unknown n is (entries_at refer left s' after) ∙ ap (λ (k : ℕ). entries_at refer k s' after >>= with_entries unknown) (sym (left_is o unknown left n some is))
 
   -- null
   entry_null : (o : Open) (left : ℕ) (s s' : State ℕ) (r after : Rest) → o.left ≡ suc left → refer None s r ≡ Ok (None, s', after) → left_table refer o s r ≡ fault r.place BadReference
@@ -99,13 +99,13 @@ module _ (refer : Option ℕ → Reader (State ℕ) (Option ℕ)) where
   entry_fails o left e s r some h = fault_along e _ _ (sym (table_is o left s r some)) (fails_then e (refer None s r) (entry_then o r.place left) h)
 
   -- one at which an instance begins
-  entry_begins : (inside : Inside (State ℕ)) (o kept : Open) (left n : ℕ) (s s' : State ℕ) (r after : Rest) → o.left ≡ suc left → kept ≡ with_entry o n → refer None s r ≡ (inside n s' after >>= λ x. Ok (Some n, x.0, x.1))
-      → left_table refer o s r ≡ (inside n s' after >>= λ x. left_table refer kept x.0 x.1)
-  entry_begins inside o kept left n s s' r after some is e =
+  entry_begins : (inside : Inside (State ℕ)) (o unknown : Open) (left n : ℕ) (s s' : State ℕ) (r after : Rest) → o.left ≡ suc left → unknown ≡ with_entry o n → refer None s r ≡ (inside n s' after >>= λ x. Ok (Some n, x.0, x.1))
+      → left_table refer o s r ≡ (inside n s' after >>= λ x. left_table refer unknown x.0 x.1)
+  entry_begins inside o unknown left n s s' r after some is e =
       table_is o left s r some ∙ ap (λ (x : Result (Option ℕ × State ℕ × Rest) Fault). x >>= entry_then o r.place left) e ∙ behind_it (inside n s' after)
     where
-      behind_it : (read : Result (State ℕ × Rest) Fault) → (read >>= (λ x. Ok (Some n, x.0, x.1)) >>= entry_then o r.place left) ≡ (read >>= λ x. left_table refer kept x.0 x.1)
-      behind_it (Ok x) = more o kept n is (entries_at refer left x.0 x.1) ∙ ap (λ (k : ℕ). entries_at refer k x.0 x.1 >>= with_entries kept) (sym (left_is o kept left n some is))
+      behind_it : (read : Result (State ℕ × Rest) Fault) → (read >>= (λ x. Ok (Some n, x.0, x.1)) >>= entry_then o r.place left) ≡ (read >>= λ x. left_table refer unknown x.0 x.1)
+      behind_it (Ok x) = more o unknown n is (entries_at refer left x.0 x.1) ∙ ap (λ (k : ℕ). entries_at refer k x.0 x.1 >>= with_entries unknown) (sym (left_is o unknown left n some is))
       behind_it (Err e) = refl
 
 -- ---- in an instance
@@ -167,18 +167,18 @@ module _ (inside : Inside (State ℕ)) (sort : Sort) (t : Tables) where
 
   module _ (old new : Unfinished) (slice : OpenSlice) (n : ℕ) (s s' : State ℕ) (r after : Rest) (some : 0 < slice.left) where
     pub keeps_known : Keeps old new (opened slice) n → inline_at most_instances None s r ≡ Ok (pausing.known (Some n), s', after) → left_by inside sort t old (stages.Open slice) s r ≡ left_slices inside sort t new s' after
-    keeps_known (kept, new_is, is) e =
+    keeps_known (unknown, new_is, is) e =
         let left = some_left slice.left some in
-        ap (carried old.steps (view_next slice.next) (view_slices old.slices)) (entry_known refer (opened slice) (opened kept) left.0 n s s' r after left.1 is (met_known (Some n) s s' r after e))
-        ∙ ap (λ (b : Option Before). carried old.steps b (view_slices old.slices) (left_table refer (opened kept) s' after)) (sym (ap (λ (o : Open). o.next) is))
+        ap (carried old.steps (view_next slice.next) (view_slices old.slices)) (entry_known refer (opened slice) (opened unknown) left.0 n s s' r after left.1 is (met_known (Some n) s s' r after e))
+        ∙ ap (λ (b : Option Before). carried old.steps b (view_slices old.slices) (left_table refer (opened unknown) s' after)) (sym (ap (λ (o : Open). o.next) is))
         ∙ ap (λ (u : Unfinished). left_slices inside sort t u s' after) (sym new_is)
 
     pub keeps_begins : Keeps old new (opened slice) n → inline_at most_instances None s r ≡ Ok (begins n, s', after) → left_by inside sort t old (stages.Open slice) s r ≡ (inside n s' after >>= λ x. left_slices inside sort t new x.0 x.1)
-    keeps_begins (kept, new_is, is) e =
+    keeps_begins (unknown, new_is, is) e =
         let left = some_left slice.left some in
-        ap (carried old.steps (view_next slice.next) (view_slices old.slices)) (entry_begins refer inside (opened slice) (opened kept) left.0 n s s' r after left.1 is (met_begins n s s' r after e))
-        ∙ carried_behind old.steps (view_next slice.next) (view_slices old.slices) (inside n s' after) (λ x. left_table refer (opened kept) x.0 x.1)
-        ∙ ap (λ (b : Option Before). inside n s' after >>= λ x. carried old.steps b (view_slices old.slices) (left_table refer (opened kept) x.0 x.1)) (sym (ap (λ (o : Open). o.next) is))
+        ap (carried old.steps (view_next slice.next) (view_slices old.slices)) (entry_begins refer inside (opened slice) (opened unknown) left.0 n s s' r after left.1 is (met_begins n s s' r after e))
+        ∙ carried_behind old.steps (view_next slice.next) (view_slices old.slices) (inside n s' after) (λ x. left_table refer (opened unknown) x.0 x.1)
+        ∙ ap (λ (b : Option Before). inside n s' after >>= λ x. carried old.steps b (view_slices old.slices) (left_table refer (opened unknown) x.0 x.1)) (sym (ap (λ (o : Open). o.next) is))
         ∙ ap (λ (u : Unfinished). inside n s' after >>= λ x. left_slices inside sort t u x.0 x.1) (sym new_is)
 
   module _ (old : Unfinished) (slice : OpenSlice) (s s' : State ℕ) (r after : Rest) (some : 0 < slice.left) where

@@ -14,7 +14,7 @@ use Rattle.ice_encoding.specs.Reading.{plain}
 use Rattle.ice_graphs.specs.Steps.{followed}
 use Rattle.ice_graphs.specs.OptionalMembers as defs
 use Rattle.ice_graphs.specs.Classes.{class_named}
-use Rattle.ice_graphs.specs.Exceptions.{Raised, of_exceptions, may_be_raised, may_be_last, is_known_last, behind_raised, raised_slices, raised_at}
+use Rattle.ice_graphs.specs.Exceptions.{UserException, of_exceptions, may_be_raised, may_be_last, is_known_last, behind_user_exception, user_exception_slices, user_exception_at}
 use Rattle.ice_graphs.specs.Graph.{Slice, Graph}
 use Rattle.ice_graphs.specs.Flags.{first, all_slices, flags_at}
 use Rattle.ice_graphs.specs.Instances.{most_instances, references, graph_at, misfit, unless_misfit}
@@ -39,10 +39,10 @@ use Rattle.instance_reading.proofs.Stack.{refer_is, whole_slices}
 -- ---- before the first byte
 
 -- slices are read by how their port reads
-same_port : (port : Port (State ℕ) (State (Unit {0}))) (refer : Option ℕ → Reader (State ℕ) (Option ℕ)) (u : Tables) → port.read ≡ refer → (steps : ℕ) → raised_slices port u all_slices steps ≡ raised_slices (port_by refer) u all_slices steps
+same_port : (port : Port (State ℕ) (State (Unit {0}))) (refer : Option ℕ → Reader (State ℕ) (Option ℕ)) (u : Tables) → port.read ≡ refer → (steps : ℕ) → user_exception_slices port u all_slices steps ≡ user_exception_slices (port_by refer) u all_slices steps
 same_port port refer u e zero = λ i before s r. fault r.place Short
 same_port port refer u e (suc steps) = λ i before. placed (λ flags_place. followed (plain (flags_at (may_be_raised before))) (λ f. placed (λ id_place. followed (plain text_at)
-    (λ id. let class = class_named u id in from_id (e i) u all_slices (behind_raised (same_port port refer u e steps i (before_next u class f)) (is_known_last u class f) class) (may_be_last u class f) before f flags_place id_place id class))))
+    (λ id. let class = class_named u id in from_id (e i) u all_slices (behind_user_exception (same_port port refer u e steps i (before_next u class f)) (is_known_last u class f) class) (may_be_last u class f) before f flags_place id_place id class))))
 
 module _ (t : Tables) where
   pub content-fresh : (handed : Shape) (s : State ℕ) (r : Rest) → roots_at t (told_apart handed) s r ≡ left_of_members (inline_at most_instances) t (instance_within t most_instances) handed (fresh_members ToEnd) s r
@@ -53,7 +53,7 @@ module _ (t : Tables) where
   pub exception-fresh : (s : State ℕ) (r : Rest) → exception_slices t s r ≡ left_slices (instance_within t most_instances) sorts.Exception t (begun 0 r) s r
   exception-fresh s r =
       (λ i. same_port (references t all_slices) (refer_by (instance_within t most_instances)) (of_exceptions t) (refer_is t most_instances) (length r.bytes) i first s r)
-      ∙ whole_slices (raised_slices (port_by (refer_by (instance_within t most_instances))) (of_exceptions t) all_slices (length r.bytes) first s r)
+      ∙ whole_slices (user_exception_slices (port_by (refer_by (instance_within t most_instances))) (of_exceptions t) all_slices (length r.bytes) first s r)
 
 -- the first place where a class does not fit has the fault
 abbrev pub Misfits : Tables → State ℕ → Fault → Type 0
@@ -81,29 +81,29 @@ module _ (t : Tables) (shape : Shape) (r : Rest) where
 -- ---- a whole exception
 
 module _ (t : Tables) (r : Rest) where
-  abbrev fit : List Slice × State ℕ × Rest → Result (Raised × Rest) Fault
+  abbrev fit : List Slice × State ℕ × Rest → Result (UserException × Rest) Fault
   fit x = unless_misfit (misfit t x.1.instances x.1.met) (record { slices = x.0; instances = x.1.instances }, x.2)
 
-  abbrev at_end : List Slice × State ℕ × Rest → Result (Raised × Rest) Fault
+  abbrev at_end : List Slice × State ℕ × Rest → Result (UserException × Rest) Fault
   at_end x = ended x.2.bytes x.2.place x >>= fit
 
-  pub raised_refused : (e : ReadFault) → Fails e (exception_slices t opening r) → Fails e (raised_at t all_slices r)
-  unfolding raised_at
-  raised_refused e h = fails_then e (exception_slices t opening r) at_end h
+  pub user_exception_refused : (e : ReadFault) → Fails e (exception_slices t opening r) → Fails e (user_exception_at t all_slices r)
+  unfolding user_exception_at
+  user_exception_refused e h = fails_then e (exception_slices t opening r) at_end h
 
   module _ (slices : List Slice) (s : State ℕ) (after : Rest) (is : exception_slices t opening r ≡ Ok (slices, s, after)) where
     abbrev read : List Slice × State ℕ × Rest
     read = (slices, s, after)
 
-    behind_slices : raised_at t all_slices r ≡ at_end read
-    unfolding raised_at
+    behind_slices : user_exception_at t all_slices r ≡ at_end read
+    unfolding user_exception_at
     behind_slices = ap (λ (x : Result (List Slice × State ℕ × Rest) Fault). x >>= at_end) is
 
-    pub raised_longer : (e : Fault) → IsLeftOver after e → raised_at t all_slices r ≡ Err e
-    raised_longer e (byte, bytes, left, e_is) = behind_slices ∙ rw (left, e_is) refl
+    pub user_exception_longer : (e : Fault) → IsLeftOver after e → user_exception_at t all_slices r ≡ Err e
+    user_exception_longer e (byte, bytes, left, e_is) = behind_slices ∙ rw (left, e_is) refl
 
-    pub raised_fits : after.bytes ≡ [] → misfit t s.instances s.met ≡ None → raised_at t all_slices r ≡ Ok (record { slices = slices; instances = s.instances }, after)
-    raised_fits empty fits = behind_slices ∙ ap (λ (bytes : List ℕ). ended bytes after.place read >>= fit) empty ∙ rw fits refl
+    pub user_exception_fits : after.bytes ≡ [] → misfit t s.instances s.met ≡ None → user_exception_at t all_slices r ≡ Ok (record { slices = slices; instances = s.instances }, after)
+    user_exception_fits empty fits = behind_slices ∙ ap (λ (bytes : List ℕ). ended bytes after.place read >>= fit) empty ∙ rw fits refl
 
-    pub raised_misfits : (e : Fault) → after.bytes ≡ [] → Misfits t s e → raised_at t all_slices r ≡ Err e
-    raised_misfits e empty (place, misfits, same) = behind_slices ∙ ap (λ (bytes : List ℕ). ended bytes after.place read >>= fit) empty ∙ rw (misfits, same) refl
+    pub user_exception_misfits : (e : Fault) → after.bytes ≡ [] → Misfits t s e → user_exception_at t all_slices r ≡ Err e
+    user_exception_misfits e empty (place, misfits, same) = behind_slices ∙ ap (λ (bytes : List ℕ). ended bytes after.place read >>= fit) empty ∙ rw (misfits, same) refl

@@ -9,7 +9,7 @@ use Rattle.ice_encoding.specs.Bounds.{ended}
 use Rattle.ice_graphs.specs.OptionalMembers.{Members, slice_members_at}
 use Rattle.ice_graphs.specs.Canonical.{is_there}
 use Rattle.ice_graphs.specs.Classes.{own_members}
-use Rattle.ice_graphs.specs.Graph.{Slice, known, kept}
+use Rattle.ice_graphs.specs.Graph.{Slice, known, unknown}
 use Rattle.ice_graphs.specs.References.{Reference, entry_at, within}
 use Rattle.ice_graphs.specs.Reopening.{reopened}
 use Rattle.ice_graphs.specs.Slices.{by_table}
@@ -21,7 +21,7 @@ use Rattle.instance_reading.specs.Seen.{view_references}
 -- one that is known is what it is
 abbrev pub reopened_slice : Tables → ℕ → Slice → Result Slice Fault
 reopened_slice t class (known other content) = Ok (known other content)
-reopened_slice t class (kept id bytes optionals table) = reopened t class bytes optionals table
+reopened_slice t class (unknown id bytes optionals table) = reopened t class bytes optionals table
 
 -- the members of the class fill these bytes, with places in the table
 abbrev pub members_reopened : Tables → ℕ → Bool → List ℕ → Rest → Result Slice Fault

@@ -9,7 +9,7 @@ use Rattle.ice_encoding.specs.Port.{Reader}
 use Rattle.ice_encoding.specs.Pausing.{Met, known}
 use Rattle.std.specs.Coded.{Coded, code_by, coded×, coded_ℕ, coded_list, coded_option}
 use Rattle.ice_graphs.specs.Classes.{members_in}
-use Rattle.ice_graphs.specs.Flags.{first, only_kept, derived}
+use Rattle.ice_graphs.specs.Flags.{first, only_unknown, derived}
 use Rattle.ice_graphs.specs.Flags as flags
 use Rattle.ice_graphs.specs.Graph.{Slice}
 use Rattle.ice_graphs.specs.References as refs
@@ -40,7 +40,7 @@ state_code = code_by (List (List Slice) × (List (List ℕ) × List (refs.Refere
 -- what a slice follows
 abbrev pub view_before : Before → flags.Before
 view_before befores.First = first
-view_before befores.OnlyKept = only_kept
+view_before befores.OnlyUnknown = only_unknown
 view_before (befores.Derived sized base) = derived sized base
 
 -- what the next one follows, None where there is none

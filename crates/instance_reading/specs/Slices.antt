@@ -16,7 +16,7 @@ use Rattle.ice_graphs.specs.Prefixes.{prefixed}
 use Rattle.ice_graphs.specs.OptionalMembers.{slice_members_at}
 use Rattle.ice_graphs.specs.OptionalMembers as defs
 use Rattle.ice_graphs.specs.Classes.{own_members}
-use Rattle.ice_graphs.specs.Graph.{known, kept}
+use Rattle.ice_graphs.specs.Graph.{known, unknown}
 use Rattle.ice_graphs.specs.Graph as graphs
 use Rattle.ice_graphs.specs.Flags.{Flags, flags_of, all_slices, flags_at}
 use Rattle.ice_graphs.specs.Flags as flags
@@ -47,12 +47,12 @@ pub data Front : Type 0 where
 
 abbrev pub view_body : Body → Front
 view_body (bodies.Members class content uses) = members_of class (view_content content) (view_references uses.items)
-view_body (bodies.Kept id part) = bytes_of id.now part.bytes.now part.optionals
+view_body (bodies.Unknown id part) = bytes_of id.now part.bytes.now part.optionals
 
 -- the slice with its table
 abbrev pub slice_with : Front → List ℕ → graphs.Slice
 slice_with (members_of class content uses) table = by_table class content table
-slice_with (bytes_of id bytes optionals) table = kept id bytes optionals table
+slice_with (bytes_of id bytes optionals) table = unknown id bytes optionals table
 
 -- the places that were met before it
 abbrev pub uses_of : Front → List (refs.Reference ℕ)
@@ -178,10 +178,10 @@ OpensSized sort t f class (Err e) r r' = (refer : Option ℕ → Reader (State �
     → Fails e (behind_tests refer sort t steps f (Some class) id s r)
 
 -- the same of a class that is not known
-abbrev pub OpensKept : List ℕ → Flags → Result OpenSlice Fault → Rest → Rest → Type 0
-OpensKept id f (Ok o) r r' = (refer : Option ℕ → Reader (State ℕ) (Option ℕ)) (sort : Sort) (t : Tables) (steps : ℕ) (s : State ℕ) → f.has_size ≡ true
+abbrev pub OpensUnknown : List ℕ → Flags → Result OpenSlice Fault → Rest → Rest → Type 0
+OpensUnknown id f (Ok o) r r' = (refer : Option ℕ → Reader (State ℕ) (Option ℕ)) (sort : Sort) (t : Tables) (steps : ℕ) (s : State ℕ) → f.has_size ≡ true
     → behind_tests refer sort t steps f None id s r ≡ left_open refer sort t steps (opened o) s r'
-OpensKept id f (Err e) r r' = (refer : Option ℕ → Reader (State ℕ) (Option ℕ)) (sort : Sort) (t : Tables) (steps : ℕ) (s : State ℕ) → f.has_size ≡ true
+OpensUnknown id f (Err e) r r' = (refer : Option ℕ → Reader (State ℕ) (Option ℕ)) (sort : Sort) (t : Tables) (steps : ℕ) (s : State ℕ) → f.has_size ≡ true
     → behind_tests refer sort t steps f None id s r ≡ Err e
 
 -- the same of a known class, with a size or without

@@ -7,11 +7,11 @@ use Rattle.ice_encoding.specs.Reading.{plain}
 use Rattle.ice_graphs.specs.Steps.{given}
 use Rattle.ice_graphs.specs.Classes.{class_named, base_of}
 use Rattle.ice_graphs.specs.Graph.{Slice}
-use Rattle.ice_graphs.specs.Flags.{IdForm, Flags, all_slices, Before, first, only_kept, derived, may_stand}
+use Rattle.ice_graphs.specs.Flags.{IdForm, Flags, all_slices, Before, first, only_unknown, derived, may_stand}
 use Rattle.ice_graphs.specs.References.{State, seen}
 use Rattle.ice_graphs.specs.TypeIds.{id_at, class_in, ends_well}
 use Rattle.ice_graphs.specs.Slices.{slices_at}
-use Rattle.ice_graphs.specs.Exceptions.{of_exceptions, may_be_raised, may_be_last, raised_slices}
+use Rattle.ice_graphs.specs.Exceptions.{of_exceptions, may_be_raised, may_be_last, user_exception_slices}
 use Rattle.instance_reading.specs.declared.sort.Sort.{Sort}
 use Rattle.instance_reading.specs.declared.sort.Sort.TheVariants as sorts
 
@@ -44,8 +44,8 @@ ends_by sorts.Exception t class f = may_be_last t class f
 abbrev pub is_over : Sort → Before → List ℕ → Bool
 is_over sorts.Class before bytes = false
 is_over sorts.Exception first bytes = false
-is_over sorts.Exception only_kept [] = true
-is_over sorts.Exception only_kept (b ∷ bs) = false
+is_over sorts.Exception only_unknown [] = true
+is_over sorts.Exception only_unknown (b ∷ bs) = false
 is_over sorts.Exception (derived sized base) bytes = false
 
 -- ---- what the slice behind one follows, None behind the last
@@ -56,12 +56,12 @@ behind_base sized None = None
 behind_base sized (Some base) = Some (derived sized base)
 
 -- behind a kept one, by the flag of the last
-abbrev pub behind_kept : Bool → Option Before
-behind_kept true = None
-behind_kept false = Some only_kept
+abbrev pub behind_unknown : Bool → Option Before
+behind_unknown true = None
+behind_unknown false = Some only_unknown
 
 abbrev pub behind_slice : Tables → Option ℕ → Flags → Option Before
-behind_slice t None f = behind_kept f.is_last
+behind_slice t None f = behind_unknown f.is_last
 behind_slice t (Some class) f = behind_base f.has_size (base_of t class)
 
 -- ---- slices from one on, by how references are read
@@ -74,7 +74,7 @@ module _ (refer : Option ℕ → Reader (State ℕ) (Option ℕ)) where
   -- where one has to begin
   abbrev pub slices_by : Sort → Tables → ℕ → Before → Reader (State ℕ) (List Slice)
   slices_by sorts.Class t steps before = slices_at refer t all_slices steps before
-  slices_by sorts.Exception t steps before = raised_slices port_by (of_exceptions t) all_slices steps before
+  slices_by sorts.Exception t steps before = user_exception_slices port_by (of_exceptions t) all_slices steps before
 
   abbrev pub unless_over : Bool → Reader (State ℕ) (List Slice) → Reader (State ℕ) (List Slice)
   unless_over true next = given []

@@ -10,7 +10,7 @@ use Rattle.ice_prims.specs.Taking.{Fails}
 use Rattle.ice_encoding.specs.Port.{Reader, nowhere}
 use Rattle.ice_encoding.specs.Pausing.{Inside}
 use Rattle.ice_graphs.specs.OptionalMembers as defs
-use Rattle.ice_graphs.specs.Exceptions.{Raised, of_exceptions, raised_slices}
+use Rattle.ice_graphs.specs.Exceptions.{UserException, of_exceptions, user_exception_slices}
 use Rattle.ice_graphs.specs.Graph as graphs
 use Rattle.ice_graphs.specs.Flags.{first, all_slices}
 use Rattle.ice_graphs.specs.References.{State, instance_by, with_ended}
@@ -21,7 +21,7 @@ use Rattle.graph_arena.specs.declared.instance.Slice.{Slice}
 use Rattle.graph_arena.specs.Seen.{view_content, view_instance, view_slices}
 use Rattle.instance_reading.specs.declared.unfinished.Unfinished.{Unfinished}
 use Rattle.instance_reading.specs.declared.decoder.Content.{Content}
-use Rattle.instance_reading.specs.declared.exception.RaisedContent.{RaisedContent}
+use Rattle.instance_reading.specs.declared.exception.UserExceptionContent.{UserExceptionContent}
 use Rattle.instance_reading.specs.declared.sort.Sort.TheVariants as sorts
 use Rattle.instance_reading.specs.Unfinished.{left_slices, room}
 
@@ -92,15 +92,15 @@ ReadsSlices (Ok slices) read s r = read ≡ Ok (view_slices slices, s, r)
 ReadsSlices (Err e) read s r = Fails e read
 
 abbrev pub exception_slices : Tables → Reader (State ℕ) (List graphs.Slice)
-exception_slices t s r = raised_slices (references t all_slices) (of_exceptions t) all_slices (length r.bytes) first s r
+exception_slices t s r = user_exception_slices (references t all_slices) (of_exceptions t) all_slices (length r.bytes) first s r
 
-abbrev pub view_raised : RaisedContent → Raised
-view_raised c = record { slices = view_slices c.slices; instances = map view_instance c.instances.items }
+abbrev pub view_user_exception : UserExceptionContent → UserException
+view_user_exception c = record { slices = view_slices c.slices; instances = map view_instance c.instances.items }
 
 -- the exception, or the fault
-abbrev pub ReadsRaised : Result RaisedContent ReadFault → Result (Raised × Rest) Fault → Rest → Type 0
-ReadsRaised (Ok c) read r = read ≡ Ok (view_raised c, r)
-ReadsRaised (Err e) read r = Fails e read
+abbrev pub ReadsUserException : Result UserExceptionContent ReadFault → Result (UserException × Rest) Fault → Rest → Type 0
+ReadsUserException (Ok c) read r = read ≡ Ok (view_user_exception c, r)
+ReadsUserException (Err e) read r = Fails e read
 
 -- ---- classes that fit
 

@@ -48,8 +48,8 @@ begun name r = record { name = name; steps = length r.bytes; slices = []; stage 
 
 -- the slice has one entry more in its table, and nothing else has changed
 abbrev pub Keeps : Unfinished → Unfinished → Open → ℕ → Type 0
-Keeps old new o name = (kept : OpenSlice) × (new ≡ record { name = old.name; steps = old.steps; slices = old.slices; stage = stages.Open kept })
-    × (opened kept ≡ record { front = o.front; next = o.next; table = o.table ++ name ∷ []; left = o.left - 1 })
+Keeps old new o name = (unknown : OpenSlice) × (new ≡ record { name = old.name; steps = old.steps; slices = old.slices; stage = stages.Open unknown })
+    × (opened unknown ≡ record { front = o.front; next = o.next; table = o.table ++ name ∷ []; left = o.left - 1 })
 
 -- the members of the slice are left, and nothing else has changed
 abbrev pub Pauses : Unfinished → Unfinished → CompactSlice → Type 0

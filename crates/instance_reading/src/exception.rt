@@ -2,9 +2,9 @@
 //! (Ice manual, "Data Encoding for Class and Exception Types".)
 
 ghost use Rattle.std.specs.Prelude.{◌≡◌};
-ghost use Rattle.ice_graphs.specs.Exceptions.{raised_at};
+ghost use Rattle.ice_graphs.specs.Exceptions.{user_exception_at};
 ghost use Rattle.ice_graphs.specs.Flags.{all_slices};
-ghost use Rattle.instance_reading.specs.Stacked.{ReadsRaised, ReadsSlices, exception_slices};
+ghost use Rattle.instance_reading.specs.Stacked.{ReadsUserException, ReadsSlices, exception_slices};
 
 use crate::arena::Arena;
 use crate::nesting::read_instance;
@@ -19,7 +19,7 @@ use std::alloc::Global;
 /// The slices of a user exception, in which a known one names an exception of the schema by its place, and
 /// the instances that begin in them, each named by its place.
 #[derive(Debug, Drop)]
-pub struct RaisedContent {
+pub struct UserExceptionContent {
     pub slices: List<Slice>,
     pub instances: Vec<Instance>,
 }
@@ -30,18 +30,18 @@ pub struct RaisedContent {
 /// from the left, or out of memory, leaves the cursor anywhere on the way; `LeftOver` where bytes are left; a
 /// reference to an instance whose class does not fit is the fault where there is no other.
 /// (Ice manual, "Data Encoding for Class and Exception Types".)
-pub fn read_raised<'a>(
+pub fn read_user_exception<'a>(
     alloc: Global,
     schema: &Schema,
     cursor: &mut Cursor<'a>,
-) -> Result<RaisedContent, ReadFault>
-    ensures { ReadsRaised result (raised_at schema.now all_slices cursor.old) cursor.new }
+) -> Result<UserExceptionContent, ReadFault>
+    ensures { ReadsUserException result (user_exception_at schema.now all_slices cursor.old) cursor.new }
 {
     let mut arena = Arena::new(alloc);
     match read_slices(alloc, schema, cursor, &mut arena) {
         Ok(slices) => match end(cursor) {
             Ok(()) => match arena.all_fit(schema) {
-                Ok(()) => Ok(RaisedContent {
+                Ok(()) => Ok(UserExceptionContent {
                     slices,
                     instances: arena.into_instances(),
                 }),
@@ -62,10 +62,10 @@ fn read_slices<'a>(
 ) -> Result<List<Slice>, ReadFault>
     ensures { ReadsSlices result (exception_slices schema.now arena.old cursor.old) arena.new cursor.new }
 {
-    let mut raised = Unfinished::new(alloc, 0, cursor);
+    let mut user_exception = Unfinished::new(alloc, 0, cursor);
     loop {
-        match raised.go(alloc, Sort::Exception, schema, cursor, arena) {
-            Ok(None) => return Ok(raised.slices),
+        match user_exception.go(alloc, Sort::Exception, schema, cursor, arena) {
+            Ok(None) => return Ok(user_exception.slices),
             Ok(Some(name)) => {
                 read_instance(alloc, schema, name, cursor, arena)?;
             }

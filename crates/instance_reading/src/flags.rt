@@ -51,7 +51,7 @@ fn may_stand(before: Before, flags: u8) -> bool
     let has_size = is_odd(flags / 16);
     match before {
         Before::First => has_id && (has_size || !has_table),
-        Before::OnlyKept | Before::Derived { sized: true, .. } => has_id && has_size,
+        Before::OnlyUnknown | Before::Derived { sized: true, .. } => has_id && has_size,
         Before::Derived { sized: false, .. } => !has_id && !has_size && !has_table,
     }
 }
@@ -66,7 +66,7 @@ fn may_be_raised(before: Before, flags: u8) -> bool
     let has_size = is_odd(flags / 16);
     match before {
         Before::First => !has_id && (has_size || !has_table),
-        Before::OnlyKept | Before::Derived { sized: true, .. } => !has_id && has_size,
+        Before::OnlyUnknown | Before::Derived { sized: true, .. } => !has_id && has_size,
         Before::Derived { sized: false, .. } => !has_id && !has_size && !has_table,
     }
 }

@@ -18,5 +18,5 @@ mod unfinished;
 
 pub use arena::MOST_INSTANCES;
 pub use decoder::{Content, read_content};
-pub use exception::{RaisedContent, read_raised};
+pub use exception::{UserExceptionContent, read_user_exception};
 pub use reopening::reopen;

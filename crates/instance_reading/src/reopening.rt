@@ -3,11 +3,11 @@
 ghost use Rattle.std.specs.Prelude.{◌≡◌, IfOk, true};
 ghost use Rattle.ice_graphs.specs.Canonical.{is_there};
 ghost use Rattle.ice_graphs.specs.Reopening.{reopened};
-ghost use Rattle.ice_graphs.specs.Slices.{kept_bytes};
+ghost use Rattle.ice_graphs.specs.Slices.{unknown_bytes};
 ghost use Rattle.ice_prims.specs.Rest.{whole};
 ghost use Rattle.ice_prims.specs.Taking.{GivesUnlessMemory};
 ghost use Rattle.graph_arena.specs.Seen.{view_slice};
-ghost use Rattle.preserved.specs.Kept.{IsKept};
+ghost use Rattle.preserved.specs.Unknown.{IsUnknown};
 ghost use Rattle.instance_reading.specs.Reopened.{Resolves, members_reopened, reopened_slice};
 
 use crate::sized::{SizedMembers, end, first_outside, read_places};
@@ -25,12 +25,12 @@ const END_MARKER: u8 = 255;
 /// that is kept, or out of memory; nothing is left of either.
 /// (Ice manual, "Data Encoding for Class and Exception Types".)
 pub fn reopen(alloc: Global, schema: &Schema, class: u32, slice: &Slice) -> Result<Slice, ReadFault>
-    requires { IsKept (view_slice slice.now) }
+    requires { IsUnknown (view_slice slice.now) }
     ensures { GivesUnlessMemory view_slice result (reopened_slice schema.now class (view_slice slice.now)) }
 {
     match slice {
         Slice::Known { .. } => unreachable!(),
-        Slice::Kept {
+        Slice::Unknown {
             bytes,
             optionals,
             table,
@@ -62,7 +62,7 @@ fn reopen_bytes(
 
 /// The bytes with the end marker behind them.
 fn marked(alloc: Global, bytes: &[u8]) -> Result<Vec<u8>, AllocError>
-    ensures { IfOk result (λ all. all.items ≡ kept_bytes true bytes.now) }
+    ensures { IfOk result (λ all. all.items ≡ unknown_bytes true bytes.now) }
 {
     let mut all = Vec::new(alloc);
     all.extend_from_slice(bytes)?;

@@ -10,7 +10,7 @@ ghost use Rattle.ice_graphs.specs.Classes as classes;
 ghost use Rattle.ice_graphs.specs.Flags.{flags_of};
 ghost use Rattle.ice_values.specs.Advancing.{ReadsMembers};
 ghost use Rattle.instance_reading.specs.Seen.{view_next, view_references};
-ghost use Rattle.instance_reading.specs.Slices.{Ends, OpensKept, OpensSized, ReadsPlaces, ReadsSized, SeesTable, first_outside};
+ghost use Rattle.instance_reading.specs.Slices.{Ends, OpensUnknown, OpensSized, ReadsPlaces, ReadsSized, SeesTable, first_outside};
 ghost use Rattle.instance_reading.specs.Sorts.{rows_of};
 ghost use Rattle.instance_reading.specs.Sorts as sorts;
 
@@ -24,7 +24,7 @@ use graph_arena::Members;
 use ice_prims::{Cursor, Fault, Kind, ReadFault};
 use ice_types::{List, Schema};
 use ice_values::{RefPort, read_members};
-use preserved::{KeptPart, skip_slice, slice_bound};
+use preserved::{UnknownPart, skip_slice, slice_bound};
 use std::alloc::Global;
 
 /// The members of a slice, and the references that were met in them, all of which are places in the
@@ -46,9 +46,9 @@ pub(crate) enum Body<'a> {
         uses: Vec<Reference>,
     },
     /// What is kept of a class that is not known.
-    Kept {
+    Unknown {
         id: &'a str,
-        part: KeptPart<'a>,
+        part: UnknownPart<'a>,
     },
 }
 
@@ -96,32 +96,32 @@ pub(crate) fn open_sized<'a>(
 
 /// A slice of a class that is not known begins behind its type id: its size and its bytes, and the size of
 /// its table.
-pub(crate) fn open_kept<'a>(
+pub(crate) fn open_unknown<'a>(
     alloc: Global,
     id: &'a str,
     flags: u8,
     cursor: &mut Cursor<'a>,
 ) -> Result<OpenSlice<'a>, Fault>
-    ensures { OpensKept id.now (flags_of flags) result cursor.old cursor.new }
+    ensures { OpensUnknown id.now (flags_of flags) result cursor.old cursor.new }
 {
     let part = skip_slice(cursor, flags)?;
     let left = take_table(flags, &[], cursor)?;
     Ok(OpenSlice {
-        body: Body::Kept { id, part },
-        next: behind_kept(flags),
+        body: Body::Unknown { id, part },
+        next: behind_unknown(flags),
         table: List::new(alloc),
         left,
     })
 }
 
 /// What the next slice follows behind one of a class that is not known, None behind the last.
-fn behind_kept(flags: u8) -> Option<Before>
-    ensures { view_next result ≡ sorts.behind_kept (flags_of flags).is_last }
+fn behind_unknown(flags: u8) -> Option<Before>
+    ensures { view_next result ≡ sorts.behind_unknown (flags_of flags).is_last }
 {
     if is_odd(flags / 32) {
         return None;
     }
-    Some(Before::OnlyKept)
+    Some(Before::OnlyUnknown)
 }
 
 /// What the next slice follows behind one of a known class, which is the last where that has no base.

@@ -11,7 +11,7 @@ ghost use Rattle.instance_reading.specs.declared.sort.Sort.TheVariants as sorts;
 use crate::arena::Arena;
 use crate::class::{base_of, class_named, optionals};
 use crate::flags::{is_odd, take_flags};
-use crate::sized::{OpenSlice, behind_base, open_kept, open_sized};
+use crate::sized::{OpenSlice, behind_base, open_unknown, open_sized};
 use crate::sort::Sort;
 use ice_prims::{Cursor, Fault, Kind, ReadFault};
 use ice_types::Schema;
@@ -24,7 +24,7 @@ pub(crate) enum Before {
     /// Nothing: it is the first.
     First,
     /// Slices of classes that are not known.
-    OnlyKept,
+    OnlyUnknown,
     /// A slice of a class with this base, with a size or without.
     Derived { sized: bool, base: u32 },
 }
@@ -111,7 +111,7 @@ fn open_slice<'a>(
 {
     match class {
         Some(class) => open_known(alloc, sort, schema, class, flags, cursor),
-        None => match open_kept(alloc, id, flags, cursor) {
+        None => match open_unknown(alloc, id, flags, cursor) {
             Ok(slice) => Ok(Stage::Open(slice)),
             Err(fault) => Err(ReadFault::Broken(fault)),
         },
@@ -210,7 +210,7 @@ fn class_in(sort: Sort, schema: &Schema, before: Before, id: &str) -> Option<u32
         Sort::Exception => class_named(sort, schema, id),
         Sort::Class => match before {
             Before::Derived { sized: false, base } => Some(base),
-            Before::First | Before::OnlyKept | Before::Derived { sized: true, .. } => {
+            Before::First | Before::OnlyUnknown | Before::Derived { sized: true, .. } => {
                 class_named(sort, schema, id)
             }
         },
@@ -272,7 +272,7 @@ pub(crate) fn is_over(sort: Sort, before: Before, cursor: &Cursor<'_>) -> bool
     match sort {
         Sort::Class => false,
         Sort::Exception => match before {
-            Before::OnlyKept => cursor.left() == 0,
+            Before::OnlyUnknown => cursor.left() == 0,
             Before::First | Before::Derived { .. } => false,
         },
     }

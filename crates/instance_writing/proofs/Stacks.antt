@@ -13,7 +13,7 @@ use Rattle.ice_graphs.specs.Visiting.{most}
 use Rattle.ice_graphs.specs.Members.{written_content}
 use Rattle.ice_graphs.specs.Canonical.{Pen, Format, blank, bytes_of, put_inline, with_one_begun, written_as, written_instance}
 use Rattle.ice_graphs.specs.Exceptions.{of_exceptions}
-use Rattle.ice_graphs.specs.RaisedWritten.{graph_of, raised_as, raised_bytes}
+use Rattle.ice_graphs.specs.UserExceptionWritten.{graph_of, user_exception_as, user_exception_bytes}
 use Rattle.ice_graphs.specs.Names.{instance_names}
 use Rattle.graph_arena.specs.Arena.{AreBelow}
 use Rattle.graph_arena.specs.Seen.{view_slices}
@@ -28,7 +28,7 @@ use Rattle.instance_writing.specs.declared.unfinished.Unfinished.{Unfinished}
 use Rattle.instance_writing.specs.Pens.{put_counted, begun_put, beginning_put}
 use Rattle.instance_writing.specs.Opened.{refer_to, is_first, open_left, OpenFits}
 use Rattle.instance_writing.specs.Remains.{others_left, instance_left, inside_at, stack_left, Fits, AllFit, with_options}
-use Rattle.instance_writing.specs.Writable.{SlicesCanBeWritten, GraphCanBeWritten, RaisedCanBeWritten, raised_of}
+use Rattle.instance_writing.specs.Writable.{SlicesCanBeWritten, GraphCanBeWritten, UserExceptionCanBeWritten, user_exception_of}
 use Rattle.instance_writing.proofs.Steps.{all-slices, open-grown}
 
 most-more : most ≡ suc (most - 1)
@@ -164,26 +164,26 @@ pub instances-only : (t : Tables) (f : Format) (g h : Graph) → g.instances ≡
 instances-only t f g h same zero = λ i n. exactly []
 instances-only t f g h same (suc depth) = λ i n p. written_as t (written_in_place put_inline (instances-only t f g h same depth i)) f (slices_of (same i) n) (with_one_begun p)
 
-pub raised-written : (t : Tables) (f : Format) (g : Graph) (slices : List Slice) → (raised_as t (refer_to (inside_at t f g most)) f slices blank).0 ≡ raised_bytes t f (raised_of slices g)
-raised-written t f g slices =
-    ap (λ (r : Option ℕ → Piece Pen). (raised_as t r f slices blank).0) (sym (same-refer t f g most))
-    ∙ ap (λ (begins : ℕ → Piece Pen). (raised_as t (written_in_place put_inline begins) f slices blank).0) (instances-only t f g (graph_of (raised_of slices g)) refl most)
+pub user_exception-written : (t : Tables) (f : Format) (g : Graph) (slices : List Slice) → (user_exception_as t (refer_to (inside_at t f g most)) f slices blank).0 ≡ user_exception_bytes t f (user_exception_of slices g)
+user_exception-written t f g slices =
+    ap (λ (r : Option ℕ → Piece Pen). (user_exception_as t r f slices blank).0) (sym (same-refer t f g most))
+    ∙ ap (λ (begins : ℕ → Piece Pen). (user_exception_as t (written_in_place put_inline begins) f slices blank).0) (instances-only t f g (graph_of (user_exception_of slices g)) refl most)
 
 module _ (t : Tables) (g : Graph) (slices : List Slice) (u : Unfinished) (fresh : (u.current ≡ opens.Nothing) × (view_slices u.slices.now ≡ slices)) where
   -- no slice of it has begun
-  pub raised-begun : (f : Format) (inside : InsideWritten Pen) (p : Pen) (out : List ℕ) → p ≡ blank → onto (raised_as t (refer_to inside) f slices) (blank, out) ≡ instance_left Exception t f inside u (p, out)
-  raised-begun f inside p out nothing =
-      ap (λ (ss : List Slice). onto (raised_as t (refer_to inside) f ss) (blank, out)) (sym fresh.1)
-      ∙ ap (λ (o : OpenSlice). onto (raised_as t (refer_to inside) f (view_slices u.slices.now)) (open_left t inside o (blank, out))) (sym fresh.0)
+  pub user_exception-begun : (f : Format) (inside : InsideWritten Pen) (p : Pen) (out : List ℕ) → p ≡ blank → onto (user_exception_as t (refer_to inside) f slices) (blank, out) ≡ instance_left Exception t f inside u (p, out)
+  user_exception-begun f inside p out nothing =
+      ap (λ (ss : List Slice). onto (user_exception_as t (refer_to inside) f ss) (blank, out)) (sym fresh.1)
+      ∙ ap (λ (o : OpenSlice). onto (user_exception_as t (refer_to inside) f (view_slices u.slices.now)) (open_left t inside o (blank, out))) (sym fresh.0)
       ∙ ap (λ (q : Pen). instance_left Exception t f inside u (q, out)) (sym nothing)
 
-  pub raised-fits : (out : List ℕ) → RaisedCanBeWritten t (raised_of slices g) → Fits (of_exceptions t) (length g.instances) u out
-  raised-fits out can = record {
+  pub user_exception-fits : (out : List ℕ) → UserExceptionCanBeWritten t (user_exception_of slices g) → Fits (of_exceptions t) (length g.instances) u out
+  user_exception-fits out can = record {
     current = subst (λ (o : OpenSlice). OpenFits (length g.instances) o out) (sym fresh.0) tt;
     names = subst (λ (ss : List Slice). AreBelow (length g.instances) (instance_names ss)) (sym fresh.1) can.names;
     slices = subst (SlicesCanBeWritten (of_exceptions t)) (sym fresh.1) can.slices;
   }
 
 -- the output has grown by an instance
-pub raised-grown : (t : Tables) (count : ℕ) (piece : Piece Pen) (u : Unfinished) (p p' : Pen) (out out' : List ℕ) → (p', out') ≡ onto piece (p, out) → Fits t count u out → Fits t count u out'
-raised-grown t count piece u p p' out out' wrote fits = one-grown t count u out out' fits (grows-longer out out' (onto-grows piece (p, out) (p', out') wrote))
+pub user_exception-grown : (t : Tables) (count : ℕ) (piece : Piece Pen) (u : Unfinished) (p p' : Pen) (out out' : List ℕ) → (p', out') ≡ onto piece (p, out) → Fits t count u out → Fits t count u out'
+user_exception-grown t count piece u p p' out out' wrote fits = one-grown t count u out out' fits (grows-longer out out' (onto-grows piece (p, out) (p', out') wrote))

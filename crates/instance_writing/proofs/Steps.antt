@@ -10,12 +10,12 @@ use Rattle.ice_types.specs.declared.declarations.Shape.{Shape}
 use Rattle.ice_types.specs.Tables.{Tables}
 use Rattle.ice_encoding.specs.Writing.{Piece, exactly, ◌>>◌}
 use Rattle.ice_encoding.specs.Pausing.{Put, written_begun}
-use Rattle.ice_graphs.specs.Graph.{Slice, known, kept}
+use Rattle.ice_graphs.specs.Graph.{Slice, known, unknown}
 use Rattle.ice_graphs.specs.Names.{names_of, slice_names, instance_names}
 use Rattle.ice_graphs.specs.Visiting.{is_listed, most}
 use Rattle.ice_graphs.specs.Slices.{slice_size}
 use Rattle.ice_graphs.specs.Canonical.{Pen, Format, sliced, compact, each_once, table_of, sized_bytes, is_there, written_names, written_table, sized_body, members_bytes, written_as, written_slices, written_bases, is_end}
-use Rattle.ice_graphs.specs.RaisedWritten.{raised_slices, raised_plain}
+use Rattle.ice_graphs.specs.UserExceptionWritten.{user_exception_slices, user_exception_plain}
 use Rattle.ice_graphs.proofs.Agreeing.{written_same}
 use Rattle.graph_arena.specs.declared.instance.Slice as arena
 use Rattle.graph_arena.specs.Arena.{AreBelow}
@@ -174,7 +174,7 @@ once-below limit seen (n ∷ ns) h = once-step (is_listed seen n) limit n (each_
 
 pub table-below : (limit : ℕ) (s : Slice) → AreBelow limit (slice_names s) → AreBelow limit (table_of s)
 table-below limit (known class c) h = once-below limit [] (names_of c) h
-table-below limit (kept id bytes optionals table) h = h
+table-below limit (unknown id bytes optionals table) h = h
 
 pub slice-fits : (count : ℕ) (s : Slice) (o : OpenSlice) (out : List ℕ) → HasEntries (table_of s) o → AreBelow count (slice_names s) → OpenFits count o out
 slice-fits count s o out has below = has-fits count o (table_of s) out has (table-below count s below)
@@ -223,11 +223,11 @@ next-slice Class t refer sliced first s ss w = in-turn (slice_head Class t (is_t
 next-slice Class t refer compact true s ss w = in-turn (plain_head Class t true (is_end t refer ss) s) (members_bytes t refer s) (written_bases t refer ss) w
 next-slice Class t refer compact false s ss w = in-turn (plain_head Class t false (is_end t refer ss) s) (members_bytes t refer s) (written_bases t refer ss) w
 next-slice Exception t refer sliced first s ss w =
-    in-turn (slice_head Exception t (is_there (table_of s)) true (not (is_there ss)) s) (sized_body (rows_of Exception t) refer s) (raised_slices t refer ss) w
-    ∙ ap (λ (last : Bool). onto (raised_slices t refer ss) (onto (one_slice Exception t refer sliced first last s) w)) (last-same t refer ss)
+    in-turn (slice_head Exception t (is_there (table_of s)) true (not (is_there ss)) s) (sized_body (rows_of Exception t) refer s) (user_exception_slices t refer ss) w
+    ∙ ap (λ (last : Bool). onto (user_exception_slices t refer ss) (onto (one_slice Exception t refer sliced first last s) w)) (last-same t refer ss)
 next-slice Exception t refer compact first s ss w =
-    in-turn (plain_head Exception t first (not (is_there ss)) s) (members_bytes (rows_of Exception t) refer s) (raised_plain t refer ss) w
-    ∙ ap (λ (last : Bool). onto (raised_plain t refer ss) (onto (one_slice Exception t refer compact first last s) w)) (last-same t refer ss)
+    in-turn (plain_head Exception t first (not (is_there ss)) s) (members_bytes (rows_of Exception t) refer s) (user_exception_plain t refer ss) w
+    ∙ ap (λ (last : Bool). onto (user_exception_plain t refer ss) (onto (one_slice Exception t refer compact first last s) w)) (last-same t refer ss)
 
 pub all-slices : (t : Tables) (refer : Option ℕ → Piece Pen) (f : Format) (ss : List Slice) (w : Written Pen) → onto (others_left Class t refer f true ss) w ≡ onto (written_as t refer f ss) w
 all-slices t refer sliced ss w = refl

@@ -12,7 +12,7 @@ use Rattle.ice_graphs.specs.Names.{instance_names}
 use Rattle.ice_graphs.specs.Slices.{slice_size}
 use Rattle.ice_graphs.specs.Instances.{slices_of}
 use Rattle.ice_graphs.specs.Canonical.{Pen, Format, sliced, compact, table_of, sized_bytes, is_there, sized_body, members_bytes, written_slices, written_bases, written_plain, written_as, written_instance, put_inline}
-use Rattle.ice_graphs.specs.RaisedWritten.{raised_as}
+use Rattle.ice_graphs.specs.UserExceptionWritten.{user_exception_as}
 use Rattle.graph_arena.specs.Arena.{AreBelow}
 use Rattle.graph_arena.specs.Seen.{view_slices}
 use Rattle.ice_values.specs.Putting.{InsideWritten, Written, onto}
@@ -47,7 +47,7 @@ abbrev pub others_left : Sort → Tables → (Option ℕ → Piece Pen) → Form
 others_left Class t refer sliced first = written_slices t refer
 others_left Class t refer compact true = written_plain t refer
 others_left Class t refer compact false = written_bases t refer
-others_left Exception t refer f first = raised_as t refer f
+others_left Exception t refer f first = user_exception_as t refer f
 
 -- the slice that has begun, and those behind it
 abbrev pub instance_left : Sort → Tables → Format → InsideWritten Pen → Unfinished → Written Pen → Written Pen

@@ -2,10 +2,10 @@
 use Rattle.std.specs.Prelude.{ℕ, List, [], ◌∷◌, length}
 use Rattle.ice_types.specs.Tables.{Tables}
 use Rattle.ice_graphs.specs.Classes.{own_members}
-use Rattle.ice_graphs.specs.Graph.{Slice, known, kept, Graph}
+use Rattle.ice_graphs.specs.Graph.{Slice, known, unknown, Graph}
 use Rattle.ice_graphs.specs.Instances.{slices_of}
 use Rattle.ice_graphs.specs.Names.{instance_names}
-use Rattle.ice_graphs.specs.Exceptions.{of_exceptions, Raised}
+use Rattle.ice_graphs.specs.Exceptions.{of_exceptions, UserException}
 use Rattle.graph_arena.specs.Arena.{AreBelow}
 use Rattle.ice_values.specs.WritingMembers.{ContentCanBeWritten}
 use Rattle.instance_writing.specs.Tabling.{HasPlaces}
@@ -13,7 +13,7 @@ use Rattle.instance_writing.specs.Tabling.{HasPlaces}
 -- sizes and tags are at most the greatest int, no key has a reference, and each tag is that of a member of the class
 abbrev pub SliceCanBeWritten : Tables → Slice → Type 0
 SliceCanBeWritten t (known class c) = ContentCanBeWritten c × HasPlaces (own_members t class).optional c
-SliceCanBeWritten t (kept id bytes optionals table) = Unit {0}
+SliceCanBeWritten t (unknown id bytes optionals table) = Unit {0}
 
 abbrev pub SlicesCanBeWritten : Tables → List Slice → Type 0
 SlicesCanBeWritten t [] = Unit {0}
@@ -25,11 +25,11 @@ pub record GraphCanBeWritten (t : Tables) (g : Graph) : Type 0 where
   pub instances : (n : ℕ) → SlicesCanBeWritten t (slices_of g.instances n)
 
 -- the exception of these slices, and of the instances of a graph
-abbrev pub raised_of : List Slice → Graph → Raised
-raised_of slices g = record { slices = slices; instances = g.instances }
+abbrev pub user_exception_of : List Slice → Graph → UserException
+user_exception_of slices g = record { slices = slices; instances = g.instances }
 
 -- its slices, whose references are to its instances, and each instance
-pub record RaisedCanBeWritten (t : Tables) (x : Raised) : Type 0 where
+pub record UserExceptionCanBeWritten (t : Tables) (x : UserException) : Type 0 where
   pub names : AreBelow (length x.instances) (instance_names x.slices)
   pub slices : SlicesCanBeWritten (of_exceptions t) x.slices
   pub instances : (n : ℕ) → SlicesCanBeWritten t (slices_of x.instances n)

@@ -75,6 +75,6 @@ pub(crate) fn open_members<'a>(
             let own = own_members(by.schema, sort, *class);
             Ok(OpenSlice::Members(Box::new(by.alloc, OpenMembers { writer, own })?))
         }
-        Slice::Kept { .. } => Ok(OpenSlice::Lent(&[])),
+        Slice::Unknown { .. } => Ok(OpenSlice::Lent(&[])),
     }
 }

@@ -12,7 +12,7 @@ mod open_slice;
 mod parts;
 mod pen;
 mod position;
-mod raised;
+mod user_exception;
 mod slice;
 mod sort;
 mod table;
@@ -20,4 +20,4 @@ mod unfinished;
 
 pub use encode::write_numbered;
 pub use format::Format;
-pub use raised::write_raised;
+pub use user_exception::write_user_exception;

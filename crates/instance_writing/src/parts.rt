@@ -48,7 +48,7 @@ pub(crate) fn id_of<'a>(schema: &'a Schema, sort: Sort, slice: &'a Slice) -> &'a
 {
     match slice {
         Slice::Known { class, .. } => row_id(schema, sort, *class),
-        Slice::Kept { id, .. } => id.as_str(),
+        Slice::Unknown { id, .. } => id.as_str(),
     }
 }
 
@@ -88,6 +88,6 @@ pub(crate) fn has_optional(slice: &Slice) -> bool
 {
     match slice {
         Slice::Known { members, .. } => !members.optional.as_slice().is_empty(),
-        Slice::Kept { optionals, .. } => *optionals,
+        Slice::Unknown { optionals, .. } => *optionals,
     }
 }

@@ -9,7 +9,7 @@ ghost use Rattle.ice_graphs.specs.Visiting.{most};
 ghost use Rattle.instance_writing.specs.Pens.{put_counted, room, with_text};
 
 use crate::id_places::IdPlaces;
-use graph_arena::MOST_INSTANCES;
+use graph_arena::MOST_PLACES;
 use ice_prims::put_size;
 use ice_types::MOST_NUMBER;
 use ice_values::PutPort;
@@ -56,7 +56,7 @@ impl<'a> Pen<'a> {
     fn is_full(&self) -> bool
         ensures { IsTrue result ↔ (most ≤ self.now.begun) }
     {
-        self.begun >= MOST_INSTANCES
+        self.begun >= MOST_PLACES
     }
 
     /// Where the type id stands among those that were written.

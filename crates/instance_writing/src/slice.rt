@@ -29,7 +29,7 @@ use graph_arena::{Members, Slice};
 use ice_prims::put_size;
 use ice_types::MOST_NUMBER;
 use ice_values::{Ending, write_members};
-use preserved::{put_slice_size, write_kept};
+use preserved::{put_slice_size, write_unknown};
 use std::alloc::{AllocError, Global};
 
 /// Where the members of a slice are written first, since their size stands before them.
@@ -69,11 +69,11 @@ pub(crate) fn put_slice<'a>(
             put_behind(desk.members.as_slice(), entries, out)?;
             Ok(OpenSlice::Found { next: 0, names })
         }
-        Slice::Kept { table, .. } => {
+        Slice::Unknown { table, .. } => {
             let entries = table.as_slice();
             let flags = sized_flags(slice, entries, is_last);
             put_head(sort, id_of(by.schema, sort, slice), flags, pen, out)?;
-            write_kept(out, slice)?;
+            write_unknown(out, slice)?;
             put_table_size(entries, out)?;
             Ok(OpenSlice::Lent(entries))
         }

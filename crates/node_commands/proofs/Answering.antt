@@ -3,7 +3,7 @@ use Rattle.std.proofs.Common.{◌≡◌, ℕ, true, false, List, [], Option, Som
 use Rattle.node_commands.specs.declared.words.Task.{Task}
 use Rattle.node_commands.specs.Words.{Word, Command, values}
 use Rattle.node_commands.specs.Outside.{Files, Failures}
-use Rattle.node_commands.specs.Answers.{Answer, done, denied, usage, no_such_name, slice_refused, input_refused, json_refused, too_long, needs_sliced, text_refused, read_failed, write_failed, no_memory, refused_after, read_failed_after, no_memory_after}
+use Rattle.node_commands.specs.Answers.{Answer, done, different, usage, no_such_name, slice_refused, input_refused, json_refused, too_long, needs_sliced, text_refused, read_failed, write_failed, no_memory, refused_after, read_failed_after, no_memory_after}
 use Rattle.node_commands.specs.Decided.{Decides}
 use Rattle.node_commands.specs.Causes.{Causes}
 use Rattle.node_commands.proofs.Telling.{to_be_written}
@@ -35,7 +35,7 @@ module _ (task : Task) (files : Option Files) (file word : Word) (input left : O
 -- a command that takes nothing of the input does so whatever the answer
 pub takes_nothing : (asked : Option Command) (old : Option (List ℕ)) → TakesInput asked old old → (answer : Answer) → Takes asked old old answer
 takes_nothing asked old none (done bytes) = none
-takes_nothing asked old none (denied bytes) = none
+takes_nothing asked old none (different bytes) = none
 takes_nothing asked old none usage = keeps_itself old
 takes_nothing asked old none (no_such_name word) = keeps_itself old
 takes_nothing asked old none (slice_refused broken) = keeps_itself old
@@ -54,7 +54,7 @@ takes_nothing asked old none (no_memory_after written) = none
 -- nothing was written of no bytes, whatever the answer
 pub outputs_nothing : (old : Option (List ℕ)) (answer : Outcome) → Outputs old old (answer_of answer [])
 outputs_nothing old outcomes.Done = Appends-nil old
-outputs_nothing old outcomes.Denied = Appends-nil old
+outputs_nothing old outcomes.Different = Appends-nil old
 outputs_nothing old outcomes.Usage = keeps_itself old
 outputs_nothing old (outcomes.NoSuchName word) = keeps_itself old
 outputs_nothing old (outcomes.SliceRefused file place kind) = keeps_itself old

@@ -5,13 +5,13 @@ use Rattle.ice_types.specs.declared.declarations.Shape.{Shape}
 use Rattle.ice_types.specs.Tables.{Tables}
 use Rattle.ice_prims.specs.declared.fault.Fault.{Fault}
 use Rattle.ice_prims.proofs.Parts.{ok_is}
-use Rattle.ice_graphs.specs.Graph.{Slice, known, kept, Graph}
+use Rattle.ice_graphs.specs.Graph.{Slice, known, unknown, Graph}
 use Rattle.ice_graphs.specs.Instances.{slices_of}
 use Rattle.ice_graphs.specs.Canonical.{Format, sliced, compact, Compact, IsWritable}
 use Rattle.instance_writing.specs.Formats.{view_format}
 use Rattle.ice_graphs.specs.Flags.{all_slices}
 use Rattle.ice_graphs.proofs.Graphs.{numbered_only, numbered_apart}
-use Rattle.class_slices.specs.Encoding.{BeginsKept, NeedsSliced}
+use Rattle.class_slices.specs.Encoding.{BeginsUnknown, NeedsSliced}
 use Rattle.ice_relay.specs.Relaying.{one_value, Holds, held, canonical_bytes}
 use Rattle.ice_relay.specs.Comparing.{HoldTwo, two_held, CanBeCompared, IsFirstLong}
 use Rattle.ice_relay.proofs.Compared.{two_only}
@@ -24,7 +24,7 @@ use Rattle.node_commands.specs.declared.words.Task.TheVariants as tasks
 use Rattle.slice_meaning.proofs.Loads.{one_meaning, one_break, never_both}
 use Rattle.node_commands.specs.Words.{Word, Command, values, check, proxy, drill, messages, help, version, Asks}
 use Rattle.node_commands.specs.Outside.{Files, Failures, Outside}
-use Rattle.node_commands.specs.Answers.{Answer, done, denied, usage, no_such_name, slice_refused, input_refused, json_refused, too_long, needs_sliced, text_refused, read_failed, write_failed, no_memory, refused_after, read_failed_after, no_memory_after, status}
+use Rattle.node_commands.specs.Answers.{Answer, done, different, usage, no_such_name, slice_refused, input_refused, json_refused, too_long, needs_sliced, text_refused, read_failed, write_failed, no_memory, refused_after, read_failed_after, no_memory_after, status}
 use Rattle.node_commands.specs.Decided.{WithSchema, WithType, WithGraph, WithText, WithFormat, WithinLimit, Encapsulates, WithTwo, IsVerdict, WithinBoth, Compares, Does, DoesTask, Checks, Drills, Decides, Decided}
 use Rattle.node_commands.specs.Causes.{Causes}
 use Rattle.node_commands.specs.Statuses.{Answered, IsFailure, Ends}
@@ -126,14 +126,14 @@ both_apart t kind g h a b (inr p) (inr q) = p.2 ∙ ap too_long (long_apart t ki
 -- ---- the commands
 
 -- what begins with a kept slice cannot be written in compact format
-never_kept : (slices : List Slice) → BeginsKept slices → Compact slices → ⊥
-never_kept [] begins fits = begins
-never_kept (known class content ∷ ss) begins fits = begins
-never_kept (kept id bytes optionals table ∷ ss) begins fits = fits
+never_unknown : (slices : List Slice) → BeginsUnknown slices → Compact slices → ⊥
+never_unknown [] begins fits = begins
+never_unknown (known class content ∷ ss) begins fits = begins
+never_unknown (unknown id bytes optionals table ∷ ss) begins fits = fits
 
 never_both_formats : (f : Format) (g : Graph) → NeedsSliced f g → IsWritable f g → ⊥
 never_both_formats sliced g needs fits = needs
-never_both_formats compact g (n, (reached, begins)) fits = never_kept (slices_of g.instances n) begins (fits n reached)
+never_both_formats compact g (n, (reached, begins)) fits = never_unknown (slices_of g.instances n) begins (fits n reached)
 
 format_apart : (f : Format) (g : Graph) (a b : Answer) (Next Other : Type 0) → (Next → Other → a ≡ b) → WithFormat f g a Next → WithFormat f g b Other → a ≡ b
 format_apart f g a b Next Other one (inl p) (inl q) = p.1 ∙ sym q.1
@@ -197,7 +197,7 @@ answers_apart words files input a b p q =
 -- it is the one that is decided, unless something failed
 came_as_decided : (words : List Word) (files : Files) (input : List ℕ) (before after : Failures) (asked : Option Command) (came answer : Answer) → Asks words asked → Causes asked (Some files) (Some input) before after came → Decided words files input answer → (came ≡ answer) ⊎ IsFailure (status came)
 came_as_decided words files input b n asked (done bytes) answer asks c d = inl (answers_apart words files input (done bytes) answer (asked, asks, c.0) d)
-came_as_decided words files input b n asked (denied bytes) answer asks c d = inl (answers_apart words files input (denied bytes) answer (asked, asks, c.0) d)
+came_as_decided words files input b n asked (different bytes) answer asks c d = inl (answers_apart words files input (different bytes) answer (asked, asks, c.0) d)
 came_as_decided words files input b n asked usage answer asks c d = inl (answers_apart words files input usage answer (asked, asks, c.0) d)
 came_as_decided words files input b n asked (no_such_name word) answer asks c d = inl (answers_apart words files input (no_such_name word) answer (asked, asks, c.0) d)
 came_as_decided words files input b n asked (slice_refused broken) answer asks c d = inl (answers_apart words files input (slice_refused broken) answer (asked, asks, c.0) d)

@@ -12,7 +12,7 @@ pub data Answer : Type 0 where
   -- these bytes were written
   done : List ℕ → Answer
   -- these bytes were written, and they say no
-  denied : List ℕ → Answer
+  different : List ℕ → Answer
   -- the words are none of the listed forms
   usage : Answer
   -- the word names no type
@@ -40,7 +40,7 @@ pub data Answer : Type 0 where
 
 abbrev pub status : Answer → ℕ
 status (done bytes) = 0
-status (denied bytes) = 1
+status (different bytes) = 1
 status usage = 2
 status (no_such_name word) = 2
 status (slice_refused broken) = 3
@@ -71,7 +71,7 @@ refusal fault = codes "ice: input refused at " ++ (input_text fault ++ codes "\n
 -- the line on the sink of errors
 abbrev pub error_line : Answer → List ℕ
 error_line (done bytes) = []
-error_line (denied bytes) = []
+error_line (different bytes) = []
 error_line usage = codes "ice: usage\n"
 error_line (no_such_name word) = codes "ice: no such name " ++ (word ++ codes "\n")
 error_line (slice_refused broken) = codes "ice: " ++ (fault_text broken ++ codes "\n")

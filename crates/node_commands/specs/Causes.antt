@@ -6,7 +6,7 @@ use Rattle.message_dump.specs.Sources.{TellsSome}
 use Rattle.node_commands.specs.Words.{Word, Command, values, check, proxy, drill, messages, help, version}
 use Rattle.node_commands.specs.declared.words.Task.TheVariants as tasks
 use Rattle.node_commands.specs.Outside.{Files, Failures, NoneFailed, ShelfFailed, SourceFailed, SinkFailed}
-use Rattle.node_commands.specs.Answers.{Answer, done, denied, usage, no_such_name, slice_refused, input_refused, json_refused, too_long, needs_sliced, text_refused, read_failed, write_failed, no_memory, refused_after, read_failed_after, no_memory_after}
+use Rattle.node_commands.specs.Answers.{Answer, done, different, usage, no_such_name, slice_refused, input_refused, json_refused, too_long, needs_sliced, text_refused, read_failed, write_failed, no_memory, refused_after, read_failed_after, no_memory_after}
 use Rattle.node_commands.specs.Decided.{IsSchema, IsNamed, Decides}
 
 -- FILE means a schema in which the word names a type: only then is the input read
@@ -46,7 +46,7 @@ abbrev pub IsToBeWritten : Option Command → Option Files → Option (List ℕ)
 IsToBeWritten (Some messages) files input bytes = TellsFirst input bytes
 IsToBeWritten (Some (values (tasks.Relay format) file word)) files input bytes = Decides (Some (values (tasks.Relay format) file word)) files input (done bytes)
 IsToBeWritten (Some (values tasks.Same file word)) files input bytes = Decides (Some (values tasks.Same file word)) files input (done bytes)
-    ⊎ Decides (Some (values tasks.Same file word)) files input (denied bytes)
+    ⊎ Decides (Some (values tasks.Same file word)) files input (different bytes)
 IsToBeWritten (Some (values tasks.Dump file word)) files input bytes = Decides (Some (values tasks.Dump file word)) files input (done bytes)
 IsToBeWritten (Some (values (tasks.Encode format) file word)) files input bytes = Decides (Some (values (tasks.Encode format) file word)) files input (done bytes)
 IsToBeWritten (Some (check file)) files input bytes = Decides (Some (check file)) files input (done bytes)
@@ -72,8 +72,8 @@ abbrev pub Causes : Option Command → Option Files → Option (List ℕ)
     → (before after : Failures) → Answer → Type 0
 Causes asked files input before after (done bytes) =
     Decides asked files input (done bytes) × NoneFailed before after
-Causes asked files input before after (denied bytes) =
-    Decides asked files input (denied bytes) × NoneFailed before after
+Causes asked files input before after (different bytes) =
+    Decides asked files input (different bytes) × NoneFailed before after
 Causes asked files input before after usage =
     Decides asked files input usage × NoneFailed before after
 Causes asked files input before after (no_such_name word) =

@@ -34,7 +34,7 @@ use Rattle.node_commands.specs.declared.words.Task.{Task}
 use Rattle.node_commands.specs.declared.words.Task.TheVariants as tasks
 use Rattle.node_commands.specs.TypeWords.{IsTypeWord}
 use Rattle.node_commands.specs.Outside.{Files}
-use Rattle.node_commands.specs.Answers.{Answer, done, denied, usage, no_such_name, slice_refused, input_refused, json_refused, too_long, needs_sliced, text_refused, refused_after}
+use Rattle.node_commands.specs.Answers.{Answer, done, different, usage, no_such_name, slice_refused, input_refused, json_refused, too_long, needs_sliced, text_refused, refused_after}
 
 -- ---- the steps
 
@@ -121,7 +121,7 @@ WithTwo input t kind answer Next =
 -- the graphs are the same but for the names of their instances, or not
 abbrev pub IsVerdict : Graph → Graph → Answer → Type 0
 IsVerdict g h answer = (Same g h × (answer ≡ done (codes "same\n")))
-    ⊎ ((Same g h → ⊥) × (answer ≡ denied (codes "different\n")))
+    ⊎ ((Same g h → ⊥) × (answer ≡ different (codes "different\n")))
 
 -- they are compared, or refused with the length of the first of their encapsulations that is above the limit
 abbrev pub WithinBoth : Tables → TypeRef → Graph → Graph → Answer → Type 0

@@ -9,7 +9,7 @@ use Rattle.ice_relay.specs.Streams.{TakesFrugally, TakesTwoFrugally}
 use Rattle.ice_relay.specs.TextStreams.{TakesText}
 use Rattle.node_commands.specs.declared.words.Task.{Task}
 use Rattle.node_commands.specs.declared.words.Task.TheVariants as tasks
-use Rattle.node_commands.specs.Answers.{Answer, done, denied, usage, no_such_name, slice_refused, input_refused, json_refused, too_long, needs_sliced, text_refused, read_failed, write_failed, no_memory, refused_after, read_failed_after, no_memory_after, error_line}
+use Rattle.node_commands.specs.Answers.{Answer, done, different, usage, no_such_name, slice_refused, input_refused, json_refused, too_long, needs_sliced, text_refused, read_failed, write_failed, no_memory, refused_after, read_failed_after, no_memory_after, error_line}
 
 -- No more of the input than is wanted: for `relay` and `dump` the encapsulation that it claims and one byte, for `same` two
 -- encapsulations and one byte, for `encode` a text and one byte.
@@ -33,7 +33,7 @@ TakesInput None old new = Keeps old new
 -- what was taken of the input: nothing where the answer comes without it
 abbrev pub Takes : Option Command → Option (List ℕ) → Option (List ℕ) → Answer → Type 0
 Takes asked old new (done bytes) = TakesInput asked old new
-Takes asked old new (denied bytes) = TakesInput asked old new
+Takes asked old new (different bytes) = TakesInput asked old new
 Takes asked old new usage = Keeps old new
 Takes asked old new (no_such_name word) = Keeps old new
 Takes asked old new (slice_refused broken) = Keeps old new
@@ -52,7 +52,7 @@ Takes asked old new (no_memory_after written) = TakesInput asked old new
 -- what the sink got: the bytes, a prefix of them after a failed write, and of a refusal nothing, or what was written before it
 abbrev pub Outputs : Option (List ℕ) → Option (List ℕ) → Answer → Type 0
 Outputs old new (done bytes) = Appends old new bytes
-Outputs old new (denied bytes) = Appends old new bytes
+Outputs old new (different bytes) = Appends old new bytes
 Outputs old new usage = Keeps old new
 Outputs old new (no_such_name word) = Keeps old new
 Outputs old new (slice_refused broken) = Keeps old new

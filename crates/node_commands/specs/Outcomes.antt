@@ -27,7 +27,7 @@ use Rattle.node_commands.specs.declared.found.Found.TheVariants as founds
 use Rattle.node_commands.specs.declared.words.Task.{Task}
 use Rattle.node_commands.specs.Words.{Word, Command}
 use Rattle.node_commands.specs.Outside.{Files, Failures, NoneFailed}
-use Rattle.node_commands.specs.Answers.{Answer, done, denied, usage, no_such_name, slice_refused, input_refused, json_refused, too_long, needs_sliced, text_refused, read_failed, write_failed, no_memory, refused_after, read_failed_after, no_memory_after}
+use Rattle.node_commands.specs.Answers.{Answer, done, different, usage, no_such_name, slice_refused, input_refused, json_refused, too_long, needs_sliced, text_refused, read_failed, write_failed, no_memory, refused_after, read_failed_after, no_memory_after}
 use Rattle.node_commands.specs.Decided.{IsSchema, IsFault, IsNamed, WithType, Does, Decides}
 use Rattle.node_commands.specs.Causes.{Causes}
 use Rattle.node_commands.specs.Effects.{TakesInput, Takes}
@@ -35,7 +35,7 @@ use Rattle.node_commands.specs.Effects.{TakesInput, Takes}
 -- the answer, with the bytes that were to be written
 abbrev pub answer_of : Outcome → List ℕ → Answer
 answer_of outcomes.Done bytes = done bytes
-answer_of outcomes.Denied bytes = denied bytes
+answer_of outcomes.Different bytes = different bytes
 answer_of outcomes.Usage bytes = usage
 answer_of (outcomes.NoSuchName word) bytes = no_such_name word.now
 answer_of (outcomes.SliceRefused file place kind) bytes =
@@ -112,7 +112,7 @@ verdict_line false = codes "different\n"
 
 abbrev pub verdict : Bool → Outcome
 verdict true = outcomes.Done
-verdict false = outcomes.Denied
+verdict false = outcomes.Different
 
 -- ---- what was found for a task with values
 
@@ -138,7 +138,7 @@ GivesNoSchema files file before after (slice_refused broken) =
 GivesNoSchema files file before after read_failed = after ≡ one_more before
 GivesNoSchema files file before after no_memory = after ≡ before
 GivesNoSchema files file before after (done bytes) = ⊥
-GivesNoSchema files file before after (denied bytes) = ⊥
+GivesNoSchema files file before after (different bytes) = ⊥
 GivesNoSchema files file before after usage = ⊥
 GivesNoSchema files file before after (no_such_name word) = ⊥
 GivesNoSchema files file before after (input_refused fault) = ⊥
@@ -175,7 +175,7 @@ FindsNone task input t kind before after needs_sliced =
 FindsNone task input t kind before after read_failed = after ≡ one_more before
 FindsNone task input t kind before after no_memory = after ≡ before
 FindsNone task input t kind before after (done bytes) = ⊥
-FindsNone task input t kind before after (denied bytes) = ⊥
+FindsNone task input t kind before after (different bytes) = ⊥
 FindsNone task input t kind before after usage = ⊥
 FindsNone task input t kind before after (no_such_name word) = ⊥
 FindsNone task input t kind before after (slice_refused broken) = ⊥

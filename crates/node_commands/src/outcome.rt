@@ -24,7 +24,7 @@ pub enum Outcome<'a> {
     /// The answer was written.
     Done,
     /// The answer was written, and it is no.
-    Denied,
+    Different,
     /// The words are none of the listed forms.
     Usage,
     /// The word names no type.
@@ -66,7 +66,7 @@ impl<'a> Outcome<'a> {
     {
         match self {
             Outcome::Done => 0,
-            Outcome::Denied => 1,
+            Outcome::Different => 1,
             Outcome::Usage | Outcome::NoSuchName(_) => 2,
             Outcome::SliceRefused { .. } => 3,
             Outcome::InputRefused(_)
@@ -87,7 +87,7 @@ impl<'a> Outcome<'a> {
             → flat_map (λ piece. piece.now) result ≡ error_line (answer_of self.now bytes) }
     {
         match self {
-            Outcome::Done | Outcome::Denied => one(""),
+            Outcome::Done | Outcome::Different => one(""),
             Outcome::Usage => one("ice: usage\n"),
             Outcome::NoSuchName(word) => of_word("ice: no such name ", word),
             Outcome::SliceRefused { file, place, kind } => {

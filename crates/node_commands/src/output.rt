@@ -22,7 +22,7 @@ pub fn print<K: Sink>(bytes: &[u8], sink: &mut K) -> Outcome<'static>
 }
 
 /// Writes the word for whether two values are the same, and where they are not the outcome is
-/// `Denied`. A sink that fails has taken a prefix of it, and is not asked again.
+/// `Different`. A sink that fails has taken a prefix of it, and is not asked again.
 fn print_verdict<K: Sink>(same: bool, sink: &mut K) -> Outcome<'static>
     ensures outcome { PrintsFor (verdict same) (K.failures sink.old) (K.failures sink.new) result }
     ensures output { Outputs (K.taken sink.old) (K.taken sink.new) (answer_of result (verdict_line same)) }
@@ -31,7 +31,7 @@ fn print_verdict<K: Sink>(same: bool, sink: &mut K) -> Outcome<'static>
         return print("same\n".as_bytes(), sink);
     }
     match print("different\n".as_bytes(), sink) {
-        Outcome::Done => Outcome::Denied,
+        Outcome::Done => Outcome::Different,
         _ => Outcome::WriteFailed,
     }
 }

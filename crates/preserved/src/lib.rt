@@ -6,6 +6,6 @@ mod laws;
 mod reading;
 mod writing;
 
-pub use laws::kept_unchanged;
-pub use reading::{KeptPart, keep, skip_slice, slice_bound};
-pub use writing::{put_slice_size, write_kept};
+pub use laws::unknown_slices_unchanged;
+pub use reading::{UnknownPart, keep, skip_slice, slice_bound};
+pub use writing::{put_slice_size, write_unknown};

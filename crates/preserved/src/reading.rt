@@ -5,10 +5,10 @@ ghost use Rattle.ice_prims.specs.Taking.{Takes};
 ghost use Rattle.ice_encoding.specs.Skipping.{bound_behind};
 ghost use Rattle.ice_graphs.specs.Flags.{flags_of};
 ghost use Rattle.ice_graphs.specs.Flags as spec;
-ghost use Rattle.ice_graphs.specs.Graph.{kept};
-ghost use Rattle.ice_graphs.specs.Slices.{kept_at, slice_size};
+ghost use Rattle.ice_graphs.specs.Graph.{unknown};
+ghost use Rattle.ice_graphs.specs.Slices.{unknown_at, slice_size};
 ghost use Rattle.graph_arena.specs.Seen.{view_slice};
-ghost use Rattle.preserved.specs.Kept.{FindsKept};
+ghost use Rattle.preserved.specs.Unknown.{FindsUnknown};
 
 use graph_arena::Slice;
 use ice_prims::{Cursor, Fault, Kind};
@@ -20,7 +20,7 @@ pub(crate) const END_MARKER: u8 = 255;
 
 /// What stands in a slice behind its type id and its size, and what its flags say.
 #[derive(Clone, Copy, Debug)]
-pub struct KeptPart<'a> {
+pub struct UnknownPart<'a> {
     /// The bytes of its members, without the end marker of optional ones.
     pub bytes: &'a [u8],
     /// Whether that marker stood behind them.
@@ -33,8 +33,8 @@ pub struct KeptPart<'a> {
 /// it is below 4, `Short` there where fewer bytes are left; with optional members `BadTag` at the last
 /// byte where that is no end marker, `Short` where there is none. A fault leaves the cursor as it was, and
 /// it takes no memory. (Ice manual, "Data Encoding for Class and Exception Types".)
-pub fn skip_slice<'a>(cursor: &mut Cursor<'a>, flags: u8) -> Result<KeptPart<'a>, Fault>
-    ensures takes { Takes (λ part. part.bytes.now) result cursor.old cursor.new (kept_at (flags_of flags).has_optional cursor.old) }
+pub fn skip_slice<'a>(cursor: &mut Cursor<'a>, flags: u8) -> Result<UnknownPart<'a>, Fault>
+    ensures takes { Takes (λ part. part.bytes.now) result cursor.old cursor.new (unknown_at (flags_of flags).has_optional cursor.old) }
     ensures flags { IfOk result (λ part. (part.optionals ≡ (flags_of flags).has_optional) × (part.last ≡ (flags_of flags).is_last)) }
 {
     let optionals = is_odd(flags / 4);
@@ -42,7 +42,7 @@ pub fn skip_slice<'a>(cursor: &mut Cursor<'a>, flags: u8) -> Result<KeptPart<'a>
     let bound = slice_bound(&mut ahead)?;
     let bytes = without_marker(optionals, &bound)?;
     *cursor = ahead;
-    Ok(KeptPart {
+    Ok(UnknownPart {
         bytes,
         optionals,
         last: is_odd(flags / 32),
@@ -77,7 +77,7 @@ pub fn slice_bound<'a>(cursor: &mut Cursor<'a>) -> Result<Cursor<'a>, Fault>
 
 /// The bytes before the end marker of optional members, where that stands behind them.
 fn without_marker<'a>(optionals: bool, bound: &Cursor<'a>) -> Result<&'a [u8], Fault>
-    ensures { FindsKept optionals bound.now result }
+    ensures { FindsUnknown optionals bound.now result }
 {
     let mut ahead = bound.fork();
     let length = ahead.left();
@@ -100,14 +100,14 @@ fn without_marker<'a>(optionals: bool, bound: &Cursor<'a>) -> Result<&'a [u8], F
 pub fn keep(
     alloc: Global,
     id: &str,
-    part: &KeptPart<'_>,
+    part: &UnknownPart<'_>,
     table: List<u32>,
 ) -> Result<Slice, AllocError>
-    ensures { IfOk result (λ slice. view_slice slice ≡ kept id.now part.now.bytes.now part.now.optionals table) }
+    ensures { IfOk result (λ slice. view_slice slice ≡ unknown id.now part.now.bytes.now part.now.optionals table) }
 {
     let mut bytes = Vec::new(alloc);
     bytes.extend_from_slice(part.bytes)?;
-    Ok(Slice::Kept {
+    Ok(Slice::Unknown {
         id: Name::of(alloc, id)?,
         bytes: List::from_vec(bytes),
         optionals: part.optionals,

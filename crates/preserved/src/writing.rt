@@ -3,7 +3,7 @@
 ghost use Rattle.std.specs.Prelude.{◌≡◌, ◌++◌, OnErr, OnOk};
 ghost use Rattle.ice_graphs.specs.Slices.{slice_size};
 ghost use Rattle.graph_arena.specs.Seen.{view_slice};
-ghost use Rattle.preserved.specs.Kept.{IsKept, kept_part, kept_part_of};
+ghost use Rattle.preserved.specs.Unknown.{IsUnknown, unknown_part, unknown_part_of};
 
 use crate::reading::END_MARKER;
 use graph_arena::Slice;
@@ -15,23 +15,23 @@ use std::alloc::AllocError;
 /// behind them: what stands between the type id and the table. Out of memory may leave a part of it; so may
 /// bytes of which an int cannot tell the size, which are answered as that is.
 /// (Ice manual, "Data Encoding for Class and Exception Types".)
-pub fn write_kept(out: &mut Vec<u8>, part: &Slice) -> Result<(), AllocError>
-    requires { IsKept (view_slice part.now) }
-    ensures { OnOk result (out.new.items ≡ out.old.items ++ kept_part_of (view_slice part.now)) }
+pub fn write_unknown(out: &mut Vec<u8>, part: &Slice) -> Result<(), AllocError>
+    requires { IsUnknown (view_slice part.now) }
+    ensures { OnOk result (out.new.items ≡ out.old.items ++ unknown_part_of (view_slice part.now)) }
 {
     match part {
         Slice::Known { .. } => Ok(()),
-        Slice::Kept {
+        Slice::Unknown {
             bytes,
             optionals,
             ..
-        } => put_kept(out, bytes.as_slice(), *optionals),
+        } => put_unknown(out, bytes.as_slice(), *optionals),
     }
 }
 
 /// The same of the bytes, and whether an end marker stands behind them.
-fn put_kept(out: &mut Vec<u8>, bytes: &[u8], optionals: bool) -> Result<(), AllocError>
-    ensures { OnOk result (out.new.items ≡ out.old.items ++ kept_part optionals bytes.now) }
+fn put_unknown(out: &mut Vec<u8>, bytes: &[u8], optionals: bool) -> Result<(), AllocError>
+    ensures { OnOk result (out.new.items ≡ out.old.items ++ unknown_part optionals bytes.now) }
 {
     if !optionals {
         put_slice_size(out, bytes.len())?;

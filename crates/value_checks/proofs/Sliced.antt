@@ -8,7 +8,7 @@ use Rattle.std.proofs.lemmas.Slice.Eq.{bytes_eq-Decides}
 use Rattle.ice_types.specs.Tables.{Tables, Finds, HasId}
 use Rattle.ice_encoding.specs.Typed.{Refers}
 use Rattle.ice_graphs.specs.Classes.{base_of, place_of, one_further}
-use Rattle.ice_graphs.specs.Graph.{Slice, known, kept}
+use Rattle.ice_graphs.specs.Graph.{Slice, known, unknown}
 use Rattle.ice_graphs.specs.Typed.{AreBases, IsInstance, IsKnown}
 use Rattle.graph_arena.specs.declared.instance.Members.{Members}
 use Rattle.graph_arena.specs.declared.instance.Slice as seen
@@ -72,8 +72,8 @@ module _ (u : Tables) (Refer : Refers) where
   pub some_slices : (ss : List Slice) → (ss ≡ [] → ⊥) → AreSlices u Refer ss ↔ IsInstance u Refer ss
   some_slices [] some = absurd (some refl)
   some_slices (known class content ∷ ss) some = (λ h. h, λ h. h)
-  some_slices (kept id bytes optionals table ∷ []) some = (λ h. h.0, λ h. (h, tt))
-  some_slices (kept id bytes optionals table ∷ s ∷ ss) some =
+  some_slices (unknown id bytes optionals table ∷ []) some = (λ h. h.0, λ h. (h, tt))
+  some_slices (unknown id bytes optionals table ∷ s ∷ ss) some =
       let rest = some_slices (s ∷ ss) (λ e. absurd cc) in
       (λ h. (h.0, rest.0 h.1), λ h. (h.0, rest.1 h.1))
 

@@ -4,9 +4,9 @@ use Rattle.ice_types.specs.declared.declarations.Shape.{Shape}
 use Rattle.ice_types.specs.Tables.{Tables}
 use Rattle.ice_encoding.specs.Typed.{Refers}
 use Rattle.ice_graphs.specs.Classes.{base_of}
-use Rattle.ice_graphs.specs.Graph.{Graph, Slice, known, kept}
+use Rattle.ice_graphs.specs.Graph.{Graph, Slice, known, unknown}
 use Rattle.ice_graphs.specs.Instances.{slices_of}
-use Rattle.ice_graphs.specs.Typed.{AreBases, AreMembers, IsInstance, IsKept, IsKnown, RefersIn}
+use Rattle.ice_graphs.specs.Typed.{AreBases, AreMembers, IsInstance, IsUnknown, IsKnown, RefersIn}
 use Rattle.ice_graphs.specs.Visiting.{order, place}
 
 -- the one is listed before the other, or neither is listed and the one is less
@@ -17,17 +17,17 @@ module _ (u : Tables) (Refer : Refers) where
   -- a slice of this class, which is known
   abbrev pub IsSlice : ℕ → Slice → Type 0
   IsSlice class (known other content) = (other ≡ class) × IsKnown u Refer class content
-  IsSlice class (kept id bytes optionals table) = ⊥
+  IsSlice class (unknown id bytes optionals table) = ⊥
 
   -- a slice of a class that the tables lack
-  abbrev pub IsKeptSlice : Slice → Type 0
-  IsKeptSlice (known class content) = ⊥
-  IsKeptSlice (kept id bytes optionals table) = IsKept u Refer id table
+  abbrev pub IsUnknownSlice : Slice → Type 0
+  IsUnknownSlice (known class content) = ⊥
+  IsUnknownSlice (unknown id bytes optionals table) = IsUnknown u Refer id table
 
   -- kept slices, and then a known class with all its bases, or none
   abbrev pub AreSlices : List Slice → Type 0
   AreSlices [] = Unit {0}
-  AreSlices (kept id bytes optionals table ∷ ss) = IsKept u Refer id table × AreSlices ss
+  AreSlices (unknown id bytes optionals table ∷ ss) = IsUnknown u Refer id table × AreSlices ss
   AreSlices (known class content ∷ ss) = IsKnown u Refer class content × AreBases u Refer (base_of u class) ss
 
 module _ (t : Tables) (g : Graph) where

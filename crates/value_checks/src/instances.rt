@@ -7,7 +7,7 @@ ghost use Rattle.ice_graphs.specs.Classes as classes;
 ghost use Rattle.ice_graphs.specs.Exceptions.{of_exceptions};
 ghost use Rattle.ice_graphs.specs.Typed.{AreBases, AreReferred, IsInstance, IsKnown, RefersIn};
 ghost use Rattle.graph_arena.specs.Seen.{view_content, view_slice, view_slices};
-ghost use Rattle.value_checks.specs.First.{AreSlices, IsFine, IsKeptSlice, IsSlice};
+ghost use Rattle.value_checks.specs.First.{AreSlices, IsFine, IsUnknownSlice, IsSlice};
 ghost use Rattle.value_checks.specs.Rows.{HasOwn, rows_of};
 
 use crate::members::are_members;
@@ -27,7 +27,7 @@ pub(crate) enum Rows {
 /// ones and then those of an exception of the schema and of all its bases, in order, or kept ones alone, and
 /// one at least. The values of its members are of their types; the instances may be of any.
 /// (Ice manual, "User Exceptions".)
-pub fn is_raised(schema: &Schema, graph: &Graph, slices: &[Slice]) -> bool
+pub fn is_user_exception(schema: &Schema, graph: &Graph, slices: &[Slice]) -> bool
     ensures { IsTrue result ↔ IsInstance (of_exceptions schema.now) (RefersIn schema.now graph.now.instances) (view_slices slices.now) }
 {
     is_instance(schema, Rows::Exceptions, graph, slices)
@@ -63,7 +63,7 @@ fn are_slices(schema: &Schema, rows: Rows, graph: &Graph, slices: &[Slice]) -> b
             let bases = &slices[at + 1..];
             return is_whole(schema, rows, graph, *class, members, bases);
         }
-        if !is_kept(schema, rows, graph, slice) {
+        if !is_unknown(schema, rows, graph, slice) {
             return false;
         }
     }
@@ -72,19 +72,19 @@ fn are_slices(schema: &Schema, rows: Rows, graph: &Graph, slices: &[Slice]) -> b
 
 /// Whether it is kept of a class that the schema lacks, with a table of names that may stand where any
 /// class may.
-fn is_kept(schema: &Schema, rows: Rows, graph: &Graph, slice: &Slice) -> bool
-    ensures { IsTrue result ↔ IsKeptSlice (rows_of rows schema.now) (RefersIn schema.now graph.now.instances) (view_slice slice.now) }
+fn is_unknown(schema: &Schema, rows: Rows, graph: &Graph, slice: &Slice) -> bool
+    ensures { IsTrue result ↔ IsUnknownSlice (rows_of rows schema.now) (RefersIn schema.now graph.now.instances) (view_slice slice.now) }
 {
     match slice {
         Slice::Known { .. } => false,
-        Slice::Kept { id, table, .. } => {
-            is_unknown(schema, rows, id) && are_referred(schema, graph, table.as_slice())
+        Slice::Unknown { id, table, .. } => {
+            is_unknown_id(schema, rows, id) && are_referred(schema, graph, table.as_slice())
         }
     }
 }
 
 /// Whether the schema lacks the type id, which is UTF-8 as each text is.
-fn is_unknown(schema: &Schema, rows: Rows, id: &Name) -> bool
+fn is_unknown_id(schema: &Schema, rows: Rows, id: &Name) -> bool
     ensures { IsTrue result ↔ ((classes.class_named (rows_of rows schema.now) id.now ≡ None) × IsUtf8 id.now) }
 {
     match rows {
@@ -153,7 +153,7 @@ fn is_slice(schema: &Schema, rows: Rows, graph: &Graph, class: u32, slice: &Slic
             class: other,
             members,
         } => *other == class && is_known(schema, rows, graph, class, members),
-        Slice::Kept { .. } => false,
+        Slice::Unknown { .. } => false,
     }
 }
 

@@ -14,7 +14,7 @@ mod values;
 mod zeros;
 
 pub use first::{first_ill_instance, first_ill_typed};
-pub use instances::is_raised;
+pub use instances::is_user_exception;
 pub use laws::zeros_have_types;
 pub use values::fits;
 pub use zeros::zero;

@@ -1,10 +1,10 @@
 use Rattle.std.proofs.Common.{◌∙◌, Ok, sym, ap, subst}
 use Rattle.ice_graphs.specs.Flags.{all_slices}
 use Rattle.ice_graphs.specs.Graph.{Graph}
-use Rattle.ice_graphs.specs.RaisedTyped.{OfRaised}
+use Rattle.ice_graphs.specs.UserExceptionTyped.{OfUserException}
 use Rattle.graph_arena.specs.Seen.{view_content, view_slices}
-use Rattle.instance_writing.specs.Writable.{raised_of}
-use Rattle.instance_reading.specs.Stacked.{view_raised as view_read}
+use Rattle.instance_writing.specs.Writable.{user_exception_of}
+use Rattle.instance_reading.specs.Stacked.{view_user_exception as view_read}
 use Rattle.class_slices.proofs.Read.{read-is, with-roots}
 use Rattle.class_slices.proofs.exception_reading.read_exception.Goals as goal
 
@@ -16,9 +16,9 @@ of-requires c =
 pub returns-clause-reads : goal.returns-clause-reads
 returns-clause-reads c =
     let h = read-is c.args.schema.now all_slices c.args.input.now c.new-cursor.result c.take_content.new.cursor (view_read c.in_ok-content.content) c.rules.ensures c.new-cursor.ensures c.left_are_bytes.ensures c.in_ok-content.ensures c.in_ok-end.ensures in
-    h.reads ∙ ap (λ (g : Graph). Ok (raised_of (view_slices c.in_ok-content.content.slices) g)) (sym c.of.ensures)
+    h.reads ∙ ap (λ (g : Graph). Ok (user_exception_of (view_slices c.in_ok-content.content.slices) g)) (sym c.of.ensures)
 
 pub returns-clause-typed : goal.returns-clause-typed
 returns-clause-typed c =
     let h = read-is c.args.schema.now all_slices c.args.input.now c.new-cursor.result c.take_content.new.cursor (view_read c.in_ok-content.content) c.rules.ensures c.new-cursor.ensures c.left_are_bytes.ensures c.in_ok-content.ensures c.in_ok-end.ensures in
-    subst (λ (g : Graph). OfRaised c.args.schema.now (raised_of (view_slices c.in_ok-content.content.slices) g)) (sym c.of.ensures) h.typed
+    subst (λ (g : Graph). OfUserException c.args.schema.now (user_exception_of (view_slices c.in_ok-content.content.slices) g)) (sym c.of.ensures) h.typed

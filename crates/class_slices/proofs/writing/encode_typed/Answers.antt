@@ -5,7 +5,7 @@ use Rattle.instance_writing.specs.Formats.{view_format}
 use Rattle.instance_writing.specs.Writable.{GraphCanBeWritten}
 use Rattle.class_slices.specs.Enclosing.{Closes}
 use Rattle.class_slices.proofs.Encoded.{closed, too-long, written-is}
-use Rattle.class_slices.proofs.FirstKept.{writable}
+use Rattle.class_slices.proofs.FirstUnknown.{writable}
 use Rattle.class_slices.proofs.Writable.{form-writable}
 use Rattle.class_slices.proofs.writing.encode_typed.Goals as goal
 

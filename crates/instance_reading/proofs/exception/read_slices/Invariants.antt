@@ -5,10 +5,10 @@ use Rattle.instance_reading.specs.Unfinished.{left_slices, room}
 use Rattle.instance_reading.specs.declared.sort.Sort.TheVariants as sorts
 use Rattle.instance_reading.proofs.exception.read_slices.Given as goal
 
-abbrev pub invariant-loop-raised : goal.invariant-loop-raised
-invariant-loop-raised l = record {
-  left : exception_slices l.schema l.fn.arena l.fn.cursor ≡ left_slices (instance_within l.schema most_instances) sorts.Exception l.schema l.raised l.arena l.cursor;
+abbrev pub invariant-loop-user_exception : goal.invariant-loop-user_exception
+invariant-loop-user_exception l = record {
+  left : exception_slices l.schema l.fn.arena l.fn.cursor ≡ left_slices (instance_within l.schema most_instances) sorts.Exception l.schema l.user_exception l.arena l.cursor;
 }
 
-abbrev pub decreases-loop-raised : goal.decreases-loop-raised
-decreases-loop-raised l = room l.arena
+abbrev pub decreases-loop-user_exception : goal.decreases-loop-user_exception
+decreases-loop-user_exception l = room l.arena
