@@ -14,7 +14,7 @@ use Rattle.ice_graphs.specs.Graph.{Graph}
 use Rattle.ice_graphs.specs.Canonical.{Pen, Format, put_inline, written_instance, blank, bytes_of, canonical_graph, IsWritable}
 use Rattle.ice_graphs.specs.Visiting.{most}
 use Rattle.ice_graphs.specs.Same.{form}
-use Rattle.ice_values.specs.declared.fields.Fields.{Fields}
+use Rattle.ice_values.specs.declared.fields.DeclaredMembers.{DeclaredMembers}
 use Rattle.ice_values.specs.Shapes.{shape_seen}
 use Rattle.ice_values.proofs.WritingSteps.{options-of-tagged}
 use Rattle.instance_writing.specs.Remains.{with_options}
@@ -23,13 +23,13 @@ use Rattle.class_slices.specs.Enclosing.{Closes, unsized}
 use Rattle.class_slices.specs.Encoding.{Writes}
 
 -- of the optional members that are handed over, those without a tag are never written
-canonical-is : (t : Tables) (f : Fields) (format : Format) (g : Graph) → bytes_of t (with_options f.optional.now) format (form g) ≡ canonical_graph t (shape_seen f) format g
+canonical-is : (t : Tables) (f : DeclaredMembers) (format : Format) (g : Graph) → bytes_of t (with_options f.optional.now) format (form g) ≡ canonical_graph t (shape_seen f) format g
 unfolding canonical_graph
 canonical-is t f format g =
     let refer = written_in_place put_inline (written_instance t format (form g) most) in
     ap (λ (p : Piece Pen). ((written_each refer (form g).roots.required >> p) blank).0) (options-of-tagged refer t f.optional.now [] (form g).roots.optional)
 
-pub written-is : (t : Tables) (f : Fields) (format : Format) (g numbered : Graph) (begun out : List ℕ) → numbered ≡ form g → begun ≡ unsized [] → out ≡ begun ++ bytes_of t (with_options f.optional.now) format numbered
+pub written-is : (t : Tables) (f : DeclaredMembers) (format : Format) (g numbered : Graph) (begun out : List ℕ) → numbered ≡ form g → begun ≡ unsized [] → out ≡ begun ++ bytes_of t (with_options f.optional.now) format numbered
     → out ≡ unsized (canonical_graph t (shape_seen f) format g)
 written-is t f format g numbered begun out is begun_is out_is =
     let content : bytes_of t (with_options f.optional.now) format numbered ≡ canonical_graph t (shape_seen f) format g = ap (bytes_of t (with_options f.optional.now) format) is ∙ canonical-is t f format g in

@@ -14,7 +14,7 @@ use Rattle.graph_laws.proofs.UserExceptionForms.{shape_of, graph_typed}
 use Rattle.class_slices.specs.Enclosing.{Closes, unsized}
 use Rattle.class_slices.proofs.FirstUnknown.{first_known, writable}
 use Rattle.class_slices.specs.declared.user_exception_fault.UserExceptionFault.TheVariants.{TooLong}
-use Rattle.class_slices.specs.ExceptionEncoding.{Encodes}
+use Rattle.class_slices.specs.ExceptionEncoding.{EncodesException}
 use Rattle.class_slices.specs.ExceptionUnknown.{Carries}
 
 -- ---- what the format can carry
@@ -35,12 +35,12 @@ module _ (t : Tables) (f : Format) (x : UserException) (typed : OfUserException 
   unfolding canonical_user_exception
   content-is k begun out is begun_is out_is = out_is ∙ (λ i. begun_is i ++ user_exception_bytes t f (is i))
 
-  pub closed : (k : UserException) (begun bytes : List ℕ) (out : Vec ℕ Global) → k ≡ form_of x → begun ≡ unsized [] → bytes ≡ begun ++ user_exception_bytes t f k → Closes bytes limit (Ok out) → Encodes t f x limit (Ok out)
+  pub closed : (k : UserException) (begun bytes : List ℕ) (out : Vec ℕ Global) → k ≡ form_of x → begun ≡ unsized [] → bytes ≡ begun ++ user_exception_bytes t f k → Closes bytes limit (Ok out) → EncodesException t f x limit (Ok out)
   closed k begun bytes out is begun_is out_is closes =
       let h = closes (canonical_user_exception t f x) (content-is k begun bytes is begun_is out_is) in
       (typed, can, h.0, h.1)
 
-  pub too-long : (k : UserException) (begun bytes : List ℕ) (n : ℕ) → k ≡ form_of x → begun ≡ unsized [] → bytes ≡ begun ++ user_exception_bytes t f k → Closes bytes limit (Err n) → Encodes t f x limit (Err (TooLong n))
+  pub too-long : (k : UserException) (begun bytes : List ℕ) (n : ℕ) → k ≡ form_of x → begun ≡ unsized [] → bytes ≡ begun ++ user_exception_bytes t f k → Closes bytes limit (Err n) → EncodesException t f x limit (Err (TooLong n))
   too-long k begun bytes n is begun_is out_is closes =
       let h = closes (canonical_user_exception t f x) (content-is k begun bytes is begun_is out_is) in
       (typed, can, h.0, h.1)

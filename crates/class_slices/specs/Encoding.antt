@@ -51,9 +51,9 @@ of_write (write_faults.TooLong n) = encode_faults.TooLong n
 of_write write_faults.Memory = encode_faults.Memory
 
 -- the same of a graph of the type, and of any other its first part that is not of its type
-abbrev pub Encodes : Tables → Shape → Format → Graph → ℕ → Result (Vec ℕ Global) EncodeFault → Type 0
-Encodes t shape f g limit (Ok out) = OfType t shape g × Writes t shape f g limit (Ok out)
-Encodes t shape f g limit (Err (encode_faults.IllTyped at)) = IsFirstIll t g shape at
-Encodes t shape f g limit (Err (encode_faults.UnknownNeedsSliced n)) = OfType t shape g × Writes t shape f g limit (Err (write_faults.UnknownNeedsSliced n))
-Encodes t shape f g limit (Err (encode_faults.TooLong n)) = OfType t shape g × Writes t shape f g limit (Err (write_faults.TooLong n))
-Encodes t shape f g limit (Err encode_faults.Memory) = Unit {0}
+abbrev pub EncodesGraph : Tables → Shape → Format → Graph → ℕ → Result (Vec ℕ Global) EncodeFault → Type 0
+EncodesGraph t shape f g limit (Ok out) = OfType t shape g × Writes t shape f g limit (Ok out)
+EncodesGraph t shape f g limit (Err (encode_faults.IllTyped at)) = IsFirstIll t g shape at
+EncodesGraph t shape f g limit (Err (encode_faults.UnknownNeedsSliced n)) = OfType t shape g × Writes t shape f g limit (Err (write_faults.UnknownNeedsSliced n))
+EncodesGraph t shape f g limit (Err (encode_faults.TooLong n)) = OfType t shape g × Writes t shape f g limit (Err (write_faults.TooLong n))
+EncodesGraph t shape f g limit (Err encode_faults.Memory) = Unit {0}

@@ -34,9 +34,9 @@ NeedsSliced compact x at = IsFirstUnknown x at
 
 -- The encapsulation in the format, where the exception is of its type, can be written in the format, and it is not longer
 -- than the limit; else the first part that is not of its type, the first that has a kept slice, or the length.
-abbrev pub Encodes : Tables → Format → UserException → ℕ → Result (Vec ℕ Global) UserExceptionFault → Type 0
-Encodes t f x limit (Ok out) = OfUserException t x × CanBeWritten f x × (out.items ≡ exception_bytes t f x) × (length out.items ≤ limit)
-Encodes t f x limit (Err (faults.IllTyped at)) = IsFirstIll t x at
-Encodes t f x limit (Err (faults.UnknownNeedsSliced at)) = OfUserException t x × NeedsSliced f x at
-Encodes t f x limit (Err (faults.TooLong n)) = OfUserException t x × CanBeWritten f x × (n ≡ length (exception_bytes t f x)) × (limit < n)
-Encodes t f x limit (Err faults.Memory) = Unit {0}
+abbrev pub EncodesException : Tables → Format → UserException → ℕ → Result (Vec ℕ Global) UserExceptionFault → Type 0
+EncodesException t f x limit (Ok out) = OfUserException t x × CanBeWritten f x × (out.items ≡ exception_bytes t f x) × (length out.items ≤ limit)
+EncodesException t f x limit (Err (faults.IllTyped at)) = IsFirstIll t x at
+EncodesException t f x limit (Err (faults.UnknownNeedsSliced at)) = OfUserException t x × NeedsSliced f x at
+EncodesException t f x limit (Err (faults.TooLong n)) = OfUserException t x × CanBeWritten f x × (n ≡ length (exception_bytes t f x)) × (limit < n)
+EncodesException t f x limit (Err faults.Memory) = Unit {0}

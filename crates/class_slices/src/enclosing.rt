@@ -4,7 +4,7 @@
 ghost use Rattle.std.specs.Prelude.{◌≡◌, ◌++◌, ◌≤◌, [], drop, vec_len, IfOk};
 ghost use Rattle.std.specs.Int.{w32, to_le_bytes};
 ghost use Rattle.ice_prims.specs.Rest.{IsBytes};
-ghost use Rattle.instance_reading.specs.Slices.{Ends};
+ghost use Rattle.instance_reading.specs.Slices.{EndsSlice};
 ghost use Rattle.class_slices.specs.Enclosing.{Closes, unsized};
 
 use ice_prims::{Cursor, Fault, Kind, put_byte, put_int};
@@ -34,7 +34,7 @@ fn left_bytes<'a>(cursor: &Cursor<'a>) -> &'a [u8]
 
 /// The end of a bound: the fault is at the first byte that is left.
 pub fn end(cursor: &Cursor<'_>) -> Result<(), Fault>
-    ensures { Ends result cursor.now }
+    ensures { EndsSlice result cursor.now }
 {
     if cursor.left() > 0 {
         return Err(cursor.fault(Kind::LeftOver));

@@ -2,13 +2,13 @@
 
 ghost use Rattle.ice_values.specs.Shapes.{shape_seen};
 ghost use Rattle.instance_writing.specs.Formats.{view_format};
-ghost use Rattle.class_slices.specs.Encoding.{Encodes};
+ghost use Rattle.class_slices.specs.Encoding.{EncodesGraph};
 
 use crate::encode_fault::EncodeFault;
 use crate::writing::encode_typed;
 use graph_arena::Graph;
 use ice_types::Schema;
-use ice_values::Fields;
+use ice_values::DeclaredMembers;
 use instance_writing::Format;
 use std::alloc::Global;
 use value_checks::first_ill_typed;
@@ -20,12 +20,12 @@ use value_checks::first_ill_typed;
 pub fn encode(
     alloc: Global,
     schema: &Schema,
-    fields: Fields<'_>,
+    fields: DeclaredMembers<'_>,
     graph: Graph,
     format: Format,
     limit: u32,
 ) -> Result<Vec<u8>, EncodeFault>
-    ensures { Encodes schema.now (shape_seen fields.entry) (view_format format) graph limit result }
+    ensures { EncodesGraph schema.now (shape_seen fields.entry) (view_format format) graph limit result }
 {
     if let Some(at) = first_ill_typed(alloc, schema, fields, &graph)? {
         return Err(EncodeFault::IllTyped(at));

@@ -24,7 +24,11 @@ use std::alloc::Global;
 /// those of exceptions that the schema lacks kept, and each instance named by the order in which it begins.
 /// Nothing may follow the slices, or the encapsulation.
 /// (Ice manual, "Data Encoding for Class and Exception Types".)
-pub fn read_exception(alloc: Global, schema: &Schema, input: &[u8]) -> Result<UserException, ReadFault>
+pub fn read_exception(
+    alloc: Global,
+    schema: &Schema,
+    input: &[u8],
+) -> Result<UserException, ReadFault>
     ensures reads { GivesUnlessMemory view_user_exception result (exception_at schema.now all_slices (whole input.now)) }
     ensures typed { IfOk result (λ user_exception. OfUserException schema.now (view_user_exception user_exception)) }
 {

@@ -13,7 +13,11 @@ use instance_writing::Format;
 /// Refuses an exception with these slices that the format cannot carry, by the first part of it that has a
 /// kept slice: its own slices, or an instance of the graph whose roots they stand for. It is refused too where
 /// there is no memory to look. (Ice manual, "Data Encoding for Class and Exception Types".)
-pub(crate) fn allow(slices: &[Slice], graph: &Graph, format: Format) -> Result<(), UserExceptionFault>
+pub(crate) fn allow(
+    slices: &[Slice],
+    graph: &Graph,
+    format: Format,
+) -> Result<(), UserExceptionFault>
     ensures { Allows (view_format format) (view_slices slices.now) graph.now result }
 {
     match format {

@@ -2,7 +2,7 @@
 
 ghost use Rattle.ice_graphs.specs.UserExceptionTyped.{OfUserException};
 ghost use Rattle.instance_writing.specs.Formats.{view_format};
-ghost use Rattle.class_slices.specs.ExceptionEncoding.{Encodes};
+ghost use Rattle.class_slices.specs.ExceptionEncoding.{EncodesException};
 ghost use Rattle.class_slices.specs.Seen.{IsRooted, view_user_exception};
 
 use crate::enclosing::{begin_encaps, end_encaps};
@@ -27,9 +27,13 @@ pub fn write_exception(
     format: Format,
     limit: u32,
 ) -> Result<Vec<u8>, UserExceptionFault>
-    ensures { Encodes schema.now (view_format format) (view_user_exception user_exception) limit result }
+    ensures { EncodesException schema.now (view_format format) (view_user_exception user_exception) limit result }
 {
-    if !is_user_exception(schema, &user_exception.graph, user_exception.slices.as_slice()) {
+    if !is_user_exception(
+        schema,
+        &user_exception.graph,
+        user_exception.slices.as_slice(),
+    ) {
         return Err(UserExceptionFault::IllTyped(None));
     }
     let user_exception = rooted(alloc, user_exception)?;
@@ -49,11 +53,15 @@ fn write_typed(
 ) -> Result<Vec<u8>, UserExceptionFault>
     requires typed { OfUserException schema.now (view_user_exception user_exception) }
     requires rooted { IsRooted user_exception }
-    ensures { Encodes schema.now (view_format format) (view_user_exception user_exception) limit result }
+    ensures { EncodesException schema.now (view_format format) (view_user_exception user_exception) limit result }
 {
     // Its contract says what every graph keeps.
     user_exception.graph.len();
-    allow(user_exception.slices.as_slice(), &user_exception.graph, format)?;
+    allow(
+        user_exception.slices.as_slice(),
+        &user_exception.graph,
+        format,
+    )?;
     let numbered = numbered(alloc, user_exception)?;
     let mut out = begin_encaps(alloc)?;
     write_user_exception(

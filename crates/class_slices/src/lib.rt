@@ -6,14 +6,14 @@
 mod enclosing;
 mod encode_fault;
 mod encoding;
-mod exception_unknown;
 mod exception_reading;
+mod exception_unknown;
 mod exception_writing;
-mod unknown;
 mod naming;
+mod reading;
+mod unknown;
 mod user_exception;
 mod user_exception_fault;
-mod reading;
 mod write_fault;
 mod writing;
 
@@ -23,9 +23,9 @@ pub use encoding::encode;
 pub use exception_reading::read_exception;
 pub use exception_writing::write_exception;
 pub use instance_writing::Format;
+pub use reading::{decode, decode_rest, take_graph};
 pub use unknown::{begins_unknown, first_unknown};
 pub use user_exception::UserException;
 pub use user_exception_fault::UserExceptionFault;
-pub use reading::{decode, decode_rest, take_graph};
 pub use write_fault::WriteFault;
 pub use writing::encode_typed;

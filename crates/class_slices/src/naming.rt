@@ -16,7 +16,10 @@ use std::alloc::{AllocError, Global};
 
 /// Puts in the place of the graph's roots a reference to each instance that the slices name, slice by slice in
 /// order of occurrence.
-pub(crate) fn rooted(alloc: Global, user_exception: UserException) -> Result<UserException, AllocError>
+pub(crate) fn rooted(
+    alloc: Global,
+    user_exception: UserException,
+) -> Result<UserException, AllocError>
     requires { AreBelow (length user_exception.graph.instances) (instance_names (view_slices user_exception.slices)) }
     ensures same { IfOk result (λ rooted. view_user_exception rooted ≡ view_user_exception user_exception) }
     ensures rooted { IfOk result IsRooted }
@@ -55,7 +58,10 @@ fn reference(name: u32) -> Value
 /// The exception with the instances that its slices lead to, in the order of their first visits, each named by
 /// its place in that order; the others are left out. What they hold is moved, and not copied.
 /// (Ice manual, "Data Encoding for Class and Exception Types".)
-pub(crate) fn numbered(alloc: Global, user_exception: UserException) -> Result<UserException, AllocError>
+pub(crate) fn numbered(
+    alloc: Global,
+    user_exception: UserException,
+) -> Result<UserException, AllocError>
     requires { IsRooted user_exception }
     ensures { IfOk result (λ numbered. view_user_exception numbered ≡ form_of (view_user_exception user_exception)) }
 {

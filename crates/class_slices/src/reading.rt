@@ -14,7 +14,7 @@ use encaps_optionals::open_encaps;
 use graph_arena::Graph;
 use ice_prims::{Cursor, ReadFault};
 use ice_types::Schema;
-use ice_values::Fields;
+use ice_values::DeclaredMembers;
 use instance_reading::read_content;
 use std::alloc::Global;
 
@@ -24,7 +24,7 @@ use std::alloc::Global;
 pub fn decode(
     alloc: Global,
     schema: &Schema,
-    fields: Fields<'_>,
+    fields: DeclaredMembers<'_>,
     input: &[u8],
 ) -> Result<Graph, ReadFault>
     ensures reads { GivesUnlessMemory (λ graph. graph) result
@@ -38,7 +38,7 @@ pub fn decode(
 pub fn decode_rest(
     alloc: Global,
     schema: &Schema,
-    fields: Fields<'_>,
+    fields: DeclaredMembers<'_>,
     mut cursor: Cursor<'_>,
 ) -> Result<Graph, ReadFault>
     ensures reads { GivesUnlessMemory (λ graph. graph) result
@@ -55,7 +55,7 @@ pub fn decode_rest(
 pub fn take_graph(
     alloc: Global,
     schema: &Schema,
-    fields: Fields<'_>,
+    fields: DeclaredMembers<'_>,
     cursor: &mut Cursor<'_>,
 ) -> Result<Graph, ReadFault>
     ensures reads { TakesUnlessMemory (λ graph. graph) result cursor.old cursor.new

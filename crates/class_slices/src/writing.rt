@@ -10,7 +10,7 @@ use crate::unknown::allow;
 use crate::write_fault::WriteFault;
 use graph_arena::Graph;
 use ice_types::Schema;
-use ice_values::Fields;
+use ice_values::DeclaredMembers;
 use instance_writing::{Format, write_numbered};
 use std::alloc::Global;
 
@@ -22,7 +22,7 @@ use std::alloc::Global;
 pub fn encode_typed(
     alloc: Global,
     schema: &Schema,
-    fields: Fields<'_>,
+    fields: DeclaredMembers<'_>,
     graph: Graph,
     format: Format,
     limit: u32,

@@ -19,9 +19,9 @@ PassesOver (Ok x) old new read = read ≡ Ok new
 PassesOver (Err e) old new read = (read ≡ Err e) × (new ≡ old)
 
 -- whether optional members end here, whatever the last tag; else a tag stands next
-abbrev pub Ends : Bool → Bool → Rest → Rest → Type 0
-Ends true marked old new = (last : Option ℕ) → next_tag_at last marked old ≡ Ok (None, new)
-Ends false marked old new = ((last : Option ℕ) → next_tag_at last marked old ≡ rising_at last old) × (new ≡ old)
+abbrev pub EndsTags : Bool → Bool → Rest → Rest → Type 0
+EndsTags true marked old new = (last : Option ℕ) → next_tag_at last marked old ≡ Ok (None, new)
+EndsTags false marked old new = ((last : Option ℕ) → next_tag_at last marked old ≡ rising_at last old) × (new ≡ old)
 
 -- a value of this format is passed over, a reference is not
 abbrev pub skipped_at : ℕ → Rest → Result (Skipped × Rest) Fault

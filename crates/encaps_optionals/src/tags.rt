@@ -4,7 +4,7 @@ ghost use Rattle.std.specs.Prelude.{◌≡◌, ◌++◌, ◌<◌, ◌≤◌, ◌
 ghost use Rattle.ice_prims.specs.Bytes.{Grows};
 ghost use Rattle.ice_prims.specs.Taking.{Takes};
 ghost use Rattle.ice_encoding.specs.Tags as spec;
-ghost use Rattle.encaps_optionals.specs.Answers.{Sees, Ends};
+ghost use Rattle.encaps_optionals.specs.Answers.{Sees, EndsTags};
 
 use ice_prims::{Cursor, Fault, Kind, put_byte, put_size};
 use std::alloc::AllocError;
@@ -34,7 +34,7 @@ pub fn take_tag(
 
 /// Whether the members end here. Their marker is taken, where they have one.
 fn take_end(cursor: &mut Cursor<'_>, marked: bool) -> bool
-    ensures { Ends result marked cursor.old cursor.new }
+    ensures { EndsTags result marked cursor.old cursor.new }
 {
     let mut ahead = cursor.fork();
     match ahead.take_byte() {

@@ -13,7 +13,7 @@ use crate::leaves::named;
 use crate::read::value_of;
 use graph_arena::{Members, Value};
 use ice_types::{List, Member, Schema};
-use ice_values::Fields;
+use ice_values::DeclaredMembers;
 use serde_json::{Map, Value as Json};
 use std::alloc::{AllocError, Global};
 use std::collections::BTreeMap;
@@ -24,7 +24,7 @@ use std::collections::BTreeMap;
 pub fn content_of(
     alloc: Global,
     schema: &Schema,
-    fields: Fields<'_>,
+    fields: DeclaredMembers<'_>,
     json: &Json,
 ) -> Result<Option<Members>, AllocError>
     ensures { IfOk result (λ o. option_map view_content o ≡ noted_content schema.now (shape_seen fields.entry) (json_view json.now)) }

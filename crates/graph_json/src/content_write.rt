@@ -12,7 +12,7 @@ ghost use Rattle.graph_json.specs.Contents.{content_noted, options_noted};
 use crate::write::json_of;
 use graph_arena::{Members, Value};
 use ice_types::{Member, Schema};
-use ice_values::Fields;
+use ice_values::DeclaredMembers;
 use serde_json::{Map, Value as Json};
 use std::alloc::{AllocError, Global};
 
@@ -21,7 +21,7 @@ use std::alloc::{AllocError, Global};
 pub fn content_json(
     alloc: Global,
     schema: &Schema,
-    fields: Fields<'_>,
+    fields: DeclaredMembers<'_>,
     members: &Members,
 ) -> Result<Json, AllocError>
     ensures { IfOk result (λ j. json_view j ≡ content_noted schema.now (shape_seen fields.entry) (view_content members.now)) }

@@ -13,7 +13,7 @@ use crate::content_read::content_of;
 use crate::slices::{named, slices_of};
 use graph_arena::{Instance, Members};
 use ice_types::Schema;
-use ice_values::Fields;
+use ice_values::DeclaredMembers;
 use serde_json::{Map, Value as Json};
 use std::alloc::{AllocError, Global};
 
@@ -29,7 +29,7 @@ pub(crate) struct Listed {
 pub(crate) fn listed_of(
     alloc: Global,
     schema: &Schema,
-    fields: Fields<'_>,
+    fields: DeclaredMembers<'_>,
     json: &Json,
 ) -> Result<Option<Listed>, AllocError>
     ensures { IfOk result (λ o. option_map view_listed o

@@ -15,7 +15,7 @@ use crate::leaves::name_of;
 use graph_arena::Slice;
 use hex::FromHexError;
 use ice_types::{Bytes, List, Member, Name, Schema};
-use ice_values::Fields;
+use ice_values::DeclaredMembers;
 use serde_json::{Map, Value as Json};
 use std::alloc::{AllocError, Global};
 
@@ -82,7 +82,7 @@ fn known_in(
         return Ok(None);
     };
     let own = own_members(schema, class);
-    let fields = Fields {
+    let fields = DeclaredMembers {
         required: own,
         optional: own,
     };

@@ -24,7 +24,7 @@ use crate::slices::named;
 use crate::writing::graph_json;
 use graph_arena::{Graph, Instance, Members, Slice, push_slices};
 use ice_types::{List, Schema};
-use ice_values::Fields;
+use ice_values::DeclaredMembers;
 use serde_json::Value as Json;
 use std::alloc::{AllocError, Global};
 use value_checks::first_ill_typed;
@@ -41,7 +41,7 @@ const MOST_LISTED: usize = 100_000;
 pub fn to_text(
     alloc: Global,
     schema: &Schema,
-    fields: Fields<'_>,
+    fields: DeclaredMembers<'_>,
     graph: Graph,
 ) -> Result<String, AllocError>
     ensures text { IfOk result (λ text. string_bytes text ≡ graph_text schema.now (shape_seen fields.entry) graph) }
@@ -72,7 +72,7 @@ fn compact_text(alloc: Global, json: &Json) -> Result<String, AllocError>
 pub fn from_text(
     alloc: Global,
     schema: &Schema,
-    fields: Fields<'_>,
+    fields: DeclaredMembers<'_>,
     text: &[u8],
 ) -> Result<Graph, JsonFault>
     requires { HasOwnNames (shape_seen fields) }
@@ -90,7 +90,7 @@ pub fn from_text(
 fn parsed(
     alloc: Global,
     schema: &Schema,
-    fields: Fields<'_>,
+    fields: DeclaredMembers<'_>,
     text: &[u8],
 ) -> Result<Graph, JsonFault>
     requires { HasOwnNames (shape_seen fields) }

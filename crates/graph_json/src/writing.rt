@@ -16,7 +16,7 @@ use crate::slices::own_members;
 use crate::write::name_json;
 use graph_arena::{Graph, Members, Slice};
 use ice_types::{Bytes, Name, Schema};
-use ice_values::Fields;
+use ice_values::DeclaredMembers;
 use serde_json::{Map, Value as Json, put};
 use std::alloc::{AllocError, Global};
 
@@ -25,7 +25,7 @@ use std::alloc::{AllocError, Global};
 pub(crate) fn graph_json(
     alloc: Global,
     schema: &Schema,
-    fields: Fields<'_>,
+    fields: DeclaredMembers<'_>,
     graph: &Graph,
 ) -> Result<Json, AllocError>
     ensures { IfOk result (λ j. json_view j ≡ graph_noted schema.now (shape_seen fields.entry) graph.now) }
@@ -85,7 +85,7 @@ fn known_json(
     ensures { IfOk result (λ j. json_view j ≡ slice_noted schema.now (known class (view_content members.now))) }
 {
     let own = own_members(schema, class);
-    let fields = Fields {
+    let fields = DeclaredMembers {
         required: own,
         optional: own,
     };

@@ -19,7 +19,7 @@ pub use canonicity_laws::{
 pub use exception_laws::{exceptions_typed, exceptions_written, written_exceptions_apart};
 pub use relaying_laws::{
     canonical_bytes_sized, canonical_bytes_unchanged, formats_same, graphs_read_by_both,
-    graphs_seen, unknown_slices_reopened, one_lacks_a_class, relays_returned, relays_spelled,
-    sized_graphs_spelled,
+    graphs_seen, one_lacks_a_class, relays_returned, relays_spelled, sized_graphs_spelled,
+    unknown_slices_reopened,
 };
 pub use typing_laws::{classes_related, graphs_typed};

@@ -5,7 +5,7 @@ ghost use Rattle.ice_prims.specs.Number.{text_at};
 ghost use Rattle.ice_encoding.specs.Identity.{identity, facet};
 ghost use Rattle.ice_encoding.specs.Bounds.{claimed};
 ghost use Rattle.ice_messages.specs.Calls.{mode, encapsulation, call, answer, answer_by, missing};
-ghost use Rattle.ice_messages.specs.Answers.{Reads};
+ghost use Rattle.ice_messages.specs.Answers.{ReadsPart};
 ghost use Rattle.ice_prims.specs.Taking.{Takes};
 
 use crate::message::{Answer, Call};
@@ -18,7 +18,7 @@ use std::alloc::Global;
 
 /// A call: whose operation it is, its facet, name, mode, context and arguments.
 pub fn take_call(alloc: Global, cursor: &mut Cursor<'_>) -> Result<Call, ReadFault>
-    ensures { Reads result cursor.new (call.read cursor.old) }
+    ensures { ReadsPart result cursor.new (call.read cursor.old) }
 {
     let identity = take_identity(alloc, cursor)?;
     let facet = take_facet(alloc, cursor)?;
@@ -38,13 +38,13 @@ pub fn take_call(alloc: Global, cursor: &mut Cursor<'_>) -> Result<Call, ReadFau
 
 /// A string, as a text of its own.
 pub fn take_text(alloc: Global, cursor: &mut Cursor<'_>) -> Result<Name, ReadFault>
-    ensures { Reads result cursor.new (text_at cursor.old) }
+    ensures { ReadsPart result cursor.new (text_at cursor.old) }
 {
     Ok(Name::of(alloc, cursor.take_str()?)?)
 }
 
 fn take_identity(alloc: Global, cursor: &mut Cursor<'_>) -> Result<Identity, ReadFault>
-    ensures { Reads result cursor.new (identity.read cursor.old) }
+    ensures { ReadsPart result cursor.new (identity.read cursor.old) }
 {
     let name = take_text(alloc, cursor)?;
     let category = take_text(alloc, cursor)?;
@@ -53,7 +53,7 @@ fn take_identity(alloc: Global, cursor: &mut Cursor<'_>) -> Result<Identity, Rea
 
 /// A sequence of at most one text. None is the default facet.
 fn take_facet(alloc: Global, cursor: &mut Cursor<'_>) -> Result<Name, ReadFault>
-    ensures { Reads result cursor.new (facet.read cursor.old) }
+    ensures { ReadsPart result cursor.new (facet.read cursor.old) }
 {
     let wrong = cursor.fault(Kind::BadFacet);
     match cursor.take_size()? {
@@ -65,7 +65,7 @@ fn take_facet(alloc: Global, cursor: &mut Cursor<'_>) -> Result<Name, ReadFault>
 
 /// 0 normal, 1 nonmutating, 2 idempotent.
 fn take_mode(cursor: &mut Cursor<'_>) -> Result<u8, ReadFault>
-    ensures { Reads result cursor.new (mode.read cursor.old) }
+    ensures { ReadsPart result cursor.new (mode.read cursor.old) }
 {
     let wrong = cursor.fault(Kind::BadMode);
     let mode = cursor.take_byte()?;
@@ -78,7 +78,7 @@ fn take_mode(cursor: &mut Cursor<'_>) -> Result<u8, ReadFault>
 
 /// An encapsulation from its size on, whatever its version and content.
 fn take_encapsulation(alloc: Global, cursor: &mut Cursor<'_>) -> Result<Bytes, ReadFault>
-    ensures { Reads result cursor.new (encapsulation.read cursor.old) }
+    ensures { ReadsPart result cursor.new (encapsulation.read cursor.old) }
 {
     let mut ahead = cursor.fork();
     let claim = ahead.take_int()?;
@@ -89,7 +89,7 @@ fn take_encapsulation(alloc: Global, cursor: &mut Cursor<'_>) -> Result<Bytes, R
 
 /// An answer: its status, and what follows by the status.
 pub fn take_answer(alloc: Global, cursor: &mut Cursor<'_>) -> Result<Answer, ReadFault>
-    ensures { Reads result cursor.new (answer.read cursor.old) }
+    ensures { ReadsPart result cursor.new (answer.read cursor.old) }
 {
     let wrong = cursor.fault(Kind::BadStatus);
     match cursor.take_byte()? {
@@ -108,7 +108,7 @@ pub fn take_answer(alloc: Global, cursor: &mut Cursor<'_>) -> Result<Answer, Rea
 
 /// The identity, the facet and the operation that were called and are not there.
 fn take_missing(alloc: Global, status: u8, cursor: &mut Cursor<'_>) -> Result<Answer, ReadFault>
-    ensures { Reads result cursor.new ((missing status).read cursor.old) }
+    ensures { ReadsPart result cursor.new ((missing status).read cursor.old) }
 {
     let identity = take_identity(alloc, cursor)?;
     let facet = take_facet(alloc, cursor)?;

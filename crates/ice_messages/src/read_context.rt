@@ -2,7 +2,7 @@
 
 ghost use Rattle.std.specs.Prelude.{◌≡◌, ◌<◌, ℕ, List, [], IfOk};
 ghost use Rattle.ice_messages.specs.Context.{context, entries_at};
-ghost use Rattle.ice_messages.specs.Answers.{Reads};
+ghost use Rattle.ice_messages.specs.Answers.{ReadsPart};
 ghost use Rattle.ice_messages.specs.Seen.{ReadsEntries, seen};
 
 use ice_prims::{Cursor, Kind, ReadFault};
@@ -12,7 +12,7 @@ use std::collections::BTreeMap;
 
 /// Names with their values, in rising order of the names. A name twice is `EqualKey` at the second.
 pub fn take_context(alloc: Global, cursor: &mut Cursor<'_>) -> Result<List<(Name, Name)>, ReadFault>
-    ensures { Reads result cursor.new (context.read cursor.old) }
+    ensures { ReadsPart result cursor.new (context.read cursor.old) }
 {
     let count = cursor.take_size()?;
     let entries = take_entries(alloc, count, cursor)?;

@@ -7,7 +7,7 @@ ghost use Rattle.ice_encoding.specs.Parts.{read_times, exactly};
 ghost use Rattle.ice_encoding.specs.Bounds.{filled};
 ghost use Rattle.ice_messages.specs.Calls.{call};
 ghost use Rattle.ice_messages.specs.Messages.{header, magic, versions, message_type, compression, body_by, calls, message_at, whole_message_at};
-ghost use Rattle.ice_messages.specs.Answers.{Reads, Sees, Fills};
+ghost use Rattle.ice_messages.specs.Answers.{ReadsPart, Sees, Fills};
 ghost use Rattle.ice_messages.specs.Written.{IsOrderly};
 
 use crate::message::{Call, HEADER_BYTES, Message};
@@ -38,7 +38,7 @@ fn whole_message(alloc: Global, bytes: &[u8]) -> Result<Message, ReadFault>
 
 /// The message that begins here, whatever follows it.
 pub fn take_message(alloc: Global, cursor: &mut Cursor<'_>) -> Result<Message, ReadFault>
-    ensures { Reads result cursor.new (message_at cursor.old) }
+    ensures { ReadsPart result cursor.new (message_at cursor.old) }
 {
     let there = cursor.left();
     let size_place = cursor.fork();
@@ -63,7 +63,7 @@ fn end(cursor: &Cursor<'_>) -> Result<(), Fault>
 
 /// What follows a header, by the message's type.
 fn take_body(alloc: Global, kind: u8, cursor: &mut Cursor<'_>) -> Result<Message, ReadFault>
-    ensures { Reads result cursor.new ((body_by kind).read cursor.old) }
+    ensures { ReadsPart result cursor.new ((body_by kind).read cursor.old) }
 {
     match kind {
         0 => {
@@ -86,7 +86,7 @@ fn take_body(alloc: Global, kind: u8, cursor: &mut Cursor<'_>) -> Result<Message
 
 /// A count, and so many calls.
 fn take_calls(alloc: Global, cursor: &mut Cursor<'_>) -> Result<List<Call>, ReadFault>
-    ensures { Reads result cursor.new (calls.read cursor.old) }
+    ensures { ReadsPart result cursor.new (calls.read cursor.old) }
 {
     let wrong = cursor.fault(Kind::BadSize);
     let count = cursor.take_int()?;
@@ -98,7 +98,7 @@ fn take_calls(alloc: Global, cursor: &mut Cursor<'_>) -> Result<List<Call>, Read
 
 /// So many calls, one after the other.
 fn take_each(alloc: Global, count: u32, cursor: &mut Cursor<'_>) -> Result<List<Call>, ReadFault>
-    ensures { Reads result cursor.new (read_times call.read count cursor.old) }
+    ensures { ReadsPart result cursor.new (read_times call.read count cursor.old) }
 {
     let mut calls = List::new(alloc);
     for _ in 0..count {

@@ -7,7 +7,7 @@ ghost use Rattle.node_commands.specs.Words.{words_of};
 ghost use Rattle.node_commands.specs.Outside.{Files, outside, counts};
 ghost use Rattle.node_commands.specs.Answers.{Answer};
 ghost use Rattle.node_commands.specs.Decided.{Decided};
-ghost use Rattle.node_commands.specs.Statuses.{Answered, Ends};
+ghost use Rattle.node_commands.specs.Statuses.{Answered, EndsWithStatus};
 ghost use Rattle.ice_node.specs.Carrying.{Carries};
 
 use ice_ports::{Shelf, Sink, Source};
@@ -41,7 +41,7 @@ pub fn node<H: Shelf, S: Source, K: Sink, E: Sink>(
         (counts (H.failures shelf.new) (S.failures source.new) (K.failures sink.new)) (E.failures errors.new) in
         (files : Files) (input : List ℕ) (answer : Answer)
         → before.files ≡ Some files → before.input ≡ Some input
-        → Decided (words_of words.now) files input answer → Ends (words_of words.now) before after result answer }
+        → Decided (words_of words.now) files input answer → EndsWithStatus (words_of words.now) before after result answer }
 
     // Where the outside tells what it holds, `relay` in sliced format has written, with status 0, the graph that
     // the input is for whoever knows the classes that FILE lacks.

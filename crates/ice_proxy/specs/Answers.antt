@@ -7,9 +7,9 @@ use Rattle.ice_prims.specs.Rest.{Rest}
 use Rattle.ice_prims.specs.Taking.{Fails}
 
 -- A part was read. Where reading stands after a refusal is left open.
-abbrev pub Reads : {A : Type 0} → Result A ReadFault → Rest → Result (A × Rest) Fault → Type 0
-Reads (Ok x) new read = read ≡ Ok (x, new)
-Reads (Err e) new read = Fails e read
+abbrev pub ReadsPart : {A : Type 0} → Result A ReadFault → Rest → Result (A × Rest) Fault → Type 0
+ReadsPart (Ok x) new read = read ≡ Ok (x, new)
+ReadsPart (Err e) new read = Fails e read
 
 -- the same of a call that takes no memory
 abbrev pub Sees : {A : Type 0} → Result A Fault → Rest → Result (A × Rest) Fault → Type 0

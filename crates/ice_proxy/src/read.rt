@@ -7,7 +7,7 @@ ghost use Rattle.ice_encoding.specs.Parts.{made, read_times};
 ghost use Rattle.ice_encoding.specs.Identity.{facet};
 ghost use Rattle.ice_encoding.specs.Endpoint.{endpoint};
 ghost use Rattle.ice_encoding.specs.Proxy as form;
-ghost use Rattle.ice_proxy.specs.Answers.{Reads, Sees, IsThere};
+ghost use Rattle.ice_proxy.specs.Answers.{ReadsPart, Sees, IsThere};
 
 use crate::read_endpoint::take_endpoint;
 use crate::take::{take_text, take_version};
@@ -35,7 +35,7 @@ pub fn read_proxy(alloc: Global, cursor: &mut Cursor<'_>) -> Result<Option<Proxy
 
 /// Reads as `read_proxy` does, but a refusal leaves the cursor somewhere on the way.
 fn take_proxy(alloc: Global, cursor: &mut Cursor<'_>) -> Result<Option<Proxy>, ReadFault>
-    ensures proxy { Reads result cursor.new (form.proxy.read cursor.old) }
+    ensures proxy { ReadsPart result cursor.new (form.proxy.read cursor.old) }
     ensures memory { result ≡ Err ReadFault.Memory → IsThere (text_at cursor.old) }
 {
     let wrong = cursor.fault(Kind::BadIdentity);
@@ -61,7 +61,7 @@ fn take_details(
     identity: Identity,
     cursor: &mut Cursor<'_>,
 ) -> Result<Option<Proxy>, ReadFault>
-    ensures { Reads result cursor.new ((made (form.proxy_of identity) form.details_of form.details).read cursor.old) }
+    ensures { ReadsPart result cursor.new ((made (form.proxy_of identity) form.details_of form.details).read cursor.old) }
 {
     let facet = take_facet(alloc, cursor)?;
     let mode = take_mode(cursor)?;
@@ -83,7 +83,7 @@ fn take_details(
 
 /// A sequence of at most one text. None is the facet of no name.
 fn take_facet(alloc: Global, cursor: &mut Cursor<'_>) -> Result<Name, ReadFault>
-    ensures { Reads result cursor.new (facet.read cursor.old) }
+    ensures { ReadsPart result cursor.new (facet.read cursor.old) }
 {
     let wrong = cursor.fault(Kind::BadFacet);
     match cursor.take_size()? {
@@ -107,7 +107,7 @@ fn take_location(
     alloc: Global,
     cursor: &mut Cursor<'_>,
 ) -> Result<(List<Endpoint>, Name), ReadFault>
-    ensures { Reads result cursor.new (form.location.read cursor.old) }
+    ensures { ReadsPart result cursor.new (form.location.read cursor.old) }
 {
     let count = cursor.take_size()?;
     if count == 0 {
@@ -124,7 +124,7 @@ fn take_endpoints(
     count: u32,
     cursor: &mut Cursor<'_>,
 ) -> Result<List<Endpoint>, ReadFault>
-    ensures { Reads result cursor.new (read_times endpoint.read count cursor.old) }
+    ensures { ReadsPart result cursor.new (read_times endpoint.read count cursor.old) }
 {
     let mut endpoints = List::new(alloc);
     for _ in 0..count {

@@ -5,7 +5,7 @@ ghost use Rattle.ice_prims.specs.Taking.{GivesUnlessMemory};
 ghost use Rattle.ice_encoding.specs.declared.limits.TheConstants.{SMALLEST};
 ghost use Rattle.ice_encoding.specs.Bounds.{claimed, filled};
 ghost use Rattle.ice_encoding.specs.Endpoint as form;
-ghost use Rattle.ice_proxy.specs.Answers.{Reads, Fills};
+ghost use Rattle.ice_proxy.specs.Answers.{ReadsPart, Fills};
 
 use crate::take::{take_text, take_version};
 use ice_encoding::{LARGEST, SIZE_BYTES, SMALLEST};
@@ -15,7 +15,7 @@ use std::alloc::Global;
 
 /// An endpoint: its type, and what it says in a bound of its own.
 pub fn take_endpoint(alloc: Global, cursor: &mut Cursor<'_>) -> Result<Endpoint, ReadFault>
-    ensures { Reads result cursor.new (form.endpoint.read cursor.old) }
+    ensures { ReadsPart result cursor.new (form.endpoint.read cursor.old) }
 {
     let kind = cursor.take_short()?;
     let place = cursor.place();
@@ -75,7 +75,7 @@ fn take_whole_tcp(alloc: Global, cursor: &mut Cursor<'_>) -> Result<Endpoint, Re
 
 /// TCP: host, port, timeout, and whether it compresses.
 fn take_tcp(alloc: Global, cursor: &mut Cursor<'_>) -> Result<Endpoint, ReadFault>
-    ensures { Reads result cursor.new (form.tcp.read cursor.old) }
+    ensures { ReadsPart result cursor.new (form.tcp.read cursor.old) }
 {
     Ok(Endpoint::Tcp {
         host: take_text(alloc, cursor)?,

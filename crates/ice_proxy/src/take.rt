@@ -2,7 +2,7 @@
 
 ghost use Rattle.ice_prims.specs.Number.{text_at};
 ghost use Rattle.ice_encoding.specs.Parts.{version};
-ghost use Rattle.ice_proxy.specs.Answers.{Reads, Sees};
+ghost use Rattle.ice_proxy.specs.Answers.{ReadsPart, Sees};
 
 use ice_prims::{Cursor, Fault, ReadFault};
 use ice_types::Name;
@@ -10,7 +10,7 @@ use std::alloc::Global;
 
 /// A string, as a text of its own.
 pub fn take_text(alloc: Global, cursor: &mut Cursor<'_>) -> Result<Name, ReadFault>
-    ensures { Reads result cursor.new (text_at cursor.old) }
+    ensures { ReadsPart result cursor.new (text_at cursor.old) }
 {
     Ok(Name::of(alloc, cursor.take_str()?)?)
 }

@@ -21,7 +21,7 @@ use Rattle.graph_laws.proofs.Canonicity.{same_bytes}
 use Rattle.graph_laws.proofs.Schemas.{canonical_spelled}
 use Rattle.ice_relay.specs.declared.drill_fault.DrillFault.{DrillFault}
 use Rattle.ice_relay.specs.declared.drill_fault.DrillFault.TheVariants as faults
-use Rattle.ice_relay.specs.Telling.{Encodes, Tells, line}
+use Rattle.ice_relay.specs.Telling.{EncodesDrawn, Tells, line}
 
 -- ---- what is spelled is read
 
@@ -36,7 +36,7 @@ module _ (t : Tables) (shape : Shape) (input : List ℕ) where
       subst (λ (j : Graph). graph_bytes t shape f j ≡ graph_bytes t shape f g) k_is (same_bytes t shape f k g same)
 
   -- the encapsulation of what was read
-  pub encodes_same : (g h : Graph) (result : Result (Vec ℕ Global) DrillFault) → Spells t all_slices shape input g → numbered_at t all_slices shape (whole input) ≡ Ok h → Encodes t shape sliced h result → Encodes t shape sliced g result
+  pub encodes_same : (g h : Graph) (result : Result (Vec ℕ Global) DrillFault) → Spells t all_slices shape input g → numbered_at t all_slices shape (whole input) ≡ Ok h → EncodesDrawn t shape sliced h result → EncodesDrawn t shape sliced g result
   encodes_same g h (Ok bytes) spells read e = (e.0 ∙ read_same g h spells read sliced, e.1)
   encodes_same g h (Err (faults.TooLong n)) spells read e = (e.0 ∙ ap length (read_same g h spells read sliced), e.1)
   encodes_same g h (Err faults.Memory) spells read e = tt
@@ -52,21 +52,21 @@ module _ (t : Tables) (shape : Shape) (g : Graph) (rules : IsSchema t) (typed : 
   writable_in compact = can
 
   -- an encapsulation of the graph spells it
-  pub encoded_spells : (f : Format) (bytes : Vec ℕ Global) → Encodes t shape f g (Ok bytes) → (input : List ℕ) → input ≡ bytes.items → Spells t all_slices shape input g
+  pub encoded_spells : (f : Format) (bytes : Vec ℕ Global) → EncodesDrawn t shape f g (Ok bytes) → (input : List ℕ) → input ≡ bytes.items → Spells t all_slices shape input g
   encoded_spells f bytes (is, small) input same =
       subst (λ (l : List ℕ). Spells t all_slices shape l g) (sym (same ∙ is)) (canonical_spelled t shape f g rules typed (writable_in f) reached_few (omega (arith, ap length is, small)))
 
   module _ (nodes : ℕ) where
     -- each fault is told as it is
-    pub compact_fails : (fault : DrillFault) → Encodes t shape compact g (Err fault) → Tells t shape nodes g (Err fault)
+    pub compact_fails : (fault : DrillFault) → EncodesDrawn t shape compact g (Err fault) → Tells t shape nodes g (Err fault)
     compact_fails (faults.TooLong n) e = (e.1, inl e.0)
     compact_fails faults.Memory e = tt
 
-    pub sliced_fails : (a : Vec ℕ Global) (fault : DrillFault) → Encodes t shape compact g (Ok a) → Encodes t shape sliced g (Err fault) → Tells t shape nodes g (Err fault)
+    pub sliced_fails : (a : Vec ℕ Global) (fault : DrillFault) → EncodesDrawn t shape compact g (Ok a) → EncodesDrawn t shape sliced g (Err fault) → Tells t shape nodes g (Err fault)
     sliced_fails a (faults.TooLong n) first e = (e.1, inr (omega (arith, ap length first.0, first.1), e.0))
     sliced_fails a faults.Memory first e = tt
 
-    pub tells : (a b c : Vec ℕ Global) (reached first second : ℕ) (same : Bool) (text : String Global) → Encodes t shape compact g (Ok a) → Encodes t shape sliced g (Ok b) → Encodes t shape sliced g (Ok c)
+    pub tells : (a b c : Vec ℕ Global) (reached first second : ℕ) (same : Bool) (text : String Global) → EncodesDrawn t shape compact g (Ok a) → EncodesDrawn t shape sliced g (Ok b) → EncodesDrawn t shape sliced g (Ok c)
         → reached ≡ length (order g) → first ≡ length a.items → second ≡ length b.items → (b.items ≡ c.items → IsTrue same) → string_bytes text ≡ line nodes reached first second same → Tells t shape nodes g (Ok text)
     tells a b c reached first second same text x y z reached_is first_is second_is test is =
         let yes : same ≡ true = test (y.0 ∙ sym z.0) in (

@@ -20,7 +20,7 @@ use Rattle.graph_json.specs.declared.fault.JsonFault.TheVariants as json_faults
 use Rattle.ice_relay.specs.Relaying.{root_of, one_value}
 use Rattle.ice_relay.proofs.Holding.{asked, asked_is, holds, writes}
 use Rattle.ice_relay.specs.Dumping.{Dumps}
-use Rattle.ice_relay.specs.Encoding.{Encodes}
+use Rattle.ice_relay.specs.Encoding.{EncodesText}
 use Rattle.ice_relay.specs.TextFaults.{of_json, of_write}
 
 module _ (t : Tables) (kind : TypeRef) (root : Member) (is : root ≡ root_of kind) where
@@ -37,16 +37,16 @@ module _ (t : Tables) (kind : TypeRef) (root : Member) (is : root ≡ root_of ki
   parses : (text : List ℕ) (result : Result Graph JsonFault) → Parses t (asked t kind root is) text result → Parses t (one_value kind) text result
   parses text result = subst (λ (s : Shape). Parses t s text result) (asked_is t kind root is)
 
-  pub unparsed : (f : Format) (text : List ℕ) (fault : JsonFault) → Parses t (asked t kind root is) text (Err fault) → Encodes t kind f text (Err (of_json fault))
+  pub unparsed : (f : Format) (text : List ℕ) (fault : JsonFault) → Parses t (asked t kind root is) text (Err fault) → EncodesText t kind f text (Err (of_json fault))
   unparsed f text (json_faults.Refused why) h = parses text (Err (json_faults.Refused why)) h
   unparsed f text json_faults.Memory h = tt
 
   module _ (f : Format) (text : List ℕ) (g : Graph) (listed : Parses t (asked t kind root is) text (Ok g)) where
-    pub written : (out : Vec ℕ Global) → Writes t (asked t kind root is) f g LARGEST (Ok out) → Encodes t kind f text (Ok out)
+    pub written : (out : Vec ℕ Global) → Writes t (asked t kind root is) f g LARGEST (Ok out) → EncodesText t kind f text (Ok out)
     written out e = let bytes = writes t kind root is f g (Ok out) e in (g, parses text (Ok g) listed, bytes.0, bytes.1, bytes.2)
 
     -- a kept slice, or its length, unless memory ran out
-    pub unwritten : (fault : WriteFault) → Writes t (asked t kind root is) f g LARGEST (Err fault) → Encodes t kind f text (Err (of_write fault))
+    pub unwritten : (fault : WriteFault) → Writes t (asked t kind root is) f g LARGEST (Err fault) → EncodesText t kind f text (Err (of_write fault))
     unwritten write_faults.Memory e = tt
     unwritten (write_faults.UnknownNeedsSliced n) e = (g, parses text (Ok g) listed, e.0)
     unwritten (write_faults.TooLong n) e =

@@ -14,11 +14,11 @@ use Rattle.ice_relay.specs.declared.text_fault.TextRelayFault.TheVariants as fau
 
 -- The canonical encapsulation of the graph that the text lists; or why it lists none; or that an instance which the graph
 -- reaches has a kept slice, and the format is compact; or the length of the encapsulation, which is more than the limit.
-abbrev pub Encodes : Tables → TypeRef → Format → List ℕ → Result (Vec ℕ Global) TextRelayFault → Type 0
-Encodes t kind f text (Ok bytes) = (g : Graph) × Lists t (one_value kind) text g × IsWritable f g
+abbrev pub EncodesText : Tables → TypeRef → Format → List ℕ → Result (Vec ℕ Global) TextRelayFault → Type 0
+EncodesText t kind f text (Ok bytes) = (g : Graph) × Lists t (one_value kind) text g × IsWritable f g
     × (bytes.items ≡ canonical_bytes t kind f g) × (length bytes.items ≤ LARGEST)
-Encodes t kind f text (Err (faults.Refused kind_of_text)) = IsRefused t (one_value kind) text kind_of_text
-Encodes t kind f text (Err faults.NeedsSliced) = (g : Graph) × Lists t (one_value kind) text g × NeedsSliced f g
-Encodes t kind f text (Err (faults.TooLong n)) = (g : Graph) × Lists t (one_value kind) text g × IsWritable f g
+EncodesText t kind f text (Err (faults.Refused kind_of_text)) = IsRefused t (one_value kind) text kind_of_text
+EncodesText t kind f text (Err faults.NeedsSliced) = (g : Graph) × Lists t (one_value kind) text g × NeedsSliced f g
+EncodesText t kind f text (Err (faults.TooLong n)) = (g : Graph) × Lists t (one_value kind) text g × IsWritable f g
     × (n ≡ length (canonical_bytes t kind f g)) × (LARGEST < n)
-Encodes t kind f text (Err faults.Memory) = Unit {0}
+EncodesText t kind f text (Err faults.Memory) = Unit {0}

@@ -41,10 +41,10 @@ drill_line start count = told drill_tables one_node count (drawn start count)
 -- ---- one encapsulation, and all of it
 
 -- the canonical encapsulation in the format, or its length, which is more than the limit
-abbrev pub Encodes : Tables → Shape → Format → Graph → Result (Vec ℕ Global) DrillFault → Type 0
-Encodes t shape f g (Ok bytes) = (bytes.items ≡ graph_bytes t shape f g) × (length bytes.items ≤ LARGEST)
-Encodes t shape f g (Err (faults.TooLong n)) = (n ≡ size_in t shape f g) × (LARGEST < n)
-Encodes t shape f g (Err faults.Memory) = Unit {0}
+abbrev pub EncodesDrawn : Tables → Shape → Format → Graph → Result (Vec ℕ Global) DrillFault → Type 0
+EncodesDrawn t shape f g (Ok bytes) = (bytes.items ≡ graph_bytes t shape f g) × (length bytes.items ≤ LARGEST)
+EncodesDrawn t shape f g (Err (faults.TooLong n)) = (n ≡ size_in t shape f g) × (LARGEST < n)
+EncodesDrawn t shape f g (Err faults.Memory) = Unit {0}
 
 -- each encapsulation is within the limit
 abbrev pub CanBeRelayed : Tables → Shape → Graph → Type 0

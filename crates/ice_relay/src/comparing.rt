@@ -7,7 +7,7 @@ use crate::relay::root_of;
 use class_slices::{Format, decode_rest, encode_typed, take_graph};
 use ice_prims::Cursor;
 use ice_types::{Schema, TypeRef};
-use ice_values::Fields;
+use ice_values::DeclaredMembers;
 use std::alloc::Global;
 
 /// The most bytes of a canonical encapsulation that is compared.
@@ -26,7 +26,7 @@ pub fn are_same(
     ensures { Compares schema.now kind input.now result }
 {
     let root = [root_of(alloc, kind)?];
-    let fields = Fields {
+    let fields = DeclaredMembers {
         required: &root,
         optional: &[],
     };

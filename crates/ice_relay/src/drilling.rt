@@ -8,7 +8,7 @@ use crate::drawing::drawn;
 use crate::drill_fault::DrillFault;
 use crate::node_schema::{node_schema, root};
 use crate::telling::tell;
-use ice_values::Fields;
+use ice_values::DeclaredMembers;
 use std::alloc::Global;
 
 /// How many nodes a graph has at most.
@@ -26,7 +26,7 @@ pub fn drill(alloc: Global, start: u32, count: u32) -> Result<String, DrillFault
 {
     let schema = node_schema(alloc)?;
     let root = [root(alloc)?];
-    let fields = Fields {
+    let fields = DeclaredMembers {
         required: &root,
         optional: &[],
     };

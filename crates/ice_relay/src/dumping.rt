@@ -7,7 +7,7 @@ use class_slices::decode;
 use graph_json::to_text;
 use ice_prims::ReadFault;
 use ice_types::{Schema, TypeRef};
-use ice_values::Fields;
+use ice_values::DeclaredMembers;
 use std::alloc::Global;
 
 /// The line of JSON that tells the value that the whole input holds, with all instances that it leads to; or
@@ -21,7 +21,7 @@ pub fn line_of(
     ensures { Dumps schema.now kind input.now result }
 {
     let root = [root_of(alloc, kind)?];
-    let fields = Fields {
+    let fields = DeclaredMembers {
         required: &root,
         optional: &[],
     };

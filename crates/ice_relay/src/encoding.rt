@@ -1,7 +1,7 @@
 //! The encapsulation of a value that a text notes.
 
 ghost use Rattle.instance_writing.specs.Formats.{view_format};
-ghost use Rattle.ice_relay.specs.Encoding.{Encodes};
+ghost use Rattle.ice_relay.specs.Encoding.{EncodesText};
 
 use crate::relay::root_of;
 use crate::text_fault::TextRelayFault;
@@ -9,7 +9,7 @@ use class_slices::{Format, encode_typed};
 use graph_json::from_text;
 use ice_encoding::LARGEST;
 use ice_types::{Schema, TypeRef};
-use ice_values::Fields;
+use ice_values::DeclaredMembers;
 use std::alloc::Global;
 
 /// The canonical encapsulation, in the format, of the value that the text notes, with all instances that it
@@ -23,10 +23,10 @@ pub fn canonical_of_text(
     format: Format,
     text: &[u8],
 ) -> Result<Vec<u8>, TextRelayFault>
-    ensures { Encodes schema.now kind (view_format format) text.now result }
+    ensures { EncodesText schema.now kind (view_format format) text.now result }
 {
     let root = [root_of(alloc, kind)?];
-    let fields = Fields {
+    let fields = DeclaredMembers {
         required: &root,
         optional: &[],
     };

@@ -8,7 +8,7 @@ use crate::fault::RelayFault;
 use class_slices::{Format, decode, encode_typed};
 use ice_encoding::LARGEST;
 use ice_types::{Member, Name, Schema, TypeRef};
-use ice_values::Fields;
+use ice_values::DeclaredMembers;
 use std::alloc::{AllocError, Global};
 
 /// The canonical encapsulation, in the format, of the value that the whole input holds, with all
@@ -24,7 +24,7 @@ pub fn canonical_of(
     ensures { Canonicalizes schema.now kind (view_format format) input.now result }
 {
     let root = [root_of(alloc, kind)?];
-    let fields = Fields {
+    let fields = DeclaredMembers {
         required: &root,
         optional: &[],
     };

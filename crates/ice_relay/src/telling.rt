@@ -10,7 +10,7 @@ ghost use Rattle.ice_graphs.specs.Typed.{OfType};
 ghost use Rattle.ice_graphs.specs.Canonical.{IsWritable, compact, sliced};
 ghost use Rattle.ice_values.specs.Shapes.{shape_seen};
 ghost use Rattle.instance_writing.specs.Formats.{view_format};
-ghost use Rattle.ice_relay.specs.Telling.{Encodes, Tells, line, yes_or_no};
+ghost use Rattle.ice_relay.specs.Telling.{EncodesDrawn, Tells, line, yes_or_no};
 
 use crate::drill_fault::DrillFault;
 use class_slices::{Format, WriteFault, decode, encode_typed};
@@ -18,7 +18,7 @@ use graph_arena::Graph;
 use ice_encoding::LARGEST;
 use ice_prims::ReadFault;
 use ice_types::Schema;
-use ice_values::Fields;
+use ice_values::DeclaredMembers;
 use std::alloc::{AllocError, Global};
 
 /// The line of a graph of so many nodes: how many its roots reach, how long it is in compact format and,
@@ -26,7 +26,7 @@ use std::alloc::{AllocError, Global};
 pub(crate) fn tell(
     alloc: Global,
     schema: &Schema,
-    fields: Fields<'_>,
+    fields: DeclaredMembers<'_>,
     nodes: u32,
     graph: Graph,
 ) -> Result<String, DrillFault>
@@ -50,12 +50,12 @@ pub(crate) fn tell(
 fn relayed(
     alloc: Global,
     schema: &Schema,
-    fields: Fields<'_>,
+    fields: DeclaredMembers<'_>,
     input: &[u8],
 ) -> Result<Vec<u8>, DrillFault>
     requires { (graph : graphs.Graph) × Spells schema.now all_slices (shape_seen fields) input.now graph }
     ensures { (graph : graphs.Graph) → Spells schema.now all_slices (shape_seen fields.entry) input.now graph
-        → Encodes schema.now (shape_seen fields.entry) sliced graph result }
+        → EncodesDrawn schema.now (shape_seen fields.entry) sliced graph result }
 {
     let graph = read(alloc, schema, fields, input)?;
     encoded(alloc, schema, fields, graph, Format::Sliced)
@@ -65,7 +65,7 @@ fn relayed(
 fn read(
     alloc: Global,
     schema: &Schema,
-    fields: Fields<'_>,
+    fields: DeclaredMembers<'_>,
     input: &[u8],
 ) -> Result<Graph, AllocError>
     requires { (graph : graphs.Graph)
@@ -86,13 +86,13 @@ fn read(
 fn encoded(
     alloc: Global,
     schema: &Schema,
-    fields: Fields<'_>,
+    fields: DeclaredMembers<'_>,
     graph: Graph,
     format: Format,
 ) -> Result<Vec<u8>, DrillFault>
     requires typed { OfType schema.now (shape_seen fields) graph }
     requires writable { IsWritable (view_format format) graph }
-    ensures { Encodes schema.now (shape_seen fields.entry) (view_format format) graph result }
+    ensures { EncodesDrawn schema.now (shape_seen fields.entry) (view_format format) graph result }
 {
     match encode_typed(alloc, schema, fields, graph, format, LARGEST as u32) {
         Ok(bytes) => Ok(bytes),

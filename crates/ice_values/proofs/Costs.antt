@@ -10,7 +10,7 @@ use Rattle.ice_types.specs.Tables.{Tables}
 use Rattle.ice_encoding.specs.Tree.{Tree, Trees, Entries}
 use Rattle.ice_encoding.specs.Order.{has_key}
 use Rattle.ice_values.specs.declared.frame.Part.TheVariants.{Next, Begun, Equal}
-use Rattle.ice_values.specs.declared.frame.Sort.{Sort}
+use Rattle.ice_values.specs.declared.frame.Assembly.{Assembly}
 use Rattle.ice_values.specs.declared.left.Left.{Left}
 use Rattle.ice_values.specs.declared.left.Left.TheVariants as lefts
 use Rattle.ice_values.specs.declared.frame.Frame.{Frame}
@@ -66,7 +66,7 @@ module _ (t : Tables) where
       ap (λ (g : Frame). wants t g + frames_cost t new.below) top ∙ ap (λ (n : ℕ). wants t f + n) (ap (frames_cost t) below ∙ frames-push old.below old.top) in
       omega arith
 
-  pub items-fewer : (levels : ℕ) (sort : Sort) (kind : TypeRef) (n : ℕ) (had : Trees) → n < 2 ^ 32 → open_wants t (each sort levels (lefts.Items kind n) had) < weight t (suc levels)
+  pub items-fewer : (levels : ℕ) (sort : Assembly) (kind : TypeRef) (n : ℕ) (had : Trees) → n < 2 ^ 32 → open_wants t (each sort levels (lefts.Items kind n) had) < weight t (suc levels)
   unfolding width open_wants
   items-fewer levels sort kind n had lt = rw (length-replicate n kind) (fewer-parts levels n (omega (arith, lt)))
 
@@ -80,7 +80,7 @@ module _ (t : Tables) where
   few-members (d ∷ ds) zero = let same = length-map d.members (λ m. m.kind) in omega arith
   few-members (d ∷ ds) (suc at) = let rest = few-members ds at in omega arith
 
-  pub members-fewer : (levels : ℕ) (sort : Sort) (at : ℕ) (had : Trees) → open_wants t (each sort levels (lefts.Members at 0) had) < weight t (suc levels)
+  pub members-fewer : (levels : ℕ) (sort : Assembly) (at : ℕ) (had : Trees) → open_wants t (each sort levels (lefts.Members at 0) had) < weight t (suc levels)
   unfolding width open_wants
   members-fewer levels sort at had = fewer-parts levels _ (omega (arith, few-members t.structs at))
 
@@ -96,7 +96,7 @@ module _ (t : Tables) where
       let now : cost t new ≡ wants t f + frames_cost t mid.below = given-cost mid new v given ∙ ap (λ (g : Frame). wants t g + frames_cost t mid.below) top in
       omega (arith, wants-one (opened old.top))
 
-  pub split-wants : (levels : ℕ) (sort : Sort) (had : Trees) (old new : Left) (kind : TypeRef) → kinds_left t old ≡ kind ∷ kinds_left t new → open_wants t (each sort levels old had) ≡ weight t levels + open_wants t (each sort levels new had)
+  pub split-wants : (levels : ℕ) (sort : Assembly) (had : Trees) (old new : Left) (kind : TypeRef) → kinds_left t old ≡ kind ∷ kinds_left t new → open_wants t (each sort levels old had) ≡ weight t levels + open_wants t (each sort levels new had)
   unfolding open_wants
   split-wants levels sort had old new kind is = rw (is, suc-mul (length (kinds_left t new)) (weight t levels)) (omega arith)
 

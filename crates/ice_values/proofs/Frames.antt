@@ -30,8 +30,8 @@ use Rattle.graph_arena.specs.declared.value.Value.TheOpen.{Value-F}
 use Rattle.graph_arena.specs.View.{view, view_step, view_all, trees_of}
 use Rattle.ice_values.specs.declared.left.Left.{Left}
 use Rattle.ice_values.specs.declared.left.Left.TheVariants as lefts
-use Rattle.ice_values.specs.declared.frame.Sort.{Sort}
-use Rattle.ice_values.specs.declared.frame.Sort.TheVariants as sorts
+use Rattle.ice_values.specs.declared.frame.Assembly.{Assembly}
+use Rattle.ice_values.specs.declared.frame.Assembly.TheVariants as sorts
 use Rattle.ice_values.specs.declared.frame.Each.{Each}
 use Rattle.ice_values.specs.declared.frame.Parts.{Parts}
 use Rattle.ice_values.specs.declared.frame.Parts.TheVariants as parts
@@ -46,7 +46,7 @@ use Rattle.ice_values.specs.Rests.{then, value_in, rest_of, starts_at}
 use Rattle.ice_values.specs.declared.reader.ValueReader.{ValueReader}
 use Rattle.ice_values.specs.declared.reader.Stepped.{Stepped}
 use Rattle.ice_values.specs.declared.reader.Stepped.TheVariants as steps
-use Rattle.ice_values.specs.Going.{whole_value, whole_at, onward, left_in, left_of, fresh, Steps, Closes, Gives}
+use Rattle.ice_values.specs.Going.{whole_value, whole_at, onward, left_in, left_of, fresh, StepsReading, Closes, Gives}
 
 -- ---- lists of trees
 
@@ -101,15 +101,15 @@ pub then-then : {S A B C : Type 0} (read : Result (A × S × Rest) Fault) (f : A
 then-then (Ok x) f g = refl
 then-then (Err e) f g = refl
 
-abbrev ending : {S : Type 0} → Sort → Trees → Trees → Reader S Tree
+abbrev ending : {S : Type 0} → Assembly → Trees → Trees → Reader S Tree
 ending sort had parts s r = Ok (closed sort (join had parts), s, r)
 
-other_read : {S : Type 0} (sort : Sort) (had : Trees) (v : Tree) (others : Result (Trees × S × Rest) Fault)
+other_read : {S : Type 0} (sort : Assembly) (had : Trees) (v : Tree) (others : Result (Trees × S × Rest) Fault)
     → then (others >>= λ x. Ok (tree v x.0, x.1, x.2)) (ending sort had) ≡ then others (ending sort (add had v))
 other_read sort had v (Ok x) = ap (λ (ts : Trees). ending sort none ts x.1 x.2) (join-tree had v x.0)
 other_read sort had v (Err e) = refl
 
-first_read : {S : Type 0} (sort : Sort) (had : Trees) (first : Result (Tree × S × Rest) Fault) (others : Reader S Trees)
+first_read : {S : Type 0} (sort : Assembly) (had : Trees) (first : Result (Tree × S × Rest) Fault) (others : Reader S Trees)
     → then (first >>= λ v. others v.1 v.2 >>= λ x. Ok (tree v.0 x.0, x.1, x.2)) (ending sort had) ≡ then first (λ v s r. then (others s r) (ending sort (add had v)))
 first_read sort had (Ok v) others = other_read sort had v.0 (others v.1 v.2)
 first_read sort had (Err e) others = refl
@@ -179,11 +179,11 @@ module _ {S : Type 0} (take : Option ℕ → Reader S Met) (t : Tables) (inside 
   onward-push last (g ∷ fs) f v s r = onward-push (λ w s' r'. then (rest_of take t inside (given (opened g) w) s' r') last) fs f v s r
 
   -- no part is left
-  pub each-ends : (sort : Sort) (levels : ℕ) (left : Left) (had : Trees) (s : S) (r : Rest) → kinds_left t left ≡ [] → rest_of take t inside (each sort levels left had) s r ≡ Ok (closed sort had, s, r)
+  pub each-ends : (sort : Assembly) (levels : ℕ) (left : Left) (had : Trees) (s : S) (r : Rest) → kinds_left t left ≡ [] → rest_of take t inside (each sort levels left had) s r ≡ Ok (closed sort had, s, r)
   each-ends sort levels left had s r is = rw (is, join-none had) refl
 
   -- the first part that is left
-  pub each-more : (sort : Sort) (levels : ℕ) (old left : Left) (had : Trees) (kind : TypeRef) (s : S) (r : Rest) → kinds_left t old ≡ kind ∷ kinds_left t left
+  pub each-more : (sort : Assembly) (levels : ℕ) (old left : Left) (had : Trees) (kind : TypeRef) (s : S) (r : Rest) → kinds_left t old ≡ kind ∷ kinds_left t left
       → rest_of take t inside (each sort levels old had) s r ≡ then (value_in take t inside levels kind s r) (λ v. rest_of take t inside (each sort levels left (add had v)))
   each-more sort levels old left had kind s r is =
       rw is (first_read sort had (value_in take t inside levels kind s r) (λ s' r'. each_at (value_in take t inside levels) (kinds_left t left) s' r'))
@@ -332,7 +332,7 @@ module _ {S : Type 0} (take : Option ℕ → Reader S Met) (t : Tables) (inside 
 
   -- what ending the innermost value answers
   pub closes : (start : Frame) (old new : ValueReader) (result : Result Stepped ReadFault) (s : S) (r r' : Rest) → rest_of take t inside (opened start) s r ≡ Ok (whole (opened old.top), s, r') → Closes old new result
-      → Steps inside (left_of take t inside new) result (left_in take t inside start old.below s r) s r'
+      → StepsReading inside (left_of take t inside new) result (left_in take t inside start old.below s r) s r'
   closes start old new (Ok steps.On) s r r' ends (around, is, now) = part-closed old.below new.below start old.top new.top around s r r' ends is now
   closes start old new (Ok (steps.Done v)) s r r' ends (is, all) = whole-closed old.below start old.top (view v) s r r' ends is all
   closes start old new (Ok (steps.Begins n)) s r r' ends h = absurd h
@@ -412,8 +412,8 @@ drop-found [] at m found = absurd (nothing-found at m found)
 drop-found (x ∷ xs) zero m found = ap (λ (y : Member). y.kind ∷ kinds_of xs) (some-same found)
 drop-found (x ∷ xs) (suc at) m found = drop-found xs at m found
 
-pub steps-along : {S : Type 0} (inside : Inside S) (now : Reader S Tree) (result : Result Stepped ReadFault) (read read' : Result (Tree × S × Rest) Fault) (s : S) (r : Rest) → read ≡ read' → Steps inside now result read' s r → Steps inside now result read s r
-steps-along {S = S} inside now result read read' s r is h = subst (λ (x : Result (Tree × S × Rest) Fault). Steps inside now result x s r) (sym is) h
+pub steps-along : {S : Type 0} (inside : Inside S) (now : Reader S Tree) (result : Result Stepped ReadFault) (read read' : Result (Tree × S × Rest) Fault) (s : S) (r : Rest) → read ≡ read' → StepsReading inside now result read' s r → StepsReading inside now result read s r
+steps-along {S = S} inside now result read read' s r is h = subst (λ (x : Result (Tree × S × Rest) Fault). StepsReading inside now result x s r) (sym is) h
 
 whole-read : {S : Type 0} (read : Result (Tree × S × Rest) Fault) → then (then (read >>= one_tree) (λ parts s r. Ok (last_of parts, s, r))) whole_value ≡ read
 whole-read (Ok x) = refl

@@ -21,7 +21,7 @@ use Rattle.ice_encoding.specs.Pausing.{Met, known, Inside, met, in_place, Put, w
 use Rattle.graph_arena.specs.declared.value.Value.{Value}
 use Rattle.graph_arena.specs.View.{view}
 use Rattle.ice_values.specs.Going.{ReadsValue, whole_at}
-use Rattle.ice_values.specs.Leaves.{Reads}
+use Rattle.ice_values.specs.Leaves.{ReadsLeaf}
 use Rattle.ice_values.specs.Numbering.{number_taken, number_put}
 use Rattle.ice_values.specs.Putting.{InsideWritten, Written, onto, Waiting, Values, left_written, WritesValue}
 use Rattle.ice_values.proofs.Levels.{one-written, onto-nothing}
@@ -51,12 +51,12 @@ numbers-read inside = λ i at s r. by_size inside s (size_at r) i
 abbrev stateless : Tree × (Unit {0}) × Rest → Result (Tree × Rest) Fault
 stateless y = Ok (y.0, y.2)
 
-stateless-is : (read : Result (Tree × (Unit {0}) × Rest) Fault) (result : Result Value ReadFault) (s : Unit {0}) (new : Rest) → ReadsValue result read s new → Reads view result new (read >>= stateless)
+stateless-is : (read : Result (Tree × (Unit {0}) × Rest) Fault) (result : Result Value ReadFault) (s : Unit {0}) (new : Rest) → ReadsValue result read s new → ReadsLeaf view result new (read >>= stateless)
 stateless-is read (Ok value) s new h = rw h refl
 stateless-is read (Err faults.Memory) s new h = tt
 stateless-is read (Err (faults.Broken fault)) s new h = rw h refl
 
-pub plain-is : (t : Tables) (inside : Inside (Unit {0})) (kind : TypeRef) (r new : Rest) (s : Unit {0}) (result : Result Value ReadFault) → ReadsValue result (whole_at number_taken t inside kind tt r) s new → Reads view result new (plain_value_at t kind r)
+pub plain-is : (t : Tables) (inside : Inside (Unit {0})) (kind : TypeRef) (r new : Rest) (s : Unit {0}) (result : Result Value ReadFault) → ReadsValue result (whole_at number_taken t inside kind tt r) s new → ReadsLeaf view result new (plain_value_at t kind r)
 unfolding plain_value_at whole_at
 plain-is t inside kind r new s result h =
     stateless-is (value_at by_number.read t 100 kind tt r) result s new

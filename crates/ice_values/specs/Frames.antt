@@ -12,8 +12,8 @@ use Rattle.ice_encoding.specs.Order.{has_key, insert}
 use Rattle.graph_arena.specs.View.{view, view_all, view_pairs}
 use Rattle.ice_values.specs.declared.left.Left.{Left}
 use Rattle.ice_values.specs.declared.left.Left.TheVariants as lefts
-use Rattle.ice_values.specs.declared.frame.Sort.{Sort}
-use Rattle.ice_values.specs.declared.frame.Sort.TheVariants as sorts
+use Rattle.ice_values.specs.declared.frame.Assembly.{Assembly}
+use Rattle.ice_values.specs.declared.frame.Assembly.TheVariants as sorts
 use Rattle.ice_values.specs.declared.frame.Part.{Part}
 use Rattle.ice_values.specs.declared.frame.Part.TheVariants.{Next, Begun, Equal}
 use Rattle.ice_values.specs.declared.frame.Pairs.{Pairs}
@@ -53,7 +53,7 @@ last_of (tree v none) = v
 last_of (tree v (tree w ws)) = last_of (tree w ws)
 
 -- what is made of the parts
-abbrev pub closed : Sort → Trees → Tree
+abbrev pub closed : Assembly → Trees → Tree
 closed sorts.Whole parts = last_of parts
 closed sorts.Seq parts = sequence parts
 closed sorts.Members parts = struct parts
@@ -62,7 +62,7 @@ closed sorts.Members parts = struct parts
 -- a key and of a value, how many pairs are left to begin, how far the next part is, the key whose value is not read, and the
 -- pairs that are read.
 pub data Open : Type 0 where
-  each : Sort → ℕ → Left → Trees → Open
+  each : Assembly → ℕ → Left → Trees → Open
   pairs : ℕ → TypeRef → TypeRef → ℕ → Part → Option Tree → Entries → Open
 
 abbrev pub opened_pairs : ℕ → Pairs → Open

@@ -14,7 +14,7 @@ use Rattle.graph_arena.specs.View.{view}
 use Rattle.ice_encoding.specs.Port.{Reader}
 use Rattle.ice_encoding.specs.Reading.{value_at}
 use Rattle.ice_encoding.specs.Pausing.{Met, Inside, in_place}
-use Rattle.ice_values.specs.declared.frame.Sort.TheVariants as sorts
+use Rattle.ice_values.specs.declared.frame.Assembly.TheVariants as sorts
 use Rattle.ice_values.specs.declared.left.Left.TheVariants as lefts
 use Rattle.ice_values.specs.declared.frame.Parts.TheVariants as parts
 use Rattle.ice_values.specs.declared.frame.Frame.{Frame}
@@ -57,11 +57,11 @@ Goes inside now (Ok (pauses.Done v)) read s r = read ≡ Ok (view v, s, r)
 Goes inside now (Ok (pauses.Begins n)) read s r = read ≡ (inside n s r >>= λ x. now x.0 x.1)
 Goes inside now (Err e) read s r = Fails e read
 
-abbrev pub Steps : {S : Type 0} → Inside S → Reader S Tree → Result Stepped ReadFault → Result (Tree × S × Rest) Fault → S → Rest → Type 0
-Steps inside now (Ok steps.On) read s r = read ≡ now s r
-Steps inside now (Ok (steps.Done v)) read s r = read ≡ Ok (view v, s, r)
-Steps inside now (Ok (steps.Begins n)) read s r = read ≡ (inside n s r >>= λ x. now x.0 x.1)
-Steps inside now (Err e) read s r = Fails e read
+abbrev pub StepsReading : {S : Type 0} → Inside S → Reader S Tree → Result Stepped ReadFault → Result (Tree × S × Rest) Fault → S → Rest → Type 0
+StepsReading inside now (Ok steps.On) read s r = read ≡ now s r
+StepsReading inside now (Ok (steps.Done v)) read s r = read ≡ Ok (view v, s, r)
+StepsReading inside now (Ok (steps.Begins n)) read s r = read ≡ (inside n s r >>= λ x. now x.0 x.1)
+StepsReading inside now (Err e) read s r = Fails e read
 
 -- the innermost value has got this part
 abbrev pub Gives : Tree → ValueReader → ValueReader → Type 0

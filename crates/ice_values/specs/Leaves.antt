@@ -17,9 +17,9 @@ use Rattle.ice_encoding.specs.Enum.{enumerator_at}
 use Rattle.ice_encoding.specs.Reading.{listed}
 
 -- Something was read. Where reading stands after a refusal is left open.
-abbrev pub Reads : {X Y : Type 0} → (X → Y) → Result X ReadFault → Rest → Result (Y × Rest) Fault → Type 0
-Reads view (Ok x) new read = read ≡ Ok (view x, new)
-Reads view (Err e) new read = Fails e read
+abbrev pub ReadsLeaf : {X Y : Type 0} → (X → Y) → Result X ReadFault → Rest → Result (Y × Rest) Fault → Type 0
+ReadsLeaf view (Ok x) new read = read ≡ Ok (view x, new)
+ReadsLeaf view (Err e) new read = Fails e read
 
 -- the same of a call that takes no memory
 abbrev pub Sees : {A : Type 0} → Result A Fault → Rest → Result (A × Rest) Fault → Type 0

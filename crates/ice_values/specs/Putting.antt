@@ -110,11 +110,11 @@ Goes {S} inside now (Ok pauses.Done) all w = all ≡ w
 Goes {S} inside now (Ok (pauses.Begins n)) all w = all ≡ onto now (onto (inside n) w)
 Goes {S} inside now (Err e) all w = Unit {0}
 
-abbrev pub Steps : {S : Type 0} → InsideWritten S → Piece S → Result WriteStepped AllocError → Written S → Written S → Type 0
-Steps {S} inside now (Ok steps.On) all w = all ≡ onto now w
-Steps {S} inside now (Ok steps.Done) all w = all ≡ w
-Steps {S} inside now (Ok (steps.Begins n)) all w = all ≡ onto now (onto (inside n) w)
-Steps {S} inside now (Err e) all w = Unit {0}
+abbrev pub StepsWriting : {S : Type 0} → InsideWritten S → Piece S → Result WriteStepped AllocError → Written S → Written S → Type 0
+StepsWriting {S} inside now (Ok steps.On) all w = all ≡ onto now w
+StepsWriting {S} inside now (Ok steps.Done) all w = all ≡ w
+StepsWriting {S} inside now (Ok (steps.Begins n)) all w = all ≡ onto now (onto (inside n) w)
+StepsWriting {S} inside now (Err e) all w = Unit {0}
 
 abbrev pub LessOnOn : Result WriteStepped AllocError → ℕ → ℕ → Type 0
 LessOnOn (Ok steps.On) before after = after < before

@@ -12,7 +12,7 @@ use Rattle.ice_encoding.specs.Order.{insert}
 use Rattle.ice_encoding.specs.Port.{Reader, nowhere}
 use Rattle.ice_encoding.specs.Reading.{each_at, pairs_at, value_at, listed}
 use Rattle.ice_encoding.specs.Pausing.{Met, Inside, in_place}
-use Rattle.ice_values.specs.declared.frame.Sort.TheVariants as sorts
+use Rattle.ice_values.specs.declared.frame.Assembly.TheVariants as sorts
 use Rattle.ice_values.specs.declared.frame.Part.TheVariants.{Next, Begun, Equal}
 use Rattle.ice_values.specs.declared.left.Left.TheVariants as lefts
 use Rattle.ice_values.specs.Frames.{Open, each, pairs, closed, join, kinds_left}

@@ -3,12 +3,12 @@ use Rattle.std.specs.Prelude.{Bool, true, false, List, filter}
 use Rattle.std.specs.Option.{is_none, is_some}
 use Rattle.ice_types.specs.declared.declarations.Member.{Member}
 use Rattle.ice_types.specs.declared.declarations.Shape.{Shape}
-use Rattle.ice_values.specs.declared.fields.Fields.{Fields}
+use Rattle.ice_values.specs.declared.fields.DeclaredMembers.{DeclaredMembers}
 use Rattle.ice_values.specs.declared.fields.Optionals.{Optionals}
 use Rattle.ice_values.specs.declared.fields.Optionals.TheVariants.{Absent, Marked, ToEnd}
 
 -- both lists as they are handed over
-abbrev pub handed : Fields → Shape
+abbrev pub handed : DeclaredMembers → Shape
 handed f = record { required = f.required.now; optional = f.optional.now }
 
 abbrev pub without_tag : List Member → List Member
@@ -21,7 +21,7 @@ with_tag members = filter (λ m. is_some m.tag) members
 abbrev pub told_apart : Shape → Shape
 told_apart s = record { required = without_tag s.required; optional = with_tag s.optional }
 
-abbrev pub shape_seen : Fields → Shape
+abbrev pub shape_seen : DeclaredMembers → Shape
 shape_seen f = told_apart (handed f)
 
 -- whether a marker ends the optional members

@@ -4,10 +4,10 @@ ghost use Rattle.std.specs.Prelude.{◌<◌, ◌^◌, suc, IfOk};
 ghost use Rattle.ice_types.specs.declared.kind.TypeRef.TheVariants as kinds;
 ghost use Rattle.ice_values.specs.Cost.{wants, weight};
 ghost use Rattle.ice_values.specs.Frames.{opened};
-ghost use Rattle.ice_values.specs.Leaves.{Reads};
+ghost use Rattle.ice_values.specs.Leaves.{ReadsLeaf};
 ghost use Rattle.ice_values.specs.Rests.{starts_at};
 
-use crate::frame::{Each, Frame, Pairs, Part, Parts, Sort};
+use crate::frame::{Assembly, Each, Frame, Pairs, Part, Parts};
 use crate::left::Left;
 use crate::sorted::SortedPairs;
 use ice_prims::{Cursor, Kind, ReadFault};
@@ -23,7 +23,7 @@ pub(crate) fn begun(
     kind: TypeRef,
     cursor: &mut Cursor<'_>,
 ) -> Result<Frame, ReadFault>
-    ensures starts { Reads opened result cursor.new (starts_at schema.now levels kind cursor.old) }
+    ensures starts { ReadsLeaf opened result cursor.new (starts_at schema.now levels kind cursor.old) }
     ensures less { IfOk result (λ f. wants schema.now f < weight schema.now (suc levels)) }
 {
     match kind {
@@ -49,7 +49,7 @@ fn begun_seq(
     at: u32,
     cursor: &mut Cursor<'_>,
 ) -> Result<Frame, ReadFault>
-    ensures starts { Reads opened result cursor.new (starts_at schema.now levels (kinds.Seq at) cursor.old) }
+    ensures starts { ReadsLeaf opened result cursor.new (starts_at schema.now levels (kinds.Seq at) cursor.old) }
     ensures less { IfOk result (λ f. wants schema.now f < weight schema.now (suc levels)) }
 {
     let nowhere = cursor.fault(Kind::LeftOver);
@@ -59,7 +59,7 @@ fn begun_seq(
     Ok(Frame {
         levels,
         parts: Parts::Each(Each {
-            sort: Sort::Seq,
+            sort: Assembly::Seq,
             left: Left::Items(decl.element, count),
             done: List::new(alloc),
         }),
@@ -73,7 +73,7 @@ fn begun_dict(
     at: u32,
     cursor: &mut Cursor<'_>,
 ) -> Result<Frame, ReadFault>
-    ensures starts { Reads opened result cursor.new (starts_at schema.now levels (kinds.Dict at) cursor.old) }
+    ensures starts { ReadsLeaf opened result cursor.new (starts_at schema.now levels (kinds.Dict at) cursor.old) }
     ensures less { IfOk result (λ f. wants schema.now f < weight schema.now (suc levels)) }
 {
     let nowhere = cursor.fault(Kind::LeftOver);
@@ -99,7 +99,7 @@ fn begun_struct(
     at: u32,
     cursor: &mut Cursor<'_>,
 ) -> Result<Frame, ReadFault>
-    ensures starts { Reads opened result cursor.new (starts_at schema.now levels (kinds.Struct at) cursor.old) }
+    ensures starts { ReadsLeaf opened result cursor.new (starts_at schema.now levels (kinds.Struct at) cursor.old) }
     ensures less { IfOk result (λ f. wants schema.now f < weight schema.now (suc levels)) }
 {
     let nowhere = cursor.fault(Kind::LeftOver);
@@ -109,7 +109,7 @@ fn begun_struct(
     Ok(Frame {
         levels,
         parts: Parts::Each(Each {
-            sort: Sort::Members,
+            sort: Assembly::Members,
             left: Left::Members(at, 0),
             done: List::from_vec(members),
         }),

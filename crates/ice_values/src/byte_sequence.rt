@@ -4,7 +4,7 @@ ghost use Rattle.std.specs.Prelude.{◌≡◌, ◌++◌, ◌<◌, ◌^◌, ◌�
 ghost use Rattle.ice_prims.specs.Bytes.{Grows};
 ghost use Rattle.graph_arena.specs.View.{view};
 ghost use Rattle.ice_values.specs.ByteSequence.{HasByteItems, byte_sequence_at, each_byte_at, sequence_bytes};
-ghost use Rattle.ice_values.specs.Leaves.{Reads};
+ghost use Rattle.ice_values.specs.Leaves.{ReadsLeaf};
 
 use graph_arena::Value;
 use ice_prims::{Cursor, Kind, ReadFault, put_size};
@@ -24,7 +24,7 @@ pub(crate) fn has_byte_items(schema: &Schema, at: u32) -> bool
 /// The sequence of bytes at the front. Memory is taken for bytes that are there, and never for what the
 /// size merely claims.
 pub(crate) fn take_byte_sequence(alloc: Global, cursor: &mut Cursor<'_>) -> Result<Value, ReadFault>
-    ensures { Reads view result cursor.new (byte_sequence_at cursor.old) }
+    ensures { ReadsLeaf view result cursor.new (byte_sequence_at cursor.old) }
 {
     let count = cursor.take_size()?;
     let bytes = take_each_byte(count as usize, cursor)?;
@@ -34,7 +34,7 @@ pub(crate) fn take_byte_sequence(alloc: Global, cursor: &mut Cursor<'_>) -> Resu
 
 /// So many bytes, which are not copied. Where fewer are left, the fault is behind the last of them.
 fn take_each_byte<'a>(count: usize, cursor: &mut Cursor<'a>) -> Result<&'a [u8], ReadFault>
-    ensures { Reads (λ bytes. bytes.now) result cursor.new (each_byte_at count cursor.old) }
+    ensures { ReadsLeaf (λ bytes. bytes.now) result cursor.new (each_byte_at count cursor.old) }
 {
     let left = cursor.left();
     if left < count {

@@ -9,7 +9,7 @@ use ice_types::Member;
 /// optional ones, in any order. A class or an exception hands over its own members as both: those with
 /// a tag are none of the required ones, and those without a tag none of the optional ones.
 #[derive(Clone, Copy, Debug)]
-pub struct Fields<'a> {
+pub struct DeclaredMembers<'a> {
     pub required: &'a [Member],
     pub optional: &'a [Member],
 }

@@ -14,7 +14,7 @@ use std::alloc::{AllocError, Global};
 
 /// What is made of the parts.
 #[derive(Clone, Copy, Debug)]
-pub enum Sort {
+pub enum Assembly {
     /// The one part itself.
     Whole,
     Seq,
@@ -24,7 +24,7 @@ pub enum Sort {
 /// Parts one after the other.
 #[derive(Debug, Drop)]
 pub struct Each {
-    pub sort: Sort,
+    pub sort: Assembly,
     pub left: Left,
     /// The parts that are read.
     pub done: List<Value>,
@@ -156,15 +156,15 @@ impl Pairs {
 }
 
 /// What is made of the parts.
-fn made_of(sort: Sort, mut parts: List<Value>) -> Value
+fn made_of(sort: Assembly, mut parts: List<Value>) -> Value
     ensures { view result ≡ closed sort (view_all parts) }
 {
     match sort {
-        Sort::Whole => match parts.pop() {
+        Assembly::Whole => match parts.pop() {
             Some(value) => value,
             None => Value::Members(parts),
         },
-        Sort::Seq => Value::Seq(parts),
-        Sort::Members => Value::Members(parts),
+        Assembly::Seq => Value::Seq(parts),
+        Assembly::Members => Value::Members(parts),
     }
 }

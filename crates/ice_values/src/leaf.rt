@@ -6,7 +6,7 @@ ghost use Rattle.ice_encoding.specs.Proxy as parts;
 ghost use Rattle.ice_encoding.specs.Enum.{HasNumber, has_number, enumerator_at};
 ghost use Rattle.graph_arena.specs.View.{unboxed, view};
 ghost use Rattle.ice_encoding.specs.Canonical.{HasSize};
-ghost use Rattle.ice_values.specs.Leaves.{leaf_at, leaf_bytes, Reads, Sees};
+ghost use Rattle.ice_values.specs.Leaves.{leaf_at, leaf_bytes, ReadsLeaf, Sees};
 
 use graph_arena::Value;
 use ice_prims::{
@@ -24,7 +24,7 @@ pub(crate) fn take_leaf(
     kind: TypeRef,
     cursor: &mut Cursor<'_>,
 ) -> Result<Value, ReadFault>
-    ensures { Reads view result cursor.new (leaf_at schema.now kind cursor.old) }
+    ensures { ReadsLeaf view result cursor.new (leaf_at schema.now kind cursor.old) }
 {
     let nowhere = cursor.fault(Kind::LeftOver);
     match kind {
@@ -47,7 +47,7 @@ pub(crate) fn take_leaf(
 
 /// A proxy, None for null.
 fn take_proxy(alloc: Global, cursor: &mut Cursor<'_>) -> Result<Option<Box<Proxy>>, ReadFault>
-    ensures { Reads unboxed result cursor.new (parts.proxy.read cursor.old) }
+    ensures { ReadsLeaf unboxed result cursor.new (parts.proxy.read cursor.old) }
 {
     match read_proxy(alloc, cursor)? {
         Some(proxy) => Ok(Some(Box::new(alloc, proxy)?)),

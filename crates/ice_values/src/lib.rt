@@ -28,7 +28,7 @@ mod value;
 mod writer;
 
 pub use ending::Ending;
-pub use fields::{Fields, Optionals};
+pub use fields::{DeclaredMembers, Optionals};
 pub use leaf::has_number;
 pub use members_reader::{MembersReader, PausedMembers, read_members};
 pub use members_writer::{MembersWriter, write_members};

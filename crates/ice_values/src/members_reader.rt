@@ -6,7 +6,7 @@ ghost use Rattle.ice_values.specs.Shapes.{handed, shape_seen};
 ghost use Rattle.ice_values.specs.Unread.{left_of_members, from_stage};
 ghost use Rattle.ice_values.specs.Advancing.{Goes, NarrowsOnPause, ReadsMembers, fresh_members, members_at};
 
-use crate::fields::{Fields, Optionals};
+use crate::fields::{DeclaredMembers, Optionals};
 use crate::options::OptionsReader;
 use crate::port::RefPort;
 use crate::required::RequiredReader;
@@ -55,7 +55,7 @@ impl<'a> MembersReader<'a> {
         &mut self,
         alloc: Global,
         schema: &Schema,
-        fields: Fields<'_>,
+        fields: DeclaredMembers<'_>,
         cursor: &mut Cursor<'a>,
         port: &mut P,
     ) -> Result<PausedMembers, ReadFault>
@@ -73,7 +73,7 @@ impl<'a> MembersReader<'a> {
         &mut self,
         alloc: Global,
         schema: &Schema,
-        fields: Fields<'_>,
+        fields: DeclaredMembers<'_>,
         cursor: &mut Cursor<'a>,
         port: &mut P,
     ) -> Result<PausedMembers, ReadFault>
@@ -101,7 +101,7 @@ impl<'a> MembersReader<'a> {
         &mut self,
         alloc: Global,
         schema: &Schema,
-        fields: Fields<'_>,
+        fields: DeclaredMembers<'_>,
         mut options: OptionsReader<'a>,
         cursor: &mut Cursor<'a>,
         port: &mut P,
@@ -138,7 +138,7 @@ impl<'a> MembersReader<'a> {
 pub fn read_members<P: RefPort>(
     alloc: Global,
     schema: &Schema,
-    fields: Fields<'_>,
+    fields: DeclaredMembers<'_>,
     optionals: Optionals,
     cursor: &mut Cursor<'_>,
     port: &mut P,

@@ -10,11 +10,11 @@ ghost use Rattle.ice_values.specs.Leaves.{IsLeaf, HasParts};
 ghost use Rattle.ice_values.specs.ByteSequence.{HasByteItems};
 ghost use Rattle.ice_values.specs.Rests.{then, value_in};
 ghost use Rattle.ice_values.specs.Cost.{cost, weight, LessOnStep};
-ghost use Rattle.ice_values.specs.Going.{fresh, Goes, Steps, Closes, Gives, NarrowsOnPause, NarrowsOnStep, left_of, onward, whole_value};
+ghost use Rattle.ice_values.specs.Going.{fresh, Goes, StepsReading, Closes, Gives, NarrowsOnPause, NarrowsOnStep, left_of, onward, whole_value};
 
 use crate::begun::begun;
 use crate::byte_sequence::{has_byte_items, take_byte_sequence};
-use crate::frame::{Each, Frame, Parts, Sort};
+use crate::frame::{Assembly, Each, Frame, Parts};
 use crate::leaf::take_leaf;
 use crate::left::Left;
 use crate::port::{Met, RefPort};
@@ -58,7 +58,7 @@ impl ValueReader {
             top: Frame {
                 levels: MOST_DEPTH,
                 parts: Parts::Each(Each {
-                    sort: Sort::Whole,
+                    sort: Assembly::Whole,
                     left: Left::Items(kind, 1),
                     done: List::new(alloc),
                 }),
@@ -98,7 +98,7 @@ impl ValueReader {
         cursor: &mut Cursor<'_>,
         port: &mut P,
     ) -> Result<Stepped, ReadFault>
-        ensures steps { (inside : Inside P) → Steps inside (left_of P.take schema.now inside self.new) result (left_of P.take schema.now inside self.old port.old cursor.old) port.new cursor.new }
+        ensures steps { (inside : Inside P) → StepsReading inside (left_of P.take schema.now inside self.new) result (left_of P.take schema.now inside self.old port.old cursor.old) port.new cursor.new }
         ensures room { NarrowsOnStep result (P.room port.old) (P.room port.new) }
         ensures less { LessOnStep result (cost schema.now self.old) (cost schema.now self.new) }
     {
@@ -123,7 +123,7 @@ impl ValueReader {
                 let spent = Frame {
                     levels: 0,
                     parts: Parts::Each(Each {
-                        sort: Sort::Whole,
+                        sort: Assembly::Whole,
                         left: Left::Items(TypeRef::Int, 0),
                         done: List::new(alloc),
                     }),
@@ -142,7 +142,7 @@ impl ValueReader {
         cursor: &mut Cursor<'_>,
         port: &mut P,
     ) -> Result<Stepped, ReadFault>
-        ensures steps { (inside : Inside P) → Steps inside (left_of P.take schema.now inside self.new) result (then (value_in P.take schema.now inside self.old.top.levels kind port.old cursor.old) (onward P.take schema.now inside whole_value (self.old.below ++ self.old.top ∷ []))) port.new cursor.new }
+        ensures steps { (inside : Inside P) → StepsReading inside (left_of P.take schema.now inside self.new) result (then (value_in P.take schema.now inside self.old.top.levels kind port.old cursor.old) (onward P.take schema.now inside whole_value (self.old.below ++ self.old.top ∷ []))) port.new cursor.new }
         ensures room { NarrowsOnStep result (P.room port.old) (P.room port.new) }
         ensures less { LessOnStep result (weight schema.now self.old.top.levels + cost schema.now self.old) (cost schema.now self.new) }
     {
@@ -163,7 +163,7 @@ impl ValueReader {
         cursor: &mut Cursor<'_>,
         port: &mut P,
     ) -> Result<Stepped, ReadFault>
-        ensures steps { (inside : Inside P) → Steps inside (left_of P.take schema.now inside self.new) result (then (value_step (in_place P.take inside) schema.now (value_in P.take schema.now inside levels) kind port.old cursor.old) (onward P.take schema.now inside whole_value (self.old.below ++ self.old.top ∷ []))) port.new cursor.new }
+        ensures steps { (inside : Inside P) → StepsReading inside (left_of P.take schema.now inside self.new) result (then (value_step (in_place P.take inside) schema.now (value_in P.take schema.now inside levels) kind port.old cursor.old) (onward P.take schema.now inside whole_value (self.old.below ++ self.old.top ∷ []))) port.new cursor.new }
         ensures room { NarrowsOnStep result (P.room port.old) (P.room port.new) }
         ensures less { LessOnStep result (weight schema.now (suc levels) + cost schema.now self.old) (cost schema.now self.new) }
     {
@@ -197,7 +197,7 @@ impl ValueReader {
         port: &P,
     ) -> Result<Stepped, ReadFault>
         requires { IsLeaf kind }
-        ensures steps { (inside : Inside P) → Steps inside (left_of P.take schema.now inside self.new) result (then (value_step (in_place P.take inside) schema.now (value_in P.take schema.now inside levels) kind port.now cursor.old) (onward P.take schema.now inside whole_value (self.old.below ++ self.old.top ∷ []))) port.now cursor.new }
+        ensures steps { (inside : Inside P) → StepsReading inside (left_of P.take schema.now inside self.new) result (then (value_step (in_place P.take inside) schema.now (value_in P.take schema.now inside levels) kind port.now cursor.old) (onward P.take schema.now inside whole_value (self.old.below ++ self.old.top ∷ []))) port.now cursor.new }
         ensures room { NarrowsOnStep result (P.room port.now) (P.room port.now) }
         ensures less { LessOnStep result (weight schema.now (suc levels) + cost schema.now self.old) (cost schema.now self.new) }
     {
@@ -216,7 +216,7 @@ impl ValueReader {
         cursor: &mut Cursor<'_>,
         port: &P,
     ) -> Result<Stepped, ReadFault>
-        ensures steps { (inside : Inside P) → Steps inside (left_of P.take schema.now inside self.new) result (then (value_step (in_place P.take inside) schema.now (value_in P.take schema.now inside levels) (kinds.Seq at) port.now cursor.old) (onward P.take schema.now inside whole_value (self.old.below ++ self.old.top ∷ []))) port.now cursor.new }
+        ensures steps { (inside : Inside P) → StepsReading inside (left_of P.take schema.now inside self.new) result (then (value_step (in_place P.take inside) schema.now (value_in P.take schema.now inside levels) (kinds.Seq at) port.now cursor.old) (onward P.take schema.now inside whole_value (self.old.below ++ self.old.top ∷ []))) port.now cursor.new }
         ensures room { NarrowsOnStep result (P.room port.now) (P.room port.now) }
         ensures less { LessOnStep result (weight schema.now (suc levels) + cost schema.now self.old) (cost schema.now self.new) }
     {
@@ -239,7 +239,7 @@ impl ValueReader {
     ) -> Result<Stepped, ReadFault>
         requires deep { 0 < levels }
         requires bytes { HasByteItems schema.now at }
-        ensures steps { (inside : Inside P) → Steps inside (left_of P.take schema.now inside self.new) result (then (value_step (in_place P.take inside) schema.now (value_in P.take schema.now inside levels) (kinds.Seq at) port.now cursor.old) (onward P.take schema.now inside whole_value (self.old.below ++ self.old.top ∷ []))) port.now cursor.new }
+        ensures steps { (inside : Inside P) → StepsReading inside (left_of P.take schema.now inside self.new) result (then (value_step (in_place P.take inside) schema.now (value_in P.take schema.now inside levels) (kinds.Seq at) port.now cursor.old) (onward P.take schema.now inside whole_value (self.old.below ++ self.old.top ∷ []))) port.now cursor.new }
         ensures room { NarrowsOnStep result (P.room port.now) (P.room port.now) }
         ensures less { LessOnStep result (weight schema.now (suc levels) + cost schema.now self.old) (cost schema.now self.new) }
     {
@@ -259,7 +259,7 @@ impl ValueReader {
         port: &P,
     ) -> Result<Stepped, ReadFault>
         requires { HasParts kind }
-        ensures steps { (inside : Inside P) → Steps inside (left_of P.take schema.now inside self.new) result (then (value_step (in_place P.take inside) schema.now (value_in P.take schema.now inside levels) kind port.now cursor.old) (onward P.take schema.now inside whole_value (self.old.below ++ self.old.top ∷ []))) port.now cursor.new }
+        ensures steps { (inside : Inside P) → StepsReading inside (left_of P.take schema.now inside self.new) result (then (value_step (in_place P.take inside) schema.now (value_in P.take schema.now inside levels) kind port.now cursor.old) (onward P.take schema.now inside whole_value (self.old.below ++ self.old.top ∷ []))) port.now cursor.new }
         ensures room { NarrowsOnStep result (P.room port.now) (P.room port.now) }
         ensures less { LessOnStep result (weight schema.now (suc levels) + cost schema.now self.old) (cost schema.now self.new) }
     {
@@ -278,7 +278,7 @@ impl ValueReader {
         cursor: &mut Cursor<'_>,
         port: &mut P,
     ) -> Result<Stepped, ReadFault>
-        ensures steps { (inside : Inside P) → Steps inside (left_of P.take schema.now inside self.new) result (then (made reference (in_place P.take inside declared) port.old cursor.old) (onward P.take schema.now inside whole_value (self.old.below ++ self.old.top ∷ []))) port.new cursor.new }
+        ensures steps { (inside : Inside P) → StepsReading inside (left_of P.take schema.now inside self.new) result (then (made reference (in_place P.take inside declared) port.old cursor.old) (onward P.take schema.now inside whole_value (self.old.below ++ self.old.top ∷ []))) port.new cursor.new }
         ensures room { NarrowsOnStep result (P.room port.old) (P.room port.new) }
         ensures less { LessOnStep result (weight schema.now (suc levels) + cost schema.now self.old) (cost schema.now self.new) }
     {

@@ -1,4 +1,4 @@
-use crate::{Fields, Numbers, Optionals, read_members};
+use crate::{DeclaredMembers, Numbers, Optionals, read_members};
 use graph_arena::{Members, Value};
 use ice_prims::{Cursor, Fault, Kind, ReadFault};
 use ice_types::{Member, Name, Schema, TypeRef};
@@ -54,7 +54,7 @@ fn read(rt: &impl AllocGlobal, optionals: Optionals, bytes: &[u8]) -> Result<Mem
             tag: Some(3),
         },
     ];
-    let fields = Fields {
+    let fields = DeclaredMembers {
         required: &members,
         optional: &members,
     };

@@ -150,9 +150,9 @@ ReadsPlaces sort t class tabled flagged result r r' = let rows = rows_of sort t 
     ReadsUses tabled result (slice_members_at (entry_at tabled) rows flagged (own_members rows class) [] r) r'
 
 -- nothing is left, or the first byte that is left is one too many
-abbrev pub Ends : {X : Type 0} → Result X Fault → Rest → Type 0
-Ends (Ok x) r = r.bytes ≡ []
-Ends (Err e) r = (byte : ℕ) × (bytes : List ℕ) × (r.bytes ≡ byte ∷ bytes) × (e ≡ record { place = r.place; kind = LeftOver })
+abbrev pub EndsSlice : {X : Type 0} → Result X Fault → Rest → Type 0
+EndsSlice (Ok x) r = r.bytes ≡ []
+EndsSlice (Err e) r = (byte : ℕ) × (bytes : List ℕ) × (r.bytes ≡ byte ∷ bytes) × (e ≡ record { place = r.place; kind = LeftOver })
 
 -- the size of a slice, and its members with places as references
 abbrev pub ReadsSized : Sort → Tables → ℕ → Bool → Bool → Result SizedMembers ReadFault → Rest → Rest → Type 0

@@ -50,9 +50,9 @@ stack_left t stack = left_stack t most_instances stack
 -- ---- what a step answers
 
 -- what is then left, or the fault
-abbrev pub Steps : {X : Type 0} → Tables → Result X ReadFault → Result (State ℕ × Rest) Fault → List Unfinished → State ℕ → Rest → Type 0
-Steps t (Ok x) read stack s r = read ≡ stack_left t stack s r
-Steps t (Err e) read stack s r = Fails e read
+abbrev pub StepsNesting : {X : Type 0} → Tables → Result X ReadFault → Result (State ℕ × Rest) Fault → List Unfinished → State ℕ → Rest → Type 0
+StepsNesting t (Ok x) read stack s r = read ≡ stack_left t stack s r
+StepsNesting t (Err e) read stack s r = Fails e read
 
 -- an instance is read whole, or it is the fault
 abbrev pub ReadsInstance : {X : Type 0} → Result X ReadFault → Result (State ℕ × Rest) Fault → State ℕ → Rest → Type 0

@@ -8,7 +8,7 @@ ghost use Rattle.instance_reading.specs.Sorts.{rows_of};
 
 use crate::sort::Sort;
 use ice_types::{Member, Schema};
-use ice_values::{Fields, Optionals};
+use ice_values::{DeclaredMembers, Optionals};
 
 /// The class or the exception of a type id.
 pub(crate) fn class_named(sort: Sort, schema: &Schema, id: &str) -> Option<u32>
@@ -32,11 +32,11 @@ pub(crate) fn base_of(sort: Sort, schema: &Schema, class: u32) -> Option<u32>
 }
 
 /// The members that a class or an exception declares itself, required and optional ones together.
-pub(crate) fn own_fields(sort: Sort, schema: &Schema, class: u32) -> Fields<'_>
+pub(crate) fn own_fields(sort: Sort, schema: &Schema, class: u32) -> DeclaredMembers<'_>
     ensures { handed result ≡ own_fields (rows_of sort schema.now) class }
 {
     let members = own_members(sort, schema, class);
-    Fields {
+    DeclaredMembers {
         required: members,
         optional: members,
     }

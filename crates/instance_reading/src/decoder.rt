@@ -11,7 +11,7 @@ use crate::nesting::read_instance;
 use graph_arena::{Instance, Members};
 use ice_prims::{Cursor, ReadFault};
 use ice_types::Schema;
-use ice_values::{Fields, MembersReader, Optionals, PausedMembers};
+use ice_values::{DeclaredMembers, MembersReader, Optionals, PausedMembers};
 use std::alloc::Global;
 
 /// The members of a whole content, and the instances that begin in it, each named by its place.
@@ -29,7 +29,7 @@ pub struct Content {
 pub fn read_content<'a>(
     alloc: Global,
     schema: &Schema,
-    fields: Fields<'_>,
+    fields: DeclaredMembers<'_>,
     cursor: &mut Cursor<'a>,
 ) -> Result<Content, ReadFault>
     ensures { ReadsGraph result (graph_at schema.now all_slices (shape_seen fields.entry) cursor.old) cursor.new }
@@ -51,7 +51,7 @@ pub fn read_content<'a>(
 fn read_roots<'a>(
     alloc: Global,
     schema: &Schema,
-    fields: Fields<'_>,
+    fields: DeclaredMembers<'_>,
     cursor: &mut Cursor<'a>,
     arena: &mut Arena<'a>,
 ) -> Result<Members, ReadFault>

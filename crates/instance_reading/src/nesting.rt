@@ -2,7 +2,7 @@
 
 ghost use Rattle.std.specs.Prelude.{◌≡◌, ◌<◌, ◌≤◌, ◌++◌, ◌∷◌, [], OnOk};
 ghost use Rattle.ice_graphs.specs.Instances.{most_instances};
-ghost use Rattle.instance_reading.specs.Stacked.{ReadsInstance, Steps, instance_within, is_within, stack_left, steps_left};
+ghost use Rattle.instance_reading.specs.Stacked.{ReadsInstance, StepsNesting, instance_within, is_within, stack_left, steps_left};
 ghost use Rattle.instance_reading.specs.Unfinished.{room};
 
 use crate::arena::Arena;
@@ -42,7 +42,7 @@ fn read_on<'a>(
     arena: &mut Arena<'a>,
 ) -> Result<(), ReadFault>
     requires { is_within (stack.old ++ top ∷ []) arena.old }
-    ensures steps { Steps schema.now result (stack_left schema.now (stack.old ++ top.entry ∷ []) arena.old cursor.old) stack.new arena.new cursor.new }
+    ensures steps { StepsNesting schema.now result (stack_left schema.now (stack.old ++ top.entry ∷ []) arena.old cursor.old) stack.new arena.new cursor.new }
     ensures within { OnOk result (is_within stack.new arena.new) }
     ensures room { OnOk result (room arena.new ≤ room arena.old) }
     ensures less { OnOk result (steps_left stack.new arena.new < steps_left (stack.old ++ top.entry ∷ []) arena.old) }

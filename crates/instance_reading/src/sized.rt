@@ -10,7 +10,7 @@ ghost use Rattle.ice_graphs.specs.Classes as classes;
 ghost use Rattle.ice_graphs.specs.Flags.{flags_of};
 ghost use Rattle.ice_values.specs.Advancing.{ReadsMembers};
 ghost use Rattle.instance_reading.specs.Seen.{view_next, view_references};
-ghost use Rattle.instance_reading.specs.Slices.{Ends, OpensUnknown, OpensSized, ReadsPlaces, ReadsSized, SeesTable, first_outside};
+ghost use Rattle.instance_reading.specs.Slices.{EndsSlice, OpensUnknown, OpensSized, ReadsPlaces, ReadsSized, SeesTable, first_outside};
 ghost use Rattle.instance_reading.specs.Sorts.{rows_of};
 ghost use Rattle.instance_reading.specs.Sorts as sorts;
 
@@ -265,7 +265,7 @@ fn read_own<P: RefPort>(
 
 /// The end of a bound.
 pub(crate) fn end(cursor: &Cursor<'_>) -> Result<(), Fault>
-    ensures { Ends result cursor.now }
+    ensures { EndsSlice result cursor.now }
 {
     if cursor.left() > 0 {
         return Err(cursor.fault(Kind::LeftOver));

@@ -11,7 +11,7 @@ ghost use Rattle.instance_reading.specs.declared.sort.Sort.TheVariants as sorts;
 use crate::arena::Arena;
 use crate::class::{base_of, class_named, optionals};
 use crate::flags::{is_odd, take_flags};
-use crate::sized::{OpenSlice, behind_base, open_unknown, open_sized};
+use crate::sized::{OpenSlice, behind_base, open_sized, open_unknown};
 use crate::sort::Sort;
 use ice_prims::{Cursor, Fault, Kind, ReadFault};
 use ice_types::Schema;

@@ -12,11 +12,11 @@ mod open_slice;
 mod parts;
 mod pen;
 mod position;
-mod user_exception;
 mod slice;
 mod sort;
 mod table;
 mod unfinished;
+mod user_exception;
 
 pub use encode::write_numbered;
 pub use format::Format;

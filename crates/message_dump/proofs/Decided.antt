@@ -10,7 +10,7 @@ use Rattle.message_dump.specs.declared.dump.Dump.{Dump}
 use Rattle.message_dump.specs.declared.dump.Dump.TheVariants.{Finished, Refused, ReadFailed, WriteFailed, Memory}
 use Rattle.message_dump.specs.declared.dump.TheConstants.{MOST_MESSAGES}
 use Rattle.message_dump.specs.declared.telling.Telling.{Telling}
-use Rattle.message_dump.specs.Dumps.{Tells, Ends, IsDump}
+use Rattle.message_dump.specs.Dumps.{Tells, EndsInput, IsDump}
 use Rattle.message_dump.specs.Sources.{Waits, TellsSome, TellsAll, IsTold}
 use Rattle.message_dump.specs.Steps.{IsSound, Advances, untold, IsFaultHere, Stops, ComesTo}
 use Rattle.message_dump.proofs.Tellings.{tells_more}
@@ -42,13 +42,13 @@ module _ (got lines : List ℕ) (t : Telling) (p : Advances (untold got) t lines
   place_is : (more : List ℕ) → t.place ≡ length (got ++ more) - length (t.frames.bytes ++ more)
   place_is more = omega (arith, p.place, length-append got more, length-append t.frames.bytes more)
 
-  ends_here : (more : List ℕ) (fault : Fault) → IsFaultHere t fault → Ends t.count t.place (t.frames.bytes ++ more) (Some fault)
+  ends_here : (more : List ℕ) (fault : Fault) → IsFaultHere t fault → EndsInput t.count t.place (t.frames.bytes ++ more) (Some fault)
   ends_here more fault (inl full) = (more_left t.frames.bytes more full.1, inl (full.0, full.2))
   ends_here more fault (inr bad) = (more_left t.frames.bytes more (some_left t.frames.bytes bad.1 bad.2), inr (inr (bad.0, bad.1, (fault_stands t.frames.bytes bad.1 bad.2).stays more, bad.3)))
 
   refused : (fault : Fault) → IsFaultHere t fault → (more : List ℕ) → IsDump (got ++ more) lines (Some fault)
   refused fault here more =
-      (t.count, t.frames.bytes ++ more, p.sound.few, tells_more t.count got t.frames.bytes lines more tells, subst (λ (place : ℕ). Ends t.count place (t.frames.bytes ++ more) (Some fault)) (place_is more) (ends_here more fault here))
+      (t.count, t.frames.bytes ++ more, p.sound.few, tells_more t.count got t.frames.bytes lines more tells, subst (λ (place : ℕ). EndsInput t.count place (t.frames.bytes ++ more) (Some fault)) (place_is more) (ends_here more fault here))
 
   pub stopped : (left : Option (List ℕ)) (stop : Dump) → Stops t stop → IsTold left got lines stop
   stopped left Finished h = absurd h
@@ -60,14 +60,14 @@ module _ (got lines : List ℕ) (t : Telling) (p : Advances (untold got) t lines
   place_at_end : t.place ≡ length got - length t.frames.bytes
   place_at_end = omega (arith, p.place)
 
-  short_ends : (fault : Fault) → Waits t.count t.frames.bytes → ComesTo t (Refused fault) → Ends t.count t.place t.frames.bytes (Some fault)
+  short_ends : (fault : Fault) → Waits t.count t.frames.bytes → ComesTo t (Refused fault) → EndsInput t.count t.place t.frames.bytes (Some fault)
   short_ends fault (inl none) h = absurd (h.0 none.1)
   short_ends fault (inr waits) h = (h.0, inr (inl (waits.0, waits.1, h.1)))
 
   pub ended : (left : Option (List ℕ)) (r : Dump) → Waits t.count t.frames.bytes → IsAtEnd left → ComesTo t r → IsTold left got lines r
   ended left Finished waits end h = (end, (t.count, t.frames.bytes, p.sound.few, tells, h))
   ended left (Refused fault) waits end h =
-      inl (end, (t.count, t.frames.bytes, p.sound.few, tells, subst (λ (place : ℕ). Ends t.count place t.frames.bytes (Some fault)) place_at_end (short_ends fault waits h)))
+      inl (end, (t.count, t.frames.bytes, p.sound.few, tells, subst (λ (place : ℕ). EndsInput t.count place t.frames.bytes (Some fault)) place_at_end (short_ends fault waits h)))
   ended left ReadFailed waits end h = absurd h
   ended left WriteFailed waits end h = absurd h
   ended left Memory waits end h = absurd h

@@ -13,7 +13,7 @@ use Rattle.ice_messages.proofs.Streams.{messages_apart, message_long, next_messa
 use Rattle.ice_messages.proofs.Runs.{next_spelled}
 use Rattle.message_dump.specs.declared.dump.TheConstants.{MOST_MESSAGES}
 use Rattle.message_dump.specs.Lines.{message_line}
-use Rattle.message_dump.specs.Dumps.{Tells, Ends, IsDump, fault_at, moved}
+use Rattle.message_dump.specs.Dumps.{Tells, EndsInput, IsDump, fault_at, moved}
 use Rattle.message_dump.proofs.Faults.{Next, failed, none_next, no_fault, same_fault}
 use Rattle.message_dump.proofs.Decided.{some_left}
 
@@ -23,7 +23,7 @@ abbrev found : Message × Rest → Next
 found x = Ok (Some x)
 
 -- no message that is taken begins what is left
-ends_alone : (n place : ℕ) (rest first others : List ℕ) (end : Option Fault) (m : Message) → Ends n place rest end → n < MOST_MESSAGES → rest ≡ first ++ others → SpellsMessage first m → ⊥
+ends_alone : (n place : ℕ) (rest first others : List ℕ) (end : Option Fault) (m : Message) → EndsInput n place rest end → n < MOST_MESSAGES → rest ≡ first ++ others → SpellsMessage first m → ⊥
 ends_alone n place rest first others None m h few parts spelled = omega (arith, ap length h, ap length parts, length-append first others, message_long first m spelled)
 ends_alone n place rest first others (Some fault) m h few parts spelled = elim h.1 [
   | inl full ↦ omega (arith, few, full.0)
@@ -42,7 +42,7 @@ ends_alone n place rest first others (Some fault) m h few parts spelled = elim h
     some_bad : {x : Message × Rest} {e : Fault} → found x ≡ failed e → ⊥
     some_bad e = cc
 
-one_end : (n place : ℕ) (rest : List ℕ) (e f : Option Fault) → Ends n place rest e → Ends n place rest f → e ≡ f
+one_end : (n place : ℕ) (rest : List ℕ) (e f : Option Fault) → EndsInput n place rest e → EndsInput n place rest f → e ≡ f
 one_end n place rest None None one two = refl
 one_end n place rest None (Some f) one two = absurd (two.0 one)
 one_end n place rest (Some e) None one two = absurd (one.0 two)
@@ -67,11 +67,11 @@ one_end n place rest (Some e) (Some f) one two = ap Some (one_fault one.1 two.1)
 -- behind k messages of an input of so many bytes
 module _ (whole : ℕ) where
   one_way : (n m k p q : ℕ) (bytes a b rest left : List ℕ) (e f : Option Fault) → p ≡ k + n → q ≡ k + m → p ≤ MOST_MESSAGES → q ≤ MOST_MESSAGES
-      → Tells n bytes a rest → Tells m bytes b left → Ends p (whole - length rest) rest e → Ends q (whole - length left) left f → (a ≡ b) × (e ≡ f)
+      → Tells n bytes a rest → Tells m bytes b left → EndsInput p (whole - length rest) rest e → EndsInput q (whole - length left) left f → (a ≡ b) × (e ≡ f)
   one_way zero zero k p q bytes a b rest left e f p_is q_is few less one two end final =
       let same : left ≡ rest = sym two.1 ∙ one.1 in
       let also : q ≡ p = omega (arith, p_is, q_is) in
-      (one.0 ∙ sym two.0, one_end p (whole - length rest) rest e f end (subst (λ (z : List ℕ). Ends p (whole - length z) z f) same (subst (λ (z : ℕ). Ends z (whole - length left) left f) also final)))
+      (one.0 ∙ sym two.0, one_end p (whole - length rest) rest e f end (subst (λ (z : List ℕ). EndsInput p (whole - length z) z f) same (subst (λ (z : ℕ). EndsInput z (whole - length left) left f) also final)))
   one_way zero (suc m) k p q bytes a b rest left e f p_is q_is few less one two end final =
       absurd (ends_alone p (whole - length rest) rest two.1 two.2 e two.0 end (omega (arith, p_is, q_is, less)) (sym one.1 ∙ two.4) two.5)
   one_way (suc n) zero k p q bytes a b rest left e f p_is q_is few less one two end final =
@@ -91,10 +91,10 @@ one_dump input a b e f one two = one_way (length input) one.0 two.0 0 one.0 two.
 
 module _ (whole : ℕ) where
   abbrev Told : ℕ → List ℕ → Type 0
-  Told k bytes = (n p : ℕ) × (lines rest : List ℕ) × (end : Option Fault) × (p ≡ k + n) × (p ≤ MOST_MESSAGES) × Tells n bytes lines rest × Ends p (whole - length rest) rest end
+  Told k bytes = (n p : ℕ) × (lines rest : List ℕ) × (end : Option Fault) × (p ≡ k + n) × (p ≤ MOST_MESSAGES) × Tells n bytes lines rest × EndsInput p (whole - length rest) rest end
 
   -- nothing is taken
-  alone : (k : ℕ) (bytes : List ℕ) (end : Option Fault) → k ≤ MOST_MESSAGES → Ends k (whole - length bytes) bytes end → Told k bytes
+  alone : (k : ℕ) (bytes : List ℕ) (end : Option Fault) → k ≤ MOST_MESSAGES → EndsInput k (whole - length bytes) bytes end → Told k bytes
   alone k bytes end few ends = (0, k, [], bytes, end, omega arith, few, (refl, refl), ends)
 
   full : (k : ℕ) (bytes : List ℕ) → k ≡ MOST_MESSAGES → Told k bytes
@@ -132,4 +132,4 @@ pub some_dump : (input : List ℕ) → IsBytes input → (lines : List ℕ) × (
 some_dump input fits =
     let h = some_way (length input) (length input) 0 input (omega arith) fits (omega arith) in
     let same : h.1 ≡ h.0 = omega (arith, h.5) in
-    (h.2, h.4, (h.0, h.3, omega (arith, same, h.6), h.7, subst (λ (n : ℕ). Ends n (length input - length h.3) h.3 h.4) same h.8))
+    (h.2, h.4, (h.0, h.3, omega (arith, same, h.6), h.7, subst (λ (n : ℕ). EndsInput n (length input - length h.3) h.3 h.4) same h.8))

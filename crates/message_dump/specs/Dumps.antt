@@ -24,13 +24,13 @@ fault_at place kind = record { place = place; kind = kind }
 
 -- What the rest of an input is, behind so many messages, from this place on: nothing, or bytes with this fault. A message that the
 -- input does not hold whole is short, and after the last message that is taken there is none.
-abbrev pub Ends : ℕ → ℕ → List ℕ → Option Fault → Type 0
-Ends n place rest None = rest ≡ []
-Ends n place rest (Some fault) = (rest ≢ []) × (
+abbrev pub EndsInput : ℕ → ℕ → List ℕ → Option Fault → Type 0
+EndsInput n place rest None = rest ≡ []
+EndsInput n place rest (Some fault) = (rest ≢ []) × (
     ((n ≡ MOST_MESSAGES) × (fault ≡ fault_at place Endless))
     ⊎ ((n < MOST_MESSAGES) × (next_at rest ≡ Ok None) × (fault ≡ fault_at place Short))
     ⊎ ((n < MOST_MESSAGES) × (first : Fault) × (next_at rest ≡ Err first) × (fault ≡ moved place first)))
 
 -- The input is told by these lines, and has this fault behind them, or none.
 abbrev pub IsDump : List ℕ → List ℕ → Option Fault → Type 0
-IsDump input lines end = (n : ℕ) × (rest : List ℕ) × (n ≤ MOST_MESSAGES) × Tells n input lines rest × Ends n (length input - length rest) rest end
+IsDump input lines end = (n : ℕ) × (rest : List ℕ) × (n ≤ MOST_MESSAGES) × Tells n input lines rest × EndsInput n (length input - length rest) rest end

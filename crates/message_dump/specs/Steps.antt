@@ -76,9 +76,9 @@ TakesNext old new (Err WriteFailed) = ⊥
 TakesNext old new (Err Memory) = Unit {0}
 
 -- a message was told, or none is known
-abbrev pub Steps : Telling → Telling → Bool → Type 0
-Steps old new true = length new.frames.bytes < length old.frames.bytes
-Steps old new false = Waits new.count new.frames.bytes
+abbrev pub StepsTelling : Telling → Telling → Bool → Type 0
+StepsTelling old new true = length new.frames.bytes < length old.frames.bytes
+StepsTelling old new false = Waits new.count new.frames.bytes
 
 -- Lines of messages were told and written, or a stop came behind them.
 abbrev pub TellsOn : {X : Type 0} → Telling → Telling → (taken got : Option (List ℕ)) → (before after : ℕ) → Result X Dump → Type 0

@@ -3,7 +3,7 @@
 ghost use Rattle.std.specs.Prelude.{◌≡◌, ◌<◌, ◌+◌, ◌^◌, [], OnOk, IfOk};
 ghost use Rattle.message_dump.specs.Dumps.{fault_at};
 ghost use Rattle.message_dump.specs.Sources.{Waits};
-ghost use Rattle.message_dump.specs.Steps.{IsSound, TakesNext, TellsOn, Steps, ComesTo, untold, fed};
+ghost use Rattle.message_dump.specs.Steps.{IsSound, TakesNext, TellsOn, StepsTelling, ComesTo, untold, fed};
 
 use crate::dump::{Dump, MOST_MESSAGES};
 use crate::lines::message_line;
@@ -76,7 +76,7 @@ impl Telling {
         requires { IsSound self.old }
         ensures told { TellsOn self.old self.new (K.taken sink.old) (K.taken sink.new)
             (K.failures sink.old) (K.failures sink.new) result }
-        ensures step { IfOk result (Steps self.old self.new) }
+        ensures step { IfOk result (StepsTelling self.old self.new) }
     {
         let Some((length, message)) = self.next()? else {
             return Ok(false);

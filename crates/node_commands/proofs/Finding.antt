@@ -16,7 +16,7 @@ use Rattle.graph_json.specs.Texts.{IsRefused, Lists}
 use Rattle.ice_relay.specs.declared.text_fault.TextRelayFault.{TextRelayFault}
 use Rattle.ice_relay.specs.declared.text_fault.TextRelayFault.TheVariants as text_faults
 use Rattle.ice_relay.specs.Dumping.{Dumps}
-use Rattle.ice_relay.specs.Encoding.{Encodes}
+use Rattle.ice_relay.specs.Encoding.{EncodesText}
 use Rattle.ice_relay.specs.TextStreams.{ReadsText}
 use Rattle.ice_relay.proofs.Deciding.{listed_whole, refused_whole}
 use Rattle.ice_relay.specs.declared.fault.RelayFault.{RelayFault}
@@ -193,10 +193,10 @@ module _ (t : Tables) (kind : TypeRef) (input now : Option (List ℕ)) (got : Li
     dump_none before after read_faults.Memory outcome from refused count = rw from count
 
   module _ (format : Format) (read : ReadsText input now got) where
-    pub encode_finds : (bytes : Vec ℕ Global) → Encodes t kind (view_format format) got (Ok bytes) → Does (tasks.Encode format) input t kind (done bytes.items)
+    pub encode_finds : (bytes : Vec ℕ Global) → EncodesText t kind (view_format format) got (Ok bytes) → Does (tasks.Encode format) input t kind (done bytes.items)
     encode_finds bytes (g, lists, writable, is, small) = inr (g, text_read t kind input now got g read lists, written (view_format format) t kind g bytes.items writable is small)
 
-    pub encode_none : (before after : ℕ) (fault : TextRelayFault) (outcome : Outcome) → outcome ≡ of_json fault → Encodes t kind (view_format format) got (Err fault) → after ≡ before → FindsNone (tasks.Encode format) input t kind before after (answer_of outcome [])
+    pub encode_none : (before after : ℕ) (fault : TextRelayFault) (outcome : Outcome) → outcome ≡ of_json fault → EncodesText t kind (view_format format) got (Err fault) → after ≡ before → FindsNone (tasks.Encode format) input t kind before after (answer_of outcome [])
     encode_none before after (text_faults.Refused why) outcome from refused count = rw from (inl (why, fault_of_text t kind input now got why read refused, refl), count)
     encode_none before after text_faults.NeedsSliced outcome from (g, lists, needs) count = rw from (inr (g, text_read t kind input now got g read lists, inl (needs, refl)), count)
     encode_none before after (text_faults.TooLong n) outcome from (g, lists, writable, is, above) count = rw from (inr (g, text_read t kind input now got g read lists, too_much (view_format format) t kind g n writable is above), count)

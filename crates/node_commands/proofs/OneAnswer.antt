@@ -27,7 +27,7 @@ use Rattle.node_commands.specs.Outside.{Files, Failures, Outside}
 use Rattle.node_commands.specs.Answers.{Answer, done, different, usage, no_such_name, slice_refused, input_refused, json_refused, too_long, needs_sliced, text_refused, read_failed, write_failed, no_memory, refused_after, read_failed_after, no_memory_after, status}
 use Rattle.node_commands.specs.Decided.{WithSchema, WithType, WithGraph, WithText, WithFormat, WithinLimit, Encapsulates, WithTwo, IsVerdict, WithinBoth, Compares, Does, DoesTask, Checks, Drills, Decides, Decided}
 use Rattle.node_commands.specs.Causes.{Causes}
-use Rattle.node_commands.specs.Statuses.{Answered, IsFailure, Ends}
+use Rattle.node_commands.specs.Statuses.{Answered, IsFailure, EndsWithStatus}
 use Rattle.node_commands.proofs.CommandForms.{asks_apart}
 use Rattle.node_commands.proofs.Telling.{dumps_one}
 
@@ -213,7 +213,7 @@ came_as_decided words files input b n asked (refused_after written fault) answer
 came_as_decided words files input b n asked (read_failed_after written) answer asks c d = inr (inl refl)
 came_as_decided words files input b n asked (no_memory_after written) answer asks c d = inr (inr (inr refl))
 
-pub ends : (words : List Word) (before after : Outside) (result : ℕ) (came : Answer) → Answered words before after result came → (files : Files) (input : List ℕ) (answer : Answer) → before.files ≡ Some files → before.input ≡ Some input → Decided words files input answer → Ends words before after result answer
+pub ends : (words : List Word) (before after : Outside) (result : ℕ) (came : Answer) → Answered words before after result came → (files : Files) (input : List ℕ) (answer : Answer) → before.files ≡ Some files → before.input ≡ Some input → Decided words files input answer → EndsWithStatus words before after result answer
 ends words before after result came a files input answer k l d =
     let told = subst (λ (x : Option (List ℕ)). Causes a.asked (Some files) x before.failures after.failures came) l (subst (λ (x : Option Files). Causes a.asked x before.input before.failures after.failures came) k a.cause) in
     elim (came_as_decided words files input before.failures after.failures a.asked came answer a.asks told d) [

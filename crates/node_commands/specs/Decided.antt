@@ -144,15 +144,15 @@ abbrev pub Dumps : Option (List ℕ) → Tables → TypeRef → Answer → Type 
 Dumps input t kind answer = WithGraph input t kind answer (λ g. answer ≡ done (dump_line t kind g))
 
 -- `encode`: the canonical encapsulation of the graph that the text lists, in the format
-abbrev pub Encodes : Format → Option (List ℕ) → Tables → TypeRef → Answer → Type 0
-Encodes f input t kind answer = WithText input t kind answer (Encapsulates f t kind answer)
+abbrev pub EncodesInput : Format → Option (List ℕ) → Tables → TypeRef → Answer → Type 0
+EncodesInput f input t kind answer = WithText input t kind answer (Encapsulates f t kind answer)
 
 -- what a task comes to
 abbrev pub Does : Task → Option (List ℕ) → Tables → TypeRef → Answer → Type 0
 Does (tasks.Relay format) input t kind answer = Relays (view_format format) input t kind answer
 Does tasks.Same input t kind answer = Compares input t kind answer
 Does tasks.Dump input t kind answer = Dumps input t kind answer
-Does (tasks.Encode format) input t kind answer = Encodes (view_format format) input t kind answer
+Does (tasks.Encode format) input t kind answer = EncodesInput (view_format format) input t kind answer
 
 -- `relay [--compact] FILE TYPE`, `same FILE TYPE`, `dump FILE TYPE`, `encode [--compact] FILE TYPE`
 abbrev pub DoesTask : Task → Option Files → Option (List ℕ) → Word → Word → Answer → Type 0

@@ -23,6 +23,6 @@ abbrev pub IsFailure : ℕ → Type 0
 IsFailure result = (result ≡ 5) ⊎ ((result ≡ 6) ⊎ (result ≡ 9))
 
 -- this answer came, unless one of these did
-abbrev pub Ends : List Word → (before after : Outside) → ℕ → Answer → Type 0
-Ends words before after result answer =
+abbrev pub EndsWithStatus : List Word → (before after : Outside) → ℕ → Answer → Type 0
+EndsWithStatus words before after result answer =
     Answered words before after result answer ⊎ IsFailure result

@@ -11,7 +11,7 @@ use Rattle.ice_types.specs.declared.proxy.Endpoint.{Endpoint}
 use Rattle.ice_types.specs.declared.proxy.Endpoint.TheVariants.{Tcp, Opaque}
 use Rattle.proxy_text.specs.Escapes.{text_of}
 use Rattle.proxy_text.specs.PrintedWords.{printed_text}
-use Rattle.proxy_text.specs.Laws.{Ends, IsWord}
+use Rattle.proxy_text.specs.Laws.{EndsWord, IsWord}
 use Rattle.proxy_text.proofs.StandingWords.{texts_stand}
 use Rattle.proxy_text.proofs.Readings.{texts_read}
 use Rattle.proxy_text.specs.Numbers.{number, timeout, version, hexadecimal, printed_timeout, printed_version, printed_bytes}
@@ -79,7 +79,7 @@ or_text (c ∷ cs) = refl
 
 -- ---- another transport
 
-exactly_read : (known : List ℕ) (r s : Rest) → bytes_eq known known ≡ true → IsWord known → Took r (32 ∷ known) s → Ends s.bytes → exactly known r ≡ Ok (tt, s)
+exactly_read : (known : List ℕ) (r s : Rest) → bytes_eq known known ≡ true → IsWord known → Took r (32 ∷ known) s → EndsWord s.bytes → exactly known r ≡ Ok (tt, s)
 exactly_read known r s same is took ends = read_as (λ bytes. if bytes_eq bytes known then Some tt else None) (32 ∷ []) known tt r s (rw same refl) refl is took ends
 
 opaque_steps : (r : Rest) (t e x : Unit {0} × Rest) (kind : ℤ × Rest) (v : (ℕ × ℕ) × Rest) (content : List ℕ × Rest) → exactly (codes "-t") r ≡ Ok t → word_as (number 16) t.1 ≡ Ok kind → exactly (codes "-e") kind.1 ≡ Ok e
@@ -100,7 +100,7 @@ another place (pos n) v other = by (eqb n 1 && (eqb v.0 1 && eqb v.1 1)) refl
         let versions = and_parts (eqb v.0 1) (eqb v.1 1) both_are.1 in
         absurd (other (ap pos (eqb-true n 1 both_are.0), eqb-true v.0 1 versions.0, eqb-true v.1 1 versions.1))
 
-opaque_read : (kind : ℤ) (v : ℕ × ℕ) (bytes : List ℕ) (r s : Rest) → HasEndpointText (Opaque kind v.0 v.1 bytes) → Took r (printed_opaque kind v bytes) s → Ends s.bytes → opaque_at r ≡ Ok (Opaque kind v.0 v.1 bytes, s)
+opaque_read : (kind : ℤ) (v : ℕ × ℕ) (bytes : List ℕ) (r s : Rest) → HasEndpointText (Opaque kind v.0 v.1 bytes) → Took r (printed_opaque kind v bytes) s → EndsWord s.bytes → opaque_at r ≡ Ok (Opaque kind v.0 v.1 bytes, s)
 opaque_read kind v bytes r s has took ends =
     let k = 32 ∷ signed_decimal kind in
     let w = 32 ∷ printed_version v in
@@ -128,7 +128,7 @@ opaque_read kind v bytes r s has took ends =
 
 -- ---- an endpoint, and endpoints
 
-transport_read : (name : List ℕ) (t : Transport) (r m : Rest) → IsWord name → listed transports name ≡ Some t → Took r name m → Ends m.bytes → endpoint_at r ≡ endpoint_by t m
+transport_read : (name : List ℕ) (t : Transport) (r m : Rest) → IsWord name → listed transports name ≡ Some t → Took r name m → EndsWord m.bytes → endpoint_at r ≡ endpoint_by t m
 transport_read name t r m is row took ends =
     let read : word_as (listed transports) r ≡ Ok (t, m) = read_as (listed transports) [] name t r m row refl is took ends in
     ap (λ p. p >>= λ x. endpoint_by x.0 x.1) read
@@ -136,7 +136,7 @@ transport_read name t r m is row took ends =
 abbrev made_endpoint : Endpoint → Rest → Parsed (Endpoint × Rest)
 made_endpoint e s = Ok (e, s)
 
-tcp_read : (host : List ℕ) (port time : ℤ) (compress : Bool) (r s : Rest) → HasEndpointText (Tcp host port time compress) → Took r (printed_tcp host port time compress) s → Ends s.bytes → word_ahead s ≡ None
+tcp_read : (host : List ℕ) (port time : ℤ) (compress : Bool) (r s : Rest) → HasEndpointText (Tcp host port time compress) → Took r (printed_tcp host port time compress) s → EndsWord s.bytes → word_ahead s ≡ None
     → endpoint_by transport_kinds.Tcp r ≡ Ok (Tcp host port time compress, s)
 tcp_read host port time compress r s has took ends none =
     let last : TcpOptions = record (with_timeout (given_text host) port time) { compress = compress } in
@@ -144,10 +144,10 @@ tcp_read host port time compress r s has took ends none =
     let come = part.part r s (Ok (last, s)) took ends (stops tcp_flags is_tcp_given with_tcp_flag last s none) in
     ap (λ p. p >>= λ o. Ok (tcp_of o.0, o.1)) (come.comes (suc (length r.bytes)) (omega arith)) ∙ ap (λ h. made_endpoint (Tcp h port time compress) s) (or_text host)
 
-endpoint_read : (e : Endpoint) (r s : Rest) → HasEndpointText e → Took r (printed_endpoint e) s → Ends s.bytes → word_ahead s ≡ None → endpoint_at r ≡ Ok (e, s)
+endpoint_read : (e : Endpoint) (r s : Rest) → HasEndpointText e → Took r (printed_endpoint e) s → EndsWord s.bytes → word_ahead s ≡ None → endpoint_at r ≡ Ok (e, s)
 endpoint_read (Tcp host port time compress) r s has took ends none =
     let bytes = printed_tcp host port time compress in
-    let front : Ends (bytes ++ s.bytes) = (tcp_part host port time compress has.0 has.1 has.2).front s.bytes ends in
+    let front : EndsWord (bytes ++ s.bytes) = (tcp_part host port time compress has.0 has.1 has.2).front s.bytes ends in
     transport_read (codes "tcp") transport_kinds.Tcp r (between r (codes "tcp") bytes s) (plain_word (codes "tcp") (omega arith) refl) refl (took_first r s (codes "tcp") bytes took) front
     ∙ tcp_read host port time compress (between r (codes "tcp") bytes s) s has (took_last r s (codes "tcp") bytes took) ends none
 endpoint_read (Opaque kind major minor content) r s has took ends none =
@@ -164,7 +164,7 @@ closed : (es : List Endpoint) → Closes (printed_endpoints es)
 closed [] = tt
 closed (e ∷ es) = refl
 
-closes_end : (bytes : List ℕ) → Closes bytes → Ends bytes
+closes_end : (bytes : List ℕ) → Closes bytes → EndsWord bytes
 closes_end [] h = tt
 closes_end (c ∷ cs) h = rw h refl
 

@@ -5,7 +5,7 @@ use Rattle.std.proofs.lemmas.Bool.{and_parts, or_parts}
 use Rattle.std.proofs.lemmas.List.{take_at, drop_at, append-nil}
 use Rattle.ice_prims.specs.Rest.{Rest}
 use Rattle.proxy_text.specs.Words.{is_blank, blanks, word, end, token_from, next}
-use Rattle.proxy_text.specs.Laws.{Ends, Begins, IsWord}
+use Rattle.proxy_text.specs.Laws.{EndsWord, Begins, IsWord}
 use Rattle.proxy_text.proofs.StandingWords.{begins_more}
 
 -- no blank at the front
@@ -36,19 +36,19 @@ next_behind place gap bytes e h = rw (gap_blanks gap bytes e h, drop_at gap byte
 pub next_here : (place : ℕ) (bytes : List ℕ) → NoBlank bytes → next (standing place bytes) ≡ token_from (standing place bytes)
 next_here place bytes h = rw (no_blanks bytes h, add-zero) refl
 
-word_from : (place : ℕ) (bytes rest : List ℕ) → IsWord bytes → Ends rest → token_from (standing place (bytes ++ rest)) ≡ record { token = word bytes; place = place; rest = standing (place + length bytes) rest }
+word_from : (place : ℕ) (bytes rest : List ℕ) → IsWord bytes → EndsWord rest → token_from (standing place (bytes ++ rest)) ≡ record { token = word bytes; place = place; rest = standing (place + length bytes) rest }
 word_from place [] rest is ends = absurd is.begins
 word_from place (c ∷ cs) rest is ends =
     let tests = or_parts (eqb c 58) (eqb c 64) (or_parts (is_blank c) (eqb c 58 || eqb c 64) is.begins).1 in
     rw (tests.0, tests.1, is.whole rest ends, take_at cs rest (length cs) refl, drop_at cs rest (length cs) refl) refl
 
 -- a word that stands where nothing else does before what ends it
-pub word_next : (place : ℕ) (bytes rest : List ℕ) → IsWord bytes → Ends rest
+pub word_next : (place : ℕ) (bytes rest : List ℕ) → IsWord bytes → EndsWord rest
     → next (standing place (bytes ++ rest)) ≡ record { token = word bytes; place = place; rest = standing (place + length bytes) rest }
 word_next place bytes rest is ends = next_here place (bytes ++ rest) (end_no_blank (bytes ++ rest) (begins_more bytes rest is.begins)) ∙ word_from place bytes rest is ends
 
 -- the same behind blanks
-pub word_behind : (place : ℕ) (gap bytes rest : List ℕ) → list_all is_blank gap ≡ true → IsWord bytes → Ends rest
+pub word_behind : (place : ℕ) (gap bytes rest : List ℕ) → list_all is_blank gap ≡ true → IsWord bytes → EndsWord rest
     → next (standing place (gap ++ (bytes ++ rest))) ≡ record { token = word bytes; place = place + length gap; rest = standing ((place + length gap) + length bytes) rest }
 word_behind place gap bytes rest e is ends =
     next_behind place gap (bytes ++ rest) e (end_no_blank (bytes ++ rest) (begins_more bytes rest is.begins)) ∙ word_from (place + length gap) bytes rest is ends

@@ -4,7 +4,7 @@ use Rattle.std.specs.List.{list_all}
 use Rattle.ice_prims.specs.Rest.{Rest, Took}
 use Rattle.ice_prims.proofs.Parts.{Took-none-is}
 use Rattle.proxy_text.specs.Words.{is_blank, Token, word, colon, at, end, Next, next}
-use Rattle.proxy_text.specs.Laws.{Ends, IsWord}
+use Rattle.proxy_text.specs.Laws.{EndsWord, IsWord}
 use Rattle.proxy_text.proofs.Following.{word_behind}
 use Rattle.proxy_text.specs.Looking.{Parsed, ◌>>=◌, place_at, word_from, word_ahead, or_refused, word_as, at_from, at_ahead, colon_from, colon_at, end_from, end_at}
 use Rattle.proxy_text.specs.Options.{listed, option_of, option_from, options_within}
@@ -42,18 +42,18 @@ module _ (r s : Rest) (t : Token) (place : ℕ) (is : next r ≡ made_next t pla
   end_is = ap (λ (n : Next). end_from n.token n.place) is
 
 -- a word behind blanks
-next_word : (gap bytes : List ℕ) (r s : Rest) → list_all is_blank gap ≡ true → IsWord bytes → Took r (gap ++ bytes) s → Ends s.bytes → next r ≡ made_next (word bytes) (r.place + length gap) s
+next_word : (gap bytes : List ℕ) (r s : Rest) → list_all is_blank gap ≡ true → IsWord bytes → Took r (gap ++ bytes) s → EndsWord s.bytes → next r ≡ made_next (word bytes) (r.place + length gap) s
 next_word gap bytes r s blank is took ends =
     let start : r ≡ standing r.place (gap ++ (bytes ++ s.bytes)) = rest_is r (gap ++ (bytes ++ s.bytes)) (took.parts ∙ append_assoc gap bytes s.bytes) in
     let moved : r.place + length gap + length bytes ≡ s.place = omega (arith, took.moved, length-append gap bytes) in
     let next_is = word_behind r.place gap bytes s.bytes blank is ends in
     ap next start ∙ next_is ∙ ap (λ (place : ℕ). made_next (word bytes) (r.place + length gap) (standing place s.bytes)) moved
 
-pub word_stands : (gap bytes : List ℕ) (r s : Rest) → list_all is_blank gap ≡ true → IsWord bytes → Took r (gap ++ bytes) s → Ends s.bytes → word_ahead r ≡ Some (bytes, r.place + length gap, s)
+pub word_stands : (gap bytes : List ℕ) (r s : Rest) → list_all is_blank gap ≡ true → IsWord bytes → Took r (gap ++ bytes) s → EndsWord s.bytes → word_ahead r ≡ Some (bytes, r.place + length gap, s)
 word_stands gap bytes r s blank is took ends = ahead_is r s (word bytes) (r.place + length gap) (next_word gap bytes r s blank is took ends)
 
 -- a word of this meaning
-pub read_as : {A : Type 0} (meaning : List ℕ → Option A) (gap bytes : List ℕ) (x : A) (r s : Rest) → meaning bytes ≡ Some x → list_all is_blank gap ≡ true → IsWord bytes → Took r (gap ++ bytes) s → Ends s.bytes → word_as meaning r ≡ Ok (x, s)
+pub read_as : {A : Type 0} (meaning : List ℕ → Option A) (gap bytes : List ℕ) (x : A) (r s : Rest) → meaning bytes ≡ Some x → list_all is_blank gap ≡ true → IsWord bytes → Took r (gap ++ bytes) s → EndsWord s.bytes → word_as meaning r ≡ Ok (x, s)
 read_as meaning gap bytes x r s means blank is took ends =
     ap (λ w. or_refused (place_at r) w >>= λ w. or_refused w.1 (meaning w.0) >>= λ y. found y w.2) (word_stands gap bytes r s blank is took ends)
     ∙ ap (λ o. or_refused (r.place + length gap) o >>= λ y. found y s) means
@@ -125,15 +125,15 @@ module _ {O F : Type 0} (rows : List (List ℕ × F)) (given : F → O → Bool)
 
   -- These bytes are an option, or some, or none, which is then there.
   pub record Part (bytes : List ℕ) (o last : O) : Type 0 where
-    pub front : (rest : List ℕ) → Ends rest → Ends (bytes ++ rest)
-    pub part : (r s : Rest) (result : Parsed (O × Rest)) → Took r bytes s → Ends s.bytes → Comes last s result → Comes o r result
+    pub front : (rest : List ℕ) → EndsWord rest → EndsWord (bytes ++ rest)
+    pub part : (r s : Rest) (result : Parsed (O × Rest)) → Took r bytes s → EndsWord s.bytes → Comes last s result → Comes o r result
 
   pub no_part : (o : O) → Part [] o o
   no_part o = record { front = λ rest ends. ends; part = λ r s result took ends c. subst (λ (x : Rest). Comes o x result) (sym (Took-none-is r s took)) c }
 
   pub both_parts : (a b : List ℕ) (o m last : O) → Part a o m → Part b m last → Part (a ++ b) o last
   both_parts a b o m last p q = record {
-    front = λ rest ends. subst Ends (sym (append_assoc a b rest)) (p.front (b ++ rest) (q.front rest ends));
+    front = λ rest ends. subst EndsWord (sym (append_assoc a b rest)) (p.front (b ++ rest) (q.front rest ends));
     part = λ r s result took ends c. p.part r (between r a b s) result (took_first r s a b took) (q.front s.bytes ends) (q.part (between r a b s) s result (took_last r s a b took) ends c);
   }
 

@@ -12,7 +12,7 @@ use Rattle.std.proofs.lemmas.Bool.Decides.{nat_tests}
 use Rattle.hex.specs.Hex.{encode_with, encode_lower, lower_digits}
 use Rattle.ice_prims.specs.Rest.{IsBytes}
 use Rattle.proxy_text.specs.Words.{is_end, bare, behind, word_length}
-use Rattle.proxy_text.specs.Laws.{Ends, IsWord}
+use Rattle.proxy_text.specs.Laws.{EndsWord, IsWord}
 use Rattle.proxy_text.proofs.StandingWords.{texts_stand}
 use Rattle.proxy_text.specs.Numbers.{digits_behind, printed_timeout, printed_version, printed_bytes}
 use Rattle.proxy_text.proofs.ReadBack.{first_digit, digits_read}
@@ -32,7 +32,7 @@ plain_is c e = by (is_end c) (c == 92) (c == 34) refl refl refl e
     by false false true p q s e = absurd cc
     by false false false p q s e = (p, rw (p, q, s) refl)
 
-plain_length : (bytes rest : List ℕ) → list_all is_plain bytes ≡ true → Ends rest → word_length bare (bytes ++ rest) ≡ length bytes
+plain_length : (bytes rest : List ℕ) → list_all is_plain bytes ≡ true → EndsWord rest → word_length bare (bytes ++ rest) ≡ length bytes
 plain_length [] [] e ends = refl
 plain_length [] (c ∷ cs) e ends = rw (ends, word_length) refl
 plain_length (c ∷ cs) rest e ends =

@@ -10,7 +10,7 @@ use Rattle.proxy_text.specs.declared.words.Stand.TheVariants.{Bare, BareEscape, 
 use Rattle.proxy_text.specs.Words.{is_blank, is_end, behind, word_length}
 use Rattle.proxy_text.specs.PrintedWords.{short, octal_escape, escape_of, escape_in_identity, escapes, in_quotes, quoted_text, is_special, wants_quotes, printed_as, printed_text, printed_identity}
 use Rattle.proxy_text.proofs.EscapeCases.{escape_cases}
-use Rattle.proxy_text.specs.Laws.{Ends, Begins, IsWord}
+use Rattle.proxy_text.specs.Laws.{EndsWord, Begins, IsWord}
 
 -- From one stand these bytes lead to another, and all are of the word.
 record Leads (from : Stand) (bytes : List ℕ) (to : Stand) : Type 0 where
@@ -114,7 +114,7 @@ bare_in_identity c e = in_identity Bare c (bare_pair 47 refl) (bare_escape_of c 
 
 -- ---- words
 
-end_of_word : (rest : List ℕ) → Ends rest → word_length Bare rest ≡ 0
+end_of_word : (rest : List ℕ) → EndsWord rest → word_length Bare rest ≡ 0
 end_of_word [] h = refl
 end_of_word (c ∷ cs) h = let e : behind Bare c ≡ None = rw h refl in rw (e, word_length) refl
 

@@ -8,7 +8,7 @@ use Rattle.ice_types.specs.declared.proxy.Endpoint.{Endpoint}
 use Rattle.ice_types.specs.declared.proxy.Proxy.{Proxy}
 use Rattle.proxy_text.specs.Escapes.{text_of, identity_of}
 use Rattle.proxy_text.specs.PrintedWords.{printed_text, printed_identity}
-use Rattle.proxy_text.specs.Laws.{Ends}
+use Rattle.proxy_text.specs.Laws.{EndsWord}
 use Rattle.proxy_text.proofs.StandingWords.{texts_stand, identities_stand}
 use Rattle.proxy_text.proofs.Readings.{texts_read, identities_read}
 use Rattle.proxy_text.specs.Looking.{Parsed, ◌>>=◌, word_ahead, word_as, at_ahead, end_at}
@@ -24,7 +24,7 @@ use Rattle.proxy_text.proofs.EndpointTexts.{or_text, endpoints_read}
 abbrev printed_place : List Endpoint → List ℕ → List ℕ
 printed_place es adapter = printed_endpoints es ++ unless_empty (codes " @ ") adapter
 
-place_ends : (es : List Endpoint) (adapter : List ℕ) → Ends (printed_place es adapter)
+place_ends : (es : List Endpoint) (adapter : List ℕ) → EndsWord (printed_place es adapter)
 place_ends [] [] = tt
 place_ends [] (c ∷ cs) = refl
 place_ends (e ∷ es) adapter = refl
@@ -95,7 +95,7 @@ text_read_back p has =
     let r1 : Rest = record { place = 0 + length name; bytes = options ++ place } in
     let r2 : Rest = record { place = r1.place + length options; bytes = place } in
     let part = options_part p has in
-    let front : Ends (options ++ place) = part.front place (place_ends p.endpoints p.adapter) in
+    let front : EndsWord (options ++ place) = part.front place (place_ends p.endpoints p.adapter) in
     let named : word_as identity_of r0 ≡ Ok (p.identity, r1) = read_as identity_of [] name p.identity r0 r1 (identities_read p.identity (name_there p.identity.name has.name) has.name_text has.category) refl (identities_stand p.identity) (record { parts = refl; moved = refl }) front in
     let none : word_ahead r2 ≡ None = place_no_word p.endpoints p.adapter r2 refl in
     let come = part.part r1 r2 (Ok (given_options p, r2)) (record { parts = refl; moved = refl }) (place_ends p.endpoints p.adapter) (stops flags is_given with_flag (given_options p) r2 none) in

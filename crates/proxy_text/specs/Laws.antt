@@ -3,9 +3,9 @@ use Rattle.std.specs.Prelude.{ℕ, ◌≡◌, true, false, List, [], ◌∷◌, 
 use Rattle.proxy_text.specs.Words.{is_end, bare, word_length}
 
 -- nothing, or a blank, `:` or `@` at the front
-abbrev pub Ends : List ℕ → Type 0
-Ends [] = Unit {0}
-Ends (c ∷ cs) = is_end c ≡ true
+abbrev pub EndsWord : List ℕ → Type 0
+EndsWord [] = Unit {0}
+EndsWord (c ∷ cs) = is_end c ≡ true
 
 -- something, and no blank, `:` or `@` at the front
 abbrev pub Begins : List ℕ → Type 0
@@ -15,4 +15,4 @@ Begins (c ∷ cs) = is_end c ≡ false
 -- These bytes are the word that they begin, whatever follows that ends it.
 pub record IsWord (bytes : List ℕ) : Type 0 where
   pub begins : Begins bytes
-  pub whole : (rest : List ℕ) → Ends rest → word_length bare (bytes ++ rest) ≡ length bytes
+  pub whole : (rest : List ℕ) → EndsWord rest → word_length bare (bytes ++ rest) ≡ length bytes

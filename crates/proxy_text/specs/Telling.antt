@@ -26,9 +26,9 @@ Tells (Ok x) read = read ≡ Ok x
 Tells (Err e) read = Fails e read
 
 -- of a call that goes on after what it read. Where it stands after a refusal is left open.
-abbrev pub Reads : {A : Type 0} → Result A TextFault → Rest → Parsed (A × Rest) → Type 0
-Reads (Ok x) new read = read ≡ Ok (x, new)
-Reads (Err e) new read = Fails e read
+abbrev pub ReadsWords : {A : Type 0} → Result A TextFault → Rest → Parsed (A × Rest) → Type 0
+ReadsWords (Ok x) new read = read ≡ Ok (x, new)
+ReadsWords (Err e) new read = Fails e read
 
 -- a word that stands next, wherever its bytes lie
 abbrev pub ahead_of : Option (Bor (List ℕ) × ℕ × Rest) → Option (List ℕ × ℕ × Rest)

@@ -4,7 +4,7 @@ ghost use Rattle.std.specs.Prelude.{◌≡◌, [], IfOk};
 ghost use Rattle.proxy_text.specs.Options.{listed};
 ghost use Rattle.proxy_text.specs.Grammar.{not_tcp, or, tcp_of, transports};
 ghost use Rattle.proxy_text.specs.Grammar.{endpoint_at, endpoint_by, endpoints_at, opaque_at};
-ghost use Rattle.proxy_text.specs.Telling.{Reads, Tells};
+ghost use Rattle.proxy_text.specs.Telling.{ReadsWords, Tells};
 
 use crate::fault::TextFault;
 use crate::taking::{
@@ -70,7 +70,7 @@ fn not_tcp(place: u32, kind: i16, version: (u8, u8)) -> Result<(), TextFault>
 
 /// Type, version and content of another transport, in this order.
 fn take_opaque(alloc: Global, words: &mut Words<'_>) -> Result<Endpoint, TextFault>
-    ensures { Reads result words.new (opaque_at words.old) }
+    ensures { ReadsWords result words.new (opaque_at words.old) }
 {
     take_exactly(b"-t", words)?;
     let place = place_of(words);
@@ -94,7 +94,7 @@ fn take_by(
     transport: Transport,
     words: &mut Words<'_>,
 ) -> Result<Endpoint, TextFault>
-    ensures { Reads result words.new (endpoint_by transport words.old) }
+    ensures { ReadsWords result words.new (endpoint_by transport words.old) }
 {
     match transport {
         Transport::Tcp => {
@@ -106,7 +106,7 @@ fn take_by(
 }
 
 fn take_endpoint(alloc: Global, words: &mut Words<'_>) -> Result<Endpoint, TextFault>
-    ensures { Reads result words.new (endpoint_at words.old) }
+    ensures { ReadsWords result words.new (endpoint_at words.old) }
 {
     let transport = take_transport(words)?;
     take_by(alloc, transport, words)

@@ -2,7 +2,7 @@
 
 ghost use Rattle.std.specs.Prelude.{◌≡◌};
 ghost use Rattle.proxy_text.specs.Options.{flags, is_given, listed, no_options, option_of, options_at, with_flag};
-ghost use Rattle.proxy_text.specs.Telling.{Reads};
+ghost use Rattle.proxy_text.specs.Telling.{ReadsWords};
 
 use crate::fault::TextFault;
 use crate::taking::{take_text, take_version, word_ahead};
@@ -81,7 +81,7 @@ fn with_flag(
     options: Options,
     words: &mut Words<'_>,
 ) -> Result<Options, TextFault>
-    ensures { Reads result words.new (with_flag flag options words.old) }
+    ensures { ReadsWords result words.new (with_flag flag options words.old) }
 {
     let mut options = options;
     match flag {
@@ -102,7 +102,7 @@ fn take_option(
     options: Options,
     words: &mut Words<'_>,
 ) -> Result<Options, TextFault>
-    ensures { Reads result words.new
+    ensures { ReadsWords result words.new
         (option_of flags is_given with_flag (listed flags word.now) place options words.old) }
 {
     match flag_of(word) {
@@ -113,7 +113,7 @@ fn take_option(
 
 /// As many options as stand here.
 pub fn take_options(alloc: Global, words: &mut Words<'_>) -> Result<Options, TextFault>
-    ensures { Reads result words.new (options_at flags is_given with_flag no_options words.old) }
+    ensures { ReadsWords result words.new (options_at flags is_given with_flag no_options words.old) }
 {
     let mut options = no_options();
     while let Some((word, place, ahead)) = word_ahead(words) {

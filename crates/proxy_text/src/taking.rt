@@ -6,7 +6,7 @@ ghost use Rattle.proxy_text.specs.Numbers as spec;
 ghost use Rattle.proxy_text.specs.Options.{listed};
 ghost use Rattle.proxy_text.specs.Looking.{at_ahead, colon_at, end_at, place_at, word_ahead, word_as, word_at};
 ghost use Rattle.proxy_text.specs.Grammar as grammar;
-ghost use Rattle.proxy_text.specs.Telling.{FindsColon, Reads, ReadsWord, Tells, ahead_of};
+ghost use Rattle.proxy_text.specs.Telling.{FindsColon, ReadsWords, ReadsWord, Tells, ahead_of};
 
 use crate::endpoints::{Transport, transport_of};
 use crate::fault::TextFault;
@@ -41,35 +41,35 @@ fn take_word<'a>(words: &mut Words<'a>) -> Result<(&'a [u8], u32), TextFault>
 
 /// A facet, a host or an adapter.
 pub fn take_text(alloc: Global, words: &mut Words<'_>) -> Result<Name, TextFault>
-    ensures { Reads result words.new (word_as escapes.text_of words.old) }
+    ensures { ReadsWords result words.new (word_as escapes.text_of words.old) }
 {
     let (word, place) = take_word(words)?;
     text_of(alloc, word)?.ok_or(TextFault::Broken { place })
 }
 
 pub fn take_identity(alloc: Global, words: &mut Words<'_>) -> Result<Identity, TextFault>
-    ensures { Reads result words.new (word_as escapes.identity_of words.old) }
+    ensures { ReadsWords result words.new (word_as escapes.identity_of words.old) }
 {
     let (word, place) = take_word(words)?;
     identity_of(alloc, word)?.ok_or(TextFault::Broken { place })
 }
 
 pub fn take_version(words: &mut Words<'_>) -> Result<(u8, u8), TextFault>
-    ensures { Reads result words.new (word_as spec.version words.old) }
+    ensures { ReadsWords result words.new (word_as spec.version words.old) }
 {
     let (word, place) = take_word(words)?;
     version(word).ok_or(TextFault::Broken { place })
 }
 
 pub fn take_short(words: &mut Words<'_>) -> Result<i16, TextFault>
-    ensures { Reads result words.new (word_as (spec.number 16) words.old) }
+    ensures { ReadsWords result words.new (word_as (spec.number 16) words.old) }
 {
     let (word, place) = take_word(words)?;
     short(word).ok_or(TextFault::Broken { place })
 }
 
 pub fn take_int(words: &mut Words<'_>) -> Result<i32, TextFault>
-    ensures { Reads result words.new (word_as (spec.number 32) words.old) }
+    ensures { ReadsWords result words.new (word_as (spec.number 32) words.old) }
 {
     let (word, place) = take_word(words)?;
     int(word).ok_or(TextFault::Broken { place })
@@ -77,14 +77,14 @@ pub fn take_int(words: &mut Words<'_>) -> Result<i32, TextFault>
 
 /// A time in milliseconds, or `infinite`.
 pub fn take_timeout(words: &mut Words<'_>) -> Result<i32, TextFault>
-    ensures { Reads result words.new (word_as spec.timeout words.old) }
+    ensures { ReadsWords result words.new (word_as spec.timeout words.old) }
 {
     let (word, place) = take_word(words)?;
     timeout(word).ok_or(TextFault::Broken { place })
 }
 
 pub fn take_bytes(alloc: Global, words: &mut Words<'_>) -> Result<Bytes, TextFault>
-    ensures { Reads result words.new (word_as spec.hexadecimal words.old) }
+    ensures { ReadsWords result words.new (word_as spec.hexadecimal words.old) }
 {
     let (word, place) = take_word(words)?;
     hexadecimal(alloc, word)?.ok_or(TextFault::Broken { place })
@@ -92,7 +92,7 @@ pub fn take_bytes(alloc: Global, words: &mut Words<'_>) -> Result<Bytes, TextFau
 
 /// This very word.
 pub fn take_exactly(known: &[u8], words: &mut Words<'_>) -> Result<(), TextFault>
-    ensures { Reads result words.new (grammar.exactly known.now words.old) }
+    ensures { ReadsWords result words.new (grammar.exactly known.now words.old) }
 {
     let (word, place) = take_word(words)?;
     if word == known {
@@ -104,7 +104,7 @@ pub fn take_exactly(known: &[u8], words: &mut Words<'_>) -> Result<(), TextFault
 
 /// The name of a transport.
 pub fn take_transport(words: &mut Words<'_>) -> Result<Transport, TextFault>
-    ensures { Reads result words.new (word_as (listed grammar.transports) words.old) }
+    ensures { ReadsWords result words.new (word_as (listed grammar.transports) words.old) }
 {
     let (word, place) = take_word(words)?;
     transport_of(word).ok_or(TextFault::Broken { place })

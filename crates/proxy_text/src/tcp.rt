@@ -3,7 +3,7 @@
 ghost use Rattle.std.specs.Prelude.{◌≡◌};
 ghost use Rattle.proxy_text.specs.Options.{is_tcp_given, no_tcp_options, tcp_flags, with_tcp_flag};
 ghost use Rattle.proxy_text.specs.Options.{listed, option_of, options_at};
-ghost use Rattle.proxy_text.specs.Telling.{Reads};
+ghost use Rattle.proxy_text.specs.Telling.{ReadsWords};
 
 use crate::fault::TextFault;
 use crate::taking::{take_int, take_text, take_timeout, word_ahead};
@@ -72,7 +72,7 @@ fn with_flag(
     options: TcpOptions,
     words: &mut Words<'_>,
 ) -> Result<TcpOptions, TextFault>
-    ensures { Reads result words.new (with_tcp_flag flag options words.old) }
+    ensures { ReadsWords result words.new (with_tcp_flag flag options words.old) }
 {
     let mut options = options;
     match flag {
@@ -92,7 +92,7 @@ fn take_option(
     options: TcpOptions,
     words: &mut Words<'_>,
 ) -> Result<TcpOptions, TextFault>
-    ensures { Reads result words.new
+    ensures { ReadsWords result words.new
         (option_of tcp_flags is_tcp_given with_tcp_flag (listed tcp_flags word.now) place options words.old) }
 {
     match flag_of(word) {
@@ -103,7 +103,7 @@ fn take_option(
 
 /// As many options as stand here.
 pub fn take_tcp_options(alloc: Global, words: &mut Words<'_>) -> Result<TcpOptions, TextFault>
-    ensures { Reads result words.new (options_at tcp_flags is_tcp_given with_tcp_flag no_tcp_options words.old) }
+    ensures { ReadsWords result words.new (options_at tcp_flags is_tcp_given with_tcp_flag no_tcp_options words.old) }
 {
     let mut options = no_options();
     while let Some((word, place, ahead)) = word_ahead(words) {

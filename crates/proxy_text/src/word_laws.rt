@@ -8,7 +8,7 @@ ghost use Rattle.proxy_text.specs.Escapes.{text_of, identity_of};
 ghost use Rattle.proxy_text.specs.PrintedWords.{printed_text, quoted_text, printed_identity};
 ghost use Rattle.proxy_text.specs.IdentityText.{identity_text};
 ghost use Rattle.proxy_text.specs.Words.{is_blank, next, word};
-ghost use Rattle.proxy_text.specs.Laws.{IsWord, Ends};
+ghost use Rattle.proxy_text.specs.Laws.{IsWord, EndsWord};
 
 /// What is printed of a text, in quotes or as it wants them, stands for that text.
 pub fn texts_printed()
@@ -33,7 +33,7 @@ pub fn printed_is_a_word()
 
 /// A word is what stands next, behind any blanks.
 pub fn words_stand_next()
-    ensures { (place : ℕ) (gap bytes rest : List ℕ) → list_all is_blank gap ≡ true → IsWord bytes → Ends rest
+    ensures { (place : ℕ) (gap bytes rest : List ℕ) → list_all is_blank gap ≡ true → IsWord bytes → EndsWord rest
         → next (record { place = place; bytes = gap ++ (bytes ++ rest) })
         ≡ record {
           token = word bytes;

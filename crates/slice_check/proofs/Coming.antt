@@ -22,7 +22,7 @@ use Rattle.slice_check.specs.Answers.{IfText}
 use Rattle.slice_check.specs.Held.{Holds, unloaded}
 use Rattle.slice_check.specs.Opening.{Told, IsNew, BreaksThere}
 use Rattle.slice_check.specs.Walking.{Inside, GoesOn}
-use Rattle.slice_check.specs.Standing.{inside, HasCome, IsFirst, Steps, AreWalked, Walks}
+use Rattle.slice_check.specs.Standing.{inside, HasCome, IsFirst, StepsWalk, AreWalked, Walks}
 use Rattle.slice_check.proofs.Steps.{starts, completes, passes, enters, ended, fails}
 
 -- ---- the next include
@@ -166,7 +166,7 @@ work_falls xs ys zs x y loaded name before after e f old new few =
     omega (arith, more, old, new, few)
 
 -- a fault is passed on
-pub first_passed : (files : Option Shelf) (file : Name) (w : Walk) (fault : LoadFault) (answer : Result (Unit {0}) LoadFault) → IsErrAnd answer (λ e. e ≡ fault) → IsFirst files file fault → Steps files file w answer
+pub first_passed : (files : Option Shelf) (file : Name) (w : Walk) (fault : LoadFault) (answer : Result (Unit {0}) LoadFault) → IsErrAnd answer (λ e. e ≡ fault) → IsFirst files file fault → StepsWalk files file w answer
 first_passed files file w fault (Ok x) e h = absurd e
 first_passed files file w fault (Err other) e h = subst (IsFirst files file) (sym e) h
 

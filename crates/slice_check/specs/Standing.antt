@@ -54,9 +54,9 @@ IsFirst files file fault =
     IfText (λ broken. Told files (λ shelf. loading.WalkBreaks shelf [] file (whole file) broken)) fault
 
 -- a step has led on, or to the first fault
-abbrev pub Steps : Option Shelf → Name → Walk → Result (Unit {0}) LoadFault → Type 0
-Steps files file w (Ok answer) = Stands files file w (stack w)
-Steps files file w (Err fault) = IsFirst files file fault
+abbrev pub StepsWalk : Option Shelf → Name → Walk → Result (Unit {0}) LoadFault → Type 0
+StepsWalk files file w (Ok answer) = Stands files file w (stack w)
+StepsWalk files file w (Err fault) = IsFirst files file fault
 
 -- a bound on the steps that are left
 abbrev pub work : Walk → ℕ

@@ -12,10 +12,10 @@ pub record Inside : Type 0 where
   pub left : Includes
 
 -- The walk ends with these names loaded. These trees come on the way, each behind those that it includes.
-abbrev pub Ends : Shelf → List Name → List Inside → List Name → List Loaded → Type 0
-Ends shelf loaded [] after trees = (after ≡ loaded) × (trees ≡ [])
-Ends shelf loaded (file ∷ around) after trees = (then : List Name) × (inner outer : List Loaded)
-    × Walk shelf loaded file.left then inner × Ends shelf then around after outer
+abbrev pub EndsWalk : Shelf → List Name → List Inside → List Name → List Loaded → Type 0
+EndsWalk shelf loaded [] after trees = (after ≡ loaded) × (trees ≡ [])
+EndsWalk shelf loaded (file ∷ around) after trees = (then : List Name) × (inner outer : List Loaded)
+    × Walk shelf loaded file.left then inner × EndsWalk shelf then around after outer
     × (trees ≡ inner ++ ((file.name, file.tree) ∷ outer))
 
 -- the first fault on the rest of the walk
@@ -29,7 +29,7 @@ Breaks shelf loaded (file ∷ around) broken = WalkBreaks shelf loaded file.name
 -- does the whole.
 pub record GoesOn (shelf : Shelf) (file : Name) (loaded : List Name) (complete : List Loaded)
     (around : List Inside) : Type 0 where
-  pub ends : (after : List Name) (trees : List Loaded) → Ends shelf loaded around after trees
+  pub ends : (after : List Name) (trees : List Loaded) → EndsWalk shelf loaded around after trees
       → Walk shelf [] (whole file) after (complete ++ trees)
   pub breaks : (broken : LoadBreak) → Breaks shelf loaded around broken
       → WalkBreaks shelf [] file (whole file) broken

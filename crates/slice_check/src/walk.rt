@@ -29,12 +29,12 @@ impl Walk {
     ghost use Rattle.ice_ports.specs.Failures.{count_after};
     ghost use Rattle.slice_meaning.specs.Names.{Name};
     ghost use Rattle.slice_check.specs.Answers.{is_failed};
-    ghost use Rattle.slice_check.specs.Standing.{Stands, Steps, stack, work};
+    ghost use Rattle.slice_check.specs.Standing.{Stands, StepsWalk, stack, work};
 
     /// Goes on in the innermost file, which was taken off: to the next file that it brings, or out of it.
     fn step<H: Shelf>(&mut self, alloc: Global, shelf: &mut H, user: Open) -> Result<(), LoadFault>
         ensures answer { (file : Name) → Stands (H.files shelf.old) file self.old (user ∷ stack self.old)
-            → Steps (H.files shelf.old) file self.new result }
+            → StepsWalk (H.files shelf.old) file self.new result }
         ensures falls { (file : Name) → Stands (H.files shelf.old) file self.old (user ∷ stack self.old)
             → OnOk result (work self.new < work self.old + 1) }
         ensures kept { H.files shelf.new ≡ H.files shelf.old }

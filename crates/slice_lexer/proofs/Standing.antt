@@ -10,7 +10,7 @@ use Rattle.slice_lexer.specs.declared.token.Token.{Token}
 use Rattle.slice_lexer.specs.declared.token.TokenKind.{TokenKind}
 use Rattle.slice_lexer.specs.Pieces.{Front, front, front_at}
 use Rattle.slice_lexer.specs.Tokens.{TokenStands}
-use Rattle.slice_lexer.specs.Lexing.{IsTokenOf, StandsAt, BreaksAt, length_of, Stand, tokens_of, Reads, Lexes, LexBreaks, AreSpans}
+use Rattle.slice_lexer.specs.Lexing.{IsTokenOf, StandsAt, BreaksAt, length_of, Stand, tokens_of, ReadsTokens, Lexes, LexBreaks, AreSpans}
 use Rattle.slice_lexer.proofs.Sizes.{front_end, front_fits}
 use Rattle.slice_lexer.proofs.Agree.{after_own}
 use Rattle.slice_lexer.proofs.Exact.{stands_read}
@@ -45,11 +45,11 @@ token_more text start (pieces.Gap m ∷ found) place kind n h = token_more text 
 token_more text start (pieces.Token other m ∷ found) place kind n h =
     ap (λ tokens. record { kind = other; from = start; to = start + m } ∷ tokens) (token_more text (start + m) found place kind n h.1)
 
-pub reads_gap : (text : List ℕ) (tokens : List Token) (place n : ℕ) → Reads text tokens place → StandsAt text place (pieces.Gap n) → Reads text tokens (place + n)
+pub reads_gap : (text : List ℕ) (tokens : List Token) (place n : ℕ) → ReadsTokens text tokens place → StandsAt text place (pieces.Gap n) → ReadsTokens text tokens (place + n)
 reads_gap text tokens place n h e = (h.0 ++ pieces.Gap n ∷ [], stand_more text 0 h.0 place (pieces.Gap n) e h.1, gap_more text 0 h.0 n ∙ h.2)
 
-pub reads_token : (text : List ℕ) (tokens more : List Token) (place n : ℕ) (kind : TokenKind) → Reads text tokens place → StandsAt text place (pieces.Token kind n)
-    → more ≡ tokens ++ record { kind = kind; from = place; to = place + n } ∷ [] → Reads text more (place + n)
+pub reads_token : (text : List ℕ) (tokens more : List Token) (place n : ℕ) (kind : TokenKind) → ReadsTokens text tokens place → StandsAt text place (pieces.Token kind n)
+    → more ≡ tokens ++ record { kind = kind; from = place; to = place + n } ∷ [] → ReadsTokens text more (place + n)
 reads_token text tokens more place n kind h e is = (
   h.0 ++ pieces.Token kind n ∷ [],
   stand_more text 0 h.0 place (pieces.Token kind n) e h.1,

@@ -9,20 +9,20 @@ use Rattle.slice_lexer.specs.declared.piece.Piece.TheVariants as pieces
 use Rattle.slice_lexer.specs.declared.token.Token.{Token}
 use Rattle.slice_lexer.specs.declared.token.TokenKind.{TokenKind}
 use Rattle.slice_lexer.specs.Pieces.{front_at}
-use Rattle.slice_lexer.specs.Lexing.{length_of, Reads, Lexes, LexBreaks, IsAt, Answers}
+use Rattle.slice_lexer.specs.Lexing.{length_of, ReadsTokens, Lexes, LexBreaks, IsAt, Answers}
 use Rattle.slice_lexer.proofs.Standing.{piece_within, reads_gap, reads_token, token_within}
 use Rattle.slice_lexer.proofs.Agree.{read_stands}
 use Rattle.slice_lexer.proofs.Faults.{read_breaks, named_at}
 
-pub gap_step : (text : List ℕ) (tokens : List Token) (place n m : ℕ) (piece : Piece) → Reads text tokens place → Ok piece ≡ front_at text place → piece ≡ pieces.Gap m → n ≡ length_of piece
-    → Reads text tokens (place + n) × (place + n ≤ length text)
+pub gap_step : (text : List ℕ) (tokens : List Token) (place n m : ℕ) (piece : Piece) → ReadsTokens text tokens place → Ok piece ≡ front_at text place → piece ≡ pieces.Gap m → n ≡ length_of piece
+    → ReadsTokens text tokens (place + n) × (place + n ≤ length text)
 gap_step text tokens place n m piece h e is size =
     let same : m ≡ n = sym (size ∙ ap length_of is) in
     let found : front_at text place ≡ Ok (pieces.Gap n) = sym e ∙ ap (λ p. Ok p) is ∙ ap (λ k. Ok (pieces.Gap k)) same in
     (reads_gap text tokens place n h (read_stands place (take place text) (drop place text) (pieces.Gap n) found), (piece_within text place (pieces.Gap n) found).1)
 
-pub token_step : (text : List ℕ) (tokens more : List Token) (place n m : ℕ) (kind : TokenKind) (piece : Piece) → Reads text tokens place → Ok piece ≡ front_at text place → piece ≡ pieces.Token kind m
-    → n ≡ length_of piece → more ≡ tokens ++ record { kind = kind; from = place; to = place + n } ∷ [] → Reads text more (place + n) × (place + n ≤ length text)
+pub token_step : (text : List ℕ) (tokens more : List Token) (place n m : ℕ) (kind : TokenKind) (piece : Piece) → ReadsTokens text tokens place → Ok piece ≡ front_at text place → piece ≡ pieces.Token kind m
+    → n ≡ length_of piece → more ≡ tokens ++ record { kind = kind; from = place; to = place + n } ∷ [] → ReadsTokens text more (place + n) × (place + n ≤ length text)
 token_step text tokens more place n m kind piece h e is size added =
     let same : m ≡ n = sym (size ∙ ap length_of is) in
     let found : front_at text place ≡ Ok (pieces.Token kind n) = sym e ∙ ap (λ p. Ok p) is ∙ ap (λ k. Ok (pieces.Token kind k)) same in
@@ -40,7 +40,7 @@ err_answer : (text : List ℕ) (fault : LexFault) (r : Result (List Token) LexFa
 err_answer text fault (Ok tokens) is h = absurd is
 err_answer text fault (Err other) is h = subst (λ (f : LexFault). Answers text (Err f)) (sym is) h
 
-pub break_step : (text : List ℕ) (tokens : List Token) (place : ℕ) (fault : LexFault) (r : Result (List Token) LexFault) → Reads text tokens place → place < length text → length text ≤ 1000000
+pub break_step : (text : List ℕ) (tokens : List Token) (place : ℕ) (fault : LexFault) (r : Result (List Token) LexFault) → ReadsTokens text tokens place → place < length text → length text ≤ 1000000
     → Err fault ≡ front_at text place → IsErrAnd r (λ e. e ≡ fault) → Answers text r
 break_step text tokens place fault r h less few e is =
     let breaks = read_breaks place (take place text) (drop place text) fault (sym e) in
@@ -62,7 +62,7 @@ bytes_read text items seen at token e is other found =
     ap (λ (t : Token). slice_range text t.from t.to) same
 
 -- memory is wanted where a token stands
-pub memory_step : (text : List ℕ) (tokens : List Token) (place m : ℕ) (kind : TokenKind) (piece : Piece) (r : Result (List Token) LexFault) → Reads text tokens place → Ok piece ≡ front_at text place → piece ≡ pieces.Token kind m
+pub memory_step : (text : List ℕ) (tokens : List Token) (place m : ℕ) (kind : TokenKind) (piece : Piece) (r : Result (List Token) LexFault) → ReadsTokens text tokens place → Ok piece ≡ front_at text place → piece ≡ pieces.Token kind m
     → length text ≤ 1000000 → IsErrAnd r (λ e. e ≡ faults.Memory) → Answers text r
 memory_step text tokens place m kind piece r h e is few memory =
     let found : front_at text place ≡ Ok (pieces.Token kind m) = sym e ∙ ap (λ p. Ok p) is in

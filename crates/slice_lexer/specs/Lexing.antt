@@ -33,16 +33,16 @@ tokens_of place (pieces.Gap length ∷ others) = tokens_of (place + length) othe
 tokens_of place (pieces.Token kind length ∷ others) = record { kind = kind; from = place; to = place + length } ∷ tokens_of (place + length) others
 
 -- The text up to a place is pieces, of which these are the tokens.
-abbrev pub Reads : List ℕ → List Token → ℕ → Type 0
-Reads text tokens place = (found : List Piece) × Stand text 0 found place × (tokens_of 0 found ≡ tokens)
+abbrev pub ReadsTokens : List ℕ → List Token → ℕ → Type 0
+ReadsTokens text tokens place = (found : List Piece) × Stand text 0 found place × (tokens_of 0 found ≡ tokens)
 
 -- The whole text is pieces, of which these are the tokens.
 abbrev pub Lexes : List ℕ → List Token → Type 0
-Lexes text tokens = Reads text tokens (length text)
+Lexes text tokens = ReadsTokens text tokens (length text)
 
 -- The text is pieces up to a place, and there is this defect.
 abbrev pub LexBreaks : List ℕ → LexFault → Type 0
-LexBreaks text fault = (tokens : List Token) × (place : ℕ) × Reads text tokens place × (place < length text) × BreaksAt text place fault
+LexBreaks text fault = (tokens : List Token) × (place : ℕ) × ReadsTokens text tokens place × (place < length text) × BreaksAt text place fault
 
 abbrev pub HasTokens : List ℕ → Type 0
 HasTokens text = (tokens : List Token) × Lexes text tokens
@@ -82,7 +82,7 @@ AreSpans place (token ∷ tokens) end = (place ≤ token.from) × (token.from < 
 
 -- The text is pieces up to a place where a token stands.
 abbrev pub HasToken : List ℕ → Type 0
-HasToken text = (tokens : List Token) × (place : ℕ) × (kind : TokenKind) × (size : ℕ) × Reads text tokens place × StandsAt text place (pieces.Token kind size)
+HasToken text = (tokens : List Token) × (place : ℕ) × (kind : TokenKind) × (size : ℕ) × ReadsTokens text tokens place × StandsAt text place (pieces.Token kind size)
 
 -- The answer to a text. Memory is taken for tokens alone.
 abbrev pub Answers : List ℕ → Result (List Token) LexFault → Type 0

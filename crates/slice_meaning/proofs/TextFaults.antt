@@ -14,7 +14,7 @@ use Rattle.slice_syntax.specs.declared.tree.File.{File}
 use Rattle.slice_syntax.specs.declared.fault.SyntaxFault.{SyntaxFault}
 use Rattle.slice_syntax.specs.declared.fault.SyntaxFault.TheVariants as syntax
 use Rattle.slice_syntax.specs.Lexemes.{Lexemes, lexemes}
-use Rattle.slice_syntax.specs.Files.{Reads}
+use Rattle.slice_syntax.specs.Files.{ReadsFile}
 use Rattle.slice_syntax.specs.Syntax.{SyntaxBreaks, FaultOf, fault_at}
 use Rattle.slice_syntax.proofs.Breaking.{file_or_break, one_file, one_break as one_refusal, never_both as never_both_trees}
 use Rattle.slice_meaning.specs.Names.{Name}
@@ -58,7 +58,7 @@ tree_or_break file text = by_length (nat_le (length text) MOST_BYTES) refl
 pub one_tree : (text : List ℕ) (tree other : File) → IsTree text tree → IsTree text other → tree ≡ other
 one_tree text tree other a b =
     let same : a.tokens ≡ b.tokens = one_lexing text a.tokens b.tokens a.lexes b.lexes in
-    one_file (lexemes text b.tokens) tree other (subst (λ (ts : List Token). Reads (lexemes text ts) tree) same a.reads) b.reads
+    one_file (lexemes text b.tokens) tree other (subst (λ (ts : List Token). ReadsFile (lexemes text ts) tree) same a.reads) b.reads
 
 same_fault : (end : ℕ) (ls : Lexemes) (place other : ℕ) (found another : Option TokenKind) → FaultOf end ls (syntax.Expected place found) → FaultOf end ls (syntax.Expected other another) → place ≡ other
 same_fault end ls place other found another a b =
@@ -86,4 +86,4 @@ tree_no_break file text tree _ t (too_long l) = omega (arith, t.short, l)
 tree_no_break file text tree _ t (by_lexer fault short d) = lexes_whole text t.tokens fault t.lexes d
 tree_no_break file text tree _ t (by_parser tokens place found short lexes p) =
     let same : t.tokens ≡ tokens = one_lexing text t.tokens tokens t.lexes lexes in
-    never_both_trees (lexemes text tokens) tree p.0 p.1 (subst (λ (ts : List Token). Reads (lexemes text ts) tree) same t.reads) p.2
+    never_both_trees (lexemes text tokens) tree p.0 p.1 (subst (λ (ts : List Token). ReadsFile (lexemes text ts) tree) same t.reads) p.2

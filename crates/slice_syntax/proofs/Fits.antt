@@ -1,12 +1,12 @@
 -- The repeated parts of Slice are read with one token ahead.
 use Rattle.std.proofs.Common.{◌≡◌, true, refl}
-use Rattle.slice_syntax.specs.declared.sort.Sort.TheVariants as sorts
+use Rattle.slice_syntax.specs.declared.terminal.Terminal.TheVariants as terminals
 use Rattle.slice_syntax.specs.Grammar.{many, series, one, ◌▸◌}
-use Rattle.slice_syntax.specs.Sorts.{comma, colons, open_square, close_square}
+use Rattle.slice_syntax.specs.Terminals.{comma, colons, open_square, close_square}
 use Rattle.slice_syntax.specs.Rules.{word, name, texts, file_metadata, metadata, names, scoped, plain_type, object_type, named_type, type_word, signed_number, number, text, truth, named, value, given, tag, close, constant_item, entry, entry_comma, entries, enum_item, member, members, struct_item, sequence_item, dictionary_item, tagged_member, tagged_members, body, base, class_body, class_item, exception_item, paths, bases, thrown, parameter, parameter_list, parameters, answered, operation, operations, interface_body, interface_item, definition, Entry}
 use Rattle.slice_syntax.proofs.Fitting.{fits}
 
-pub fits_texts : fits (many (one comma ▸ one sorts.Text)) ≡ true
+pub fits_texts : fits (many (one comma ▸ one terminals.Text)) ≡ true
 unfolding word name texts file_metadata metadata names scoped plain_type object_type named_type type_word signed_number number text truth named value given tag close constant_item entry entry_comma entries enum_item member members struct_item sequence_item dictionary_item tagged_member tagged_members body base class_body class_item exception_item paths bases thrown parameter parameter_list parameters answered operation operations interface_body interface_item definition
 fits_texts = refl
 

@@ -10,9 +10,9 @@ use Rattle.case_tables.specs.Tables.{keyword_names, symbol_names}
 use Rattle.case_tables.proofs.Places.{no_row}
 use Rattle.slice_lexer.specs.Tokens as forms
 use Rattle.slice_lexer.specs.declared.token.TokenKind.TheVariants as kinds
-use Rattle.slice_syntax.specs.declared.sort.Sort.{Sort}
-use Rattle.slice_syntax.specs.declared.sort.Sort.TheVariants as sorts
-use Rattle.slice_syntax.specs.Lexemes.{IsAlone, AreTokens, Lexeme, Lexemes, has, begins, sort_of, is_sort, group, code, word_sort, directive_sort}
+use Rattle.slice_syntax.specs.declared.terminal.Terminal.{Terminal}
+use Rattle.slice_syntax.specs.declared.terminal.Terminal.TheVariants as terminals
+use Rattle.slice_syntax.specs.Lexemes.{IsAlone, AreTokens, Lexeme, Lexemes, has, begins, terminal_of, is_terminal, group, code, word_terminal, directive_terminal}
 use Rattle.slice_syntax.specs.Grammar.{Grammar, nothing, token, made, both, or, series, Spells, Where, Runs}
 use Rattle.slice_syntax.specs.Reading.{Reading, is_empty, starts, starts_where, read}
 use Rattle.slice_syntax.proofs.Sets.{disjoint, apart, begins_append, both_true}
@@ -20,17 +20,17 @@ use Rattle.slice_syntax.proofs.Laws.{Lawful, lawful_nothing, lawful_token, lawfu
 use Rattle.slice_syntax.proofs.Loops.{Stepping, lawful_runs}
 
 -- a token of each sort
-sample_of : Sort → Lexeme
-sample_of sorts.Word = record { kind = kinds.Word; from = 0; bytes = codes "a" }
-sample_of (sorts.Keyword n) = record { kind = kinds.Keyword n; from = 0; bytes = get_or keyword_names n [] }
-sample_of sorts.Number = record { kind = kinds.Number 0; from = 0; bytes = codes "0" }
-sample_of sorts.Text = record { kind = kinds.Text; from = 0; bytes = 34 ∷ 34 ∷ [] }
-sample_of (sorts.Symbol n) = record { kind = kinds.Symbol n; from = 0; bytes = get_or symbol_names n [] }
-sample_of sorts.Include = record { kind = kinds.Directive; from = 0; bytes = codes "#include<a>" }
-sample_of sorts.Guard = record { kind = kinds.Directive; from = 0; bytes = codes "#ifndef a" }
-sample_of sorts.Aside = record { kind = kinds.Directive; from = 0; bytes = codes "#pragma once" }
-sample_of sorts.EndGuard = record { kind = kinds.Directive; from = 0; bytes = codes "#endif" }
-sample_of sorts.Stray = record { kind = kinds.Directive; from = 0; bytes = codes "#" }
+sample_of : Terminal → Lexeme
+sample_of terminals.Word = record { kind = kinds.Word; from = 0; bytes = codes "a" }
+sample_of (terminals.Keyword n) = record { kind = kinds.Keyword n; from = 0; bytes = get_or keyword_names n [] }
+sample_of terminals.Number = record { kind = kinds.Number 0; from = 0; bytes = codes "0" }
+sample_of terminals.Text = record { kind = kinds.Text; from = 0; bytes = 34 ∷ 34 ∷ [] }
+sample_of (terminals.Symbol n) = record { kind = kinds.Symbol n; from = 0; bytes = get_or symbol_names n [] }
+sample_of terminals.Include = record { kind = kinds.Directive; from = 0; bytes = codes "#include<a>" }
+sample_of terminals.Guard = record { kind = kinds.Directive; from = 0; bytes = codes "#ifndef a" }
+sample_of terminals.Aside = record { kind = kinds.Directive; from = 0; bytes = codes "#pragma once" }
+sample_of terminals.EndGuard = record { kind = kinds.Directive; from = 0; bytes = codes "#endif" }
+sample_of terminals.Stray = record { kind = kinds.Directive; from = 0; bytes = codes "#" }
 
 low : (i : ℕ) → slice_index (codes "a") i < 128
 low zero = omega arith
@@ -39,76 +39,76 @@ low (suc i) = omega arith
 a_text : is_utf8 (codes "a") ≡ true
 a_text = is_utf8-from_IsUtf8 (codes "a") (IsUtf8-from_ascii (codes "a") low)
 
-sampled : (s : Sort) → sort_of (sample_of s) ≡ s
-unfolding sample_of word_sort directive_sort
-sampled sorts.Word = rw a_text refl
-sampled (sorts.Keyword n) = refl
-sampled sorts.Number = refl
-sampled sorts.Text = refl
-sampled (sorts.Symbol n) = refl
-sampled sorts.Include = rw a_text refl
-sampled sorts.Guard = refl
-sampled sorts.Aside = refl
-sampled sorts.EndGuard = refl
-sampled sorts.Stray = refl
+sampled : (s : Terminal) → terminal_of (sample_of s) ≡ s
+unfolding sample_of word_terminal directive_terminal
+sampled terminals.Word = rw a_text refl
+sampled (terminals.Keyword n) = refl
+sampled terminals.Number = refl
+sampled terminals.Text = refl
+sampled (terminals.Symbol n) = refl
+sampled terminals.Include = rw a_text refl
+sampled terminals.Guard = refl
+sampled terminals.Aside = refl
+sampled terminals.EndGuard = refl
+sampled terminals.Stray = refl
 
-pub same_sort : (s : Sort) → is_sort s s ≡ true
-same_sort s = let a = eq-eqb (group s) (group s) refl in let b = eq-eqb (code s) (code s) refl in rw (a, b) refl
+pub same_terminal : (s : Terminal) → is_terminal s s ≡ true
+same_terminal s = let a = eq-eqb (group s) (group s) refl in let b = eq-eqb (code s) (code s) refl in rw (a, b) refl
 
 -- sorts that some token has
-abbrev pub is_known : Sort → Bool
-is_known sorts.Word = true
-is_known (sorts.Keyword n) = nat_lt n 30
-is_known sorts.Number = true
-is_known sorts.Text = true
-is_known (sorts.Symbol n) = nat_lt n 17
-is_known sorts.Include = true
-is_known sorts.Guard = true
-is_known sorts.Aside = true
-is_known sorts.EndGuard = true
-is_known sorts.Stray = false
+abbrev pub is_known : Terminal → Bool
+is_known terminals.Word = true
+is_known (terminals.Keyword n) = nat_lt n 30
+is_known terminals.Number = true
+is_known terminals.Text = true
+is_known (terminals.Symbol n) = nat_lt n 17
+is_known terminals.Include = true
+is_known terminals.Guard = true
+is_known terminals.Aside = true
+is_known terminals.EndGuard = true
+is_known terminals.Stray = false
 
-abbrev pub any_sort : List Sort → Bool
-any_sort [] = false
-any_sort (s ∷ set) = is_known s
+abbrev pub any_terminal : List Terminal → Bool
+any_terminal [] = false
+any_terminal (s ∷ set) = is_known s
 
-sample : List Sort → Lexeme
-sample [] = sample_of sorts.Stray
+sample : List Terminal → Lexeme
+sample [] = sample_of terminals.Stray
 sample (s ∷ set) = sample_of s
 
-sample_fits : (set : List Sort) → any_sort set ≡ true → has set (sort_of (sample set)) ≡ true
+sample_fits : (set : List Terminal) → any_terminal set ≡ true → has set (terminal_of (sample set)) ≡ true
 unfolding sample
 sample_fits [] h = absurd cc
-sample_fits (s ∷ set) h = let is = sampled s in let same = same_sort s in rw (is, same) refl
+sample_fits (s ∷ set) h = let is = sampled s in let same = same_terminal s in rw (is, same) refl
 
-keyword_alone : (n : ℕ) → nat_lt n 30 ≡ true → IsAlone (sample_of (sorts.Keyword n))
+keyword_alone : (n : ℕ) → nat_lt n 30 ≡ true → IsAlone (sample_of (terminals.Keyword n))
 unfolding sample_of
 keyword_alone n h = slice_get-get_or keyword_names n [] (ltb-true n 30 h)
 
-symbol_alone : (n : ℕ) → nat_lt n 17 ≡ true → IsAlone (sample_of (sorts.Symbol n))
+symbol_alone : (n : ℕ) → nat_lt n 17 ≡ true → IsAlone (sample_of (terminals.Symbol n))
 unfolding sample_of
 symbol_alone n h = slice_get-get_or symbol_names n [] (ltb-true n 17 h)
 
-alone_of : (s : Sort) → is_known s ≡ true → IsAlone (sample_of s)
+alone_of : (s : Terminal) → is_known s ≡ true → IsAlone (sample_of s)
 unfolding sample_of
-alone_of sorts.Word h = inl ((refl, refl), no_row keyword_names (codes "a") refl)
-alone_of (sorts.Keyword n) h = keyword_alone n h
-alone_of sorts.Number h = (inr (inl (refl, refl, refl)), omega arith)
-alone_of sorts.Text h = ([], refl, forms.none)
-alone_of (sorts.Symbol n) h = symbol_alone n h
-alone_of sorts.Include h = (refl, refl)
-alone_of sorts.Guard h = (refl, refl)
-alone_of sorts.Aside h = (refl, refl)
-alone_of sorts.EndGuard h = (refl, refl)
-alone_of sorts.Stray h = absurd cc
+alone_of terminals.Word h = inl ((refl, refl), no_row keyword_names (codes "a") refl)
+alone_of (terminals.Keyword n) h = keyword_alone n h
+alone_of terminals.Number h = (inr (inl (refl, refl, refl)), omega arith)
+alone_of terminals.Text h = ([], refl, forms.none)
+alone_of (terminals.Symbol n) h = symbol_alone n h
+alone_of terminals.Include h = (refl, refl)
+alone_of terminals.Guard h = (refl, refl)
+alone_of terminals.Aside h = (refl, refl)
+alone_of terminals.EndGuard h = (refl, refl)
+alone_of terminals.Stray h = absurd cc
 
-sample_alone : (set : List Sort) → any_sort set ≡ true → IsAlone (sample set)
+sample_alone : (set : List Terminal) → any_terminal set ≡ true → IsAlone (sample set)
 unfolding sample
 sample_alone [] h = absurd cc
 sample_alone (s ∷ set) h = alone_of s h
 
 -- what a whole spelling may go on with
-abbrev pub goes : {A : Type 0} → Grammar A → List Sort
+abbrev pub goes : {A : Type 0} → Grammar A → List Terminal
 goes (nothing x) = []
 goes (token set view) = []
 goes (made view g) = goes g
@@ -119,7 +119,7 @@ goes (series more g) = goes g ++ starts g
 -- One token ahead tells which part is next.
 abbrev pub fits : {A : Type 0} → Grammar A → Bool
 fits (nothing x) = true
-fits (token set view) = any_sort set
+fits (token set view) = any_terminal set
 fits (made view g) = fits g
 fits (both make g h) = fits g && (fits h && disjoint (goes g) (starts h))
 fits (or g h) = not (is_empty g) && (disjoint (starts g) (starts h) && (fits g && fits h))
@@ -129,11 +129,11 @@ pub not_true : (b : Bool) → not b ≡ true → b ≡ false
 not_true true h = absurd cc
 not_true false h = refl
 
-pub full : {A : Type 0} (P : Lexemes → A → Type 0) (r : Lexemes → Reading A) (bare : Bool) (set others : List Sort) → bare ≡ false → Lawful P r bare set others → Lawful P r false set others
+pub full : {A : Type 0} (P : Lexemes → A → Type 0) (r : Lexemes → Reading A) (bare : Bool) (set others : List Terminal) → bare ≡ false → Lawful P r bare set others → Lawful P r false set others
 full P r bare set others e g = subst (λ (b : Bool). Lawful P r b set others) e g
 
 -- the laws of one part that is no empty one
-pub stepping : {X : Type 0} (P : Lexemes → X → Type 0) (p : Lexemes → Reading X) (set others : List Sort) → Lawful P p false set others → Stepping P p set others
+pub stepping : {X : Type 0} (P : Lexemes → X → Type 0) (p : Lexemes → Reading X) (set others : List Terminal) → Lawful P p false set others → Stepping P p set others
 stepping P p set others g = record {
   empty = λ x h. false≢true (g.empty x h);
   first = g.first;
@@ -157,10 +157,10 @@ module _ {A : Type 0} (more : A → Bool) (g : Grammar A) (laws : Lawful (Spells
     only = λ taken rest x h none. absurd h;
   }
 
-  pub series_clear : (s : Bool) (x : A) (l : Lexeme) → has (goes g) (sort_of l) ≡ true → has (starts_where (starts g) (more x)) (sort_of l) ≡ false
+  pub series_clear : (s : Bool) (x : A) (l : Lexeme) → has (goes g) (terminal_of l) ≡ true → has (starts_where (starts g) (more x)) (terminal_of l) ≡ false
   series_clear s x l h = by (more x) where
-    by : (b : Bool) → has (starts_where (starts g) b) (sort_of l) ≡ false
-    by true = apart (goes g) (starts g) (sort_of l) clear h
+    by : (b : Bool) → has (starts_where (starts g) b) (terminal_of l) ≡ false
+    by true = apart (goes g) (starts g) (terminal_of l) clear h
     by false = refl
 
   pub series_ends : (s : Bool) → true ≡ true → (rest : Lexemes) → begins (goes g ++ starts g) rest ≡ false → begins (starts_where (starts g) s) rest ≡ false

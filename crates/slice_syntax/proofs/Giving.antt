@@ -1,8 +1,8 @@
 -- What holds of what the tokens of a rule spell, joiner by joiner.
 use Rattle.std.proofs.Common.{◌⊎◌, Bool, true, false, List, [], ◌∷◌, ◌++◌, sym, subst, inl, inr}
 use Rattle.std.specs.Prelude.{IsTrue}
-use Rattle.slice_syntax.specs.declared.sort.Sort.{Sort}
-use Rattle.slice_syntax.specs.Lexemes.{Lexeme, Lexemes, has, sort_of}
+use Rattle.slice_syntax.specs.declared.terminal.Terminal.{Terminal}
+use Rattle.slice_syntax.specs.Lexemes.{Lexeme, Lexemes, has, terminal_of}
 use Rattle.slice_syntax.specs.Grammar.{Grammar, nothing, token, made, both, or, series, Spells, Runs, one, optional, many, parted}
 use Rattle.slice_syntax.specs.Grammar as grammar
 use Rattle.slice_syntax.specs.Places.{Each, Where}
@@ -13,7 +13,7 @@ pub record Gives (T : Lexeme → Type 0) {A : Type 0} (Holds : A → Type 0) (g 
   pub gives : (ls : Lexemes) (a : A) → Spells g ls a → Each T ls → Holds a
 
 module _ {T : Lexeme → Type 0} where
-  pub by_token : {A : Type 0} {Holds : A → Type 0} {found : List Sort} {view : Lexeme → A} → ((l : Lexeme) → IsTrue (has found (sort_of l)) → T l → Holds (view l))
+  pub by_token : {A : Type 0} {Holds : A → Type 0} {found : List Terminal} {view : Lexeme → A} → ((l : Lexeme) → IsTrue (has found (terminal_of l)) → T l → Holds (view l))
       → Gives T Holds (token found view)
   by_token {Holds = Holds} f = record { gives = λ ls a s h. let all : Each T (s.0 ∷ []) = subst (Each T) s.1 h in subst Holds (sym s.3) (f s.0 s.2 all.0) }
 
@@ -64,5 +64,5 @@ module _ {T : Lexeme → Type 0} where
   pub by_optional : {A : Type 0} {Holds : A → Type 0} {g : Grammar A} → Gives T Holds g → Gives T (Where Holds) (optional g)
   by_optional inner = by_or (by_made inner (λ x i. i)) (by_nothing tt)
 
-  pub by_parted : {A : Type 0} {Holds : A → Type 0} {sort : Sort} {g : Grammar A} → Gives T Holds g → Gives T (Each Holds) (parted sort g)
+  pub by_parted : {A : Type 0} {Holds : A → Type 0} {terminal : Terminal} {g : Grammar A} → Gives T Holds g → Gives T (Each Holds) (parted terminal g)
   by_parted inner = by_both inner (by_series (by_second inner)) (λ x xs a b. (a, b))

@@ -1,9 +1,9 @@
 -- What stands before the modules, one by one.
 use Rattle.std.proofs.Common.{ℕ, ◌≡◌, Bool, true, false, ◌||◌, List, [], ◌∷◌, ◌++◌, refl, ap, ◌∙◌, append_assoc}
-use Rattle.slice_syntax.specs.declared.sort.Sort.TheVariants as sorts
+use Rattle.slice_syntax.specs.declared.terminal.Terminal.TheVariants as terminals
 use Rattle.slice_syntax.specs.Grammar.{many}
 use Rattle.slice_syntax.specs.Reading.{starts}
-use Rattle.slice_syntax.specs.Sorts.{open_two}
+use Rattle.slice_syntax.specs.Terminals.{open_two}
 use Rattle.slice_syntax.specs.Rules.{texts, file_metadata}
 use Rattle.slice_syntax.specs.Files.{Head, guard, aside, include, directive, is_guarded, includes_in}
 use Rattle.slice_syntax.proofs.Fitting.{fits}
@@ -53,6 +53,6 @@ pub fits_heads : fits (many directive) ≡ true
 unfolding texts file_metadata directive
 fits_heads = refl
 
-pub starts_directive : starts directive ≡ sorts.Include ∷ sorts.Guard ∷ sorts.Aside ∷ open_two ∷ []
+pub starts_directive : starts directive ≡ terminals.Include ∷ terminals.Guard ∷ terminals.Aside ∷ open_two ∷ []
 unfolding texts file_metadata directive
 starts_directive = refl

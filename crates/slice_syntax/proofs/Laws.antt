@@ -2,8 +2,8 @@
 use Rattle.std.proofs.Common.{◌≡◌, Bool, true, false, IsTrue, cond, ◌&&◌, ◌||◌, List, [], ◌∷◌, ◌++◌, Some, None, Ok, Err, ◌⊎◌, inl, inr, refl, sym, ap, subst, ◌∙◌, append_assoc}
 use Rattle.std.proofs.lemmas.Bool.{false≢true}
 use Rattle.std.proofs.lemmas.List.Folds.{list_any-append}
-use Rattle.slice_syntax.specs.declared.sort.Sort.{Sort}
-use Rattle.slice_syntax.specs.Lexemes.{IsAlone, AreTokens, Lexeme, Lexemes, has, begins, next, sort_of, is_sort}
+use Rattle.slice_syntax.specs.declared.terminal.Terminal.{Terminal}
+use Rattle.slice_syntax.specs.Lexemes.{IsAlone, AreTokens, Lexeme, Lexemes, has, begins, next, terminal_of, is_terminal}
 use Rattle.slice_syntax.specs.Reading.{Reading, ◌>>=◌, token_at, or_at}
 use Rattle.slice_syntax.proofs.Sets.{disjoint, apart, begins_append, begins_next, next_append}
 
@@ -25,9 +25,9 @@ pub record Stopped {A : Type 0} (P : Lexemes → A → Type 0) (r : Lexemes → 
   pub spelled : P (front ++ more) value
 
 -- The reading is that of the spellings: `bare` says whether no token may be one, `starts` has what they begin with, `goes` what they may go on with.
-pub record Lawful {A : Type 0} (P : Lexemes → A → Type 0) (r : Lexemes → Reading A) (bare : Bool) (starts goes : List Sort) : Type 0 where
+pub record Lawful {A : Type 0} (P : Lexemes → A → Type 0) (r : Lexemes → Reading A) (bare : Bool) (starts goes : List Terminal) : Type 0 where
   pub empty : (x : A) → P [] x → bare ≡ true
-  pub first : (l : Lexeme) (ls : Lexemes) (x : A) → P (l ∷ ls) x → has starts (sort_of l) ≡ true
+  pub first : (l : Lexeme) (ls : Lexemes) (x : A) → P (l ∷ ls) x → has starts (terminal_of l) ≡ true
   pub some : Lexemes
   pub real : AreTokens some
   pub value : A
@@ -53,11 +53,11 @@ or_right : (a b : Bool) → b ≡ true → (a || b) ≡ true
 or_right true b e = refl
 or_right false b e = e
 
-has_left : (a b : List Sort) (s : Sort) → has a s ≡ true → has (a ++ b) s ≡ true
-has_left a b s e = list_any-append (λ other. is_sort other s) a b ∙ rw e refl
+has_left : (a b : List Terminal) (s : Terminal) → has a s ≡ true → has (a ++ b) s ≡ true
+has_left a b s e = list_any-append (λ other. is_terminal other s) a b ∙ rw e refl
 
-has_right : (a b : List Sort) (s : Sort) → has b s ≡ true → has (a ++ b) s ≡ true
-has_right a b s e = list_any-append (λ other. is_sort other s) a b ∙ or_right (has a s) (has b s) e
+has_right : (a b : List Terminal) (s : Terminal) → has b s ≡ true → has (a ++ b) s ≡ true
+has_right a b s e = list_any-append (λ other. is_terminal other s) a b ∙ or_right (has a s) (has b s) e
 
 pub ok_parts : {A : Type 0} (x y : A) (ls rest : Lexemes) → ◌≡◌ {A = Reading A} (Ok (x, ls)) (Ok (y, rest)) → (x ≡ y) × (ls ≡ rest)
 ok_parts {A = A} x y ls rest e = let p : (x, ls) ≡ (y, rest) = cc in (ap (λ (q : A × Lexemes). q.0) p, ap (λ (q : A × Lexemes). q.1) p)
@@ -87,39 +87,39 @@ module _ {A : Type 0} (a : A) where
   }
 
 -- One token.
-module _ {A : Type 0} (sorts : List Sort) (view : Lexeme → A) where
+module _ {A : Type 0} (terminals : List Terminal) (view : Lexeme → A) where
   abbrev One : Lexemes → A → Type 0
-  One ls x = (l : Lexeme) × (ls ≡ l ∷ []) × IsTrue (has sorts (sort_of l)) × (x ≡ view l)
+  One ls x = (l : Lexeme) × (ls ≡ l ∷ []) × IsTrue (has terminals (terminal_of l)) × (x ≡ view l)
 
-  one_first : (l : Lexeme) (ls : Lexemes) (x : A) → One (l ∷ ls) x → has sorts (sort_of l) ≡ true
-  one_first l ls x h = let e = h.1 in let same : h.0 ≡ l = cc in subst (λ (t : Lexeme). has sorts (sort_of t) ≡ true) same h.2
+  one_first : (l : Lexeme) (ls : Lexemes) (x : A) → One (l ∷ ls) x → has terminals (terminal_of l) ≡ true
+  one_first l ls x h = let e = h.1 in let same : h.0 ≡ l = cc in subst (λ (t : Lexeme). has terminals (terminal_of t) ≡ true) same h.2
 
-  one_found : (l : Lexeme) (ls rest : Lexemes) (x : A) (b : Bool) → has sorts (sort_of l) ≡ b → cond {A = Reading A} b (Ok (view l, ls)) (Err (l ∷ ls)) ≡ Ok (x, rest) → Took One (token_at sorts view) (l ∷ ls) x rest
+  one_found : (l : Lexeme) (ls rest : Lexemes) (x : A) (b : Bool) → has terminals (terminal_of l) ≡ b → cond {A = Reading A} b (Ok (view l, ls)) (Err (l ∷ ls)) ≡ Ok (x, rest) → Took One (token_at terminals view) (l ∷ ls) x rest
   one_found l ls rest x true test e =
       let is = ok_parts (view l) x ls rest e in
       let same = is.0 in
       record { taken = l ∷ []; parts = ap (λ (t : Lexemes). l ∷ t) is.1; spelled = (l, refl, test, sym same); kept = λ other n. rw (test, same) refl }
   one_found l ls rest x false test e = absurd cc
 
-  one_stopped : (sample : Lexeme) → IsAlone sample → has sorts (sort_of sample) ≡ true → (l : Lexeme) (ls left : Lexemes) (b : Bool) → has sorts (sort_of l) ≡ b → cond {A = Reading A} b (Ok (view l, ls)) (Err (l ∷ ls)) ≡ Err left
-      → Stopped One (token_at sorts view) (l ∷ ls) left
+  one_stopped : (sample : Lexeme) → IsAlone sample → has terminals (terminal_of sample) ≡ true → (l : Lexeme) (ls left : Lexemes) (b : Bool) → has terminals (terminal_of l) ≡ b → cond {A = Reading A} b (Ok (view l, ls)) (Err (l ∷ ls)) ≡ Err left
+      → Stopped One (token_at terminals view) (l ∷ ls) left
   one_stopped sample alone fits l ls left true test e = absurd cc
   one_stopped sample alone fits l ls left false test e =
       let same : l ∷ ls ≡ left = cc in
       record { front = []; parts = same; kept = λ other n. refuse other (ap next same ∙ n); more = sample ∷ []; real = (alone, tt); value = view sample; spelled = (sample, refl, fits, refl) } where
-        refuse : (other : Lexemes) → Some l ≡ next other → token_at sorts view other ≡ Err other
+        refuse : (other : Lexemes) → Some l ≡ next other → token_at terminals view other ≡ Err other
         refuse [] n = absurd cc
         refuse (o ∷ others) n = let is : l ≡ o = cc in rw (sym is, test) refl
 
-  end_stopped : (sample : Lexeme) → IsAlone sample → has sorts (sort_of sample) ≡ true → (left : Lexemes) → ◌≡◌ {A = Reading A} (Err []) (Err left) → Stopped One (token_at sorts view) [] left
+  end_stopped : (sample : Lexeme) → IsAlone sample → has terminals (terminal_of sample) ≡ true → (left : Lexemes) → ◌≡◌ {A = Reading A} (Err []) (Err left) → Stopped One (token_at terminals view) [] left
   end_stopped sample alone fits left e =
       let same : [] ≡ left = cc in
       record { front = []; parts = same; kept = λ other n. refuse other (ap next same ∙ n); more = sample ∷ []; real = (alone, tt); value = view sample; spelled = (sample, refl, fits, refl) } where
-        refuse : (other : Lexemes) → None ≡ next other → token_at sorts view other ≡ Err other
+        refuse : (other : Lexemes) → None ≡ next other → token_at terminals view other ≡ Err other
         refuse [] n = refl
         refuse (o ∷ others) n = absurd cc
 
-  pub lawful_token : (sample : Lexeme) → IsAlone sample → has sorts (sort_of sample) ≡ true → Lawful One (token_at sorts view) false sorts []
+  pub lawful_token : (sample : Lexeme) → IsAlone sample → has terminals (terminal_of sample) ≡ true → Lawful One (token_at terminals view) false terminals []
   lawful_token sample alone fits = record {
     empty = λ x h. let e = h.1 in absurd cc;
     first = one_first;
@@ -131,13 +131,13 @@ module _ {A : Type 0} (sorts : List Sort) (view : Lexeme → A) where
     stopped = stopped;
     only = λ taken rest x h none. let l = h.0 in let test = h.2 in let is = sym h.3 in rw (h.1, test, is) refl;
   } where
-    found : (ls rest : Lexemes) (x : A) → token_at sorts view ls ≡ Ok (x, rest) → Took One (token_at sorts view) ls x rest
+    found : (ls rest : Lexemes) (x : A) → token_at terminals view ls ≡ Ok (x, rest) → Took One (token_at terminals view) ls x rest
     found [] rest x e = absurd cc
-    found (l ∷ ls) rest x e = one_found l ls rest x (has sorts (sort_of l)) refl e
+    found (l ∷ ls) rest x e = one_found l ls rest x (has terminals (terminal_of l)) refl e
 
-    stopped : (ls left : Lexemes) → token_at sorts view ls ≡ Err left → Stopped One (token_at sorts view) ls left
+    stopped : (ls left : Lexemes) → token_at terminals view ls ≡ Err left → Stopped One (token_at terminals view) ls left
     stopped [] left e = end_stopped sample alone fits left e
-    stopped (l ∷ ls) left e = one_stopped sample alone fits l ls left (has sorts (sort_of l)) refl e
+    stopped (l ∷ ls) left e = one_stopped sample alone fits l ls left (has terminals (terminal_of l)) refl e
 
 -- The same spellings for other values.
 module _ {X A : Type 0} (view : X → A) (P : Lexemes → X → Type 0) (p : Lexemes → Reading X) where
@@ -147,7 +147,7 @@ module _ {X A : Type 0} (view : X → A) (P : Lexemes → X → Type 0) (p : Lex
   abbrev made_at : Lexemes → Reading A
   made_at ls = p ls >>= (λ x. Ok (view x.0, x.1))
 
-  pub lawful_made : (bare : Bool) (starts goes : List Sort) → Lawful P p bare starts goes → Lawful Made made_at bare starts goes
+  pub lawful_made : (bare : Bool) (starts goes : List Terminal) → Lawful P p bare starts goes → Lawful Made made_at bare starts goes
   lawful_made bare starts goes g = record {
     empty = λ a h. g.empty h.0 h.1;
     first = λ l ls a h. g.first l ls h.0 h.1;
@@ -184,7 +184,7 @@ module _ {X Y A : Type 0} (make : X → Y → A) (P : Lexemes → X → Type 0) 
   abbrev second : X → Lexemes → Reading A
   second x mid = q x mid >>= (λ y. Ok (make x y.0, y.1))
 
-  module _ (bare : Bool) (starts goes : List Sort) (bare2 : Bool) (starts2 goes2 : List Sort) (g : Lawful P p bare starts goes) (h : (x : X) → Lawful (Q x) (q x) bare2 starts2 goes2)
+  module _ (bare : Bool) (starts goes : List Terminal) (bare2 : Bool) (starts2 goes2 : List Terminal) (g : Lawful P p bare starts goes) (h : (x : X) → Lawful (Q x) (q x) bare2 starts2 goes2)
       (clear : disjoint goes starts2 ≡ true) where
     both_empty : (before behind : Lexemes) → [] ≡ before ++ behind → (before ≡ []) × (behind ≡ [])
     both_empty [] behind e = (refl, sym e)
@@ -198,17 +198,17 @@ module _ {X Y A : Type 0} (make : X → Y → A) (P : Lexemes → X → Type 0) 
         let e = both_empty s.2 s.3 s.4 in
         join_true bare bare2 (g.empty s.0 (subst (λ (t : Lexemes). P t s.0) e.0 s.5)) ((h s.0).empty s.1 (subst (λ (t : Lexemes). Q s.0 t s.1) e.1 s.6))
 
-    first_of : (l : Lexeme) (x : X) (y : Y) (before behind ls : Lexemes) → l ∷ ls ≡ before ++ behind → P before x → Q x behind y → has (cond bare (starts ++ starts2) starts) (sort_of l) ≡ true
+    first_of : (l : Lexeme) (x : X) (y : Y) (before behind ls : Lexemes) → l ∷ ls ≡ before ++ behind → P before x → Q x behind y → has (cond bare (starts ++ starts2) starts) (terminal_of l) ≡ true
     first_of l x y [] behind ls e s t =
         let none = g.empty x s in
-        let second : has starts2 (sort_of l) ≡ true = (h x).first l ls y (subst (λ (z : Lexemes). Q x z y) (sym e) t) in
-        rw none (has_right starts starts2 (sort_of l) second)
+        let second : has starts2 (terminal_of l) ≡ true = (h x).first l ls y (subst (λ (z : Lexemes). Q x z y) (sym e) t) in
+        rw none (has_right starts starts2 (terminal_of l) second)
     first_of l x y (b ∷ before) behind ls e s t =
         let same : l ≡ b = cc in
-        let here : has starts (sort_of l) ≡ true = subst (λ (z : Lexeme). has starts (sort_of z) ≡ true) (sym same) (g.first b before x s) in
+        let here : has starts (terminal_of l) ≡ true = subst (λ (z : Lexeme). has starts (terminal_of z) ≡ true) (sym same) (g.first b before x s) in
         widened bare here where
-          widened : (b : Bool) → has starts (sort_of l) ≡ true → has (cond b (starts ++ starts2) starts) (sort_of l) ≡ true
-          widened true here = has_left starts starts2 (sort_of l) here
+          widened : (b : Bool) → has starts (terminal_of l) ≡ true → has (cond b (starts ++ starts2) starts) (terminal_of l) ≡ true
+          widened true here = has_left starts starts2 (terminal_of l) here
           widened false here = here
 
     -- what a first part is not mistaken to go on with
@@ -217,10 +217,10 @@ module _ {X Y A : Type 0} (make : X → Y → A) (P : Lexemes → X → Type 0) 
         let bare_is = (h x).empty y t in
         let tail = (begins_append goes2 (cond bare2 goes []) rest none).1 in
         rw bare_is at tail
-    clear_of x y (l ∷ behind) rest t none = apart_of (has goes (sort_of l)) refl where
-      apart_of : (b : Bool) → has goes (sort_of l) ≡ b → has goes (sort_of l) ≡ false
-      apart_of true e = absurd (differ ((h x).first l behind y t) (apart goes starts2 (sort_of l) clear e)) where
-        differ : has starts2 (sort_of l) ≡ true → has starts2 (sort_of l) ≡ false → ⊥
+    clear_of x y (l ∷ behind) rest t none = apart_of (has goes (terminal_of l)) refl where
+      apart_of : (b : Bool) → has goes (terminal_of l) ≡ b → has goes (terminal_of l) ≡ false
+      apart_of true e = absurd (differ ((h x).first l behind y t) (apart goes starts2 (terminal_of l) clear e)) where
+        differ : has starts2 (terminal_of l) ≡ true → has starts2 (terminal_of l) ≡ false → ⊥
         differ d e = cc
       apart_of false e = e
 
@@ -295,13 +295,13 @@ module _ {A : Type 0} (P : Lexemes → A → Type 0) (p : Lexemes → Reading A)
   abbrev Either : Lexemes → A → Type 0
   Either ls a = P ls a ⊎ Q ls a
 
-  module _ (starts goes : List Sort) (bare2 : Bool) (starts2 goes2 : List Sort) (g : Lawful P p false starts goes) (h : Lawful Q q bare2 starts2 goes2) (clear : disjoint starts starts2 ≡ true) where
+  module _ (starts goes : List Terminal) (bare2 : Bool) (starts2 goes2 : List Terminal) (g : Lawful P p false starts goes) (h : Lawful Q q bare2 starts2 goes2) (clear : disjoint starts starts2 ≡ true) where
     abbrev either_at : Lexemes → Reading A
     either_at ls = or_at (begins starts ls) p q ls
 
-    or_first : (l : Lexeme) (ls : Lexemes) (x : A) → Either (l ∷ ls) x → has (starts ++ starts2) (sort_of l) ≡ true
-    or_first l ls x (inl s) = has_left starts starts2 (sort_of l) (g.first l ls x s)
-    or_first l ls x (inr t) = has_right starts starts2 (sort_of l) (h.first l ls x t)
+    or_first : (l : Lexeme) (ls : Lexemes) (x : A) → Either (l ∷ ls) x → has (starts ++ starts2) (terminal_of l) ≡ true
+    or_first l ls x (inl s) = has_left starts starts2 (terminal_of l) (g.first l ls x s)
+    or_first l ls x (inr t) = has_right starts starts2 (terminal_of l) (h.first l ls x t)
 
     or_empty : (x : A) → Either [] x → bare2 ≡ true
     or_empty x (inl s) = absurd (false≢true (g.empty x s))
@@ -371,9 +371,9 @@ module _ {A : Type 0} (P : Lexemes → A → Type 0) (p : Lexemes → Reading A)
         let begun : begins starts rest ≡ false = rw bare_is at tail in
         rw begun (h.only [] rest x t parts.0)
     or_only (l ∷ taken) rest x (inr t) none =
-        other (has starts (sort_of l)) refl where
-          other : (b : Bool) → has starts (sort_of l) ≡ b → either_at (l ∷ taken ++ rest) ≡ Ok (x, rest)
-          other true e = let f = apart starts starts2 (sort_of l) clear e in let t2 = h.first l taken x t in absurd cc
+        other (has starts (terminal_of l)) refl where
+          other : (b : Bool) → has starts (terminal_of l) ≡ b → either_at (l ∷ taken ++ rest) ≡ Ok (x, rest)
+          other true e = let f = apart starts starts2 (terminal_of l) clear e in let t2 = h.first l taken x t in absurd cc
           other false e = rw e (h.only (l ∷ taken) rest x t (begins_append goes2 (cond bare2 starts []) rest (begins_append goes (goes2 ++ cond bare2 starts []) rest none).1).0)
 
     pub lawful_or : Lawful Either either_at bare2 (starts ++ starts2) (goes ++ (goes2 ++ cond bare2 starts []))

@@ -1,22 +1,22 @@
 -- Reading parts one after the other, and their spellings.
 use Rattle.std.proofs.Common.{ℕ, zero, suc, ◌≡◌, ◌<◌, ◌≤◌, Bool, true, false, cond, List, [], ◌∷◌, ◌++◌, length, Ok, Err, refl, sym, ap, subst, ◌∙◌, append_assoc, arith}
 use Rattle.std.proofs.lemmas.List.{length-append}
-use Rattle.slice_syntax.specs.declared.sort.Sort.{Sort}
-use Rattle.slice_syntax.specs.Lexemes.{AreTokens, Lexeme, Lexemes, has, begins, next, sort_of}
+use Rattle.slice_syntax.specs.declared.terminal.Terminal.{Terminal}
+use Rattle.slice_syntax.specs.Lexemes.{AreTokens, Lexeme, Lexemes, has, begins, next, terminal_of}
 use Rattle.slice_syntax.specs.Grammar.{Runs}
 use Rattle.slice_syntax.specs.Reading.{Reading, ◌>>=◌, runs_at}
 use Rattle.slice_syntax.proofs.Sets.{begins_next, next_append}
 use Rattle.slice_syntax.proofs.Laws.{are_append, Took, Stopped, Lawful, then_ok, then_err, ok_parts}
 
 -- The laws of one part, which is read where it begins.
-pub record Stepping {X : Type 0} (P : Lexemes → X → Type 0) (p : Lexemes → Reading X) (starts goes : List Sort) : Type 0 where
+pub record Stepping {X : Type 0} (P : Lexemes → X → Type 0) (p : Lexemes → Reading X) (starts goes : List Terminal) : Type 0 where
   pub empty : (x : X) → P [] x → ⊥
-  pub first : (l : Lexeme) (ls : Lexemes) (x : X) → P (l ∷ ls) x → has starts (sort_of l) ≡ true
+  pub first : (l : Lexeme) (ls : Lexemes) (x : X) → P (l ∷ ls) x → has starts (terminal_of l) ≡ true
   pub found : (ls rest : Lexemes) (x : X) → begins starts ls ≡ true → p ls ≡ Ok (x, rest) → Took P p ls x rest
   pub stopped : (ls left : Lexemes) → begins starts ls ≡ true → p ls ≡ Err left → Stopped P p ls left
   pub only : (taken rest : Lexemes) (x : X) → P taken x → begins goes rest ≡ false → p (taken ++ rest) ≡ Ok (x, rest)
 
-module _ {S X : Type 0} (Step : S → Lexemes → X → Type 0) (r : S → Lexemes → Reading X) (after : S → X → S) (may_end : S → Bool) (starts : S → List Sort) where
+module _ {S X : Type 0} (Step : S → Lexemes → X → Type 0) (r : S → Lexemes → Reading X) (after : S → X → S) (may_end : S → Bool) (starts : S → List Terminal) where
   abbrev Run : S → Lexemes → List X → Type 0
   Run s ls xs = Runs Step after may_end s ls xs
 
@@ -51,7 +51,7 @@ module _ {S X : Type 0} (Step : S → Lexemes → X → Type 0) (r : S → Lexem
   at_stop zero s ls none = refl
   at_stop (suc m) s ls none = rw none refl
 
-  some_token : (set : List Sort) (ls : Lexemes) → begins set ls ≡ true → 0 < length ls
+  some_token : (set : List Terminal) (ls : Lexemes) → begins set ls ≡ true → 0 < length ls
   some_token set [] h = absurd cc
   some_token set (l ∷ ls) h = omega arith
 
@@ -64,8 +64,8 @@ module _ {S X : Type 0} (Step : S → Lexemes → X → Type 0) (r : S → Lexem
   at_err zero s all left begun e enough = let some = some_token (starts s) all begun in absurd (omega arith)
   at_err (suc m) s all left begun e enough = rw (begun, e) refl
 
-  module _ (goes : S → List Sort) (ending : List Sort) (laws : (s : S) → Stepping (Step s) (r s) (starts s) (goes s))
-      (clear : (s : S) (x : X) (l : Lexeme) → has (goes s) (sort_of l) ≡ true → has (starts (after s x)) (sort_of l) ≡ false)
+  module _ (goes : S → List Terminal) (ending : List Terminal) (laws : (s : S) → Stepping (Step s) (r s) (starts s) (goes s))
+      (clear : (s : S) (x : X) (l : Lexeme) → has (goes s) (terminal_of l) ≡ true → has (starts (after s x)) (terminal_of l) ≡ false)
       (ends : (s : S) → may_end s ≡ true → (rest : Lexemes) → begins ending rest ≡ false → begins (starts s) rest ≡ false)
       (steps_end : (s : S) (rest : Lexemes) → begins ending rest ≡ false → begins (goes s) rest ≡ false)
       (done : (s : S) → (ls : Lexemes) × (xs : List X) × Run s ls xs × AreTokens ls) where
@@ -105,7 +105,7 @@ module _ {S X : Type 0} (Step : S → Lexemes → X → Type 0) (r : S → Lexem
           spelled = (done s).2;
         }
 
-    zero_begins : (set : List Sort) (ls : Lexemes) → length ls ≤ 0 → begins set ls ≡ false
+    zero_begins : (set : List Terminal) (ls : Lexemes) → length ls ≤ 0 → begins set ls ≡ false
     zero_begins set [] h = refl
     zero_begins set (l ∷ ls) h = absurd (omega arith)
 
@@ -187,11 +187,11 @@ module _ {S X : Type 0} (Step : S → Lexemes → X → Type 0) (r : S → Lexem
     run_stopped zero s ls left enough e = stop_stopped s ls left (may_end s) refl (zero_begins (starts s) ls enough) e
     run_stopped (suc n) s ls left enough e = step_stopped n (run_stopped n) s ls left enough (begins (starts s) ls) refl e
 
-    part_first : (s : S) (l : Lexeme) (ls before behind : Lexemes) (x : X) → l ∷ ls ≡ before ++ behind → Step s before x → has (starts s) (sort_of l) ≡ true
+    part_first : (s : S) (l : Lexeme) (ls before behind : Lexemes) (x : X) → l ∷ ls ≡ before ++ behind → Step s before x → has (starts s) (terminal_of l) ≡ true
     part_first s l ls [] behind x e h = absurd ((laws s).empty x h)
-    part_first s l ls (b ∷ before) behind x e h = let same : l ≡ b = cc in subst (λ (z : Lexeme). has (starts s) (sort_of z) ≡ true) (sym same) ((laws s).first b before x h)
+    part_first s l ls (b ∷ before) behind x e h = let same : l ≡ b = cc in subst (λ (z : Lexeme). has (starts s) (terminal_of z) ≡ true) (sym same) ((laws s).first b before x h)
 
-    run_first : (s : S) (l : Lexeme) (ls : Lexemes) (xs : List X) → Run s (l ∷ ls) xs → has (starts s) (sort_of l) ≡ true
+    run_first : (s : S) (l : Lexeme) (ls : Lexemes) (xs : List X) → Run s (l ∷ ls) xs → has (starts s) (terminal_of l) ≡ true
     run_first s l ls [] h = let e = h.0 in absurd cc
     run_first s l ls (x ∷ xs) h = part_first s l ls h.0 h.1 x h.2 h.3
 
@@ -205,8 +205,8 @@ module _ {S X : Type 0} (Step : S → Lexemes → X → Type 0) (r : S → Lexem
     -- what a part is not mistaken to go on with
     clear_of : (s : S) (x : X) (xs : List X) (behind rest : Lexemes) → Run (after s x) behind xs → begins ending rest ≡ false → begins (goes s) (behind ++ rest) ≡ false
     clear_of s x xs [] rest h none = steps_end s rest none
-    clear_of s x xs (l ∷ behind) rest h none = apart_of (has (goes s) (sort_of l)) refl where
-      apart_of : (b : Bool) → has (goes s) (sort_of l) ≡ b → has (goes s) (sort_of l) ≡ false
+    clear_of s x xs (l ∷ behind) rest h none = apart_of (has (goes s) (terminal_of l)) refl where
+      apart_of : (b : Bool) → has (goes s) (terminal_of l) ≡ b → has (goes s) (terminal_of l) ≡ false
       apart_of true e = let one = run_first (after s x) l behind xs h in let two = clear s x l e in absurd cc
       apart_of false e = e
 

@@ -4,13 +4,13 @@ use Rattle.std.proofs.lemmas.Bool.{false≢true}
 use Rattle.std.proofs.lemmas.List.{reverse-append}
 use Rattle.slice_syntax.specs.declared.fault.Stop.{Stop}
 use Rattle.slice_syntax.specs.declared.fault.Stop.TheVariants as stops
-use Rattle.slice_syntax.specs.declared.sort.Sort.{Sort}
+use Rattle.slice_syntax.specs.declared.terminal.Terminal.{Terminal}
 use Rattle.slice_syntax.specs.declared.tree.Word.{Word}
 use Rattle.slice_syntax.specs.declared.tree.Item.{Item}
 use Rattle.slice_syntax.specs.Lexemes.{Lexemes, begins}
 use Rattle.slice_syntax.specs.Grammar.{Spells, ◌▸◌}
 use Rattle.slice_syntax.specs.Reading.{Reading, ◌>>=◌, is_empty, starts, read}
-use Rattle.slice_syntax.specs.Sorts.{word_module, open_square, close_brace}
+use Rattle.slice_syntax.specs.Terminals.{word_module, open_square, close_brace}
 use Rattle.slice_syntax.specs.Rules.{word, name, texts, file_metadata, metadata, names, scoped, plain_type, object_type, named_type, type_word, signed_number, number, text, truth, named, value, given, tag, close, constant_item, entry, entry_comma, entries, enum_item, member, members, struct_item, sequence_item, dictionary_item, tagged_member, tagged_members, body, base, class_body, class_item, exception_item, paths, bases, thrown, parameter, parameter_list, parameters, answered, operation, operations, interface_body, interface_item, definition}
 use Rattle.slice_syntax.specs.Files.{head}
 use Rattle.slice_syntax.specs.Moving.{Move, enter, hold, leave, outer_move, inner_move, Open, move, moved, is_shut, items_of, all_items, moves_at, modules_at, resume}
@@ -34,7 +34,7 @@ unfolding word name texts file_metadata metadata names scoped plain_type object_
 starts_head = refl
 
 -- what does not begin a part is refused at once
-pub refused_at_once : {A : Type 0} (P : Lexemes → A → Type 0) (r : Lexemes → Reading A) (set others : List Sort) → Lawful P r false set others → (ls : Lexemes) → begins set ls ≡ false → r ls ≡ Err ls
+pub refused_at_once : {A : Type 0} (P : Lexemes → A → Type 0) (r : Lexemes → Reading A) (set others : List Terminal) → Lawful P r false set others → (ls : Lexemes) → begins set ls ≡ false → r ls ≡ Err ls
 refused_at_once {A = A} P r set others g ls none = by (r ls) refl where
   front_none : (front rest : Lexemes) (x : A) → ls ≡ front ++ rest → P front x → ⊥
   front_none [] rest x e h = false≢true (g.empty x h)

@@ -1,9 +1,9 @@
 -- Reading modules by moves, and their spellings.
 use Rattle.std.proofs.Common.{◌≡◌, Bool, true, false, List, [], ◌∷◌, ◌++◌, length, inl, inr, refl, sym, ap, subst, ◌∙◌, append_assoc}
-use Rattle.slice_syntax.specs.declared.sort.Sort.{Sort}
+use Rattle.slice_syntax.specs.declared.terminal.Terminal.{Terminal}
 use Rattle.slice_syntax.specs.declared.tree.Word.{Word}
 use Rattle.slice_syntax.specs.declared.tree.Item.{Item}
-use Rattle.slice_syntax.specs.Lexemes.{AreTokens, Lexeme, Lexemes, has, begins, sort_of}
+use Rattle.slice_syntax.specs.Lexemes.{AreTokens, Lexeme, Lexemes, has, begins, terminal_of}
 use Rattle.slice_syntax.specs.Grammar.{Spells, Runs, ◌▸◌}
 use Rattle.slice_syntax.specs.Reading.{Reading, is_empty, starts, read}
 use Rattle.slice_syntax.specs.Rules.{word, name, texts, file_metadata, metadata, names, scoped, plain_type, object_type, named_type, type_word, signed_number, number, text, truth, named, value, given, tag, close, constant_item, entry, entry_comma, entries, enum_item, member, members, struct_item, sequence_item, dictionary_item, tagged_member, tagged_members, body, base, class_body, class_item, exception_item, paths, bases, thrown, parameter, parameter_list, parameters, answered, operation, operations, interface_body, interface_item, definition}
@@ -53,25 +53,25 @@ pub moves_steps : (o : Open) → Stepping (Spells (move o)) (read (move o)) (sta
 moves_steps [] = stepping (Spells outer_move) (read outer_move) (starts outer_move) (goes outer_move) (full (Spells outer_move) (read outer_move) (is_empty outer_move) (starts outer_move) (goes outer_move) outer_full (lawful outer_move fits_outer))
 moves_steps (n ∷ o) = stepping (Spells inner_move) (read inner_move) (starts inner_move) (goes inner_move) (full (Spells inner_move) (read inner_move) (is_empty inner_move) (starts inner_move) (goes inner_move) inner_full (lawful inner_move fits_inner))
 
-not_in_none : (set : List Sort) (s : Sort) → set ≡ [] → has set s ≡ true → ⊥
+not_in_none : (set : List Terminal) (s : Terminal) → set ≡ [] → has set s ≡ true → ⊥
 not_in_none [] s e h = absurd cc
 not_in_none (x ∷ set) s e h = absurd cc
 
-pub moves_clear : (o : Open) (m : Move) (l : Lexeme) → has (goes (move o)) (sort_of l) ≡ true → has (starts (move (moved o m))) (sort_of l) ≡ false
-moves_clear [] m l h = absurd (not_in_none (goes outer_move) (sort_of l) outer_goes h)
+pub moves_clear : (o : Open) (m : Move) (l : Lexeme) → has (goes (move o)) (terminal_of l) ≡ true → has (starts (move (moved o m))) (terminal_of l) ≡ false
+moves_clear [] m l h = absurd (not_in_none (goes outer_move) (terminal_of l) outer_goes h)
 moves_clear (n ∷ o) m l h = by (moved (n ∷ o) m) where
-  by : (next : Open) → has (starts (move next)) (sort_of l) ≡ false
-  by [] = apart (goes inner_move) (starts outer_move) (sort_of l) inner_outer h
-  by (k ∷ next) = apart (goes inner_move) (starts inner_move) (sort_of l) inner_inner h
+  by : (next : Open) → has (starts (move next)) (terminal_of l) ≡ false
+  by [] = apart (goes inner_move) (starts outer_move) (terminal_of l) inner_outer h
+  by (k ∷ next) = apart (goes inner_move) (starts inner_move) (terminal_of l) inner_inner h
 
-abbrev pub ending : List Sort
+abbrev pub ending : List Terminal
 ending = starts outer_move ++ goes inner_move
 
 pub moves_end : (o : Open) → is_shut o ≡ true → (rest : Lexemes) → begins ending rest ≡ false → begins (starts (move o)) rest ≡ false
 moves_end [] e rest h = (begins_append (starts outer_move) (goes inner_move) rest h).0
 moves_end (n ∷ o) e rest h = absurd cc
 
-none_begins : (set : List Sort) (rest : Lexemes) → set ≡ [] → begins set rest ≡ false
+none_begins : (set : List Terminal) (rest : Lexemes) → set ≡ [] → begins set rest ≡ false
 none_begins set [] e = refl
 none_begins set (l ∷ rest) e = rw e refl
 
@@ -219,7 +219,7 @@ body_moves (nested inner opening inside closing tail words held others step body
     )
 
 -- the laws of other spellings that are the same
-pub lawful_same : {A : Type 0} (P Q : Lexemes → A → Type 0) (r : Lexemes → Reading A) (bare : Bool) (set others : List Sort) → ((ls : Lexemes) (x : A) → P ls x → Q ls x) → ((ls : Lexemes) (x : A) → Q ls x → P ls x)
+pub lawful_same : {A : Type 0} (P Q : Lexemes → A → Type 0) (r : Lexemes → Reading A) (bare : Bool) (set others : List Terminal) → ((ls : Lexemes) (x : A) → P ls x → Q ls x) → ((ls : Lexemes) (x : A) → Q ls x → P ls x)
     → Lawful P r bare set others → Lawful Q r bare set others
 lawful_same P Q r bare set others to back g = record {
   empty = λ x h. g.empty x (back [] x h);

@@ -9,12 +9,12 @@ use Rattle.slice_syntax.specs.Lexemes.{Lexemes, lexemes}
 use Rattle.slice_syntax.specs.Grammar.{Grammar, Spells, Runs, one, many, parted, both}
 use Rattle.slice_syntax.specs.Grammar as grammar
 use Rattle.slice_syntax.specs.Rules as rules
-use Rattle.slice_syntax.specs.Files.{Body, none, plain, nested, head, enters, exits, Reads}
+use Rattle.slice_syntax.specs.Files.{Body, none, plain, nested, head, enters, exits, ReadsFile}
 use Rattle.slice_syntax.specs.declared.tree.File.{File}
-use Rattle.slice_syntax.specs.Sorts.{colons}
+use Rattle.slice_syntax.specs.Terminals.{colons}
 use Rattle.slice_syntax.specs.Places.{Each, AtPlaces, AreInOrder}
 use Rattle.slice_syntax.proofs.Transfers.{in_definition, in_word, in_next_word}
-use Rattle.slice_syntax.specs.declared.sort.Sort.{Sort}
+use Rattle.slice_syntax.specs.declared.terminal.Terminal.{Terminal}
 
 -- the tokens rise from a place to another
 abbrev Rise : ℕ → Lexemes → ℕ → Type 0
@@ -28,8 +28,8 @@ module _ (P : ℕ → Type 0) where
   word_at : (ls : Lexemes) (w : Word) → Spells rules.word ls w → Each (λ l. P l.from) ls → P w.place
   word_at ls w s h = in_word (λ l. P l.from) (λ w. P w.place) P (λ l is p. p) (λ l p. p) ls w s h
 
-  next_word_at : (sort : Sort) (ls : Lexemes) (w : Word) → Spells (both (λ x y. y) (one sort) rules.word) ls w → Each (λ l. P l.from) ls → P w.place
-  next_word_at sort ls w s h = in_next_word (λ l. P l.from) (λ w. P w.place) P (λ l is p. p) (λ l p. p) sort ls w s h
+  next_word_at : (terminal : Terminal) (ls : Lexemes) (w : Word) → Spells (both (λ x y. y) (one terminal) rules.word) ls w → Each (λ l. P l.from) ls → P w.place
+  next_word_at terminal ls w s h = in_next_word (λ l. P l.from) (λ w. P w.place) P (λ l is p. p) (λ l p. p) terminal ls w s h
 
 rise_up : (from to : ℕ) (ls : Lexemes) → Rise from ls to → from ≤ to
 rise_up from to [] h = h
@@ -134,7 +134,7 @@ rising text from end (token ∷ tokens) h = (h.0, sooner (suc token.from) token.
     sooner low from to (l ∷ ls) h r = (let a = r.0 in omega arith, r.1)
 
 -- the declarations of a file stand in the order of the text
-pub in_order_of_text : (text : List ℕ) (tokens : List Token) (file : File) → Lexes text tokens → Reads (lexemes text tokens) file → AreInOrder 0 file.items
+pub in_order_of_text : (text : List ℕ) (tokens : List Token) (file : File) → Lexes text tokens → ReadsFile (lexemes text tokens) file → AreInOrder 0 file.items
 in_order_of_text text tokens file lexes reads =
     let ls = lexemes text tokens in
     let to = length text in

@@ -10,13 +10,13 @@ use Rattle.slice_lexer.specs.declared.token.TokenKind.TheVariants as kinds
 use Rattle.slice_lexer.specs.Lexing.{Lexes, IsTokenOf}
 use Rattle.slice_lexer.proofs.Sizes.{letter_goes_on}
 use Rattle.slice_lexer.proofs.Standing.{lexes_stand}
-use Rattle.slice_syntax.specs.declared.sort.Sort.TheVariants as sorts
+use Rattle.slice_syntax.specs.declared.terminal.Terminal.TheVariants as terminals
 use Rattle.slice_syntax.specs.declared.tree.Word.{Word}
 use Rattle.slice_syntax.specs.declared.tree.Item.{Item}
 use Rattle.slice_syntax.specs.declared.tree.File.{File}
-use Rattle.slice_syntax.specs.Lexemes.{Lexeme, Lexemes, lexemes, IsAlone, has, sort_of, sort_by, directive_sort, name_of, is_include, is_guard, is_define, is_pragma, is_end}
+use Rattle.slice_syntax.specs.Lexemes.{Lexeme, Lexemes, lexemes, IsAlone, has, terminal_of, terminal_by, directive_terminal, name_of, is_include, is_guard, is_define, is_pragma, is_end}
 use Rattle.slice_syntax.specs.Rules as rules
-use Rattle.slice_syntax.specs.Files.{Body, none, plain, nested, enters, exits, Reads}
+use Rattle.slice_syntax.specs.Files.{Body, none, plain, nested, enters, exits, ReadsFile}
 use Rattle.slice_syntax.specs.Places.{Each, IsPlain, IsRegular, AreRegular}
 use Rattle.slice_syntax.proofs.Cursors.{never_word}
 use Rattle.slice_syntax.proofs.Tagless.{no_tags}
@@ -52,8 +52,8 @@ IsName w = IsPlain w.name
 abbrev Anywhere : ℕ → Type 0
 Anywhere place = Unit {0}
 
-kind_plain : (kind : TokenKind) (bytes : List ℕ) → has (sorts.Word ∷ []) (sort_by kind bytes) ≡ true → IsToken kind bytes → IsPlain (name_of bytes)
-unfolding directive_sort
+kind_plain : (kind : TokenKind) (bytes : List ℕ) → has (terminals.Word ∷ []) (terminal_by kind bytes) ≡ true → IsToken kind bytes → IsPlain (name_of bytes)
+unfolding directive_terminal
 kind_plain kinds.Word bytes h alone = name_plain bytes alone
 kind_plain (kinds.Keyword n) bytes h alone = absurd cc
 kind_plain (kinds.Number n) bytes h alone = absurd cc
@@ -61,7 +61,7 @@ kind_plain kinds.Text bytes h alone = absurd cc
 kind_plain (kinds.Symbol n) bytes h alone = absurd cc
 kind_plain kinds.Directive bytes h alone = absurd (never_word (is_include bytes) (is_guard bytes) (is_define bytes) (is_pragma bytes) (is_end bytes) h)
 
-name_in : (l : Lexeme) → IsTrue (has (sorts.Word ∷ []) (sort_of l)) → IsAlone l → IsName (rules.word_of l)
+name_in : (l : Lexeme) → IsTrue (has (terminals.Word ∷ []) (terminal_of l)) → IsAlone l → IsName (rules.word_of l)
 name_in l is alone = kind_plain l.kind l.bytes is alone
 
 -- ---- declarations
@@ -102,7 +102,7 @@ all_alone text (token ∷ tokens) stand = (
 )
 
 -- each declaration of a text is regular
-pub regular : (text : List ℕ) (tokens : List Token) (file : File) → Lexes text tokens → Reads (lexemes text tokens) file → AreRegular file
+pub regular : (text : List ℕ) (tokens : List Token) (file : File) → Lexes text tokens → ReadsFile (lexemes text tokens) file → AreRegular file
 regular text tokens file lexes reads =
     let all : Each IsAlone (reads.front ++ (reads.inner ++ reads.last)) = subst (λ (l : Lexemes). Each IsAlone l) reads.parts (all_alone text tokens (lexes_stand text tokens lexes)) in
     body_regular false reads.inner file.items reads.modules (front_of IsAlone reads.inner reads.last (back_of IsAlone reads.front (reads.inner ++ reads.last) all))

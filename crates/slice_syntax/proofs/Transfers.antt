@@ -1,8 +1,8 @@
 -- What holds of tokens holds of the places and names in what they spell.
 use Rattle.std.proofs.Common.{ℕ, List, [], ◌∷◌, map, Option, Some, None}
 use Rattle.std.specs.Prelude.{unwrap_or, IsTrue}
-use Rattle.slice_syntax.specs.declared.sort.Sort.{Sort}
-use Rattle.slice_syntax.specs.declared.sort.Sort.TheVariants as sorts
+use Rattle.slice_syntax.specs.declared.terminal.Terminal.{Terminal}
+use Rattle.slice_syntax.specs.declared.terminal.Terminal.TheVariants as terminals
 use Rattle.slice_syntax.specs.declared.tree.Word.{Word}
 use Rattle.slice_syntax.specs.declared.tree.Path.{Path}
 use Rattle.slice_syntax.specs.declared.tree.TypeWord.{TypeWord}
@@ -11,17 +11,17 @@ use Rattle.slice_syntax.specs.declared.tree.Field.{Field}
 use Rattle.slice_syntax.specs.declared.tree.Param.{Param}
 use Rattle.slice_syntax.specs.declared.tree.OpTree.{OpTree}
 use Rattle.slice_syntax.specs.declared.tree.Item.{Item}
-use Rattle.slice_syntax.specs.Lexemes.{Lexeme, Lexemes, has, sort_of}
+use Rattle.slice_syntax.specs.Lexemes.{Lexeme, Lexemes, has, terminal_of}
 use Rattle.slice_syntax.specs.Grammar.{both, Spells, one}
 use Rattle.slice_syntax.specs.Rules as rules
-use Rattle.slice_syntax.specs.Sorts.{colons}
+use Rattle.slice_syntax.specs.Terminals.{colons}
 use Rattle.slice_syntax.specs.Files.{head}
 use Rattle.slice_syntax.specs.Places.{type_place, Each, Where, InField, InOp, InItem}
 use Rattle.slice_syntax.proofs.Giving.{Gives, by_token, by_nothing, by_made, by_both, by_or, by_series, by_any, by_first, by_second, by_optional, by_parted}
 
 -- Where T holds of a token, N holds of the name that it is, and P of its place.
 module _ (T : Lexeme → Type 0) (N : Word → Type 0) (P : ℕ → Type 0)
-    (name : (l : Lexeme) → IsTrue (has (sorts.Word ∷ []) (sort_of l)) → T l → N (rules.word_of l)) (at : (l : Lexeme) → T l → P l.from) where
+    (name : (l : Lexeme) → IsTrue (has (terminals.Word ∷ []) (terminal_of l)) → T l → N (rules.word_of l)) (at : (l : Lexeme) → T l → P l.from) where
   -- in a member, an operation, a declaration
   abbrev Field_in : Field → Type 0
   Field_in = InField N P
@@ -49,8 +49,8 @@ module _ (T : Lexeme → Type 0) (N : Word → Type 0) (P : ℕ → Type 0)
   outer_or None place a b = b
   outer_or (Some x) place a b = a
 
-  one_in : (sort : Sort) → Gives T P (one sort)
-  one_in sort = by_token (λ l s p. at l p)
+  one_in : (terminal : Terminal) → Gives T P (one terminal)
+  one_in terminal = by_token (λ l s p. at l p)
 
   scoped_in : Gives T (λ (p : Path). P p.place) rules.scoped
   unfolding rules.scoped
@@ -209,8 +209,8 @@ module _ (T : Lexeme → Type 0) (N : Word → Type 0) (P : ℕ → Type 0)
   pub in_word : (ls : Lexemes) (w : Word) → Spells rules.word ls w → Each T ls → N w
   in_word ls w s h = word_in.gives ls w s h
 
-  pub in_next_word : (sort : Sort) (ls : Lexemes) (w : Word) → Spells (both (λ x y. y) (one sort) rules.word) ls w → Each T ls → N w
-  in_next_word sort ls w s h = (by_second {g = one sort} word_in).gives ls w s h
+  pub in_next_word : (terminal : Terminal) (ls : Lexemes) (w : Word) → Spells (both (λ x y. y) (one terminal) rules.word) ls w → Each T ls → N w
+  in_next_word terminal ls w s h = (by_second {g = one terminal} word_in).gives ls w s h
 
   head_in : Gives T (Each N) head
   unfolding head

@@ -1,13 +1,13 @@
 -- The grammar of modules and whole files, after "The Slice Language" of the Ice manual: "Modules", "Slice Source Files" (file guarding, `#include`).
 use Rattle.std.specs.Prelude.{ℕ, ◌≡◌, Bool, true, false, List, [], ◌∷◌, ◌++◌, map, length, replicate, unwrap_or}
-use Rattle.slice_syntax.specs.declared.sort.Sort.TheVariants as sorts
+use Rattle.slice_syntax.specs.declared.terminal.Terminal.TheVariants as terminals
 use Rattle.slice_syntax.specs.declared.tree.Word.{Word}
 use Rattle.slice_syntax.specs.declared.tree.Item.{Item}
 use Rattle.slice_syntax.specs.declared.tree.Item.TheVariants as items
 use Rattle.slice_syntax.specs.declared.tree.File.{File}
 use Rattle.slice_syntax.specs.Lexemes.{Lexeme, Lexemes, included, directive_rest}
 use Rattle.slice_syntax.specs.Grammar.{Grammar, token, made, or, Spells, ◌▸◌, ◌◂◌, one, many, parted}
-use Rattle.slice_syntax.specs.Sorts.{word_module, open_brace, colons}
+use Rattle.slice_syntax.specs.Terminals.{word_module, open_brace, colons}
 use Rattle.slice_syntax.specs.Rules.{metadata, word, definition, close, file_metadata}
 
 -- head = "module" word { "::" word } "{"
@@ -43,9 +43,9 @@ include_of l = (unwrap_or (included (directive_rest l.bytes)) [], l.from)
 -- directive | filemeta, before the modules
 unfoldable pub directive : Grammar Head
 directive =
-    or (token (sorts.Include ∷ []) (λ l. include (include_of l)))
-    (or (token (sorts.Guard ∷ []) (λ l. guard))
-    (or (token (sorts.Aside ∷ []) (λ l. aside))
+    or (token (terminals.Include ∷ []) (λ l. include (include_of l)))
+    (or (token (terminals.Guard ∷ []) (λ l. guard))
+    (or (token (terminals.Aside ∷ []) (λ l. aside))
     (made (λ place. aside) file_metadata)))
 
 unfoldable pub directives : Grammar (List Head)
@@ -81,12 +81,12 @@ Opens old new count words = (count ≡ length words) × (new ≡ old ++ enters w
 
 -- after the modules `#endif` stands where an `#ifndef` stands before them, and else nothing
 abbrev pub Closes : Bool → Lexemes → Type 0
-Closes true ls = (place : ℕ) × Spells (one sorts.EndGuard) ls place
+Closes true ls = (place : ℕ) × Spells (one terminals.EndGuard) ls place
 Closes false ls = ls ≡ []
 
 -- The tokens are a file.
 -- file = { directive | filemeta } { meta module } { directive }
-pub record Reads (ls : Lexemes) (file : File) : Type 0 where
+pub record ReadsFile (ls : Lexemes) (file : File) : Type 0 where
   pub heads : List Head
   pub front : Lexemes
   pub inner : Lexemes

@@ -1,14 +1,14 @@
 -- What a rule of a grammar is, and which tokens it spells.
 use Rattle.std.specs.Prelude.{ℕ, ◌≡◌, Bool, true, false, IsTrue, List, [], ◌∷◌, ◌++◌, Option, Some, None, ◌⊎◌}
-use Rattle.slice_syntax.specs.declared.sort.Sort.{Sort}
-use Rattle.slice_syntax.specs.Lexemes.{Lexeme, Lexemes, has, sort_of}
+use Rattle.slice_syntax.specs.declared.terminal.Terminal.{Terminal}
+use Rattle.slice_syntax.specs.Lexemes.{Lexeme, Lexemes, has, terminal_of}
 
 -- A rule whose spellings stand for values of a type.
 pub data Grammar : Type 0 → Type 1 where
   -- no token
   nothing : {A : Type 0} → A → Grammar A
   -- one token of these sorts
-  token : {A : Type 0} → List Sort → (Lexeme → A) → Grammar A
+  token : {A : Type 0} → List Terminal → (Lexeme → A) → Grammar A
   -- the same spellings, for other values
   made : {X A : Type 0} → (X → A) → Grammar X → Grammar A
   -- one after the other
@@ -31,7 +31,7 @@ Where One false ls x = ⊥
 -- The tokens spell the value by the rule.
 abbrev pub Spells : {A : Type 0} → Grammar A → Lexemes → A → Type 0
 Spells (nothing x) ls a = (ls ≡ []) × (a ≡ x)
-Spells (token sorts view) ls a = (l : Lexeme) × (ls ≡ l ∷ []) × IsTrue (has sorts (sort_of l)) × (a ≡ view l)
+Spells (token terminals view) ls a = (l : Lexeme) × (ls ≡ l ∷ []) × IsTrue (has terminals (terminal_of l)) × (a ≡ view l)
 Spells (made {X = X} view g) ls a = (x : X) × Spells g ls x × (a ≡ view x)
 Spells (both {X = X} {Y = Y} make g h) ls a = (x : X) × (y : Y) × (before behind : Lexemes) × (ls ≡ before ++ behind) × Spells g before x × Spells h behind y × (a ≡ make x y)
 Spells (or g h) ls a = Spells g ls a ⊎ Spells h ls a
@@ -55,8 +55,8 @@ abbrev pub ◌⊛◌ : {X A : Type 0} → Grammar (X → A) → Grammar X → Gr
 g ⊛ h = both (λ make x. make x) g h
 
 -- one token of a sort, for its place
-abbrev pub one : Sort → Grammar ℕ
-one sort = token (sort ∷ []) (λ l. l.from)
+abbrev pub one : Terminal → Grammar ℕ
+one terminal = token (terminal ∷ []) (λ l. l.from)
 
 abbrev pub optional : {A : Type 0} → Grammar A → Grammar (Option A)
 optional g = or (made (λ x. Some x) g) (nothing None)
@@ -65,5 +65,5 @@ abbrev pub many : {A : Type 0} → Grammar A → Grammar (List A)
 many g = series (λ x. true) g
 
 -- one or more, parted by a token
-abbrev pub parted : {A : Type 0} → Sort → Grammar A → Grammar (List A)
-parted sort g = both (λ x xs. x ∷ xs) g (many (one sort ▸ g))
+abbrev pub parted : {A : Type 0} → Terminal → Grammar A → Grammar (List A)
+parted terminal g = both (λ x xs. x ∷ xs) g (many (one terminal ▸ g))

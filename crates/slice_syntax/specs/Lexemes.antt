@@ -9,8 +9,8 @@ use Rattle.slice_lexer.specs.Tokens.{IsToken}
 use Rattle.slice_lexer.specs.declared.token.Token.{Token}
 use Rattle.slice_lexer.specs.declared.token.TokenKind.{TokenKind}
 use Rattle.slice_lexer.specs.declared.token.TokenKind.TheVariants as kinds
-use Rattle.slice_syntax.specs.declared.sort.Sort.{Sort}
-use Rattle.slice_syntax.specs.declared.sort.Sort.TheVariants as sorts
+use Rattle.slice_syntax.specs.declared.terminal.Terminal.{Terminal}
+use Rattle.slice_syntax.specs.declared.terminal.Terminal.TheVariants as terminals
 
 -- a token with its bytes
 pub record Lexeme : Type 0 where
@@ -117,67 +117,67 @@ is_pragma bytes = bytes_eq (directive_word bytes) (codes "pragma") && is_once (d
 abbrev pub is_end : List ℕ → Bool
 is_end bytes = bytes_eq (directive_word bytes) (codes "endif") && is_bare (directive_rest bytes)
 
-unfoldable pub directive_sort : List ℕ → Sort
-directive_sort bytes =
-    if is_include bytes then sorts.Include
-    else if is_guard bytes then sorts.Guard
-    else if is_define bytes then sorts.Aside
-    else if is_pragma bytes then sorts.Aside
-    else if is_end bytes then sorts.EndGuard
-    else sorts.Stray
+unfoldable pub directive_terminal : List ℕ → Terminal
+directive_terminal bytes =
+    if is_include bytes then terminals.Include
+    else if is_guard bytes then terminals.Guard
+    else if is_define bytes then terminals.Aside
+    else if is_pragma bytes then terminals.Aside
+    else if is_end bytes then terminals.EndGuard
+    else terminals.Stray
 
 -- a word's name is a text
-unfoldable pub word_sort : List ℕ → Sort
-word_sort bytes = if is_some (if_text (name_of bytes)) then sorts.Word else sorts.Stray
+unfoldable pub word_terminal : List ℕ → Terminal
+word_terminal bytes = if is_some (if_text (name_of bytes)) then terminals.Word else terminals.Stray
 
-abbrev pub sort_by : TokenKind → List ℕ → Sort
-sort_by kinds.Word bytes = word_sort bytes
-sort_by (kinds.Keyword code) bytes = sorts.Keyword code
-sort_by (kinds.Number size) bytes = sorts.Number
-sort_by kinds.Text bytes = sorts.Text
-sort_by (kinds.Symbol code) bytes = sorts.Symbol code
-sort_by kinds.Directive bytes = directive_sort bytes
+abbrev pub terminal_by : TokenKind → List ℕ → Terminal
+terminal_by kinds.Word bytes = word_terminal bytes
+terminal_by (kinds.Keyword code) bytes = terminals.Keyword code
+terminal_by (kinds.Number size) bytes = terminals.Number
+terminal_by kinds.Text bytes = terminals.Text
+terminal_by (kinds.Symbol code) bytes = terminals.Symbol code
+terminal_by kinds.Directive bytes = directive_terminal bytes
 
 -- what the token is to the grammar
-abbrev pub sort_of : Lexeme → Sort
-sort_of l = sort_by l.kind l.bytes
+abbrev pub terminal_of : Lexeme → Terminal
+terminal_of l = terminal_by l.kind l.bytes
 
 -- which group of sorts, and which of the group
-abbrev pub group : Sort → ℕ
-group sorts.Word = 0
-group (sorts.Keyword n) = 1
-group sorts.Number = 2
-group sorts.Text = 3
-group (sorts.Symbol n) = 4
-group sorts.Include = 5
-group sorts.Guard = 6
-group sorts.Aside = 7
-group sorts.EndGuard = 8
-group sorts.Stray = 9
+abbrev pub group : Terminal → ℕ
+group terminals.Word = 0
+group (terminals.Keyword n) = 1
+group terminals.Number = 2
+group terminals.Text = 3
+group (terminals.Symbol n) = 4
+group terminals.Include = 5
+group terminals.Guard = 6
+group terminals.Aside = 7
+group terminals.EndGuard = 8
+group terminals.Stray = 9
 
-abbrev pub code : Sort → ℕ
-code sorts.Word = 0
-code (sorts.Keyword n) = n
-code sorts.Number = 0
-code sorts.Text = 0
-code (sorts.Symbol n) = n
-code sorts.Include = 0
-code sorts.Guard = 0
-code sorts.Aside = 0
-code sorts.EndGuard = 0
-code sorts.Stray = 0
+abbrev pub code : Terminal → ℕ
+code terminals.Word = 0
+code (terminals.Keyword n) = n
+code terminals.Number = 0
+code terminals.Text = 0
+code (terminals.Symbol n) = n
+code terminals.Include = 0
+code terminals.Guard = 0
+code terminals.Aside = 0
+code terminals.EndGuard = 0
+code terminals.Stray = 0
 
-abbrev pub is_sort : Sort → Sort → Bool
-is_sort a b = nat_eq (group a) (group b) && nat_eq (code a) (code b)
+abbrev pub is_terminal : Terminal → Terminal → Bool
+is_terminal a b = nat_eq (group a) (group b) && nat_eq (code a) (code b)
 
 -- the sort is one of these
-abbrev pub has : List Sort → Sort → Bool
-has set sort = list_any (λ other. is_sort other sort) set
+abbrev pub has : List Terminal → Terminal → Bool
+has set terminal = list_any (λ other. is_terminal other terminal) set
 
 -- The next token is one of these.
-abbrev pub begins : List Sort → Lexemes → Bool
+abbrev pub begins : List Terminal → Lexemes → Bool
 begins set [] = false
-begins set (l ∷ ls) = has set (sort_of l)
+begins set (l ∷ ls) = has set (terminal_of l)
 
 abbrev pub next : Lexemes → Option Lexeme
 next [] = None

@@ -1,6 +1,6 @@
 pub mod Lexemes
 pub mod Grammar
-pub mod Sorts
+pub mod Terminals
 pub mod Rules
 pub mod Files
 pub mod Reading

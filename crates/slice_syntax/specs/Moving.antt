@@ -1,6 +1,6 @@
 -- Reading modules without a recursion: moves, with the modules that are open.
 use Rattle.std.specs.Prelude.{ℕ, ◌≡◌, Bool, true, false, List, [], ◌∷◌, ◌++◌, length, reverse, Ok, Err}
-use Rattle.slice_syntax.specs.declared.sort.Sort.TheVariants as sorts
+use Rattle.slice_syntax.specs.declared.terminal.Terminal.TheVariants as terminals
 use Rattle.slice_syntax.specs.declared.tree.Word.{Word}
 use Rattle.slice_syntax.specs.declared.tree.Item.{Item}
 use Rattle.slice_syntax.specs.declared.tree.File.{File}
@@ -69,7 +69,7 @@ abbrev pub modules_at : Lexemes → Reading (List Item)
 modules_at ls = moves_at [] ls >>= (λ ms. Ok (all_items [] ms.0, ms.1))
 
 abbrev pub closing_at : Bool → Lexemes → Reading (Unit {0})
-closing_at true ls = read (one sorts.EndGuard) ls >>= (λ x. Ok (tt, x.1))
+closing_at true ls = read (one terminals.EndGuard) ls >>= (λ x. Ok (tt, x.1))
 closing_at false ls = Ok (tt, ls)
 
 -- the modules of a file, and what closes it

@@ -3,7 +3,7 @@ use Rattle.std.specs.Prelude.{ℕ, Bool, false, List, [], ◌∷◌, map, Option
 use Rattle.std.specs.Option.{is_some}
 use Rattle.slice_lexer.specs.declared.token.TokenKind.{TokenKind}
 use Rattle.slice_lexer.specs.declared.token.TokenKind.TheVariants as kinds
-use Rattle.slice_syntax.specs.declared.sort.Sort.TheVariants as sorts
+use Rattle.slice_syntax.specs.declared.terminal.Terminal.TheVariants as terminals
 use Rattle.slice_syntax.specs.declared.tree.Word.{Word}
 use Rattle.slice_syntax.specs.declared.tree.Path.{Path}
 use Rattle.slice_syntax.specs.declared.tree.TypeWord.{TypeWord}
@@ -18,7 +18,7 @@ use Rattle.slice_syntax.specs.declared.tree.Item.{Item}
 use Rattle.slice_syntax.specs.declared.tree.Item.TheVariants as items
 use Rattle.slice_syntax.specs.Lexemes.{Lexeme, code, name_of}
 use Rattle.slice_syntax.specs.Grammar.{Grammar, nothing, token, made, both, or, series, ◌▸◌, ◌◂◌, ◌⊛◌, one, optional, many, parted}
-use Rattle.slice_syntax.specs.Sorts.{word_bool, word_byte, word_class, word_const, word_dictionary, word_double, word_enum, word_exception, word_extends, word_false, word_float, word_idempotent, word_int, word_interface, word_long, word_object, word_optional, word_out, word_sequence, word_short, word_string, word_struct, word_throws, word_true, word_value, word_void, open_brace, close_brace, open_round, close_round, less, greater, open_square, close_square, open_two, close_two, comma, semicolon, colons, equals, star, plus, minus}
+use Rattle.slice_syntax.specs.Terminals.{word_bool, word_byte, word_class, word_const, word_dictionary, word_double, word_enum, word_exception, word_extends, word_false, word_float, word_idempotent, word_int, word_interface, word_long, word_object, word_optional, word_out, word_sequence, word_short, word_string, word_struct, word_throws, word_true, word_value, word_void, open_brace, close_brace, open_round, close_round, less, greater, open_square, close_square, open_two, close_two, comma, semicolon, colons, equals, star, plus, minus}
 
 -- What single tokens stand for.
 
@@ -51,7 +51,7 @@ constant place value = record { place = place; value = value }
 -- The rules.
 
 unfoldable pub word : Grammar Word
-word = token (sorts.Word ∷ []) word_of
+word = token (terminals.Word ∷ []) word_of
 
 unfoldable pub name : Grammar (List ℕ)
 name = made (λ w. w.name) word
@@ -61,7 +61,7 @@ passed g = made (λ x. tt) g
 
 -- texts = text { "," text }
 unfoldable pub texts : Grammar (Unit {0})
-texts = passed (parted comma (one sorts.Text))
+texts = passed (parted comma (one terminals.Text))
 
 -- filemeta = "[[" text { "," text } "]]"
 unfoldable pub file_metadata : Grammar (Unit {0})
@@ -115,13 +115,13 @@ is_true (kinds.Symbol code) = false
 is_true kinds.Directive = false
 
 unfoldable pub signed_number : Grammar Constant
-signed_number = token (minus ∷ plus ∷ []) (λ sign number. constant sign.from (consts.Number (is_minus sign.kind) (number_size number.kind))) ⊛ token (sorts.Number ∷ []) (λ l. l)
+signed_number = token (minus ∷ plus ∷ []) (λ sign number. constant sign.from (consts.Number (is_minus sign.kind) (number_size number.kind))) ⊛ token (terminals.Number ∷ []) (λ l. l)
 
 unfoldable pub number : Grammar Constant
-number = token (sorts.Number ∷ []) (λ l. constant l.from (consts.Number false (number_size l.kind)))
+number = token (terminals.Number ∷ []) (λ l. constant l.from (consts.Number false (number_size l.kind)))
 
 unfoldable pub text : Grammar Constant
-text = token (sorts.Text ∷ []) (λ l. constant l.from consts.Text)
+text = token (terminals.Text ∷ []) (λ l. constant l.from consts.Text)
 
 unfoldable pub truth : Grammar Constant
 truth = token (word_true ∷ word_false ∷ []) (λ l. constant l.from (consts.Truth (is_true l.kind)))

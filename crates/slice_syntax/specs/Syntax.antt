@@ -5,19 +5,19 @@ use Rattle.slice_syntax.specs.declared.tree.File.{File}
 use Rattle.slice_syntax.specs.declared.fault.SyntaxFault.{SyntaxFault}
 use Rattle.slice_syntax.specs.declared.fault.SyntaxFault.TheVariants as faults
 use Rattle.slice_syntax.specs.Lexemes.{Lexemes, lexemes, AreTokens}
-use Rattle.slice_syntax.specs.Files.{Reads}
+use Rattle.slice_syntax.specs.Files.{ReadsFile}
 
 -- Some file begins with the tokens.
 abbrev pub Begins : Lexemes → Type 0
-Begins ls = (more : Lexemes) × (file : File) × Reads (ls ++ more) file
+Begins ls = (more : Lexemes) × (file : File) × ReadsFile (ls ++ more) file
 
 -- Some file begins with the tokens and goes on with tokens as they stand in texts.
 abbrev pub GoesOn : Lexemes → Type 0
-GoesOn ls = (more : Lexemes) × (file : File) × AreTokens more × Reads (ls ++ more) file
+GoesOn ls = (more : Lexemes) × (file : File) × AreTokens more × ReadsFile (ls ++ more) file
 
 -- No file begins with the tokens before and the next one. At the end no file ends there.
 abbrev pub Refuses : Lexemes → Lexemes → Type 0
-Refuses before [] = (file : File) → Reads before file → ⊥
+Refuses before [] = (file : File) → ReadsFile before file → ⊥
 Refuses before (l ∷ behind) = Begins (before ++ l ∷ []) → ⊥
 
 -- The tokens after some begin with the first one that no file goes on with. It may be the end.
@@ -28,7 +28,7 @@ pub record SyntaxBreaks (ls before behind : Lexemes) : Type 0 where
 
 -- The tokens are some file.
 abbrev pub IsFile : Lexemes → Type 0
-IsFile ls = (file : File) × Reads ls file
+IsFile ls = (file : File) × ReadsFile ls file
 
 -- These tokens of them begin with the first one that no file goes on with. They may be none, at the end.
 abbrev pub BreaksAt : Lexemes → Lexemes → Type 0
@@ -49,6 +49,6 @@ FaultOf end ls fault = (before behind : Lexemes) × SyntaxBreaks ls before behin
 
 -- The answer to a text with these tokens. Out of memory says nothing of them.
 abbrev pub Answers : List ℕ → List Token → Result File SyntaxFault → Type 0
-Answers text tokens (Ok file) = Reads (lexemes text tokens) file
+Answers text tokens (Ok file) = ReadsFile (lexemes text tokens) file
 Answers text tokens (Err faults.Memory) = Unit {0}
 Answers text tokens (Err (faults.Expected place found)) = FaultOf (length text) (lexemes text tokens) (faults.Expected place found)

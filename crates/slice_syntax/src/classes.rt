@@ -7,7 +7,7 @@ ghost use Rattle.slice_syntax.specs.Taking.{Takes};
 use crate::cursor::Cursor;
 use crate::definitions::close;
 use crate::fault::Stop;
-use crate::sort::{CLASS, EXCEPTION, EXTENDS, OPEN_BRACE, SEMICOLON};
+use crate::terminal::{CLASS, EXCEPTION, EXTENDS, OPEN_BRACE, SEMICOLON};
 use crate::tree::{Field, Item, Path};
 use crate::words::{TAGGED_MEMBERS, given_value, metadata, scoped, tag, type_word};
 use ice_types::List;

@@ -4,8 +4,8 @@ ghost use Rattle.std.specs.Prelude.{◌≡◌, drop};
 ghost use Rattle.std.specs.Option.{option_map};
 ghost use Rattle.slice_lexer.specs.declared.token.Token.{Token};
 ghost use Rattle.slice_lexer.specs.Lexing.{Lexes};
-ghost use Rattle.slice_syntax.specs.declared.sort.Sort.{Sort};
-ghost use Rattle.slice_syntax.specs.Lexemes.{lexemes, begins, sort_of, next, seen};
+ghost use Rattle.slice_syntax.specs.declared.terminal.Terminal.{Terminal};
+ghost use Rattle.slice_syntax.specs.Lexemes.{lexemes, begins, terminal_of, next, seen};
 ghost use Rattle.slice_syntax.specs.Grammar.{one, optional};
 ghost use Rattle.slice_syntax.specs.Rules.{word};
 ghost use Rattle.slice_syntax.specs.Reading.{read, token_at};
@@ -14,7 +14,7 @@ ghost use Rattle.slice_syntax.specs.Taking.{Takes, TakesNoMemory};
 
 use crate::directive::if_text;
 use crate::fault::{Stop, SyntaxFault};
-use crate::sort::{Sort, name_of, sort_of};
+use crate::terminal::{Terminal, name_of, terminal_of};
 use crate::tree::Word;
 use ice_types::Name;
 use slice_lexer::{Token, Tokens};
@@ -66,19 +66,19 @@ impl<'a> Cursor<'a> {
     }
 
     /// What the next token is, None at the end.
-    pub fn sort(&self) -> Option<Sort>
-        ensures { result ≡ option_map sort_of (next self.now) }
+    pub fn terminal(&self) -> Option<Terminal>
+        ensures { result ≡ option_map terminal_of (next self.now) }
     {
         let (token, bytes) = self.next()?;
-        Some(sort_of(token.kind, bytes))
+        Some(terminal_of(token.kind, bytes))
     }
 
     /// Whether the next token is one of these.
-    pub fn begins(&self, sorts: &[Sort]) -> bool
-        ensures { result ≡ begins sorts.now self.now }
+    pub fn begins(&self, terminals: &[Terminal]) -> bool
+        ensures { result ≡ begins terminals.now self.now }
     {
-        match self.sort() {
-            Some(sort) => sorts.contains(&sort),
+        match self.terminal() {
+            Some(terminal) => terminals.contains(&terminal),
             None => false,
         }
     }
@@ -93,11 +93,11 @@ impl<'a> Cursor<'a> {
     }
 
     /// Takes a token of one of these sorts.
-    pub fn take_any(&mut self, sorts: &[Sort]) -> Result<(Token, &'a [u8]), Stop>
-        ensures { TakesNoMemory seen result self.new (token_at sorts.now (λ l. l) self.old) }
+    pub fn take_any(&mut self, terminals: &[Terminal]) -> Result<(Token, &'a [u8]), Stop>
+        ensures { TakesNoMemory seen result self.new (token_at terminals.now (λ l. l) self.old) }
     {
         match self.next() {
-            Some(found) if self.begins(sorts) => {
+            Some(found) if self.begins(terminals) => {
                 self.advance();
                 Ok(found)
             }
@@ -106,19 +106,19 @@ impl<'a> Cursor<'a> {
     }
 
     /// Takes a token of this sort, and answers its place.
-    pub fn take(&mut self, sort: Sort) -> Result<u32, Stop>
-        ensures { TakesNoMemory (λ place. place) result self.new (read (one sort) self.old) }
+    pub fn take(&mut self, terminal: Terminal) -> Result<u32, Stop>
+        ensures { TakesNoMemory (λ place. place) result self.new (read (one terminal) self.old) }
     {
-        let (token, _) = self.take_any(&[sort])?;
+        let (token, _) = self.take_any(&[terminal])?;
         Ok(token.from)
     }
 
     /// Takes a token of this sort where it is the next, and answers its place.
-    pub fn take_if(&mut self, sort: Sort) -> Result<Option<u32>, Stop>
-        ensures { TakesNoMemory (λ place. place) result self.new (read (optional (one sort)) self.old) }
+    pub fn take_if(&mut self, terminal: Terminal) -> Result<Option<u32>, Stop>
+        ensures { TakesNoMemory (λ place. place) result self.new (read (optional (one terminal)) self.old) }
     {
-        if self.begins(&[sort]) {
-            Ok(Some(self.take(sort)?))
+        if self.begins(&[terminal]) {
+            Ok(Some(self.take(terminal)?))
         } else {
             Ok(None)
         }
@@ -129,7 +129,7 @@ impl<'a> Cursor<'a> {
     pub fn take_word(&mut self, alloc: Global) -> Result<Word, Stop>
         ensures { Takes (λ word. word) result self.new (read word self.old) }
     {
-        let (token, bytes) = self.take_any(&[Sort::Word])?;
+        let (token, bytes) = self.take_any(&[Terminal::Word])?;
         match if_text(name_of(bytes)) {
             Some(text) => Ok(Word {
                 name: Name::of(alloc, text)?,

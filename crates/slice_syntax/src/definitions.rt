@@ -8,9 +8,9 @@ use crate::classes::{class, exception};
 use crate::cursor::Cursor;
 use crate::fault::Stop;
 use crate::interfaces::interface;
-use crate::sort::{
+use crate::terminal::{
     CLASS, CLOSE_BRACE, COMMA, CONST, DICTIONARY, ENUM, EQUALS, EXCEPTION, GREATER, LESS,
-    OPEN_BRACE, SEMICOLON, SEQUENCE, STRUCT, Sort,
+    OPEN_BRACE, SEMICOLON, SEQUENCE, STRUCT, Terminal,
 };
 use crate::tree::{Constant, Field, Item, Word};
 use crate::words::{MEMBERS, given_value, metadata, type_word, value};
@@ -81,7 +81,7 @@ fn entries(alloc: Global, cursor: &mut Cursor) -> Result<List<(Word, Option<Cons
 {
     let mut entries = List::new(alloc);
     let mut goes_on = true;
-    while goes_on && cursor.begins(&[Sort::Word]) {
+    while goes_on && cursor.begins(&[Terminal::Word]) {
         let (entry, comma) = entry_comma(alloc, cursor)?;
         entries.push(entry)?;
         goes_on = comma;

@@ -3,29 +3,29 @@
 ghost use Rattle.std.specs.Prelude.{◌≡◌, ◌≤◌, length};
 ghost use Rattle.std.specs.List.{prefix_len};
 ghost use Rattle.slice_lexer.specs.Bytes.{is_blank};
-ghost use Rattle.slice_syntax.specs.Lexemes.{unblank, word_length, mark_place, is_bare, is_once, directive_line, directive_word, directive_rest, is_one_word, is_closed, if_text, up_to, included, directive_sort, text_seen};
+ghost use Rattle.slice_syntax.specs.Lexemes.{unblank, word_length, mark_place, is_bare, is_once, directive_line, directive_word, directive_rest, is_one_word, is_closed, if_text, up_to, included, directive_terminal, text_seen};
 
-use crate::sort::Sort;
+use crate::terminal::Terminal;
 
 /// What the directive is, which begins with `#`.
-#[tactic(auto, unfolding(crate::specs::Lexemes::directive_sort))]
-pub(crate) fn directive_sort(bytes: &[u8]) -> Sort
-    ensures { result ≡ directive_sort bytes.now }
+#[tactic(auto, unfolding(crate::specs::Lexemes::directive_terminal))]
+pub(crate) fn directive_terminal(bytes: &[u8]) -> Terminal
+    ensures { result ≡ directive_terminal bytes.now }
 {
     let word = directive_word(bytes);
     let rest = directive_rest(bytes);
     if word == b"include".as_slice() && included(rest).is_some() {
-        Sort::Include
+        Terminal::Include
     } else if word == b"ifndef".as_slice() && is_one_word(rest) {
-        Sort::Guard
+        Terminal::Guard
     } else if word == b"define".as_slice() && is_one_word(rest) {
-        Sort::Aside
+        Terminal::Aside
     } else if word == b"pragma".as_slice() && is_once(rest) {
-        Sort::Aside
+        Terminal::Aside
     } else if word == b"endif".as_slice() && is_bare(rest) {
-        Sort::EndGuard
+        Terminal::EndGuard
     } else {
-        Sort::Stray
+        Terminal::Stray
     }
 }
 

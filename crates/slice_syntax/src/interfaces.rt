@@ -7,7 +7,7 @@ ghost use Rattle.slice_syntax.specs.Taking.{Takes};
 use crate::cursor::Cursor;
 use crate::definitions::close;
 use crate::fault::Stop;
-use crate::sort::{
+use crate::terminal::{
     CLOSE_ROUND, COMMA, EXTENDS, IDEMPOTENT, INTERFACE, OPEN_BRACE, OPEN_ROUND, OUT, SEMICOLON,
     THROWS, VOID,
 };

@@ -23,7 +23,7 @@ mod fault;
 mod interfaces;
 mod modules;
 mod parser;
-mod sort;
+mod terminal;
 mod text_laws;
 mod tree;
 mod words;

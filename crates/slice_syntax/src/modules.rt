@@ -3,7 +3,7 @@
 ghost use Rattle.std.specs.Prelude.{◌≡◌, ◌++◌, Err, OnErr, OnOk};
 ghost use Rattle.slice_syntax.specs.declared.fault.Stop.TheVariants as stops;
 ghost use Rattle.slice_syntax.specs.Grammar.{parted, ◌▸◌};
-ghost use Rattle.slice_syntax.specs.Sorts.{colons};
+ghost use Rattle.slice_syntax.specs.Terminals.{colons};
 ghost use Rattle.slice_syntax.specs.Reading.{read};
 ghost use Rattle.slice_syntax.specs.Rules.{metadata, word};
 ghost use Rattle.slice_syntax.specs.Files.{Enters, Opens, exits, head};
@@ -13,7 +13,7 @@ ghost use Rattle.slice_syntax.specs.Taking.{Takes, TakesMove, TakesWith};
 use crate::cursor::Cursor;
 use crate::definitions::{close, definition};
 use crate::fault::Stop;
-use crate::sort::{CLOSE_BRACE, COLONS, MODULE, OPEN_BRACE, OPEN_SQUARE};
+use crate::terminal::{CLOSE_BRACE, COLONS, MODULE, OPEN_BRACE, OPEN_SQUARE};
 use crate::tree::Item;
 use crate::words::metadata;
 use ice_types::List;

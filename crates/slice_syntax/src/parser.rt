@@ -3,12 +3,12 @@
 ghost use Rattle.std.specs.Prelude.{◌≡◌, ◌≤◌, ◌⊎◌, [], ◌∷◌, length};
 ghost use Rattle.slice_lexer.specs.Lexing.{Lexes};
 ghost use Rattle.slice_lexer.specs.declared.lexer.TheConstants.{MOST_BYTES};
-ghost use Rattle.slice_syntax.specs.declared.sort.Sort.TheVariants as sorts;
+ghost use Rattle.slice_syntax.specs.declared.terminal.Terminal.TheVariants as terminals;
 ghost use Rattle.slice_syntax.specs.Lexemes.{Lexemes};
 ghost use Rattle.slice_syntax.specs.Reading.{read, token_at};
 ghost use Rattle.slice_syntax.specs.declared.tree.File.{File};
-ghost use Rattle.slice_syntax.specs.Sorts.{AreWritten, written};
-ghost use Rattle.slice_syntax.specs.Files.{Notes, NotesOne, Reads, directive, directives, include_of};
+ghost use Rattle.slice_syntax.specs.Terminals.{AreWritten, written};
+ghost use Rattle.slice_syntax.specs.Files.{Notes, NotesOne, ReadsFile, directive, directives, include_of};
 ghost use Rattle.slice_syntax.specs.Moving.{closing_at, end_at, whole_at};
 ghost use Rattle.slice_syntax.specs.Syntax.{Answers, BreaksAt, IsBroken, IsFile};
 ghost use Rattle.slice_syntax.specs.Taking.{Takes, TakesNoMemory, TakesWith};
@@ -17,7 +17,7 @@ use crate::cursor::Cursor;
 use crate::directive::include_name;
 use crate::fault::{Stop, SyntaxFault};
 use crate::modules::modules;
-use crate::sort::{OPEN_TWO, Sort};
+use crate::terminal::{OPEN_TWO, Terminal};
 use crate::tree::File;
 use crate::words::file_metadata;
 use ice_types::{List, Name};
@@ -41,7 +41,7 @@ pub fn parse(alloc: Global, text: &[u8], tokens: &Tokens) -> Result<File, Syntax
 /// Tokens are a file, and one alone, or have a first one that no file goes on with, and never both.
 pub fn one_answer()
     ensures either { (ls : Lexemes) → IsFile ls ⊎ IsBroken ls }
-    ensures one_file { (ls : Lexemes) (file other : File) → Reads ls file → Reads ls other → file ≡ other }
+    ensures one_file { (ls : Lexemes) (file other : File) → ReadsFile ls file → ReadsFile ls other → file ≡ other }
     ensures one_break { (ls behind rest : Lexemes) → BreaksAt ls behind → BreaksAt ls rest → behind ≡ rest }
     ensures never_both { (ls : Lexemes) → IsFile ls → IsBroken ls → ⊥ }
 {}
@@ -69,7 +69,12 @@ fn heads(alloc: Global, cursor: &mut Cursor, included: &mut List<(Name, u32)>) -
     ensures { TakesWith (Notes included.old included.new) result cursor.new (read directives cursor.old) }
 {
     let mut guarded = false;
-    while cursor.begins(&[Sort::Include, Sort::Guard, Sort::Aside, OPEN_TWO]) {
+    while cursor.begins(&[
+        Terminal::Include,
+        Terminal::Guard,
+        Terminal::Aside,
+        OPEN_TWO,
+    ]) {
         let guards = head(alloc, cursor, included)?;
         guarded = guarded || guards;
     }
@@ -81,16 +86,16 @@ fn heads(alloc: Global, cursor: &mut Cursor, included: &mut List<(Name, u32)>) -
 fn head(alloc: Global, cursor: &mut Cursor, included: &mut List<(Name, u32)>) -> Result<bool, Stop>
     ensures { TakesWith (NotesOne included.old included.new) result cursor.new (read directive cursor.old) }
 {
-    if cursor.begins(&[Sort::Include]) {
+    if cursor.begins(&[Terminal::Include]) {
         included.push(take_include(alloc, cursor)?)?;
         return Ok(false);
     }
-    if cursor.begins(&[Sort::Guard]) {
-        cursor.take(Sort::Guard)?;
+    if cursor.begins(&[Terminal::Guard]) {
+        cursor.take(Terminal::Guard)?;
         return Ok(true);
     }
-    if cursor.begins(&[Sort::Aside]) {
-        cursor.take(Sort::Aside)?;
+    if cursor.begins(&[Terminal::Aside]) {
+        cursor.take(Terminal::Aside)?;
         return Ok(false);
     }
     file_metadata(cursor)?;
@@ -99,9 +104,9 @@ fn head(alloc: Global, cursor: &mut Cursor, included: &mut List<(Name, u32)>) ->
 
 /// `#include`, with the name in it.
 fn take_include(alloc: Global, cursor: &mut Cursor) -> Result<(Name, u32), Stop>
-    ensures { Takes (λ x. x) result cursor.new (token_at (sorts.Include ∷ []) include_of cursor.old) }
+    ensures { Takes (λ x. x) result cursor.new (token_at (terminals.Include ∷ []) include_of cursor.old) }
 {
-    let (token, bytes) = cursor.take_any(&[Sort::Include])?;
+    let (token, bytes) = cursor.take_any(&[Terminal::Include])?;
     match include_name(bytes) {
         Some(text) => Ok((Name::of(alloc, text)?, token.from)),
         None => unreachable!(),
@@ -113,7 +118,7 @@ fn closing(guarded: bool, cursor: &mut Cursor) -> Result<(), Stop>
     ensures { TakesNoMemory (λ x. x) result cursor.new (closing_at guarded cursor.old) }
 {
     if guarded {
-        cursor.take(Sort::EndGuard)?;
+        cursor.take(Terminal::EndGuard)?;
     }
     Ok(())
 }
@@ -122,7 +127,7 @@ fn closing(guarded: bool, cursor: &mut Cursor) -> Result<(), Stop>
 fn end(cursor: &mut Cursor) -> Result<(), Stop>
     ensures { TakesNoMemory (λ x. x) result cursor.new (end_at cursor.old) }
 {
-    match cursor.sort() {
+    match cursor.terminal() {
         None => Ok(()),
         Some(_) => Err(Stop::Refused),
     }

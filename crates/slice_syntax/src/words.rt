@@ -7,10 +7,10 @@ ghost use Rattle.slice_syntax.specs.Taking.{Takes, TakesNoMemory};
 
 use crate::cursor::Cursor;
 use crate::fault::Stop;
-use crate::sort::{
+use crate::terminal::{
     BOOL, BYTE, CLOSE_ROUND, CLOSE_SQUARE, CLOSE_TWO, COLONS, COMMA, DOUBLE, EQUALS, FALSE, FLOAT,
     IDEMPOTENT, INT, LONG, MINUS, OBJECT, OPEN_ROUND, OPEN_SQUARE, OPEN_TWO, OPTIONAL, OUT, PLUS,
-    SHORT, STAR, STRING, Sort, TRUE, VALUE, VOID,
+    SHORT, STAR, STRING, TRUE, Terminal, VALUE, VOID,
 };
 use crate::tree::{Const, Constant, Path, TypeWord};
 use ice_types::{List, Name};
@@ -18,29 +18,29 @@ use slice_lexer::TokenKind;
 use std::alloc::Global;
 
 /// The keywords that are types and have no `*` after them.
-const PLAIN_TYPES: [Sort; 9] = [BOOL, BYTE, SHORT, INT, LONG, FLOAT, DOUBLE, STRING, VALUE];
+const PLAIN_TYPES: [Terminal; 9] = [BOOL, BYTE, SHORT, INT, LONG, FLOAT, DOUBLE, STRING, VALUE];
 
 /// These, and what a type begins with.
 macro_rules! or_type {
     ($($other:expr),*) => {
         [
             $($other,)*
-            BOOL, BYTE, SHORT, INT, LONG, FLOAT, DOUBLE, STRING, VALUE, OBJECT, COLONS, Sort::Word,
+            BOOL, BYTE, SHORT, INT, LONG, FLOAT, DOUBLE, STRING, VALUE, OBJECT, COLONS, Terminal::Word,
         ]
     };
 }
 
 /// What a member of a struct may begin with.
-pub(crate) const MEMBERS: [Sort; 13] = or_type![OPEN_SQUARE];
+pub(crate) const MEMBERS: [Terminal; 13] = or_type![OPEN_SQUARE];
 
 /// What a member of a class or an exception may begin with.
-pub(crate) const TAGGED_MEMBERS: [Sort; 14] = or_type![OPEN_SQUARE, OPTIONAL];
+pub(crate) const TAGGED_MEMBERS: [Terminal; 14] = or_type![OPEN_SQUARE, OPTIONAL];
 
 /// What an operation may begin with.
-pub(crate) const OPERATIONS: [Sort; 16] = or_type![OPEN_SQUARE, IDEMPOTENT, VOID, OPTIONAL];
+pub(crate) const OPERATIONS: [Terminal; 16] = or_type![OPEN_SQUARE, IDEMPOTENT, VOID, OPTIONAL];
 
 /// What a parameter may begin with.
-pub(crate) const PARAMETERS: [Sort; 15] = or_type![OUT, OPEN_SQUARE, OPTIONAL];
+pub(crate) const PARAMETERS: [Terminal; 15] = or_type![OUT, OPEN_SQUARE, OPTIONAL];
 
 /// `{ "[" text { "," text } "]" }`
 #[tactic(auto, unfolding(crate::specs::Rules::metadata))]
@@ -71,10 +71,10 @@ pub(crate) fn file_metadata(cursor: &mut Cursor) -> Result<(), Stop>
 fn texts(cursor: &mut Cursor) -> Result<(), Stop>
     ensures { TakesNoMemory (λ x. x) result cursor.new (read texts cursor.old) }
 {
-    cursor.take(Sort::Text)?;
+    cursor.take(Terminal::Text)?;
     while cursor.begins(&[COMMA]) {
         cursor.take(COMMA)?;
-        cursor.take(Sort::Text)?;
+        cursor.take(Terminal::Text)?;
     }
     Ok(())
 }
@@ -179,10 +179,10 @@ pub(crate) fn value(alloc: Global, cursor: &mut Cursor) -> Result<Constant, Stop
     if cursor.begins(&[MINUS, PLUS]) {
         return signed_number(cursor);
     }
-    if cursor.begins(&[Sort::Number]) {
+    if cursor.begins(&[Terminal::Number]) {
         return number(cursor);
     }
-    if cursor.begins(&[Sort::Text]) {
+    if cursor.begins(&[Terminal::Text]) {
         return text(cursor);
     }
     if cursor.begins(&[TRUE, FALSE]) {
@@ -195,7 +195,7 @@ pub(crate) fn value(alloc: Global, cursor: &mut Cursor) -> Result<Constant, Stop
 fn text(cursor: &mut Cursor) -> Result<Constant, Stop>
     ensures { TakesNoMemory (λ x. x) result cursor.new (read text cursor.old) }
 {
-    let place = cursor.take(Sort::Text)?;
+    let place = cursor.take(Terminal::Text)?;
     Ok(Constant {
         place,
         value: Const::Text,
@@ -218,7 +218,7 @@ fn signed_number(cursor: &mut Cursor) -> Result<Constant, Stop>
     ensures { TakesNoMemory (λ x. x) result cursor.new (read signed_number cursor.old) }
 {
     let sign = cursor.take_any(&[MINUS, PLUS])?.0;
-    let number = cursor.take_any(&[Sort::Number])?.0;
+    let number = cursor.take_any(&[Terminal::Number])?.0;
     Ok(Constant {
         place: sign.from,
         value: Const::Number {
@@ -232,7 +232,7 @@ fn signed_number(cursor: &mut Cursor) -> Result<Constant, Stop>
 fn number(cursor: &mut Cursor) -> Result<Constant, Stop>
     ensures { TakesNoMemory (λ x. x) result cursor.new (read number cursor.old) }
 {
-    let number = cursor.take_any(&[Sort::Number])?.0;
+    let number = cursor.take_any(&[Terminal::Number])?.0;
     Ok(Constant {
         place: number.from,
         value: Const::Number {
@@ -257,7 +257,7 @@ fn is_minus(kind: TokenKind) -> bool
     ensures { result ≡ is_minus kind }
 {
     match kind {
-        TokenKind::Symbol(code) => Sort::Symbol(code) == MINUS,
+        TokenKind::Symbol(code) => Terminal::Symbol(code) == MINUS,
         _ => false,
     }
 }
@@ -267,7 +267,7 @@ fn is_true(kind: TokenKind) -> bool
     ensures { result ≡ is_true kind }
 {
     match kind {
-        TokenKind::Keyword(code) => Sort::Keyword(code) == TRUE,
+        TokenKind::Keyword(code) => Terminal::Keyword(code) == TRUE,
         _ => false,
     }
 }

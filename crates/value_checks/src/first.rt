@@ -11,7 +11,7 @@ use crate::instances::is_fine;
 use crate::members::are_members;
 use graph_arena::Graph;
 use ice_types::Schema;
-use ice_values::Fields;
+use ice_values::DeclaredMembers;
 use std::alloc::{AllocError, Global};
 
 /// The first part of a graph that is not of its type: the roots, which are None, of these members; then
@@ -21,7 +21,7 @@ use std::alloc::{AllocError, Global};
 pub fn first_ill_typed(
     alloc: Global,
     schema: &Schema,
-    fields: Fields<'_>,
+    fields: DeclaredMembers<'_>,
     graph: &Graph,
 ) -> Result<Option<Option<u32>>, AllocError>
     ensures typed { IfOk result (λ found. (found ≡ None) ↔ OfType schema.now (shape_seen fields.entry) graph.now) }

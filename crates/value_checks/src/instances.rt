@@ -14,7 +14,7 @@ use crate::members::are_members;
 use crate::references::References;
 use graph_arena::{Graph, Members, Slice};
 use ice_types::{Member, Name, Schema};
-use ice_values::Fields;
+use ice_values::DeclaredMembers;
 
 /// Which rows of a schema slices are of.
 #[derive(Clone, Copy)]
@@ -163,7 +163,7 @@ fn is_known(schema: &Schema, rows: Rows, graph: &Graph, class: u32, members: &Me
 {
     match own_members(schema, rows, class) {
         Some(own) => {
-            let fields = Fields {
+            let fields = DeclaredMembers {
                 required: own,
                 optional: own,
             };

@@ -17,13 +17,13 @@ use crate::references::References;
 use crate::values::is_of;
 use graph_arena::{Graph, Members, Value};
 use ice_types::{MOST_DEPTH, Member, Schema, TypeRef};
-use ice_values::{Fields, kind_tagged};
+use ice_values::{DeclaredMembers, kind_tagged};
 
 /// Whether they are the values of these members, each reference to an instance of the graph that fits.
 pub(crate) fn are_members(
     schema: &Schema,
     graph: &Graph,
-    fields: Fields<'_>,
+    fields: DeclaredMembers<'_>,
     members: &Members,
 ) -> bool
     ensures { IsTrue result ↔ AreMembers schema.now (RefersIn schema.now graph.now.instances) (shape_seen fields.entry) (view_content members.now) }

@@ -1,6 +1,6 @@
 use Rattle.std.proofs.Common.{true, sym, ap, ◌∙◌, [], ◌∷◌, ◌++◌, append_assoc}
 use Rattle.slice_syntax.specs.Grammar.{one, ◌▸◌}
-use Rattle.slice_syntax.specs.Sorts.{comma}
+use Rattle.slice_syntax.specs.Terminals.{comma}
 use Rattle.slice_syntax.specs.Rules.{scoped}
 use Rattle.slice_syntax.proofs.Fits.{fits_paths}
 use Rattle.slice_syntax.proofs.Series.{gather_more, rows_less, then_read}

@@ -1,7 +1,7 @@
 use Rattle.std.proofs.Common.{◌≡◌, ◌++◌, length}
 use Rattle.slice_syntax.specs.Grammar.{many, one, ◌▸◌}
 use Rattle.slice_syntax.specs.Reading.{read, gather}
-use Rattle.slice_syntax.specs.Sorts.{comma}
+use Rattle.slice_syntax.specs.Terminals.{comma}
 use Rattle.slice_syntax.specs.Rules.{scoped, paths}
 use Rattle.slice_syntax.proofs.interfaces.paths.Given as goal
 

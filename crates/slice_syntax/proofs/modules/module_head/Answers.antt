@@ -6,7 +6,7 @@ use Rattle.slice_syntax.specs.declared.tree.Item.TheVariants as items
 use Rattle.slice_syntax.specs.Lexemes.{Lexemes}
 use Rattle.slice_syntax.specs.Grammar.{one, parted}
 use Rattle.slice_syntax.specs.Reading.{read}
-use Rattle.slice_syntax.specs.Sorts.{word_module, colons, open_brace}
+use Rattle.slice_syntax.specs.Terminals.{word_module, colons, open_brace}
 use Rattle.slice_syntax.specs.Rules.{word}
 use Rattle.slice_syntax.specs.Files.{head, enters}
 use Rattle.slice_syntax.proofs.Exits.{err_with, no_memory_takes}

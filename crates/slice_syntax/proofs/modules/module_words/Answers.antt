@@ -1,6 +1,6 @@
 use Rattle.std.proofs.Common.{true, sym, ap, ◌∙◌, List, [], ◌∷◌, ◌++◌, append_assoc}
 use Rattle.slice_syntax.specs.Grammar.{one, ◌▸◌}
-use Rattle.slice_syntax.specs.Sorts.{colons}
+use Rattle.slice_syntax.specs.Terminals.{colons}
 use Rattle.slice_syntax.specs.Rules.{word}
 use Rattle.slice_syntax.specs.Files.{enters}
 use Rattle.slice_syntax.specs.declared.tree.Item.{Item}

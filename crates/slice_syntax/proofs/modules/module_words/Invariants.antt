@@ -1,7 +1,7 @@
 use Rattle.std.proofs.Common.{◌≡◌, ◌++◌, length}
 use Rattle.slice_syntax.specs.Grammar.{many, one, parted, ◌▸◌}
 use Rattle.slice_syntax.specs.Reading.{read, gather}
-use Rattle.slice_syntax.specs.Sorts.{colons}
+use Rattle.slice_syntax.specs.Terminals.{colons}
 use Rattle.slice_syntax.specs.Rules.{word}
 use Rattle.slice_syntax.specs.Files.{enters}
 use Rattle.slice_syntax.proofs.modules.module_words.Given as goal

@@ -1,7 +1,7 @@
 use Rattle.std.proofs.Common.{◌≡◌, Ok, true, refl, sym, ◌∙◌}
 use Rattle.slice_syntax.specs.Grammar.{one, ◌▸◌}
 use Rattle.slice_syntax.specs.Reading.{read}
-use Rattle.slice_syntax.specs.Sorts.{open_square, close_square}
+use Rattle.slice_syntax.specs.Terminals.{open_square, close_square}
 use Rattle.slice_syntax.specs.Rules.{texts}
 use Rattle.slice_syntax.proofs.Fits.{fits_metadata}
 use Rattle.slice_syntax.proofs.Series.{gather_more, rows_less, then_read}

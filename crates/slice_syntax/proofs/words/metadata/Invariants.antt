@@ -1,7 +1,7 @@
 use Rattle.std.proofs.Common.{◌≡◌, length}
 use Rattle.slice_syntax.specs.Grammar.{many, one, ◌▸◌}
 use Rattle.slice_syntax.specs.Reading.{read, gather}
-use Rattle.slice_syntax.specs.Sorts.{open_square, close_square}
+use Rattle.slice_syntax.specs.Terminals.{open_square, close_square}
 use Rattle.slice_syntax.specs.Rules.{texts, metadata}
 use Rattle.slice_syntax.proofs.words.metadata.Given as goal
 

@@ -2,7 +2,7 @@ use Rattle.std.proofs.Common.{◌≡◌, ℕ, Ok, Err, true, refl, sym, ap, ◌�
 use Rattle.slice_syntax.specs.Grammar.{one, ◌▸◌}
 use Rattle.slice_syntax.specs.Lexemes.{Lexemes}
 use Rattle.slice_syntax.specs.Reading.{read}
-use Rattle.slice_syntax.specs.Sorts.{colons}
+use Rattle.slice_syntax.specs.Terminals.{colons}
 use Rattle.slice_syntax.specs.Rules.{word, name, names}
 use Rattle.slice_syntax.specs.declared.tree.Word.{Word}
 use Rattle.slice_syntax.proofs.Exits.{err_takes}

@@ -1,7 +1,7 @@
 use Rattle.std.proofs.Common.{◌≡◌, ◌++◌, length}
 use Rattle.slice_syntax.specs.Grammar.{many, one, ◌▸◌}
 use Rattle.slice_syntax.specs.Reading.{read, gather}
-use Rattle.slice_syntax.specs.Sorts.{colons}
+use Rattle.slice_syntax.specs.Terminals.{colons}
 use Rattle.slice_syntax.specs.Rules.{name, names}
 use Rattle.slice_syntax.proofs.words.names.Given as goal
 
