@@ -29,7 +29,8 @@ pub fn read_exception(
     schema: &Schema,
     input: &[u8],
 ) -> Result<UserException, ReadFault>
-    ensures reads { GivesUnlessMemory view_user_exception result (exception_at schema.now all_slices (whole input.now)) }
+    ensures reads { GivesUnlessMemory view_user_exception result
+        (exception_at schema.now all_slices (whole input.now)) }
     ensures typed { IfOk result (λ user_exception. OfUserException schema.now (view_user_exception user_exception)) }
 {
     let mut cursor = Cursor::new(input);

@@ -27,7 +27,8 @@ pub fn content_of(
     fields: DeclaredMembers<'_>,
     json: &Json,
 ) -> Result<Option<Members>, AllocError>
-    ensures { IfOk result (λ o. option_map view_content o ≡ noted_content schema.now (shape_seen fields.entry) (json_view json.now)) }
+    ensures { IfOk result (λ o. option_map view_content o
+        ≡ noted_content schema.now (shape_seen fields.entry) (json_view json.now)) }
 {
     let Some(found) = json.as_object() else {
         return Ok(None);
@@ -59,7 +60,8 @@ fn required_of(
     members: &[Member],
     found: &Map<String, Json>,
 ) -> Result<Option<List<Value>>, AllocError>
-    ensures { IfOk result (λ o. option_map view_all o ≡ members_of (noted_value schema.now) (without_tag members.now) (members_view found.now.entries)) }
+    ensures { IfOk result (λ o. option_map view_all o
+        ≡ members_of (noted_value schema.now) (without_tag members.now) (members_view found.now.entries)) }
 {
     let mut values = List::new(alloc);
     for member in members {
@@ -81,7 +83,9 @@ fn member_of(
     member: &Member,
     found: &Map<String, Json>,
 ) -> Result<Option<Value>, AllocError>
-    ensures { IfOk result (λ o. option_map view o ≡ option_and_then (noted_value schema.now member.now.kind) (get_member member.now.name (members_view found.now.entries))) }
+    ensures { IfOk result (λ o. option_map view o
+        ≡ option_and_then (noted_value schema.now member.now.kind)
+        (get_member member.now.name (members_view found.now.entries))) }
 {
     match named(found, member.name.as_str()) {
         Some(json) => value_of(alloc, schema, member.kind, json),
@@ -96,7 +100,8 @@ fn optional_of(
     members: &[Member],
     found: &Map<String, Json>,
 ) -> Result<Option<List<(u32, Value)>>, AllocError>
-    ensures { IfOk result (λ o. option_map view_present o ≡ options_of (noted_value schema.now) (with_tag members.now) (members_view found.now.entries) []) }
+    ensures { IfOk result (λ o. option_map view_present o
+        ≡ options_of (noted_value schema.now) (with_tag members.now) (members_view found.now.entries) []) }
 {
     let mut values = BTreeMap::new(alloc);
     for member in members {

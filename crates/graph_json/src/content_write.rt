@@ -24,7 +24,8 @@ pub fn content_json(
     fields: DeclaredMembers<'_>,
     members: &Members,
 ) -> Result<Json, AllocError>
-    ensures { IfOk result (λ j. json_view j ≡ content_noted schema.now (shape_seen fields.entry) (view_content members.now)) }
+    ensures { IfOk result (λ j. json_view j
+        ≡ content_noted schema.now (shape_seen fields.entry) (view_content members.now)) }
 {
     let mut found = Map::new(alloc);
     put_required(
@@ -52,7 +53,9 @@ fn put_required(
     members: &[Member],
     values: &[Value],
 ) -> Result<(), AllocError>
-    ensures { OnOk result (members_view found.new.entries ≡ members_noted (notation schema.now) (members_view found.old.entries) (without_tag members.now) (view_all values.now)) }
+    ensures { OnOk result (members_view found.new.entries
+        ≡ members_noted (notation schema.now) (members_view found.old.entries) (without_tag members.now)
+        (view_all values.now)) }
 {
     let mut at = 0;
     for member in members {
@@ -77,7 +80,9 @@ fn put_optional(
     members: &[Member],
     options: &[(u32, Value)],
 ) -> Result<(), AllocError>
-    ensures { OnOk result (members_view found.new.entries ≡ options_noted (notation schema.now) (members_view found.old.entries) (with_tag members.now) (view_present options.now)) }
+    ensures { OnOk result (members_view found.new.entries
+        ≡ options_noted (notation schema.now) (members_view found.old.entries) (with_tag members.now)
+        (view_present options.now)) }
 {
     for option in options {
         put_option(alloc, schema, found, members, option)?;
@@ -92,7 +97,9 @@ fn put_option(
     members: &[Member],
     option: &(u32, Value),
 ) -> Result<(), AllocError>
-    ensures { OnOk result (members_view found.new.entries ≡ spec.put_member (notation schema.now) (spec.member_tagged option.now.0 (with_tag members.now)) (view option.now.1) (members_view found.old.entries)) }
+    ensures { OnOk result (members_view found.new.entries
+        ≡ spec.put_member (notation schema.now) (spec.member_tagged option.now.0 (with_tag members.now))
+        (view option.now.1) (members_view found.old.entries)) }
 {
     if let Some(member) = member_tagged(members, option.0) {
         let json = json_of(alloc, schema, member.kind, &option.1)?;

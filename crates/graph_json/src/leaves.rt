@@ -121,7 +121,8 @@ pub(crate) fn proxy_of(
 
 /// The proxy of a text that is not too long, where each endpoint can be written.
 fn written_proxy(alloc: Global, schema: &Schema, text: &str) -> Result<Option<Value>, AllocError>
-    ensures { IfOk result (λ o. option_map view o ≡ option_map proxy (option_map spec.some (spec.proxy_from text.now))) }
+    ensures { IfOk result (λ o. option_map view o
+        ≡ option_map proxy (option_map spec.some (spec.proxy_from text.now))) }
 {
     let Some(proxy) = text_proxy(alloc, text)? else {
         return Ok(None);

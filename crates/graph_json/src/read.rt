@@ -6,7 +6,8 @@ ghost use Rattle.ice_types.specs.declared.kind.TypeRef.TheVariants as kinds;
 ghost use Rattle.ice_encoding.specs.Tree.{no_entry, sequence, dictionary, struct};
 ghost use Rattle.graph_arena.specs.View.{view, view_all, view_pair, view_pairs};
 ghost use Rattle.graph_json.specs.ReadingValues as spec;
-ghost use Rattle.graph_json.specs.ReadingValues.{both_of, each_of, few, members_of, noted_value, pairs_of, value_levels, value_step, whole};
+ghost use Rattle.graph_json.specs.ReadingValues.{both_of, each_of, few, members_of, noted_value, pairs_of};
+ghost use Rattle.graph_json.specs.ReadingValues.{value_levels, value_step, whole};
 
 use crate::leaves::{
     bool_of, byte_of, enumerator_of, int_of, long_of, named, proxy_of, reference_of, short_of,
@@ -57,7 +58,8 @@ fn read_parts(
     kind: TypeRef,
     json: &Json,
 ) -> Result<Option<Value>, AllocError>
-    ensures { IfOk result (λ o. option_map view o ≡ value_step schema.now (value_levels schema.now levels) kind (json_view json.now)) }
+    ensures { IfOk result (λ o. option_map view o
+        ≡ value_step schema.now (value_levels schema.now levels) kind (json_view json.now)) }
 {
     match kind {
         TypeRef::Bool => Ok(bool_of(json)),
@@ -84,7 +86,8 @@ fn read_sequence(
     at: u32,
     json: &Json,
 ) -> Result<Option<Value>, AllocError>
-    ensures { IfOk result (λ o. option_map view o ≡ value_step schema.now (value_levels schema.now levels) (kinds.Seq at) (json_view json.now)) }
+    ensures { IfOk result (λ o. option_map view o
+        ≡ value_step schema.now (value_levels schema.now levels) (kinds.Seq at) (json_view json.now)) }
 {
     let Some(decl) = schema.seqs().get(at as usize) else {
         return Ok(None);
@@ -104,7 +107,8 @@ fn read_dictionary(
     at: u32,
     json: &Json,
 ) -> Result<Option<Value>, AllocError>
-    ensures { IfOk result (λ o. option_map view o ≡ value_step schema.now (value_levels schema.now levels) (kinds.Dict at) (json_view json.now)) }
+    ensures { IfOk result (λ o. option_map view o
+        ≡ value_step schema.now (value_levels schema.now levels) (kinds.Dict at) (json_view json.now)) }
 {
     let Some(decl) = schema.dicts().get(at as usize) else {
         return Ok(None);
@@ -124,7 +128,8 @@ fn read_struct(
     at: u32,
     json: &Json,
 ) -> Result<Option<Value>, AllocError>
-    ensures { IfOk result (λ o. option_map view o ≡ value_step schema.now (value_levels schema.now levels) (kinds.Struct at) (json_view json.now)) }
+    ensures { IfOk result (λ o. option_map view o
+        ≡ value_step schema.now (value_levels schema.now levels) (kinds.Struct at) (json_view json.now)) }
 {
     let Some(decl) = schema.structs().get(at as usize) else {
         return Ok(None);
@@ -144,7 +149,9 @@ fn read_items(
     kind: TypeRef,
     items: &Vec<Json>,
 ) -> Result<Option<Value>, AllocError>
-    ensures { IfOk result (λ o. option_map view o ≡ few (λ ds. option_map sequence (each_of (value_levels schema.now levels kind) ds)) (items_view items.now.items)) }
+    ensures { IfOk result (λ o. option_map view o
+        ≡ few (λ ds. option_map sequence (each_of (value_levels schema.now levels kind) ds))
+        (items_view items.now.items)) }
 {
     if items.len() < 2_147_483_648 {
         match read_each(alloc, schema, levels, kind, items.as_slice())? {
@@ -166,7 +173,9 @@ fn read_entries(
     items: &Vec<Json>,
 ) -> Result<Option<Value>, AllocError>
     ensures { IfOk result (λ o. option_map view o
-        ≡ few (λ ds. option_map dictionary (pairs_of (value_levels schema.now levels decl.now.key) (value_levels schema.now levels decl.now.value) no_entry ds)) (items_view items.now.items)) }
+        ≡ few (λ ds. option_map dictionary
+        (pairs_of (value_levels schema.now levels decl.now.key)
+        (value_levels schema.now levels decl.now.value) no_entry ds)) (items_view items.now.items)) }
 {
     if items.len() < 2_147_483_648 {
         match read_pairs(alloc, schema, levels, decl, items.as_slice())? {
@@ -188,7 +197,9 @@ fn read_whole(
     found: &Map<String, Json>,
 ) -> Result<Option<Value>, AllocError>
     ensures { IfOk result (λ o. option_map view o
-        ≡ whole (length members.now) (λ ms. option_map struct (members_of (value_levels schema.now levels) members.now ms)) (members_view found.now.entries)) }
+        ≡ whole (length members.now)
+        (λ ms. option_map struct (members_of (value_levels schema.now levels) members.now ms))
+        (members_view found.now.entries)) }
 {
     if found.len() == members.len() {
         match read_members(alloc, schema, levels, members, found)? {
@@ -209,7 +220,8 @@ fn read_each(
     kind: TypeRef,
     items: &[Json],
 ) -> Result<Option<List<Value>>, AllocError>
-    ensures { IfOk result (λ o. option_map view_all o ≡ each_of (value_levels schema.now levels kind) (items_view items.now)) }
+    ensures { IfOk result (λ o. option_map view_all o
+        ≡ each_of (value_levels schema.now levels kind) (items_view items.now)) }
 {
     let mut values = List::new(alloc);
     for item in items {
@@ -230,7 +242,8 @@ fn read_members(
     members: &[Member],
     found: &Map<String, Json>,
 ) -> Result<Option<List<Value>>, AllocError>
-    ensures { IfOk result (λ o. option_map view_all o ≡ members_of (value_levels schema.now levels) members.now (members_view found.now.entries)) }
+    ensures { IfOk result (λ o. option_map view_all o
+        ≡ members_of (value_levels schema.now levels) members.now (members_view found.now.entries)) }
 {
     let mut values = List::new(alloc);
     for member in members {
@@ -254,7 +267,9 @@ fn read_pairs(
     decl: &DictDecl,
     items: &[Json],
 ) -> Result<Option<List<(Value, Value)>>, AllocError>
-    ensures { IfOk result (λ o. option_map view_pairs o ≡ pairs_of (value_levels schema.now levels decl.now.key) (value_levels schema.now levels decl.now.value) no_entry (items_view items.now)) }
+    ensures { IfOk result (λ o. option_map view_pairs o
+        ≡ pairs_of (value_levels schema.now levels decl.now.key)
+        (value_levels schema.now levels decl.now.value) no_entry (items_view items.now)) }
 {
     let mut pairs = BTreeMap::new(alloc);
     for item in items {
@@ -277,7 +292,9 @@ fn read_pair(
     decl: &DictDecl,
     item: &Json,
 ) -> Result<Option<(Value, Value)>, AllocError>
-    ensures { IfOk result (λ o. option_map view_pair o ≡ both_of (value_levels schema.now levels decl.now.key) (value_levels schema.now levels decl.now.value) (json_view item.now)) }
+    ensures { IfOk result (λ o. option_map view_pair o
+        ≡ both_of (value_levels schema.now levels decl.now.key) (value_levels schema.now levels decl.now.value)
+        (json_view item.now)) }
 {
     let Some((first, second)) = pair_of(item) else {
         return Ok(None);

@@ -14,7 +14,8 @@ ghost use Rattle.ice_values.specs.Shapes.{shape_seen};
 ghost use Rattle.graph_json.specs.Contents.{HasOwnNames};
 ghost use Rattle.graph_json.specs.Listed.{AreNamed, CanBeNamed, MembersOf, Names, view_listed};
 ghost use Rattle.graph_json.specs.Canonical.{canonical_noted};
-ghost use Rattle.graph_json.specs.Texts.{AreNotable, IsJson, ListsTooMany, NotesText, Parses, ReadsJson, graph_text, listed_in};
+ghost use Rattle.graph_json.specs.Texts.{AreNotable, IsJson, ListsTooMany, NotesText, Parses, ReadsJson, graph_text};
+ghost use Rattle.graph_json.specs.Texts.{listed_in};
 ghost use Rattle.graph_json.specs.declared.fault.JsonFault.TheVariants as faults;
 ghost use Rattle.graph_json.specs.declared.fault.JsonKind.TheVariants as kinds;
 

@@ -47,7 +47,8 @@ pub fn noted_typed()
 
 /// What is read from JSON as members is noted by it.
 pub fn content_found()
-    ensures { (t : Tables) (shape : Shape) (d : Data) (c : Members) → noted_content t shape d ≡ Some c → NotesContent t shape d c }
+    ensures { (t : Tables) (shape : Shape) (d : Data) (c : Members) → noted_content t shape d ≡ Some c
+        → NotesContent t shape d c }
 {}
 
 /// The members that JSON notes under a schema are read from it.

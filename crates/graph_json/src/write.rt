@@ -9,7 +9,8 @@ ghost use Rattle.graph_arena.specs.View.{byte_trees, unboxed, view, view_all, vi
 ghost use Rattle.graph_json.specs.ValueNotation.{pair};
 ghost use Rattle.graph_json.specs.ValueNotation as notes;
 ghost use Rattle.graph_json.specs.CanonicalValues as spec;
-ghost use Rattle.graph_json.specs.CanonicalValues.{each_noted, members_noted, notation, notation_levels, notation_step, noted, pairs_noted};
+ghost use Rattle.graph_json.specs.CanonicalValues.{each_noted, members_noted, notation, notation_levels, notation_step};
+ghost use Rattle.graph_json.specs.CanonicalValues.{noted, pairs_noted};
 
 use graph_arena::Value;
 use ice_types::{DictDecl, Entry, MOST_DEPTH, Member, Proxy, Schema, TypeRef};
@@ -54,7 +55,8 @@ fn write_parts(
     kind: TypeRef,
     value: &Value,
 ) -> Result<Json, AllocError>
-    ensures { IfOk result (λ j. json_view j ≡ notation_step schema.now (notation_levels schema.now levels) kind (view value.now)) }
+    ensures { IfOk result (λ j. json_view j
+        ≡ notation_step schema.now (notation_levels schema.now levels) kind (view value.now)) }
 {
     match (kind, value) {
         (TypeRef::Bool, Value::Bool(b)) => Ok(Json::from(*b)),
@@ -90,7 +92,8 @@ fn write_sequence(
     at: u32,
     items: &[Value],
 ) -> Result<Json, AllocError>
-    ensures { IfOk result (λ j. json_view j ≡ notation_step schema.now (notation_levels schema.now levels) (kinds.Seq at) (sequence (view_all items.now))) }
+    ensures { IfOk result (λ j. json_view j
+        ≡ notation_step schema.now (notation_levels schema.now levels) (kinds.Seq at) (sequence (view_all items.now))) }
 {
     match schema.seqs().get(at as usize) {
         Some(decl) => {
@@ -109,7 +112,9 @@ fn write_bytes(
     at: u32,
     bytes: &[u8],
 ) -> Result<Json, AllocError>
-    ensures { IfOk result (λ j. json_view j ≡ notation_step schema.now (notation_levels schema.now levels) (kinds.Seq at) (sequence (byte_trees bytes.now))) }
+    ensures { IfOk result (λ j. json_view j
+        ≡ notation_step schema.now (notation_levels schema.now levels) (kinds.Seq at)
+        (sequence (byte_trees bytes.now))) }
 {
     match schema.seqs().get(at as usize) {
         Some(decl) => {
@@ -129,7 +134,8 @@ fn is_byte_type(levels: u32, kind: TypeRef) -> bool
 
 /// The bytes one after the other, each as `byte_json` has it.
 fn write_each_byte(alloc: Global, are_of: bool, bytes: &[u8]) -> Result<Vec<Json>, AllocError>
-    ensures { IfOk result (λ l. map json_view l.items ≡ map (λ n. if are_of then number (unsigned n) else null) bytes.now) }
+    ensures { IfOk result (λ l. map json_view l.items
+        ≡ map (λ n. if are_of then number (unsigned n) else null) bytes.now) }
 {
     let mut items = Vec::new(alloc);
     for byte in bytes {
@@ -153,7 +159,9 @@ fn write_dictionary(
     at: u32,
     pairs: &[(Value, Value)],
 ) -> Result<Json, AllocError>
-    ensures { IfOk result (λ j. json_view j ≡ notation_step schema.now (notation_levels schema.now levels) (kinds.Dict at) (dictionary (view_pairs pairs.now))) }
+    ensures { IfOk result (λ j. json_view j
+        ≡ notation_step schema.now (notation_levels schema.now levels) (kinds.Dict at)
+        (dictionary (view_pairs pairs.now))) }
 {
     match schema.dicts().get(at as usize) {
         Some(decl) => {
@@ -172,7 +180,9 @@ fn write_struct(
     at: u32,
     items: &[Value],
 ) -> Result<Json, AllocError>
-    ensures { IfOk result (λ j. json_view j ≡ notation_step schema.now (notation_levels schema.now levels) (kinds.Struct at) (struct (view_all items.now))) }
+    ensures { IfOk result (λ j. json_view j
+        ≡ notation_step schema.now (notation_levels schema.now levels) (kinds.Struct at)
+        (struct (view_all items.now))) }
 {
     match schema.structs().get(at as usize) {
         Some(decl) => {
@@ -191,7 +201,8 @@ fn write_each(
     kind: TypeRef,
     values: &[Value],
 ) -> Result<Vec<Json>, AllocError>
-    ensures { IfOk result (λ l. items_view l.items ≡ each_noted (notation_levels schema.now levels kind) (view_all values.now)) }
+    ensures { IfOk result (λ l. items_view l.items
+        ≡ each_noted (notation_levels schema.now levels kind) (view_all values.now)) }
 {
     let mut items = Vec::new(alloc);
     for value in values {
@@ -209,7 +220,9 @@ fn write_pairs(
     decl: &DictDecl,
     pairs: &[(Value, Value)],
 ) -> Result<Vec<Json>, AllocError>
-    ensures { IfOk result (λ l. items_view l.items ≡ pairs_noted (notation_levels schema.now levels decl.now.key) (notation_levels schema.now levels decl.now.value) (view_pairs pairs.now)) }
+    ensures { IfOk result (λ l. items_view l.items
+        ≡ pairs_noted (notation_levels schema.now levels decl.now.key)
+        (notation_levels schema.now levels decl.now.value) (view_pairs pairs.now)) }
 {
     let mut items = Vec::new(alloc);
     for (key, value) in pairs {
@@ -239,7 +252,8 @@ fn write_members(
     members: &[Member],
     values: &[Value],
 ) -> Result<Map<String, Json>, AllocError>
-    ensures { IfOk result (λ m. members_view m.entries ≡ members_noted (notation_levels schema.now levels) no_members members.now (view_all values.now)) }
+    ensures { IfOk result (λ m. members_view m.entries
+        ≡ members_noted (notation_levels schema.now levels) no_members members.now (view_all values.now)) }
 {
     let mut found = Map::new(alloc);
     for (at, member) in members.iter().enumerate() {
@@ -254,7 +268,8 @@ fn write_members(
 
 /// The name of an enumerator of the enum at this place of the schema's table.
 fn enumerator_json(alloc: Global, schema: &Schema, at: u32, number: u32) -> Result<Json, AllocError>
-    ensures { IfOk result (λ j. json_view j ≡ noted (slice_get schema.now.enums at) (λ e. noted (spec.name_numbered number e.entries) string)) }
+    ensures { IfOk result (λ j. json_view j
+        ≡ noted (slice_get schema.now.enums at) (λ e. noted (spec.name_numbered number e.entries) string)) }
 {
     let Some(decl) = schema.enums().get(at as usize) else {
         return Ok(Json::Null);

@@ -27,7 +27,8 @@ pub fn node<H: Shelf, S: Source, K: Sink, E: Sink>(
 ) -> u8
     // There is one answer: its status is returned, it comes for its cause, no more of the input was
     // taken than it says, and the sinks got what it says.
-    ensures answered { let before = outside (H.files shelf.old) (S.left source.old) (K.taken sink.old) (E.taken errors.old)
+    ensures answered { let before = outside (H.files shelf.old) (S.left source.old) (K.taken sink.old)
+        (E.taken errors.old)
         (counts (H.failures shelf.old) (S.failures source.old) (K.failures sink.old)) (E.failures errors.old) in
         let after = outside (H.files shelf.new) (S.left source.new) (K.taken sink.new) (E.taken errors.new)
         (counts (H.failures shelf.new) (S.failures source.new) (K.failures sink.new)) (E.failures errors.new) in
@@ -35,22 +36,26 @@ pub fn node<H: Shelf, S: Source, K: Sink, E: Sink>(
 
     // Where the outside tells what it holds, and that decides an answer, this one came, unless a read
     // or a write failed, or memory ran out.
-    ensures exactly { let before = outside (H.files shelf.old) (S.left source.old) (K.taken sink.old) (E.taken errors.old)
+    ensures exactly { let before = outside (H.files shelf.old) (S.left source.old) (K.taken sink.old)
+        (E.taken errors.old)
         (counts (H.failures shelf.old) (S.failures source.old) (K.failures sink.old)) (E.failures errors.old) in
         let after = outside (H.files shelf.new) (S.left source.new) (K.taken sink.new) (E.taken errors.new)
         (counts (H.failures shelf.new) (S.failures source.new) (K.failures sink.new)) (E.failures errors.new) in
         (files : Files) (input : List ℕ) (answer : Answer)
         → before.files ≡ Some files → before.input ≡ Some input
-        → Decided (words_of words.now) files input answer → EndsWithStatus (words_of words.now) before after result answer }
+        → Decided (words_of words.now) files input answer
+        → EndsWithStatus (words_of words.now) before after result answer }
 
     // Where the outside tells what it holds, `relay` in sliced format has written, with status 0, the graph that
     // the input is for whoever knows the classes that FILE lacks.
-    ensures carried { let before = outside (H.files shelf.old) (S.left source.old) (K.taken sink.old) (E.taken errors.old)
+    ensures carried { let before = outside (H.files shelf.old) (S.left source.old) (K.taken sink.old)
+        (E.taken errors.old)
         (counts (H.failures shelf.old) (S.failures source.old) (K.failures sink.old)) (E.failures errors.old) in
         let after = outside (H.files shelf.new) (S.left source.new) (K.taken sink.new) (E.taken errors.new)
         (counts (H.failures shelf.new) (S.failures source.new) (K.failures sink.new)) (E.failures errors.new) in
         (files : Files) (input : List ℕ) → before.files ≡ Some files → before.input ≡ Some input → IsBytes input
-        → result ≡ 0 → (out : List ℕ) × Appends before.output after.output out × Carries (words_of words.now) files input out }
+        → result ≡ 0 → (out : List ℕ) × Appends before.output after.output out
+        × Carries (words_of words.now) files input out }
 {
     let outcome = run(alloc, words, shelf, source, sink);
     report(outcome, errors)

@@ -7,7 +7,8 @@ ghost use Rattle.ice_ports.specs.Failures.{count_after};
 ghost use Rattle.ice_ports.specs.Files.{is_failed};
 ghost use Rattle.ice_relay.specs.Relaying.{held};
 ghost use Rattle.ice_relay.specs.Comparing.{two_held};
-ghost use Rattle.ice_relay.specs.Streams.{ReadsUpTo, TakesUpTo, ReadsInput, ReadsTwo, TakesFrugally, TakesTwoFrugally, ClaimsMore};
+ghost use Rattle.ice_relay.specs.Streams.{ReadsUpTo, TakesUpTo, ReadsInput, ReadsTwo, TakesFrugally, TakesTwoFrugally};
+ghost use Rattle.ice_relay.specs.Streams.{ClaimsMore};
 
 use ice_encoding::{LARGEST, SIZE_BYTES};
 use ice_ports::{MOST_OF_A_READ, PortFault, Source};

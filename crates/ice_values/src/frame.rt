@@ -114,7 +114,8 @@ impl Frame {
 impl Pairs {
     /// The type of the key or the value that is read next, or None where all are read.
     fn next(&mut self, cursor: &Cursor<'_>) -> Result<Option<TypeRef>, Fault>
-        ensures { (t : Tables) (levels : ℕ) → Asks t (opened_pairs levels self.old) (opened_pairs levels self.new) cursor.now.place result }
+        ensures { (t : Tables) (levels : ℕ)
+            → Asks t (opened_pairs levels self.old) (opened_pairs levels self.new) cursor.now.place result }
     {
         match self.part {
             Part::Begun(_) => Ok(None),
@@ -139,7 +140,8 @@ impl Pairs {
 
     /// Gets the key or the value that was read.
     fn give(&mut self, alloc: Global, value: Value) -> Result<(), AllocError>
-        ensures { (levels : ℕ) → OnOk result (opened_pairs levels self.new ≡ given (opened_pairs levels self.old) (view value)) }
+        ensures { (levels : ℕ)
+            → OnOk result (opened_pairs levels self.new ≡ given (opened_pairs levels self.old) (view value)) }
     {
         if let Part::Begun(place) = self.part {
             if self.done.has_key() {

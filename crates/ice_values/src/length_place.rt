@@ -60,7 +60,8 @@ impl LengthPlace {
 /// Puts the length of what stands from a place on before it, as a size.
 fn insert_size(out: &mut Vec<u8>, at: usize) -> Result<(), AllocError>
     requires { at ≤ length out.old.items }
-    ensures ok { OnOk result (out.new.items ≡ take at out.old.items ++ (size.put (length (drop at out.old.items)) ++ drop at out.old.items)) }
+    ensures ok { OnOk result (out.new.items
+        ≡ take at out.old.items ++ (size.put (length (drop at out.old.items)) ++ drop at out.old.items)) }
     ensures err { OnErr result (out.new.items ≡ out.old.items) }
 {
     let end = out.len();
@@ -77,7 +78,8 @@ fn insert_size(out: &mut Vec<u8>, at: usize) -> Result<(), AllocError>
 /// Puts the length of what stands behind the four bytes at a place over them, as an int.
 fn patch_int(out: &mut Vec<u8>, at: usize) -> Result<(), AllocError>
     requires { at + 4 ≤ length out.old.items }
-    ensures ok { OnOk result (out.new.items ≡ take at out.old.items ++ (count.put (length (drop (at + 4) out.old.items)) ++ drop (at + 4) out.old.items)) }
+    ensures ok { OnOk result (out.new.items
+        ≡ take at out.old.items ++ (count.put (length (drop (at + 4) out.old.items)) ++ drop (at + 4) out.old.items)) }
     ensures err { OnErr result (out.new.items ≡ out.old.items) }
 {
     let length = out.len() - (at + 4);

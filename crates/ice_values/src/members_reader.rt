@@ -59,7 +59,10 @@ impl<'a> MembersReader<'a> {
         cursor: &mut Cursor<'a>,
         port: &mut P,
     ) -> Result<PausedMembers, ReadFault>
-        ensures goes { (inside : Inside P) → Goes inside (left_of_members P.take schema.now inside (handed fields.entry) self.new) result (left_of_members P.take schema.now inside (handed fields.entry) self.old port.old cursor.old) port.new cursor.new }
+        ensures goes { (inside : Inside P)
+            → Goes inside (left_of_members P.take schema.now inside (handed fields.entry) self.new) result
+            (left_of_members P.take schema.now inside
+            (handed fields.entry) self.old port.old cursor.old) port.new cursor.new }
         ensures room { NarrowsOnPause result (P.room port.old) (P.room port.new) }
     {
         match mem::replace(&mut self.options, None) {
@@ -78,7 +81,10 @@ impl<'a> MembersReader<'a> {
         port: &mut P,
     ) -> Result<PausedMembers, ReadFault>
         requires { self.old.options ≡ None }
-        ensures goes { (inside : Inside P) → Goes inside (left_of_members P.take schema.now inside (handed fields.entry) self.new) result (from_stage P.take schema.now inside self.old.optionals (handed fields.entry) self.old.required None port.old cursor.old) port.new cursor.new }
+        ensures goes { (inside : Inside P)
+            → Goes inside (left_of_members P.take schema.now inside (handed fields.entry) self.new) result
+            (from_stage P.take schema.now inside self.old.optionals
+            (handed fields.entry) self.old.required None port.old cursor.old) port.new cursor.new }
         ensures room { NarrowsOnPause result (P.room port.old) (P.room port.new) }
     {
         match self
@@ -107,7 +113,10 @@ impl<'a> MembersReader<'a> {
         port: &mut P,
     ) -> Result<PausedMembers, ReadFault>
         requires { self.old.options ≡ None }
-        ensures goes { (inside : Inside P) → Goes inside (left_of_members P.take schema.now inside (handed fields.entry) self.new) result (from_stage P.take schema.now inside self.old.optionals (handed fields.entry) self.old.required (Some options.entry) port.old cursor.old) port.new cursor.new }
+        ensures goes { (inside : Inside P)
+            → Goes inside (left_of_members P.take schema.now inside (handed fields.entry) self.new) result
+            (from_stage P.take schema.now inside self.old.optionals (handed fields.entry) self.old.required
+            (Some options.entry) port.old cursor.old) port.new cursor.new }
         ensures room { NarrowsOnPause result (P.room port.old) (P.room port.new) }
     {
         let marked = self.optionals.is_marked();
@@ -144,7 +153,10 @@ pub fn read_members<P: RefPort>(
     port: &mut P,
 ) -> Result<Members, ReadFault>
     requires { P.room port.old ≡ 0 }
-    ensures { (inside : Inside P) → ReadsMembers result (members_at P.take schema.now inside optionals (shape_seen fields.entry) port.old cursor.old) port.new cursor.new }
+    ensures { (inside : Inside P)
+        → ReadsMembers result
+        (members_at P.take schema.now inside optionals
+        (shape_seen fields.entry) port.old cursor.old) port.new cursor.new }
 {
     let mut reader = MembersReader::new(alloc, optionals);
     match reader.go(alloc, schema, fields, cursor, port) {

@@ -9,7 +9,9 @@ ghost use Rattle.graph_arena.specs.View.{view, view_all};
 ghost use Rattle.graph_arena.specs.Seen.{view_content, view_present};
 ghost use Rattle.ice_values.specs.Putting.{InsideWritten, NarrowsOnPause, Values, lists};
 ghost use Rattle.ice_values.specs.WritingLengths.{GoesOnFrom, IsBehind};
-ghost use Rattle.ice_values.specs.WritingMembers.{remaining, all_of, is_marked, marker, members_left, members_written, ContentCanBeWritten, RemainingFits, values_of, place_of, tag_bytes, held_bytes, GoesOn, WritesPiece};
+ghost use Rattle.ice_values.specs.WritingMembers.{remaining, all_of, is_marked, marker, members_left, members_written};
+ghost use Rattle.ice_values.specs.WritingMembers.{ContentCanBeWritten, RemainingFits, values_of, place_of, tag_bytes};
+ghost use Rattle.ice_values.specs.WritingMembers.{held_bytes, GoesOn, WritesPiece};
 
 use crate::ending::Ending;
 use crate::length_place::LengthPlace;
@@ -69,12 +71,17 @@ impl<'a> MembersWriter<'a> {
         port: &mut P,
     ) -> Result<WritePaused, AllocError>
         requires { RemainingFits (remaining self.old) out.old.items }
-        ensures goes { (inside : InsideWritten P) → GoesOn inside (members_left P.put inside schema.now optional.now (remaining self.new)) result (members_left P.put inside schema.now optional.now (remaining self.old) (port.old, out.old.items)) (port.new, out.new.items) }
+        ensures goes { (inside : InsideWritten P)
+            → GoesOn inside (members_left P.put inside schema.now optional.now (remaining self.new)) result
+            (members_left P.put inside schema.now optional.now (remaining self.old) (port.old, out.old.items))
+            (port.new, out.new.items) }
         ensures fits { OnOk result (RemainingFits (remaining self.new) out.new.items) }
         ensures room { NarrowsOnPause result (P.room port.old) (P.room port.new) }
         ensures longer { length out.old.items ≤ length out.new.items }
-        ensures grows { (base : List ℕ) → GoesOnFrom base (remaining self.old).place out.old.items → Grows base out.new.items }
-        ensures behind { OnOk result ((base : List ℕ) → GoesOnFrom base (remaining self.old).place out.old.items → IsBehind (length base) (remaining self.new).place) }
+        ensures grows { (base : List ℕ) → GoesOnFrom base (remaining self.old).place out.old.items
+            → Grows base out.new.items }
+        ensures behind { OnOk result ((base : List ℕ) → GoesOnFrom base (remaining self.old).place out.old.items
+            → IsBehind (length base) (remaining self.new).place) }
     {
         loop {
             match self.values.go(out, port)? {
@@ -105,10 +112,15 @@ impl<'a> MembersWriter<'a> {
         out: &mut Vec<u8>,
     ) -> Result<(), AllocError>
         requires { option.now.0 < 2 ^ 31 }
-        ensures values { OnOk result (lists self.new.values ≡ values_of (kind_tagged option.now.0 optional.now) (view option.now.1)) }
-        ensures place { OnOk result (self.new.place ≡ place_of schema.now (kind_tagged option.now.0 optional.now) (length (out.old.items ++ tag_bytes schema.now option.now.0 (kind_tagged option.now.0 optional.now)))) }
+        ensures values { OnOk result (lists self.new.values
+            ≡ values_of (kind_tagged option.now.0 optional.now) (view option.now.1)) }
+        ensures place { OnOk result (self.new.place
+            ≡ place_of schema.now (kind_tagged option.now.0 optional.now)
+            (length (out.old.items ++ tag_bytes schema.now option.now.0 (kind_tagged option.now.0 optional.now)))) }
         ensures others { (self.new.optional ≡ self.old.optional) × (self.new.marked ≡ self.old.marked) }
-        ensures ok { OnOk result (out.new.items ≡ (out.old.items ++ tag_bytes schema.now option.now.0 (kind_tagged option.now.0 optional.now)) ++ held_bytes schema.now (kind_tagged option.now.0 optional.now)) }
+        ensures ok { OnOk result (out.new.items
+            ≡ (out.old.items ++ tag_bytes schema.now option.now.0
+            (kind_tagged option.now.0 optional.now)) ++ held_bytes schema.now (kind_tagged option.now.0 optional.now)) }
         ensures grows { Grows out.old.items out.new.items }
     {
         let kind = kind_tagged(optional, option.0);
@@ -147,8 +159,10 @@ fn put_front(
     out: &mut Vec<u8>,
 ) -> Result<LengthPlace, AllocError>
     requires { tag < 2 ^ 31 }
-    ensures place { IfOk result (λ place. place ≡ place_of schema.now kind (length (out.old.items ++ tag_bytes schema.now tag kind))) }
-    ensures ok { OnOk result (out.new.items ≡ (out.old.items ++ tag_bytes schema.now tag kind) ++ held_bytes schema.now kind) }
+    ensures place { IfOk result (λ place. place
+        ≡ place_of schema.now kind (length (out.old.items ++ tag_bytes schema.now tag kind))) }
+    ensures ok { OnOk result (out.new.items
+        ≡ (out.old.items ++ tag_bytes schema.now tag kind) ++ held_bytes schema.now kind) }
     ensures grows { Grows out.old.items out.new.items }
 {
     match kind {
@@ -186,7 +200,10 @@ pub fn write_members<P: PutPort>(
 ) -> Result<(), AllocError>
     requires room { P.room port.old ≡ 0 }
     requires fits { ContentCanBeWritten (view_content members.now) }
-    ensures writes { (inside : InsideWritten P) → WritesPiece (members_written (written_in_place P.put inside) schema.now ending (shape_of optional.now) (view_content members.now)) result port.old out.old.items port.new out.new.items }
+    ensures writes { (inside : InsideWritten P)
+        → WritesPiece
+        (members_written (written_in_place P.put inside) schema.now ending (shape_of optional.now)
+        (view_content members.now)) result port.old out.old.items port.new out.new.items }
     ensures grows { Grows out.old.items out.new.items }
 {
     let mut writer = MembersWriter::new(alloc, members, ending)?;

@@ -12,7 +12,8 @@ ghost use Rattle.graph_arena.specs.Seen.{view_present};
 ghost use Rattle.ice_values.specs.Shapes.{with_tag};
 ghost use Rattle.ice_values.specs.Entering.{Begun, entered_at};
 ghost use Rattle.ice_values.specs.Unread.{left_options, from_item, option_behind, options_behind, options_work};
-ghost use Rattle.ice_values.specs.Advancing.{Advances, GoesOn, NarrowsOnAdvance, NarrowsOnBegin, LessOnAdvance, fresh_options};
+ghost use Rattle.ice_values.specs.Advancing.{Advances, GoesOn, NarrowsOnAdvance, NarrowsOnBegin, LessOnAdvance};
+ghost use Rattle.ice_values.specs.Advancing.{fresh_options};
 
 use crate::advanced::Advanced;
 use crate::port::{Met, RefPort};
@@ -79,7 +80,11 @@ impl<'a> OptionsReader<'a> {
         cursor: &mut Cursor<'a>,
         port: &mut P,
     ) -> Result<Option<u32>, ReadFault>
-        ensures goes { (inside : Inside P) → GoesOn inside (left_options P.take schema.now inside marked (with_tag members.now) self.new) (view_present self.new.done) result (left_options P.take schema.now inside marked (with_tag members.now) self.old port.old cursor.old) port.new cursor.new }
+        ensures goes { (inside : Inside P)
+            → GoesOn inside (left_options P.take schema.now inside marked (with_tag members.now) self.new)
+            (view_present self.new.done) result
+            (left_options P.take schema.now inside marked
+            (with_tag members.now) self.old port.old cursor.old) port.new cursor.new }
         ensures room { NarrowsOnBegin result (P.room port.old) (P.room port.new) }
     {
         loop {
@@ -101,7 +106,11 @@ impl<'a> OptionsReader<'a> {
         cursor: &mut Cursor<'a>,
         port: &mut P,
     ) -> Result<Advanced, ReadFault>
-        ensures advances { (inside : Inside P) → Advances inside (left_options P.take schema.now inside marked (with_tag members.now) self.new) (view_present self.new.done) result (left_options P.take schema.now inside marked (with_tag members.now) self.old port.old cursor.old) port.new cursor.new }
+        ensures advances { (inside : Inside P)
+            → Advances inside (left_options P.take schema.now inside marked (with_tag members.now) self.new)
+            (view_present self.new.done) result
+            (left_options P.take schema.now inside marked
+            (with_tag members.now) self.old port.old cursor.old) port.new cursor.new }
         ensures room { NarrowsOnAdvance result (P.room port.old) (P.room port.new) }
         ensures less { LessOnAdvance result (options_work self.old) (options_work self.new) }
     {
@@ -121,7 +130,11 @@ impl<'a> OptionsReader<'a> {
         port: &mut P,
     ) -> Result<Advanced, ReadFault>
         requires { self.old.item ≡ None }
-        ensures advances { (inside : Inside P) (marked : Bool) (members : List Declared) → Advances inside (left_options P.take schema.now inside marked members self.new) (view_present self.new.done) result (from_item P.take schema.now inside marked members (Some item.entry) (view_present self.old.done) self.old.steps self.old.last port.old cursor.old) port.new cursor.new }
+        ensures advances { (inside : Inside P) (marked : Bool) (members : List Declared)
+            → Advances inside (left_options P.take schema.now inside marked members self.new)
+            (view_present self.new.done) result
+            (from_item P.take schema.now inside marked members (Some item.entry)
+            (view_present self.old.done) self.old.steps self.old.last port.old cursor.old) port.new cursor.new }
         ensures room { NarrowsOnAdvance result (P.room port.old) (P.room port.new) }
         ensures less { LessOnAdvance result (suc (options_work self.old)) (options_work self.new) }
     {
@@ -149,7 +162,11 @@ impl<'a> OptionsReader<'a> {
         port: &mut P,
     ) -> Result<Advanced, ReadFault>
         requires { self.old.item ≡ None }
-        ensures advances { (inside : Inside P) → Advances inside (left_options P.take schema.now inside marked (with_tag members.now) self.new) (view_present self.new.done) result (options_behind P.take schema.now inside marked (with_tag members.now) (view_present self.old.done) self.old.steps self.old.last port.old cursor.old) port.new cursor.new }
+        ensures advances { (inside : Inside P)
+            → Advances inside (left_options P.take schema.now inside marked (with_tag members.now) self.new)
+            (view_present self.new.done) result
+            (options_behind P.take schema.now inside marked (with_tag members.now)
+            (view_present self.old.done) self.old.steps self.old.last port.old cursor.old) port.new cursor.new }
         ensures room { NarrowsOnAdvance result (P.room port.old) (P.room port.new) }
         ensures less { LessOnAdvance result (options_work self.old) (options_work self.new) }
     {
@@ -213,7 +230,10 @@ fn pass_over<P: RefPort>(
     port: &mut P,
 ) -> Result<Option<u32>, ReadFault>
     requires { format ≤ 7 }
-    ensures goes { (inside : Inside P) (t : Tables) → GoesOn inside (given None) None result (skipped_by (in_place P.take inside) t (format == FORMAT_CLASS) format port.old cursor.old) port.new cursor.new }
+    ensures goes { (inside : Inside P) (t : Tables)
+        → GoesOn inside (given None) None result
+        (skipped_by (in_place P.take inside) t
+        (format == FORMAT_CLASS) format port.old cursor.old) port.new cursor.new }
     ensures room { NarrowsOnBegin result (P.room port.old) (P.room port.new) }
 {
     match skip_format(cursor, format)? {

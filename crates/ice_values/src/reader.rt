@@ -10,7 +10,8 @@ ghost use Rattle.ice_values.specs.Leaves.{IsLeaf, HasParts};
 ghost use Rattle.ice_values.specs.ByteSequence.{HasByteItems};
 ghost use Rattle.ice_values.specs.Rests.{then, value_in};
 ghost use Rattle.ice_values.specs.Cost.{cost, weight, LessOnStep};
-ghost use Rattle.ice_values.specs.Going.{fresh, Goes, StepsReading, Closes, Gives, NarrowsOnPause, NarrowsOnStep, left_of, onward, whole_value};
+ghost use Rattle.ice_values.specs.Going.{fresh, Goes, StepsReading, Closes, Gives, NarrowsOnPause, NarrowsOnStep};
+ghost use Rattle.ice_values.specs.Going.{left_of, onward, whole_value};
 
 use crate::begun::begun;
 use crate::byte_sequence::{has_byte_items, take_byte_sequence};
@@ -78,7 +79,9 @@ impl ValueReader {
         cursor: &mut Cursor<'_>,
         port: &mut P,
     ) -> Result<Paused, ReadFault>
-        ensures goes { (inside : Inside P) → Goes inside (left_of P.take schema.now inside self.new) result (left_of P.take schema.now inside self.old port.old cursor.old) port.new cursor.new }
+        ensures goes { (inside : Inside P)
+            → Goes inside (left_of P.take schema.now inside self.new) result
+            (left_of P.take schema.now inside self.old port.old cursor.old) port.new cursor.new }
         ensures room { NarrowsOnPause result (P.room port.old) (P.room port.new) }
     {
         loop {
@@ -98,7 +101,9 @@ impl ValueReader {
         cursor: &mut Cursor<'_>,
         port: &mut P,
     ) -> Result<Stepped, ReadFault>
-        ensures steps { (inside : Inside P) → StepsReading inside (left_of P.take schema.now inside self.new) result (left_of P.take schema.now inside self.old port.old cursor.old) port.new cursor.new }
+        ensures steps { (inside : Inside P)
+            → StepsReading inside (left_of P.take schema.now inside self.new) result
+            (left_of P.take schema.now inside self.old port.old cursor.old) port.new cursor.new }
         ensures room { NarrowsOnStep result (P.room port.old) (P.room port.new) }
         ensures less { LessOnStep result (cost schema.now self.old) (cost schema.now self.new) }
     {
@@ -142,9 +147,13 @@ impl ValueReader {
         cursor: &mut Cursor<'_>,
         port: &mut P,
     ) -> Result<Stepped, ReadFault>
-        ensures steps { (inside : Inside P) → StepsReading inside (left_of P.take schema.now inside self.new) result (then (value_in P.take schema.now inside self.old.top.levels kind port.old cursor.old) (onward P.take schema.now inside whole_value (self.old.below ++ self.old.top ∷ []))) port.new cursor.new }
+        ensures steps { (inside : Inside P)
+            → StepsReading inside (left_of P.take schema.now inside self.new) result
+            (then (value_in P.take schema.now inside self.old.top.levels kind port.old cursor.old)
+            (onward P.take schema.now inside whole_value (self.old.below ++ self.old.top ∷ []))) port.new cursor.new }
         ensures room { NarrowsOnStep result (P.room port.old) (P.room port.new) }
-        ensures less { LessOnStep result (weight schema.now self.old.top.levels + cost schema.now self.old) (cost schema.now self.new) }
+        ensures less { LessOnStep result (weight schema.now self.old.top.levels + cost schema.now self.old)
+            (cost schema.now self.new) }
     {
         if self.top.levels == 0 {
             return Err(ReadFault::Broken(cursor.fault(Kind::LeftOver)));
@@ -163,9 +172,14 @@ impl ValueReader {
         cursor: &mut Cursor<'_>,
         port: &mut P,
     ) -> Result<Stepped, ReadFault>
-        ensures steps { (inside : Inside P) → StepsReading inside (left_of P.take schema.now inside self.new) result (then (value_step (in_place P.take inside) schema.now (value_in P.take schema.now inside levels) kind port.old cursor.old) (onward P.take schema.now inside whole_value (self.old.below ++ self.old.top ∷ []))) port.new cursor.new }
+        ensures steps { (inside : Inside P)
+            → StepsReading inside (left_of P.take schema.now inside self.new) result
+            (then (value_step (in_place P.take inside) schema.now
+            (value_in P.take schema.now inside levels) kind port.old cursor.old)
+            (onward P.take schema.now inside whole_value (self.old.below ++ self.old.top ∷ []))) port.new cursor.new }
         ensures room { NarrowsOnStep result (P.room port.old) (P.room port.new) }
-        ensures less { LessOnStep result (weight schema.now (suc levels) + cost schema.now self.old) (cost schema.now self.new) }
+        ensures less { LessOnStep result (weight schema.now (suc levels) + cost schema.now self.old)
+            (cost schema.now self.new) }
     {
         match kind {
             TypeRef::Bool
@@ -197,9 +211,14 @@ impl ValueReader {
         port: &P,
     ) -> Result<Stepped, ReadFault>
         requires { IsLeaf kind }
-        ensures steps { (inside : Inside P) → StepsReading inside (left_of P.take schema.now inside self.new) result (then (value_step (in_place P.take inside) schema.now (value_in P.take schema.now inside levels) kind port.now cursor.old) (onward P.take schema.now inside whole_value (self.old.below ++ self.old.top ∷ []))) port.now cursor.new }
+        ensures steps { (inside : Inside P)
+            → StepsReading inside (left_of P.take schema.now inside self.new) result
+            (then (value_step (in_place P.take inside) schema.now
+            (value_in P.take schema.now inside levels) kind port.now cursor.old)
+            (onward P.take schema.now inside whole_value (self.old.below ++ self.old.top ∷ []))) port.now cursor.new }
         ensures room { NarrowsOnStep result (P.room port.now) (P.room port.now) }
-        ensures less { LessOnStep result (weight schema.now (suc levels) + cost schema.now self.old) (cost schema.now self.new) }
+        ensures less { LessOnStep result (weight schema.now (suc levels) + cost schema.now self.old)
+            (cost schema.now self.new) }
     {
         let value = take_leaf(alloc, schema, kind, cursor)?;
         self.give(alloc, value)?;
@@ -216,9 +235,14 @@ impl ValueReader {
         cursor: &mut Cursor<'_>,
         port: &P,
     ) -> Result<Stepped, ReadFault>
-        ensures steps { (inside : Inside P) → StepsReading inside (left_of P.take schema.now inside self.new) result (then (value_step (in_place P.take inside) schema.now (value_in P.take schema.now inside levels) (kinds.Seq at) port.now cursor.old) (onward P.take schema.now inside whole_value (self.old.below ++ self.old.top ∷ []))) port.now cursor.new }
+        ensures steps { (inside : Inside P)
+            → StepsReading inside (left_of P.take schema.now inside self.new) result
+            (then (value_step (in_place P.take inside) schema.now (value_in P.take schema.now inside levels)
+            (kinds.Seq at) port.now cursor.old)
+            (onward P.take schema.now inside whole_value (self.old.below ++ self.old.top ∷ []))) port.now cursor.new }
         ensures room { NarrowsOnStep result (P.room port.now) (P.room port.now) }
-        ensures less { LessOnStep result (weight schema.now (suc levels) + cost schema.now self.old) (cost schema.now self.new) }
+        ensures less { LessOnStep result (weight schema.now (suc levels) + cost schema.now self.old)
+            (cost schema.now self.new) }
     {
         if levels > 0 && has_byte_items(schema, at) {
             self.read_bytes(alloc, schema, levels, at, cursor, port)
@@ -239,9 +263,14 @@ impl ValueReader {
     ) -> Result<Stepped, ReadFault>
         requires deep { 0 < levels }
         requires bytes { HasByteItems schema.now at }
-        ensures steps { (inside : Inside P) → StepsReading inside (left_of P.take schema.now inside self.new) result (then (value_step (in_place P.take inside) schema.now (value_in P.take schema.now inside levels) (kinds.Seq at) port.now cursor.old) (onward P.take schema.now inside whole_value (self.old.below ++ self.old.top ∷ []))) port.now cursor.new }
+        ensures steps { (inside : Inside P)
+            → StepsReading inside (left_of P.take schema.now inside self.new) result
+            (then (value_step (in_place P.take inside) schema.now (value_in P.take schema.now inside levels)
+            (kinds.Seq at) port.now cursor.old)
+            (onward P.take schema.now inside whole_value (self.old.below ++ self.old.top ∷ []))) port.now cursor.new }
         ensures room { NarrowsOnStep result (P.room port.now) (P.room port.now) }
-        ensures less { LessOnStep result (weight schema.now (suc levels) + cost schema.now self.old) (cost schema.now self.new) }
+        ensures less { LessOnStep result (weight schema.now (suc levels) + cost schema.now self.old)
+            (cost schema.now self.new) }
     {
         let value = take_byte_sequence(alloc, cursor)?;
         self.give(alloc, value)?;
@@ -259,9 +288,14 @@ impl ValueReader {
         port: &P,
     ) -> Result<Stepped, ReadFault>
         requires { HasParts kind }
-        ensures steps { (inside : Inside P) → StepsReading inside (left_of P.take schema.now inside self.new) result (then (value_step (in_place P.take inside) schema.now (value_in P.take schema.now inside levels) kind port.now cursor.old) (onward P.take schema.now inside whole_value (self.old.below ++ self.old.top ∷ []))) port.now cursor.new }
+        ensures steps { (inside : Inside P)
+            → StepsReading inside (left_of P.take schema.now inside self.new) result
+            (then (value_step (in_place P.take inside) schema.now
+            (value_in P.take schema.now inside levels) kind port.now cursor.old)
+            (onward P.take schema.now inside whole_value (self.old.below ++ self.old.top ∷ []))) port.now cursor.new }
         ensures room { NarrowsOnStep result (P.room port.now) (P.room port.now) }
-        ensures less { LessOnStep result (weight schema.now (suc levels) + cost schema.now self.old) (cost schema.now self.new) }
+        ensures less { LessOnStep result (weight schema.now (suc levels) + cost schema.now self.old)
+            (cost schema.now self.new) }
     {
         let frame = begun(alloc, schema, levels, kind, cursor)?;
         self.begin(frame)?;
@@ -278,9 +312,13 @@ impl ValueReader {
         cursor: &mut Cursor<'_>,
         port: &mut P,
     ) -> Result<Stepped, ReadFault>
-        ensures steps { (inside : Inside P) → StepsReading inside (left_of P.take schema.now inside self.new) result (then (made reference (in_place P.take inside declared) port.old cursor.old) (onward P.take schema.now inside whole_value (self.old.below ++ self.old.top ∷ []))) port.new cursor.new }
+        ensures steps { (inside : Inside P)
+            → StepsReading inside (left_of P.take schema.now inside self.new) result
+            (then (made reference (in_place P.take inside declared) port.old cursor.old)
+            (onward P.take schema.now inside whole_value (self.old.below ++ self.old.top ∷ []))) port.new cursor.new }
         ensures room { NarrowsOnStep result (P.room port.old) (P.room port.new) }
-        ensures less { LessOnStep result (weight schema.now (suc levels) + cost schema.now self.old) (cost schema.now self.new) }
+        ensures less { LessOnStep result (weight schema.now (suc levels) + cost schema.now self.old)
+            (cost schema.now self.new) }
     {
         match port.take_ref(declared, cursor)? {
             Met::Known(name) => {

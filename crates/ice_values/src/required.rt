@@ -4,7 +4,8 @@ ghost use Rattle.std.specs.Prelude.{◌≡◌, ◌+◌, ◌<◌, ◌^◌, IfSome
 ghost use Rattle.ice_encoding.specs.Pausing.{Inside};
 ghost use Rattle.graph_arena.specs.View.{view_all};
 ghost use Rattle.ice_values.specs.Unread.{left_required, from_member, kinds_left, required_work};
-ghost use Rattle.ice_values.specs.Advancing.{Advances, GoesOn, NarrowsOnAdvance, NarrowsOnBegin, LessOnAdvance, fresh_required};
+ghost use Rattle.ice_values.specs.Advancing.{Advances, GoesOn, NarrowsOnAdvance, NarrowsOnBegin, LessOnAdvance};
+ghost use Rattle.ice_values.specs.Advancing.{fresh_required};
 
 use crate::advanced::Advanced;
 use crate::port::RefPort;
@@ -48,7 +49,10 @@ impl RequiredReader {
         cursor: &mut Cursor<'_>,
         port: &mut P,
     ) -> Result<Option<u32>, ReadFault>
-        ensures goes { (inside : Inside P) → GoesOn inside (left_required P.take schema.now inside members.now self.new) (view_all self.new.done) result (left_required P.take schema.now inside members.now self.old port.old cursor.old) port.new cursor.new }
+        ensures goes { (inside : Inside P)
+            → GoesOn inside (left_required P.take schema.now inside members.now self.new)
+            (view_all self.new.done) result
+            (left_required P.take schema.now inside members.now self.old port.old cursor.old) port.new cursor.new }
         ensures room { NarrowsOnBegin result (P.room port.old) (P.room port.new) }
     {
         loop {
@@ -69,7 +73,10 @@ impl RequiredReader {
         cursor: &mut Cursor<'_>,
         port: &mut P,
     ) -> Result<Advanced, ReadFault>
-        ensures advances { (inside : Inside P) → Advances inside (left_required P.take schema.now inside members.now self.new) (view_all self.new.done) result (left_required P.take schema.now inside members.now self.old port.old cursor.old) port.new cursor.new }
+        ensures advances { (inside : Inside P)
+            → Advances inside (left_required P.take schema.now inside members.now self.new)
+            (view_all self.new.done) result
+            (left_required P.take schema.now inside members.now self.old port.old cursor.old) port.new cursor.new }
         ensures room { NarrowsOnAdvance result (P.room port.old) (P.room port.new) }
         ensures less { LessOnAdvance result (required_work members.now self.old) (required_work members.now self.new) }
     {

@@ -93,7 +93,8 @@ impl Model for SortedPairs {
 
     ghost Value = { Sorted };
 
-    ghost coded = { coded× (coded_list (coded× values.the_row.coded values.the_row.coded)) (coded_option values.the_row.coded) };
+    ghost coded = { coded× (coded_list (coded× values.the_row.coded values.the_row.coded))
+        (coded_option values.the_row.coded) };
 
     ghost view = { λ s. (pairs_in s.kept, s.waits) };
 

@@ -32,7 +32,8 @@ pub fn read_value<P: RefPort>(
     port: &mut P,
 ) -> Result<Value, ReadFault>
     requires { P.room port.old ≡ 0 }
-    ensures { (inside : Inside P) → ReadsValue result (whole_at P.take schema.now inside kind port.old cursor.old) port.new cursor.new }
+    ensures { (inside : Inside P)
+        → ReadsValue result (whole_at P.take schema.now inside kind port.old cursor.old) port.new cursor.new }
 {
     let mut reader = ValueReader::new(alloc, kind);
     match reader.go(alloc, schema, cursor, port) {
@@ -53,7 +54,8 @@ pub fn write_value<P: PutPort>(
 ) -> Result<(), AllocError>
     requires room { P.room port.old ≡ 0 }
     requires sizes { HasSizes (view value.now) }
-    ensures writes { (inside : InsideWritten P) → WritesValue P.put inside (view value.now) result port.old out.old.items port.new out.new.items }
+    ensures writes { (inside : InsideWritten P)
+        → WritesValue P.put inside (view value.now) result port.old out.old.items port.new out.new.items }
     ensures grows { Grows out.old.items out.new.items }
 {
     let mut writer = ValueWriter::of(alloc, value)?;

@@ -7,7 +7,8 @@ ghost use Rattle.ice_encoding.specs.Tree.{none, tree};
 ghost use Rattle.ice_encoding.specs.Writing.{Piece, written};
 ghost use Rattle.ice_encoding.specs.Pausing.{written_in_place};
 ghost use Rattle.graph_arena.specs.View.{view, view_all};
-ghost use Rattle.ice_values.specs.Putting.{InsideWritten, Goes, StepsWriting, NarrowsOnPause, NarrowsOnStep, LessOnOn, lists, waiting, Values, left_written, onto, all_fit, work_left, tree_size};
+ghost use Rattle.ice_values.specs.Putting.{InsideWritten, Goes, StepsWriting, NarrowsOnPause, NarrowsOnStep, LessOnOn};
+ghost use Rattle.ice_values.specs.Putting.{lists, waiting, Values, left_written, onto, all_fit, work_left, tree_size};
 
 use crate::byte_sequence::put_byte_sequence;
 use crate::leaf::put_leaf;
@@ -79,7 +80,9 @@ impl<'a> ValueWriter<'a> {
         port: &mut P,
     ) -> Result<WritePaused, AllocError>
         requires { all_fit (lists self.old) }
-        ensures goes { (inside : InsideWritten P) → Goes inside (left_written P.put inside (lists self.new)) result (onto (left_written P.put inside (lists self.old)) (port.old, out.old.items)) (port.new, out.new.items) }
+        ensures goes { (inside : InsideWritten P)
+            → Goes inside (left_written P.put inside (lists self.new)) result
+            (onto (left_written P.put inside (lists self.old)) (port.old, out.old.items)) (port.new, out.new.items) }
         ensures fits { OnOk result (all_fit (lists self.new)) }
         ensures room { NarrowsOnPause result (P.room port.old) (P.room port.new) }
         ensures grows { Grows out.old.items out.new.items }
@@ -100,7 +103,9 @@ impl<'a> ValueWriter<'a> {
         port: &mut P,
     ) -> Result<WriteStepped, AllocError>
         requires { all_fit (lists self.old) }
-        ensures steps { (inside : InsideWritten P) → StepsWriting inside (left_written P.put inside (lists self.new)) result (onto (left_written P.put inside (lists self.old)) (port.old, out.old.items)) (port.new, out.new.items) }
+        ensures steps { (inside : InsideWritten P)
+            → StepsWriting inside (left_written P.put inside (lists self.new)) result
+            (onto (left_written P.put inside (lists self.old)) (port.old, out.old.items)) (port.new, out.new.items) }
         ensures fits { OnOk result (all_fit (lists self.new)) }
         ensures room { NarrowsOnStep result (P.room port.old) (P.room port.new) }
         ensures less { LessOnOn result (work_left (lists self.old)) (work_left (lists self.new)) }
@@ -129,7 +134,8 @@ impl<'a> ValueWriter<'a> {
 
     /// Takes the innermost level off.
     fn take_level(&mut self) -> Option<Level<'a>>
-        ensures { MatchOption result ((lists self.old ≡ []) × (lists self.new ≡ [])) (λ level. lists self.old ≡ lists self.new ++ waiting level ∷ []) }
+        ensures { MatchOption result ((lists self.old ≡ [])
+            × (lists self.new ≡ [])) (λ level. lists self.old ≡ lists self.new ++ waiting level ∷ []) }
     {
         self.levels.pop()
     }
@@ -151,10 +157,15 @@ impl<'a> ValueWriter<'a> {
     ) -> Result<WriteStepped, AllocError>
         requires fits { all_fit (lists self.old) }
         requires value_fits { HasSizes (view value.now) }
-        ensures steps { (inside : InsideWritten P) → StepsWriting inside (left_written P.put inside (lists self.new)) result (onto (left_written P.put inside (lists self.old)) (onto (written (written_in_place P.put inside) (view value.now)) (port.old, out.old.items))) (port.new, out.new.items) }
+        ensures steps { (inside : InsideWritten P)
+            → StepsWriting inside (left_written P.put inside (lists self.new)) result
+            (onto (left_written P.put inside (lists self.old))
+            (onto (written (written_in_place P.put inside) (view value.now)) (port.old, out.old.items)))
+            (port.new, out.new.items) }
         ensures fits { OnOk result (all_fit (lists self.new)) }
         ensures room { NarrowsOnStep result (P.room port.old) (P.room port.new) }
-        ensures less { LessOnOn result (tree_size (view value.now) + work_left (lists self.old)) (work_left (lists self.new)) }
+        ensures less { LessOnOn result (tree_size (view value.now) + work_left (lists self.old))
+            (work_left (lists self.new)) }
         ensures grows { Grows out.old.items out.new.items }
     {
         match value {

@@ -3,7 +3,8 @@
 
 ghost use Rattle.std.specs.Prelude.{◌≡◌, ◌∷◌, ◌++◌, [], length, map, slice_get, OnOk};
 ghost use Rattle.std.specs.Option.{option_map};
-ghost use Rattle.ice_graphs.specs.References.{opening, entry_in, met_at, replaced, resolved, with_begun, with_ended, with_met};
+ghost use Rattle.ice_graphs.specs.References.{opening, entry_in, met_at, replaced, resolved, with_begun, with_ended};
+ghost use Rattle.ice_graphs.specs.References.{with_met};
 ghost use Rattle.ice_graphs.specs.TypeIds.{with_id};
 ghost use Rattle.graph_arena.specs.Seen.{view_instance, view_slice};
 ghost use Rattle.instance_reading.specs.Seen.{view_reference, view_references};
@@ -149,7 +150,8 @@ fn push_resolved(
     uses: &[Reference],
     table: &[u32],
 ) -> Result<(), AllocError>
-    ensures { OnOk result (view_references met.new.items ≡ view_references met.old.items ++ resolved table.now (view_references uses.now)) }
+    ensures { OnOk result (view_references met.new.items
+        ≡ view_references met.old.items ++ resolved table.now (view_references uses.now)) }
 {
     for used in uses {
         met.push(resolved(*used, table))?;

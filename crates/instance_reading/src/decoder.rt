@@ -55,7 +55,8 @@ fn read_roots<'a>(
     cursor: &mut Cursor<'a>,
     arena: &mut Arena<'a>,
 ) -> Result<Members, ReadFault>
-    ensures { ReadsRoots result (roots_at schema.now (shape_seen fields.entry) arena.old cursor.old) arena.new cursor.new }
+    ensures { ReadsRoots result
+        (roots_at schema.now (shape_seen fields.entry) arena.old cursor.old) arena.new cursor.new }
 {
     let mut reader = MembersReader::new(alloc, Optionals::ToEnd);
     loop {

@@ -2,7 +2,8 @@
 
 ghost use Rattle.std.specs.Prelude.{◌≡◌, ◌<◌, ◌≤◌, ◌++◌, ◌∷◌, [], OnOk};
 ghost use Rattle.ice_graphs.specs.Instances.{most_instances};
-ghost use Rattle.instance_reading.specs.Stacked.{ReadsInstance, StepsNesting, instance_within, is_within, stack_left, steps_left};
+ghost use Rattle.instance_reading.specs.Stacked.{ReadsInstance, StepsNesting, instance_within, is_within, stack_left};
+ghost use Rattle.instance_reading.specs.Stacked.{steps_left};
 ghost use Rattle.instance_reading.specs.Unfinished.{room};
 
 use crate::arena::Arena;
@@ -21,7 +22,8 @@ pub(crate) fn read_instance<'a>(
     arena: &mut Arena<'a>,
 ) -> Result<(), ReadFault>
     requires { room arena.old < most_instances }
-    ensures reads { ReadsInstance result (instance_within schema.now most_instances name arena.old cursor.old) arena.new cursor.new }
+    ensures reads { ReadsInstance result
+        (instance_within schema.now most_instances name arena.old cursor.old) arena.new cursor.new }
     ensures room { OnOk result (room arena.new ≤ room arena.old) }
 {
     let mut stack = List::new(alloc);
@@ -42,7 +44,8 @@ fn read_on<'a>(
     arena: &mut Arena<'a>,
 ) -> Result<(), ReadFault>
     requires { is_within (stack.old ++ top ∷ []) arena.old }
-    ensures steps { StepsNesting schema.now result (stack_left schema.now (stack.old ++ top.entry ∷ []) arena.old cursor.old) stack.new arena.new cursor.new }
+    ensures steps { StepsNesting schema.now result
+        (stack_left schema.now (stack.old ++ top.entry ∷ []) arena.old cursor.old) stack.new arena.new cursor.new }
     ensures within { OnOk result (is_within stack.new arena.new) }
     ensures room { OnOk result (room arena.new ≤ room arena.old) }
     ensures less { OnOk result (steps_left stack.new arena.new < steps_left (stack.old ++ top.entry ∷ []) arena.old) }

@@ -79,7 +79,8 @@ fn reopen_members(
     table: &[u32],
     bytes: &[u8],
 ) -> Result<Slice, ReadFault>
-    ensures { GivesUnlessMemory view_slice result (members_reopened schema.now class optionals table.now (whole bytes.now)) }
+    ensures { GivesUnlessMemory view_slice result
+        (members_reopened schema.now class optionals table.now (whole bytes.now)) }
 {
     let mut bound = Cursor::new(bytes);
     let tabled = is_there(table);

@@ -10,7 +10,8 @@ ghost use Rattle.ice_graphs.specs.Classes as classes;
 ghost use Rattle.ice_graphs.specs.Flags.{flags_of};
 ghost use Rattle.ice_values.specs.Advancing.{ReadsMembers};
 ghost use Rattle.instance_reading.specs.Seen.{view_next, view_references};
-ghost use Rattle.instance_reading.specs.Slices.{EndsSlice, OpensUnknown, OpensSized, ReadsPlaces, ReadsSized, SeesTable, first_outside};
+ghost use Rattle.instance_reading.specs.Slices.{EndsSlice, OpensUnknown, OpensSized, ReadsPlaces, ReadsSized};
+ghost use Rattle.instance_reading.specs.Slices.{SeesTable, first_outside};
 ghost use Rattle.instance_reading.specs.Sorts.{rows_of};
 ghost use Rattle.instance_reading.specs.Sorts as sorts;
 
@@ -141,7 +142,8 @@ fn read_sized(
     flags: u8,
     cursor: &mut Cursor<'_>,
 ) -> Result<SizedMembers, ReadFault>
-    ensures { ReadsSized sort schema.now class (flags_of flags).has_table (flags_of flags).has_optional result cursor.old cursor.new }
+    ensures { ReadsSized sort schema.now class (flags_of flags).has_table
+        (flags_of flags).has_optional result cursor.old cursor.new }
 {
     let mut bound = slice_bound(cursor)?;
     match read_in_bound(alloc, sort, schema, class, flags, &mut bound) {
@@ -162,7 +164,8 @@ fn read_in_bound(
     flags: u8,
     bound: &mut Cursor<'_>,
 ) -> Result<SizedMembers, ReadFault>
-    ensures { ReadsPlaces sort schema.now class (flags_of flags).has_table (flags_of flags).has_optional result bound.old bound.new }
+    ensures { ReadsPlaces sort schema.now class (flags_of flags).has_table
+        (flags_of flags).has_optional result bound.old bound.new }
 {
     let flagged = is_odd(flags / 4);
     read_places(
@@ -251,7 +254,10 @@ fn read_own<P: RefPort>(
     port: &mut P,
 ) -> Result<Members, ReadFault>
     requires { P.room port.old ≡ 0 }
-    ensures { (inside : Inside P) → ReadsMembers result (slice_members_at (in_place P.take inside) (rows_of sort schema.now) flagged (own_members (rows_of sort schema.now) class) port.old bound.old) port.new bound.new }
+    ensures { (inside : Inside P)
+        → ReadsMembers result
+        (slice_members_at (in_place P.take inside) (rows_of sort schema.now) flagged
+        (own_members (rows_of sort schema.now) class) port.old bound.old) port.new bound.new }
 {
     read_members(
         alloc,

@@ -4,7 +4,8 @@
 ghost use Rattle.std.specs.Prelude.{◌≡◌, ◌<◌, ◌^◌, OnOk, Some};
 ghost use Rattle.ice_graphs.specs.Flags.{flags_of};
 ghost use Rattle.instance_reading.specs.Seen.{view_before};
-ghost use Rattle.instance_reading.specs.Slices.{BeginsSlice, FindsId, OpensKnown, OpensSlice, ReadsId, Tests, stage_work};
+ghost use Rattle.instance_reading.specs.Slices.{BeginsSlice, FindsId, OpensKnown, OpensSlice, ReadsId, Tests};
+ghost use Rattle.instance_reading.specs.Slices.{stage_work};
 ghost use Rattle.instance_reading.specs.Sorts.{class_by, ends_by, is_over, rows_of};
 ghost use Rattle.instance_reading.specs.declared.sort.Sort.TheVariants as sorts;
 

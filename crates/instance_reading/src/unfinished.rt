@@ -5,7 +5,8 @@ ghost use Rattle.ice_graphs.specs.References.{resolved, with_met};
 ghost use Rattle.graph_arena.specs.Seen.{view_slice};
 ghost use Rattle.instance_reading.specs.Seen.{view_next};
 ghost use Rattle.instance_reading.specs.Slices.{opened, slice_with, uses_of, view_body};
-ghost use Rattle.instance_reading.specs.Unfinished.{Completes, Keeps, LessOnOn, NarrowsOnAdvance, NarrowsOnPause, Pauses, ReadsOn, StepsOn, begun, room, work_left};
+ghost use Rattle.instance_reading.specs.Unfinished.{Completes, Keeps, LessOnOn, NarrowsOnAdvance, NarrowsOnPause};
+ghost use Rattle.instance_reading.specs.Unfinished.{Pauses, ReadsOn, StepsOn, begun, room, work_left};
 ghost use Rattle.instance_reading.specs.declared.slice.Stage.TheVariants as stages;
 
 use crate::arena::Arena;
@@ -113,7 +114,8 @@ impl<'a> Unfinished<'a> {
         cursor: &mut Cursor<'a>,
         arena: &mut Arena<'a>,
     ) -> Result<Advanced, ReadFault>
-        ensures advances { StepsOn sort schema.now self.old (stages.Next before) self.new result arena.old cursor.old arena.new cursor.new }
+        ensures advances { StepsOn sort schema.now self.old
+            (stages.Next before) self.new result arena.old cursor.old arena.new cursor.new }
         ensures name { self.new.name ≡ self.old.name }
         ensures room { NarrowsOnAdvance result (room arena.old) (room arena.new) }
         ensures less { LessOnOn result (self.old.steps * 2 ^ 33) (work_left self.new) }
@@ -145,7 +147,8 @@ impl<'a> Unfinished<'a> {
         arena: &mut Arena<'a>,
     ) -> Result<Advanced, ReadFault>
         requires { 0 < slice.left }
-        ensures advances { StepsOn sort schema.now self.old (stages.Open slice.entry) self.new result arena.old cursor.old arena.new cursor.new }
+        ensures advances { StepsOn sort schema.now self.old
+            (stages.Open slice.entry) self.new result arena.old cursor.old arena.new cursor.new }
         ensures name { self.new.name ≡ self.old.name }
         ensures room { NarrowsOnAdvance result (room arena.old) (room arena.new) }
         ensures less { LessOnOn result (self.old.steps * 2 ^ 33 + (1 + slice.entry.left)) (work_left self.new) }
@@ -190,7 +193,8 @@ impl<'a> Unfinished<'a> {
         arena: &mut Arena<'_>,
     ) -> Result<Advanced, ReadFault>
         requires { slice.left ≡ 0 }
-        ensures advances { StepsOn sort schema.now self.old (stages.Open slice.entry) self.new result arena.old cursor.now arena.new cursor.now }
+        ensures advances { StepsOn sort schema.now self.old
+            (stages.Open slice.entry) self.new result arena.old cursor.now arena.new cursor.now }
         ensures name { self.new.name ≡ self.old.name }
         ensures room { NarrowsOnAdvance result (room arena.old) (room arena.new) }
         ensures less { LessOnOn result (self.old.steps * 2 ^ 33 + 1) (work_left self.new) }
@@ -211,7 +215,8 @@ impl<'a> Unfinished<'a> {
         cursor: &mut Cursor<'a>,
         arena: &mut Arena<'a>,
     ) -> Result<Advanced, ReadFault>
-        ensures advances { StepsOn sort schema.now self.old (stages.Compact slice.entry) self.new result arena.old cursor.old arena.new cursor.new }
+        ensures advances { StepsOn sort schema.now self.old
+            (stages.Compact slice.entry) self.new result arena.old cursor.old arena.new cursor.new }
         ensures name { self.new.name ≡ self.old.name }
         ensures room { NarrowsOnAdvance result (room arena.old) (room arena.new) }
         ensures less { LessOnOn result (self.old.steps * 2 ^ 33 + 1) (work_left self.new) }

@@ -33,7 +33,9 @@ pub(crate) fn put_plain_head<'a>(
     pen: &mut Pen<'a>,
     out: &mut Vec<u8>,
 ) -> Result<(), AllocError>
-    ensures { WritesPiece (plain_head sort by.now.schema.now position.is_first position.is_last (view_slice slice.now)) result pen.old out.old.items pen.new out.new.items }
+    ensures { WritesPiece
+        (plain_head sort by.now.schema.now position.is_first position.is_last
+        (view_slice slice.now)) result pen.old out.old.items pen.new out.new.items }
 {
     let flags = Flags {
         has_optional: has_optional(slice),
@@ -65,7 +67,9 @@ pub(crate) fn open_members<'a>(
     slice: &'a Slice,
 ) -> Result<OpenSlice<'a>, AllocError>
     requires { SliceCanBeWritten (rows_of sort by.now.schema.now) (view_slice slice.now) }
-    ensures left { (inside : InsideWritten Pen) (w : Written Pen) → IfOk result (λ begun. open_left by.now.schema.now inside begun w ≡ onto (members_bytes (rows_of sort by.now.schema.now) (refer_to inside) (view_slice slice.now)) w) }
+    ensures left { (inside : InsideWritten Pen) (w : Written Pen)
+        → IfOk result (λ begun. open_left by.now.schema.now inside begun w
+        ≡ onto (members_bytes (rows_of sort by.now.schema.now) (refer_to inside) (view_slice slice.now)) w) }
     ensures fits { (count : ℕ) (out : List ℕ) → IfOk result (λ begun. OpenFits count begun out) }
     ensures begun { IfOk result (λ begun. spec.is_first begun ≡ false) }
 {

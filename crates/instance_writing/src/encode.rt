@@ -41,7 +41,8 @@ pub fn write_numbered(
     out: &mut Vec<u8>,
 ) -> Result<(), AllocError>
     requires { GraphCanBeWritten schema.now graph.now }
-    ensures { OnOk result (out.new.items ≡ out.old.items ++ bytes_of schema.now (with_options optional.now) (view_format format) graph.now) }
+    ensures { OnOk result (out.new.items
+        ≡ out.old.items ++ bytes_of schema.now (with_options optional.now) (view_format format) graph.now) }
 {
     let encoder = Encoder {
         alloc,
@@ -74,7 +75,8 @@ pub(crate) fn put_instance<'a>(
     requires few { length graph.now.instances ≤ most }
     requires desk { desk.old.table ≡ no_names (length graph.now.instances) }
     requires begun { room pen.old < most }
-    ensures writes { OnOk result ((pen.new, out.new.items) ≡ onto (inside_at by.now.schema.now (view_format by.now.format) graph.now most name) (pen.old, out.old.items)) }
+    ensures writes { OnOk result ((pen.new, out.new.items)
+        ≡ onto (inside_at by.now.schema.now (view_format by.now.format) graph.now most name) (pen.old, out.old.items)) }
     ensures desk { OnOk result (desk.new.table ≡ desk.old.table) }
     ensures room { OnOk result (room pen.new ≤ room pen.old) }
 {
@@ -101,12 +103,17 @@ fn put_more<'a>(
     requires desk { desk.old.table ≡ no_names (length graph.now.instances) }
     requires fits { AllFit by.now.schema.now (length graph.now.instances) (stack.old ++ top ∷ []) out.old.items }
     requires deep { length stack.old + 1 + room pen.old ≤ most }
-    ensures writes { OnOk result (stack_left by.now.schema.now (view_format by.now.format) graph.now (most - 1) (stack.old ++ top.entry ∷ []) (pen.old, out.old.items) ≡ stack_left by.now.schema.now (view_format by.now.format) graph.now (most - 1) stack.new (pen.new, out.new.items)) }
+    ensures writes { OnOk result
+        (stack_left by.now.schema.now (view_format by.now.format) graph.now (most - 1) (stack.old ++ top.entry ∷ [])
+        (pen.old, out.old.items)
+        ≡ stack_left by.now.schema.now (view_format by.now.format) graph.now (most - 1) stack.new
+        (pen.new, out.new.items)) }
     ensures fits { OnOk result (AllFit by.now.schema.now (length graph.now.instances) stack.new out.new.items) }
     ensures desk { OnOk result (desk.new.table ≡ desk.old.table) }
     ensures deep { OnOk result (length stack.new + room pen.new ≤ most) }
     ensures room { OnOk result (room pen.new ≤ room pen.old) }
-    ensures less { OnOk result (steps_left (room pen.new) (length stack.new) < steps_left (room pen.old) (length stack.old + 1)) }
+    ensures less { OnOk result
+        (steps_left (room pen.new) (length stack.new) < steps_left (room pen.old) (length stack.old + 1)) }
 {
     match top.go(by, Sort::Class, pen, desk, out)? {
         WritePaused::Done => Ok(()),

@@ -84,7 +84,9 @@ fn put_class_head<'a>(
 
 /// Of an exception: the type id as a text, of which the flags tell nothing.
 fn put_exception_head(id: &str, flags: Flags, out: &mut Vec<u8>) -> Result<(), AllocError>
-    ensures { OnOk result (out.new.items ≡ out.old.items ++ (flags_byte no_id flags.has_optional flags.has_table flags.has_size flags.is_last ∷ text_bytes id.now)) }
+    ensures { OnOk result (out.new.items
+        ≡ out.old.items ++
+        (flags_byte no_id flags.has_optional flags.has_table flags.has_size flags.is_last ∷ text_bytes id.now)) }
 {
     put_byte(out, flags.without_id())?;
     put_text(out, id)

@@ -47,7 +47,9 @@ impl<'a> OpenMembers<'a> {
         out: &mut Vec<u8>,
     ) -> Result<WritePaused, AllocError>
         requires { RemainingFits (remaining self.old.writer) out.old.items }
-        ensures goes { (inside : InsideWritten Pen) → GoesOn inside (members_of schema.now inside self.new) result (members_of schema.now inside self.old (pen.old, out.old.items)) (pen.new, out.new.items) }
+        ensures goes { (inside : InsideWritten Pen)
+            → GoesOn inside (members_of schema.now inside self.new) result
+            (members_of schema.now inside self.old (pen.old, out.old.items)) (pen.new, out.new.items) }
         ensures fits { OnOk result (RemainingFits (remaining self.new.writer) out.new.items) }
         ensures room { NarrowsOnPause result (room pen.old) (room pen.new) }
         ensures longer { length out.old.items ≤ length out.new.items }
@@ -78,8 +80,11 @@ impl<'a> OpenSlice<'a> {
         out: &mut Vec<u8>,
     ) -> Result<WritePaused, AllocError>
         requires { OpenFits most self.old out.old.items }
-        ensures goes { (inside : InsideWritten Pen) → GoesOn inside (open_left schema.now inside self.new) result (open_left schema.now inside self.old (pen.old, out.old.items)) (pen.new, out.new.items) }
-        ensures fits { OnOk result ((count : ℕ) → OpenFits count self.old out.old.items → OpenFits count self.new out.new.items) }
+        ensures goes { (inside : InsideWritten Pen)
+            → GoesOn inside (open_left schema.now inside self.new) result
+            (open_left schema.now inside self.old (pen.old, out.old.items)) (pen.new, out.new.items) }
+        ensures fits { OnOk result ((count : ℕ) → OpenFits count self.old out.old.items
+            → OpenFits count self.new out.new.items) }
         ensures first { OnOk result (spec.is_first self.new ≡ spec.is_first self.old) }
         ensures room { NarrowsOnPause result (room pen.old) (room pen.new) }
         ensures longer { OnOk result (length out.old.items ≤ length out.new.items) }
@@ -100,8 +105,11 @@ impl<'a> OpenSlice<'a> {
     ) -> Result<WritePaused, AllocError>
         requires tabled { IsTabled self.old }
         requires fits { OpenFits most self.old out.old.items }
-        ensures goes { (t : Tables) (inside : InsideWritten Pen) → GoesOn inside (open_left t inside self.new) result (open_left t inside self.old (pen.old, out.old.items)) (pen.new, out.new.items) }
-        ensures fits { OnOk result ((count : ℕ) → OpenFits count self.old out.old.items → OpenFits count self.new out.new.items) }
+        ensures goes { (t : Tables) (inside : InsideWritten Pen)
+            → GoesOn inside (open_left t inside self.new) result
+            (open_left t inside self.old (pen.old, out.old.items)) (pen.new, out.new.items) }
+        ensures fits { OnOk result ((count : ℕ) → OpenFits count self.old out.old.items
+            → OpenFits count self.new out.new.items) }
         ensures first { OnOk result (spec.is_first self.new ≡ spec.is_first self.old) }
         ensures room { NarrowsOnPause result (room pen.old) (room pen.new) }
         ensures longer { OnOk result (length out.old.items ≤ length out.new.items) }
@@ -117,7 +125,8 @@ impl<'a> OpenSlice<'a> {
     /// Takes the next entry off.
     fn take_entry(&mut self) -> Option<u32>
         requires { IsTabled self.old }
-        ensures entries { MatchOption result ((entries_in self.old ≡ []) × (self.new ≡ self.old)) (λ name. entries_in self.old ≡ name ∷ entries_in self.new) }
+        ensures entries { MatchOption result ((entries_in self.old ≡ [])
+            × (self.new ≡ self.old)) (λ name. entries_in self.old ≡ name ∷ entries_in self.new) }
         ensures tabled { IsTabled self.new }
         ensures first { spec.is_first self.new ≡ spec.is_first self.old }
     {

@@ -56,7 +56,8 @@ pub(crate) fn put_slice<'a>(
     requires fits { SliceCanBeWritten (rows_of sort by.now.schema.now) (view_slice slice.now) }
     requires empty { desk.old.table.names ≡ [] }
     ensures entries { IfOk result (λ begun. HasEntries (table_of (view_slice slice.now)) begun) }
-    ensures writes { OnOk result ((pen.new, out.new.items) ≡ onto (slice_front sort by.now.schema.now is_last (view_slice slice.now)) (pen.old, out.old.items)) }
+    ensures writes { OnOk result ((pen.new, out.new.items)
+        ≡ onto (slice_front sort by.now.schema.now is_last (view_slice slice.now)) (pen.old, out.old.items)) }
     ensures desk { OnOk result (desk.new.table ≡ desk.old.table) }
 {
     match slice {
@@ -82,7 +83,14 @@ pub(crate) fn put_slice<'a>(
 
 /// The flags of a slice with a size and with these entries in its table.
 fn sized_flags(slice: &Slice, entries: &[u32], is_last: bool) -> Flags
-    ensures { result ≡ record { has_optional = spec.has_optional (view_slice slice.now); has_table = is_there entries.now; has_size = true; is_last = is_last } }
+    ensures { result
+        ≡ record {
+          has_optional = spec.has_optional
+              (view_slice slice.now);
+          has_table = is_there entries.now;
+          has_size = true;
+          is_last = is_last;
+        } }
 {
     Flags {
         has_optional: has_optional(slice),
@@ -114,10 +122,13 @@ impl Desk {
     ) -> Result<(), AllocError>
         requires names { AreBelow self.old.table.count (names_of (view_content members.now)) }
         requires fits { ContentCanBeWritten (view_content members.now) }
-        requires places { HasPlaces (own_members (rows_of sort by.now.schema.now) class).optional (view_content members.now) }
+        requires places { HasPlaces (own_members (rows_of sort by.now.schema.now) class).optional
+            (view_content members.now) }
         requires empty { self.old.table ≡ no_names self.old.table.count }
-        ensures members { OnOk result (self.new.members.items ≡ sized_bytes (rows_of sort by.now.schema.now) (known class (view_content members.now))) }
-        ensures table { OnOk result (self.new.table ≡ record { count = self.old.table.count; names = table_of (known class (view_content members.now)) }) }
+        ensures members { OnOk result (self.new.members.items
+            ≡ sized_bytes (rows_of sort by.now.schema.now) (known class (view_content members.now))) }
+        ensures table { OnOk result (self.new.table
+            ≡ record { count = self.old.table.count; names = table_of (known class (view_content members.now)) }) }
     {
         self.members.clear();
         let own = own_members(by.schema, sort, class);
@@ -135,7 +146,8 @@ impl Desk {
 
 /// The members behind their size, and the size of the table.
 fn put_behind(members: &[u8], entries: &[u32], out: &mut Vec<u8>) -> Result<(), AllocError>
-    ensures { OnOk result (out.new.items ≡ out.old.items ++ ((slice_size.put (length members.now) ++ members.now) ++ table_size entries.now)) }
+    ensures { OnOk result (out.new.items
+        ≡ out.old.items ++ ((slice_size.put (length members.now) ++ members.now) ++ table_size entries.now)) }
 {
     put_slice_size(out, members.len())?;
     out.extend_from_slice(members)?;

@@ -68,7 +68,10 @@ impl<'a> Unfinished<'a> {
         requires fits { Fits (rows_of sort by.now.schema.now) desk.old.table.count self.old out.old.items }
         requires few { desk.old.table.count ≤ most }
         requires empty { desk.old.table.names ≡ [] }
-        ensures goes { (inside : InsideWritten Pen) → GoesOn inside (instance_left sort by.now.schema.now (view_format by.now.format) inside self.new) result (instance_left sort by.now.schema.now (view_format by.now.format) inside self.old (pen.old, out.old.items)) (pen.new, out.new.items) }
+        ensures goes { (inside : InsideWritten Pen)
+            → GoesOn inside (instance_left sort by.now.schema.now (view_format by.now.format) inside self.new) result
+            (instance_left sort by.now.schema.now (view_format by.now.format) inside self.old
+            (pen.old, out.old.items)) (pen.new, out.new.items) }
         ensures fits { OnOk result (Fits (rows_of sort by.now.schema.now) desk.old.table.count self.new out.new.items) }
         ensures room { NarrowsOnPause result (room pen.old) (room pen.new) }
         ensures longer { OnOk result (length out.old.items ≤ length out.new.items) }
@@ -96,7 +99,9 @@ impl<'a> Unfinished<'a> {
     ) -> Result<bool, AllocError>
         requires fits { Fits (rows_of sort by.now.schema.now) desk.old.table.count self.old out.old.items }
         requires empty { desk.old.table.names ≡ [] }
-        ensures writes { (inside : InsideWritten Pen) → BeginsNext sort by.now.schema.now (view_format by.now.format) inside result self.old self.new (pen.old, out.old.items) (pen.new, out.new.items) }
+        ensures writes { (inside : InsideWritten Pen)
+            → BeginsNext sort by.now.schema.now (view_format by.now.format) inside result self.old self.new
+            (pen.old, out.old.items) (pen.new, out.new.items) }
         ensures fits { OnOk result (Fits (rows_of sort by.now.schema.now) desk.old.table.count self.new out.new.items) }
         ensures less { LessOnNext result (length self.old.slices.now) (length self.new.slices.now) }
         ensures desk { OnOk result (desk.new.table ≡ desk.old.table) }
@@ -130,7 +135,12 @@ fn begin_slice<'a>(
     requires names { AreBelow desk.old.table.count (slice_names (view_slice slice.now)) }
     requires fits { SliceCanBeWritten (rows_of sort by.now.schema.now) (view_slice slice.now) }
     requires empty { desk.old.table.names ≡ [] }
-    ensures writes { (inside : InsideWritten Pen) → IfOk result (λ begun. onto (one_slice sort by.now.schema.now (refer_to inside) (view_format by.now.format) position.is_first position.is_last (view_slice slice.now)) (pen.old, out.old.items) ≡ open_left by.now.schema.now inside begun (pen.new, out.new.items)) }
+    ensures writes { (inside : InsideWritten Pen)
+        → IfOk result
+        (λ begun. onto
+        (one_slice sort by.now.schema.now (refer_to inside)
+        (view_format by.now.format) position.is_first position.is_last (view_slice slice.now))
+        (pen.old, out.old.items) ≡ open_left by.now.schema.now inside begun (pen.new, out.new.items)) }
     ensures fits { IfOk result (λ begun. OpenFits desk.old.table.count begun out.new.items) }
     ensures first { IfOk result (λ begun. spec.is_first begun ≡ false) }
     ensures desk { OnOk result (desk.new.table ≡ desk.old.table) }

@@ -34,7 +34,9 @@ pub fn write_user_exception(
     out: &mut Vec<u8>,
 ) -> Result<(), AllocError>
     requires { UserExceptionCanBeWritten schema.now (user_exception_of (view_slices slices.now) graph.now) }
-    ensures { OnOk result (out.new.items ≡ out.old.items ++ user_exception_bytes schema.now (view_format format) (user_exception_of (view_slices slices.now) graph.now)) }
+    ensures { OnOk result (out.new.items
+        ≡ out.old.items ++ user_exception_bytes schema.now (view_format format)
+        (user_exception_of (view_slices slices.now) graph.now)) }
 {
     let encoder = Encoder {
         alloc,

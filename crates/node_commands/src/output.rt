@@ -3,7 +3,8 @@
 ghost use Rattle.std.specs.Prelude.{◌≡◌, ℕ, List};
 ghost use Rattle.node_commands.specs.Answers.{status};
 ghost use Rattle.node_commands.specs.Effects.{Outputs, GetsLine};
-ghost use Rattle.node_commands.specs.Outcomes.{Prints, PrintsFor, answer_of, found_bytes, found_outcome, verdict, verdict_line};
+ghost use Rattle.node_commands.specs.Outcomes.{Prints, PrintsFor, answer_of, found_bytes, found_outcome, verdict};
+ghost use Rattle.node_commands.specs.Outcomes.{verdict_line};
 
 use crate::found::Found;
 use crate::outcome::Outcome;

@@ -34,8 +34,10 @@ pub struct UnknownPart<'a> {
 /// byte where that is no end marker, `Short` where there is none. A fault leaves the cursor as it was, and
 /// it takes no memory. (Ice manual, "Data Encoding for Class and Exception Types".)
 pub fn skip_slice<'a>(cursor: &mut Cursor<'a>, flags: u8) -> Result<UnknownPart<'a>, Fault>
-    ensures takes { Takes (λ part. part.bytes.now) result cursor.old cursor.new (unknown_at (flags_of flags).has_optional cursor.old) }
-    ensures flags { IfOk result (λ part. (part.optionals ≡ (flags_of flags).has_optional) × (part.last ≡ (flags_of flags).is_last)) }
+    ensures takes { Takes (λ part. part.bytes.now) result cursor.old cursor.new
+        (unknown_at (flags_of flags).has_optional cursor.old) }
+    ensures flags { IfOk result (λ part. (part.optionals ≡ (flags_of flags).has_optional)
+        × (part.last ≡ (flags_of flags).is_last)) }
 {
     let optionals = is_odd(flags / 4);
     let mut ahead = cursor.fork();

@@ -28,7 +28,8 @@ pub(crate) enum Rows {
 /// one at least. The values of its members are of their types; the instances may be of any.
 /// (Ice manual, "User Exceptions".)
 pub fn is_user_exception(schema: &Schema, graph: &Graph, slices: &[Slice]) -> bool
-    ensures { IsTrue result ↔ IsInstance (of_exceptions schema.now) (RefersIn schema.now graph.now.instances) (view_slices slices.now) }
+    ensures { IsTrue result ↔ IsInstance (of_exceptions schema.now) (RefersIn schema.now graph.now.instances)
+        (view_slices slices.now) }
 {
     is_instance(schema, Rows::Exceptions, graph, slices)
 }
@@ -49,14 +50,16 @@ pub(crate) fn is_fine(schema: &Schema, graph: &Graph, at: u32) -> bool
 /// Whether they are kept slices and then those of a known class and of all its bases, in order, or kept
 /// slices alone, and one at least.
 fn is_instance(schema: &Schema, rows: Rows, graph: &Graph, slices: &[Slice]) -> bool
-    ensures { IsTrue result ↔ IsInstance (rows_of rows schema.now) (RefersIn schema.now graph.now.instances) (view_slices slices.now) }
+    ensures { IsTrue result ↔ IsInstance (rows_of rows schema.now) (RefersIn schema.now graph.now.instances)
+        (view_slices slices.now) }
 {
     !slices.is_empty() && are_slices(schema, rows, graph, slices)
 }
 
 /// The same, where they may also be none.
 fn are_slices(schema: &Schema, rows: Rows, graph: &Graph, slices: &[Slice]) -> bool
-    ensures { IsTrue result ↔ AreSlices (rows_of rows schema.now) (RefersIn schema.now graph.now.instances) (view_slices slices.now) }
+    ensures { IsTrue result ↔ AreSlices (rows_of rows schema.now) (RefersIn schema.now graph.now.instances)
+        (view_slices slices.now) }
 {
     for (at, slice) in slices.iter().enumerate() {
         if let Slice::Known { class, members } = slice {
@@ -73,7 +76,8 @@ fn are_slices(schema: &Schema, rows: Rows, graph: &Graph, slices: &[Slice]) -> b
 /// Whether it is kept of a class that the schema lacks, with a table of names that may stand where any
 /// class may.
 fn is_unknown(schema: &Schema, rows: Rows, graph: &Graph, slice: &Slice) -> bool
-    ensures { IsTrue result ↔ IsUnknownSlice (rows_of rows schema.now) (RefersIn schema.now graph.now.instances) (view_slice slice.now) }
+    ensures { IsTrue result ↔ IsUnknownSlice (rows_of rows schema.now) (RefersIn schema.now graph.now.instances)
+        (view_slice slice.now) }
 {
     match slice {
         Slice::Known { .. } => false,
@@ -114,8 +118,10 @@ fn is_whole(
     members: &Members,
     bases: &[Slice],
 ) -> bool
-    ensures { IsTrue result ↔ (IsKnown (rows_of rows schema.now) (RefersIn schema.now graph.now.instances) class (view_content members.now)
-        × AreBases (rows_of rows schema.now) (RefersIn schema.now graph.now.instances) (classes.base_of (rows_of rows schema.now) class) (view_slices bases.now)) }
+    ensures { IsTrue result ↔
+        (IsKnown (rows_of rows schema.now) (RefersIn schema.now graph.now.instances) class (view_content members.now)
+        × AreBases (rows_of rows schema.now) (RefersIn schema.now graph.now.instances)
+        (classes.base_of (rows_of rows schema.now) class) (view_slices bases.now)) }
 {
     is_known(schema, rows, graph, class, members)
         && are_bases(schema, rows, graph, base_of(schema, rows, class), bases)
@@ -129,7 +135,8 @@ fn are_bases(
     class: Option<u32>,
     slices: &[Slice],
 ) -> bool
-    ensures { IsTrue result ↔ AreBases (rows_of rows schema.now) (RefersIn schema.now graph.now.instances) class (view_slices slices.now) }
+    ensures { IsTrue result ↔ AreBases (rows_of rows schema.now) (RefersIn schema.now graph.now.instances) class
+        (view_slices slices.now) }
 {
     let mut next = class;
     for slice in slices {
@@ -146,7 +153,8 @@ fn are_bases(
 
 /// Whether it is the slice of this class, with the values of its own members.
 fn is_slice(schema: &Schema, rows: Rows, graph: &Graph, class: u32, slice: &Slice) -> bool
-    ensures { IsTrue result ↔ IsSlice (rows_of rows schema.now) (RefersIn schema.now graph.now.instances) class (view_slice slice.now) }
+    ensures { IsTrue result ↔ IsSlice (rows_of rows schema.now) (RefersIn schema.now graph.now.instances) class
+        (view_slice slice.now) }
 {
     match slice {
         Slice::Known {
@@ -159,7 +167,8 @@ fn is_slice(schema: &Schema, rows: Rows, graph: &Graph, class: u32, slice: &Slic
 
 /// Whether the class is known, and they are the values of its own members.
 fn is_known(schema: &Schema, rows: Rows, graph: &Graph, class: u32, members: &Members) -> bool
-    ensures { IsTrue result ↔ IsKnown (rows_of rows schema.now) (RefersIn schema.now graph.now.instances) class (view_content members.now) }
+    ensures { IsTrue result ↔ IsKnown (rows_of rows schema.now) (RefersIn schema.now graph.now.instances) class
+        (view_content members.now) }
 {
     match own_members(schema, rows, class) {
         Some(own) => {

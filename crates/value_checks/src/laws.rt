@@ -14,7 +14,8 @@ ghost use Rattle.value_checks.specs.Zeros.{zero_of};
 
 /// The value of zeros of each type of a schema is of the type, by itself and in each graph.
 pub fn zeros_have_types()
-    ensures alone { (t : Tables) (kind : TypeRef) → IsSchema t → IsOf t kind → HasType t AnyRefers MOST_DEPTH kind (zero_of t MOST_DEPTH kind) }
+    ensures alone { (t : Tables) (kind : TypeRef) → IsSchema t → IsOf t kind
+        → HasType t AnyRefers MOST_DEPTH kind (zero_of t MOST_DEPTH kind) }
     ensures inside { (t : Tables) (kind : TypeRef) (instances : List (List Slice)) → IsSchema t → IsOf t kind
         → HasType t (RefersIn t instances) MOST_DEPTH kind (zero_of t MOST_DEPTH kind) }
 {}

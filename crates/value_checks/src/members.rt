@@ -26,7 +26,8 @@ pub(crate) fn are_members(
     fields: DeclaredMembers<'_>,
     members: &Members,
 ) -> bool
-    ensures { IsTrue result ↔ AreMembers schema.now (RefersIn schema.now graph.now.instances) (shape_seen fields.entry) (view_content members.now) }
+    ensures { IsTrue result ↔ AreMembers schema.now (RefersIn schema.now graph.now.instances)
+        (shape_seen fields.entry) (view_content members.now) }
 {
     are_required(schema, graph, fields.required, members.required.as_slice())
         && are_options(schema, graph, fields.optional, members.optional.as_slice())
@@ -34,7 +35,8 @@ pub(crate) fn are_members(
 
 /// Whether each member without a tag has its value, in order.
 fn are_required(schema: &Schema, graph: &Graph, members: &[Member], values: &[Value]) -> bool
-    ensures { IsTrue result ↔ EachOf (HasType schema.now (RefersIn schema.now graph.now.instances) MOST_DEPTH) (map (λ m. m.kind) (without_tag members.now)) (view_all values.now) }
+    ensures { IsTrue result ↔ EachOf (HasType schema.now (RefersIn schema.now graph.now.instances) MOST_DEPTH)
+        (map (λ m. m.kind) (without_tag members.now)) (view_all values.now) }
 {
     let mut at = 0;
     for member in members {
@@ -53,14 +55,16 @@ fn are_required(schema: &Schema, graph: &Graph, members: &[Member], values: &[Va
 }
 
 fn has_type(schema: &Schema, graph: &Graph, kind: TypeRef, value: &Value) -> bool
-    ensures { IsTrue result ↔ HasType schema.now (RefersIn schema.now graph.now.instances) MOST_DEPTH kind (view value.now) }
+    ensures { IsTrue result ↔ HasType schema.now (RefersIn schema.now graph.now.instances) MOST_DEPTH kind
+        (view value.now) }
 {
     is_of(schema, References::Into(graph), MOST_DEPTH, kind, value)
 }
 
 /// Whether the values stand by rising tag, each of the type of the member that has it.
 fn are_options(schema: &Schema, graph: &Graph, members: &[Member], options: &[(u32, Value)]) -> bool
-    ensures { IsTrue result ↔ AreOptions schema.now (RefersIn schema.now graph.now.instances) (with_tag members.now) None (view_present options.now) }
+    ensures { IsTrue result ↔ AreOptions schema.now (RefersIn schema.now graph.now.instances)
+        (with_tag members.now) None (view_present options.now) }
 {
     let mut last = None;
     for option in options {
@@ -87,7 +91,8 @@ fn rises(last: Option<u32>, tag: u32) -> bool
 
 /// Whether a member has the tag, and the value is of its type.
 fn is_option(schema: &Schema, graph: &Graph, members: &[Member], tag: u32, value: &Value) -> bool
-    ensures { IsTrue result ↔ ((tag < 2 ^ 31) × (kind : TypeRef) × (optionals.kind_tagged tag (with_tag members.now) ≡ Some kind)
+    ensures { IsTrue result ↔ ((tag < 2 ^ 31) × (kind : TypeRef)
+        × (optionals.kind_tagged tag (with_tag members.now) ≡ Some kind)
         × HasType schema.now (RefersIn schema.now graph.now.instances) MOST_DEPTH kind (view value.now)) }
 {
     match kind_tagged(members, tag) {

@@ -127,7 +127,8 @@ fn is_reference(
     kind: TypeRef,
     name: Option<u32>,
 ) -> bool
-    ensures { IsTrue result ↔ (declared : Option ℕ) × (kind ≡ kinds.Class declared) × MayStand schema.now references.entry declared name }
+    ensures { IsTrue result ↔ (declared : Option ℕ) × (kind ≡ kinds.Class declared)
+        × MayStand schema.now references.entry declared name }
 {
     match kind {
         TypeRef::Class(declared) => references.hold(schema, declared, name),
@@ -144,7 +145,8 @@ fn is_sequence(
     kind: TypeRef,
     items: &[Value],
 ) -> bool
-    ensures { IsTrue result ↔ HasForm schema.now (MayStand schema.now references.entry) levels kind (sequence (view_all items.now)) }
+    ensures { IsTrue result ↔ HasForm schema.now (MayStand schema.now references.entry) levels kind
+        (sequence (view_all items.now)) }
 {
     let TypeRef::Seq(at) = kind else {
         return false;
@@ -184,7 +186,8 @@ fn are_of(
     kind: TypeRef,
     items: &[Value],
 ) -> bool
-    ensures { IsTrue result ↔ AllOf (HasType schema.now (MayStand schema.now references.entry) levels kind) (view_all items.now) }
+    ensures { IsTrue result ↔ AllOf (HasType schema.now (MayStand schema.now references.entry) levels kind)
+        (view_all items.now) }
 {
     for item in items {
         if !is_of(schema, references, levels, kind, item) {
@@ -203,7 +206,8 @@ fn is_dictionary(
     kind: TypeRef,
     pairs: &[(Value, Value)],
 ) -> bool
-    ensures { IsTrue result ↔ HasForm schema.now (MayStand schema.now references.entry) levels kind (dictionary (view_pairs pairs.now)) }
+    ensures { IsTrue result ↔ HasForm schema.now (MayStand schema.now references.entry) levels kind
+        (dictionary (view_pairs pairs.now)) }
 {
     let TypeRef::Dict(at) = kind else {
         return false;
@@ -226,7 +230,8 @@ fn are_pairs_of(
     kinds: (TypeRef, TypeRef),
     pairs: &[(Value, Value)],
 ) -> bool
-    ensures { IsTrue result ↔ PairsOf (HasType schema.now no_reference levels kinds.0) (HasType schema.now (MayStand schema.now references.entry) levels kinds.1) (view_pairs pairs.now) }
+    ensures { IsTrue result ↔ PairsOf (HasType schema.now no_reference levels kinds.0)
+        (HasType schema.now (MayStand schema.now references.entry) levels kinds.1) (view_pairs pairs.now) }
 {
     for pair in pairs {
         if !is_of(schema, References::No, levels, kinds.0, &pair.0)
@@ -246,7 +251,8 @@ fn is_struct(
     kind: TypeRef,
     items: &[Value],
 ) -> bool
-    ensures { IsTrue result ↔ HasForm schema.now (MayStand schema.now references.entry) levels kind (struct (view_all items.now)) }
+    ensures { IsTrue result ↔ HasForm schema.now (MayStand schema.now references.entry) levels kind
+        (struct (view_all items.now)) }
 {
     let TypeRef::Struct(at) = kind else {
         return false;
@@ -266,7 +272,8 @@ fn are_members(
     members: &[Member],
     items: &[Value],
 ) -> bool
-    ensures { IsTrue result ↔ EachOf (HasType schema.now (MayStand schema.now references.entry) levels) (map (λ m. m.kind) members.now) (view_all items.now) }
+    ensures { IsTrue result ↔ EachOf (HasType schema.now (MayStand schema.now references.entry) levels)
+        (map (λ m. m.kind) members.now) (view_all items.now) }
 {
     for (at, item) in items.iter().enumerate() {
         let Some(member) = members.get(at) else {

@@ -4,8 +4,8 @@ use Rattle.std.proofs.lemmas.Result.{err_from_is_err_and}
 use Rattle.ice_prims.proofs.Texts.{from_here}
 use Rattle.ice_ports.specs.Failures.{one_more}
 use Rattle.std.proofs.KnownBytes.{Appends-kept}
-use Rattle.sink_writes.proofs.Written.{Appends-more, writes_prefix}
-use Rattle.sink_writes.proofs.output.write_all.Goals as goal
+use Rattle.ice_ports.proofs.Written.{Appends-more, writes_prefix}
+use Rattle.ice_ports.proofs.output.write_all.Goals as goal
 
 pub returns-in_err-at : goal.returns-in_err-at
 returns-in_err-at g c =

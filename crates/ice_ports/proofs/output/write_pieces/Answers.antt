@@ -1,8 +1,8 @@
 use Rattle.std.proofs.Common.{ap, ◌∙◌}
 use Rattle.std.proofs.lemmas.Result.{err_from_is_err_and}
 use Rattle.ice_ports.specs.Failures.{one_more}
-use Rattle.sink_writes.proofs.Written.{stops_in, writes_prefix}
-use Rattle.sink_writes.proofs.output.write_pieces.Goals as goal
+use Rattle.ice_ports.proofs.Written.{stops_in, writes_prefix}
+use Rattle.ice_ports.proofs.output.write_pieces.Goals as goal
 
 pub returns-in_err-write_all : goal.returns-in_err-write_all
 returns-in_err-write_all g c =
