@@ -1,4 +1,4 @@
--- The first instance with a kept slice, and what compact format can carry.
+-- The first instance with an unknown slice, and what compact format can carry.
 use Rattle.std.proofs.Common.{◌≡◌, ℕ, ◌<◌, List, [], ◌∷◌, length, sym, subst, arith, Option, None, Some}
 use Rattle.ice_types.specs.declared.declarations.Shape.{Shape}
 use Rattle.ice_types.specs.Tables.{Tables}

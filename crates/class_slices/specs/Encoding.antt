@@ -14,7 +14,7 @@ use Rattle.class_slices.specs.declared.write_fault.WriteFault.TheVariants as wri
 use Rattle.class_slices.specs.declared.encode_fault.EncodeFault.{EncodeFault}
 use Rattle.class_slices.specs.declared.encode_fault.EncodeFault.TheVariants as encode_faults
 
--- ---- kept slices, which stand before the known ones of an instance
+-- ---- unknown slices, which stand before the known ones of an instance
 
 abbrev pub BeginsUnknown : List Slice → Type 0
 BeginsUnknown [] = ⊥
@@ -37,7 +37,7 @@ IsFirstUnknown g n = ReachesUnknown g n × ((m : ℕ) → place (order g) m < pl
 -- ---- what comes of writing
 
 -- the canonical encapsulation in the format, where the graph can be written in that and it is not longer than the limit;
--- else the first instance that has a kept slice, or the length
+-- else the first instance that has an unknown slice, or the length
 abbrev pub Writes : Tables → Shape → Format → Graph → ℕ → Result (Vec ℕ Global) WriteFault → Type 0
 Writes t shape f g limit (Ok out) = IsWritable f g × (out.items ≡ graph_bytes t shape f g) × (length out.items ≤ limit)
 Writes t shape f g limit (Err (write_faults.UnknownNeedsSliced n)) = NeedsSliced f g × IsFirstUnknown g n

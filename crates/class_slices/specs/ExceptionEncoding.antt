@@ -22,7 +22,7 @@ abbrev pub IsFirstIll : Tables → UserException → Option ℕ → Type 0
 IsFirstIll t x None = AreUserException t x → ⊥
 IsFirstIll t x (Some n) = AreUserException t x × IsFirstInstance t (graph_of x) (Some n)
 
--- The first part with a kept slice: its own slices, which are None, or the first of the instances that they lead to.
+-- The first part with an unknown slice: its own slices, which are None, or the first of the instances that they lead to.
 abbrev pub IsFirstUnknown : UserException → Option ℕ → Type 0
 IsFirstUnknown x None = graphs.BeginsUnknown x.slices
 IsFirstUnknown x (Some n) = (graphs.BeginsUnknown x.slices → ⊥) × graphs.IsFirstUnknown (graph_of x) n
@@ -33,7 +33,7 @@ NeedsSliced sliced x at = ⊥
 NeedsSliced compact x at = IsFirstUnknown x at
 
 -- The encapsulation in the format, where the exception is of its type, can be written in the format, and it is not longer
--- than the limit; else the first part that is not of its type, the first that has a kept slice, or the length.
+-- than the limit; else the first part that is not of its type, the first that has an unknown slice, or the length.
 abbrev pub EncodesException : Tables → Format → UserException → ℕ → Result (Vec ℕ Global) UserExceptionFault → Type 0
 EncodesException t f x limit (Ok out) = OfUserException t x × CanBeWritten f x × (out.items ≡ exception_bytes t f x) × (length out.items ≤ limit)
 EncodesException t f x limit (Err (faults.IllTyped at)) = IsFirstIll t x at

@@ -1,4 +1,4 @@
--- Whether the slices of an exception, or an instance that they lead to, begin with a kept slice.
+-- Whether the slices of an exception, or an instance that they lead to, begin with an unknown slice.
 use Rattle.std.specs.Prelude.{ℕ, List, Option, None, Some, Result, Ok, Err}
 use Rattle.ice_graphs.specs.Canonical.{Format, sliced, compact}
 use Rattle.ice_graphs.specs.Graph.{Graph, Slice}

@@ -1,4 +1,4 @@
--- Whether some instance begins with a kept slice. (Ice manual, "Data Encoding for Class and Exception Types".)
+-- Whether some instance begins with an unknown slice. (Ice manual, "Data Encoding for Class and Exception Types".)
 use Rattle.std.specs.Prelude.{ℕ, ◌<◌, ◌≡◌, List, length, Option, None, Some, Result, Ok, Err, slice_index}
 use Rattle.ice_graphs.specs.Graph.{Graph}
 use Rattle.ice_graphs.specs.Instances.{slices_of}

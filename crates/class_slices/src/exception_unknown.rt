@@ -11,7 +11,7 @@ use graph_arena::{Graph, Slice};
 use instance_writing::Format;
 
 /// Refuses an exception with these slices that the format cannot carry, by the first part of it that has a
-/// kept slice: its own slices, or an instance of the graph whose roots they stand for. It is refused too where
+/// unknown slice: its own slices, or an instance of the graph whose roots they stand for. It is refused too where
 /// there is no memory to look. (Ice manual, "Data Encoding for Class and Exception Types".)
 pub(crate) fn allow(
     slices: &[Slice],

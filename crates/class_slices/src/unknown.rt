@@ -13,7 +13,7 @@ use graph_arena::{Graph, Slice};
 use instance_writing::Format;
 use std::alloc::AllocError;
 
-/// Refuses a graph that the format cannot carry, by the first instance with a kept slice. It is refused too
+/// Refuses a graph that the format cannot carry, by the first instance with an unknown slice. It is refused too
 /// where there is no memory to look. (Ice manual, "Data Encoding for Class and Exception Types".)
 pub(crate) fn allow(graph: &Graph, format: Format) -> Result<(), WriteFault>
     ensures { Allows (view_format format) graph.now result }
@@ -34,7 +34,7 @@ fn allow_compact(graph: &Graph) -> Result<(), WriteFault>
     }
 }
 
-/// The first instance that has a kept slice, of those that the roots lead to, in the order of their first
+/// The first instance that has an unknown slice, of those that the roots lead to, in the order of their first
 /// visits. None where there is none. It is refused where there is no memory for the order.
 /// (Ice manual, "Data Encoding for Class and Exception Types".)
 pub fn first_unknown(graph: &Graph) -> Result<Option<u32>, AllocError>
@@ -46,7 +46,7 @@ pub fn first_unknown(graph: &Graph) -> Result<Option<u32>, AllocError>
     Ok(first_of(graph, order.as_slice()))
 }
 
-/// The first of these places whose instance has a kept slice.
+/// The first of these places whose instance has an unknown slice.
 fn first_of(graph: &Graph, places: &[u32]) -> Option<u32>
     requires { AreBelow (length graph.now.instances) places.now }
     ensures { IsFirstUnknownOf graph.now places.now result }
@@ -59,7 +59,7 @@ fn first_of(graph: &Graph, places: &[u32]) -> Option<u32>
     None
 }
 
-/// Whether the first slice is kept; in an instance no kept slice stands behind a known one.
+/// Whether the first slice is kept; in an instance no unknown slice stands behind a known one.
 /// (Ice manual, "Data Encoding for Class and Exception Types".)
 pub fn begins_unknown(slices: &[Slice]) -> bool
     ensures { IsTrue result ↔ BeginsUnknown (view_slices slices.now) }

@@ -16,7 +16,7 @@ use std::alloc::Global;
 
 /// The canonical encapsulation of a graph of the type, in the format, where it is not longer than the limit.
 /// The instances that the roots lead to are named by the order of their first visits; the others are left
-/// out. Compact format is refused where one of them has a kept slice, with the first that has, whatever the
+/// out. Compact format is refused where one of them has an unknown slice, with the first that has, whatever the
 /// limit; an encapsulation that is longer is refused with its length.
 /// (Ice manual, "Data Encoding for Class and Exception Types".)
 pub fn encode_typed(

@@ -2,7 +2,8 @@
 
 ghost use Rattle.std.specs.Prelude.{codes};
 ghost use Rattle.ice_types.specs.declared.optional_format.TheConstants.{FORMAT_F1, FORMAT_F2, FORMAT_F4, FORMAT_F8};
-ghost use Rattle.ice_types.specs.declared.optional_format.TheConstants.{FORMAT_SIZE, FORMAT_VSIZE, FORMAT_FSIZE, FORMAT_CLASS};
+ghost use Rattle.ice_types.specs.declared.optional_format.TheConstants.{FORMAT_SIZE, FORMAT_VSIZE, FORMAT_FSIZE};
+ghost use Rattle.ice_types.specs.declared.optional_format.TheConstants.{FORMAT_CLASS};
 ghost use Rattle.encaps_optionals.specs.Formats.{IsNamed};
 
 /// Each format stands in the row of its name in the table `formats`.

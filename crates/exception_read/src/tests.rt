@@ -1,4 +1,4 @@
-//! Kept slices read as those of a class, which `reopen` does: no program calls it.
+//! Unknown slices read as those of a class, which `reopen` does: no program calls it.
 
 ghost use Rattle.std.specs.Prelude.{IfOk};
 ghost use Rattle.graph_arena.specs.Seen.{view_slice};
@@ -15,8 +15,8 @@ use std::test::Fail;
 
 const TEXT: &str = "module M { class B { int b; }; class D extends B { string x; B other; }; };";
 
-/// The bytes of a kept slice, whether an end marker stood behind them, its table, and what comes of it as a slice of `::M::D`: the
-/// text and the reference, or the fault.
+/// The bytes of an unknown slice, whether an end marker stood behind them, its table, and what comes of it as a slice
+/// of `::M::D`: the text and the reference, or the fault.
 type Row = (
     &'static [u8],
     bool,

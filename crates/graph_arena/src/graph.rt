@@ -5,7 +5,8 @@ ghost use Rattle.ice_graphs.specs.Names.{instance_names, names_of};
 ghost use Rattle.ice_graphs.specs.Instances.{slices_of};
 ghost use Rattle.ice_graphs.specs.Visiting.{most};
 ghost use Rattle.graph_arena.specs.Seen.{view_content, view_instance};
-ghost use Rattle.graph_arena.specs.Arena.{AreBelow, ContentFits, InstanceFits, IsSound, no_graph, with_filled, with_reserved, with_roots};
+ghost use Rattle.graph_arena.specs.Arena.{AreBelow, ContentFits, InstanceFits, IsSound, no_graph, with_filled};
+ghost use Rattle.graph_arena.specs.Arena.{with_reserved, with_roots};
 
 use crate::instance::{Instance, Members};
 use crate::names::{push_members, push_slices};
@@ -37,7 +38,8 @@ impl Model for Graph {
 
     ghost view = { λ g. record { roots = view_content g.roots; instances = map view_instance g.instances.items } };
 
-    ghost invariant = { λ g. IsSound (record { roots = view_content g.roots; instances = map view_instance g.instances.items }) };
+    ghost invariant = { λ g. IsSound
+        (record { roots = view_content g.roots; instances = map view_instance g.instances.items }) };
 }
 
 impl Graph {

@@ -60,7 +60,9 @@ fn in_order(
 ) -> Result<Vec<Instance>, AllocError>
     requires once { HasEachOnce names.now }
     requires in_range { AreBelow (length instances.items) names.now }
-    ensures { IfOk result (λ taken. map view_instance taken.items ≡ map (λ n. map (renamed_slice (entry_in table.now)) (slices_of (map view_instance instances.items) n)) names.now) }
+    ensures { IfOk result (λ taken. map view_instance taken.items
+        ≡ map (λ n. map (renamed_slice (entry_in table.now))
+        (slices_of (map view_instance instances.items) n)) names.now) }
 {
     let mut taken = Vec::with_capacity(alloc, names.len())?;
     for name in names {

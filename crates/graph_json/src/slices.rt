@@ -119,7 +119,7 @@ pub(crate) fn own_members(schema: &Schema, class: u32) -> &[Member]
     }
 }
 
-/// A kept slice, from its bytes, its type id, whether optional members stand in the bytes, and its table.
+/// An unknown slice, from its bytes, its type id, whether optional members stand in the bytes, and its table.
 fn unknown_in(alloc: Global, found: &Map<String, Json>) -> Result<Option<Slice>, AllocError>
     ensures { IfOk result (λ o. option_map view_slice o ≡ spec.unknown_in (members_view found.now.entries)) }
 {

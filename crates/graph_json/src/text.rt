@@ -36,8 +36,8 @@ pub const MOST_TEXT: usize = 16_777_216;
 /// How many instances a text lists at most.
 const MOST_LISTED: usize = 100_000;
 
-/// The text of a graph whose roots are of these members, in JSON without blanks: the instances that the roots lead to, in
-/// the order of their first visits, and the names of each object in rising order. Want of memory is the only
+/// The text of a graph whose roots are of these members, in JSON without blanks: the instances that the roots lead
+/// to, in the order of their first visits, and the names of each object in rising order. Want of memory is the only
 /// refusal.
 pub fn to_text(
     alloc: Global,

@@ -106,7 +106,7 @@ fn id_json(alloc: Global, schema: &Schema, class: u32) -> Result<Json, AllocErro
     }
 }
 
-/// A kept slice: its bytes in hexadecimal digits, its type id, and its table.
+/// An unknown slice: its bytes in hexadecimal digits, its type id, and its table.
 fn unknown_json(
     alloc: Global,
     id: &Name,

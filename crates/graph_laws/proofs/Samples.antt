@@ -37,7 +37,7 @@ known_bad : exception_bytes tables sliced (alone (known 0 (values none) ∷ []))
 unfolding canonical_user_exception form_of order most measure
 known_bad = refl
 
--- where the tables lack it, it is one kept slice, and the same bytes
+-- where the tables lack it, it is one unknown slice, and the same bytes
 unknown_bad : exception_bytes no_types sliced (alone (unknown (codes "::T::Bad") [] false [] ∷ [])) ≡ bad
 unfolding canonical_user_exception form_of order most measure
 unknown_bad = refl

@@ -1,4 +1,4 @@
--- How the slices of an instance stand: kept ones, and then a class with its bases.
+-- How the slices of an instance stand: unknown ones, and then a class with its bases.
 use Rattle.std.proofs.Common.{ℕ, ◌≡◌, List, [], ◌∷◌, map, ap, Option, Some, None}
 use Rattle.ice_types.specs.Tables.{Tables}
 use Rattle.ice_encoding.specs.Typed.{Refers}
@@ -16,7 +16,7 @@ module _ (t : Tables) where
   Follow (Some a) (unknown id bytes optionals table ∷ ss) = ⊥
   Follow (Some a) (known b content ∷ ss) = (b ≡ a) × IsRow t.classes a × Follow (base_of t a) ss
 
-  -- kept slices of classes that are not known, and then a class with all its bases
+  -- unknown slices of classes that are not known, and then a class with all its bases
   abbrev pub Stands : List Slice → Type 0
   Stands [] = ⊥
   Stands (unknown id bytes optionals table ∷ []) = class_named t id ≡ None

@@ -191,7 +191,7 @@ module _ (t : Tables) (rules : IsSchema t) (reach : Reach) (is : List (List Slic
     Come only_unknown ss = IsInstance u Refer ss
     Come (derived sized base) ss = AreBases u Refer (Some base) ss
 
-    -- what follows a kept slice, or one of a class
+    -- what follows an unknown slice, or one of a class
     abbrev pub After : Option ℕ → List Slice → Type 0
     After None others = (others ≡ []) ⊎ IsInstance u Refer others
     After (Some class) others = AreBases u Refer (base_of u class) others

@@ -34,7 +34,7 @@ use Rattle.graph_laws.proofs.WrittenMembers.{members_good}
 use Rattle.graph_laws.proofs.TableRules.{Uses, sized_members}
 use Rattle.graph_laws.proofs.InlineRules.{Good, inline_rules, exact_good, joined_good, mapped_good, noted_good}
 
--- ---- only kept slices, or nothing, stand before
+-- ---- only unknown slices, or nothing, stand before
 
 abbrev pub IsOpen : Before → Type 0
 IsOpen first = Unit {0}

@@ -179,7 +179,7 @@ module _ (t : Tables) (found : AreNamed (of_exceptions t)) (reach : Reach) (k : 
       refl (eq-eqb other base same) (λ b from to z. z) k_other bases (plain_body u t k visit grows Ready ready P refer port_good other content k_other)
       (plain_bases (base_of u other) other ss texts.1 bases (below-right limit (names_of content) (instance_names ss) below))
 
-  -- ---- kept slices, and the first of the tables
+  -- ---- unknown slices, and the first of the tables
 
   open_may : (ahead : Before) → IsOpen ahead → (opt tabled last : Bool) → may_be_raised ahead (flags_with opt tabled true last) ≡ true
   open_may first free opt tabled last = refl

@@ -64,7 +64,8 @@ pub fn graphs_relayed()
         → Spells t all_slices shape (graph_bytes t shape format g) g }
     ensures known { (t : Tables) (shape : Shape) (format : Format) (bytes : List ℕ) (g : Graph)
         → IsSchema t → IsBytes bytes → SpellsNumbered t known_classes shape bytes g
-        → length (graph_bytes t shape format g) ≤ LARGEST → Spells t known_classes shape (graph_bytes t shape format g) g }
+        → length (graph_bytes t shape format g) ≤ LARGEST
+        → Spells t known_classes shape (graph_bytes t shape format g) g }
     ensures same { (t : Tables) (reach again : Reach) (shape : Shape) (format : Format) (bytes : List ℕ) (g h : Graph)
         → IsSchema t → IsBytes bytes → SpellsNumbered t reach shape bytes g → IsWritable format g
         → SpellsNumbered t again shape (graph_bytes t shape format g) h → Same h g }

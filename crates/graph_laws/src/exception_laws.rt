@@ -10,7 +10,8 @@ ghost use Rattle.ice_graphs.specs.Exceptions.{UserException, SpellsException};
 ghost use Rattle.ice_graphs.specs.Flags.{Reach, all_slices, known_classes};
 ghost use Rattle.ice_graphs.specs.Instances.{most_instances};
 ghost use Rattle.ice_graphs.specs.UserExceptionTyped.{OfUserException};
-ghost use Rattle.ice_graphs.specs.UserExceptionWritten.{order_of, exception_bytes, CanBeWritten, SameUserException, SpellsSame};
+ghost use Rattle.ice_graphs.specs.UserExceptionWritten.{order_of, exception_bytes, CanBeWritten, SameUserException};
+ghost use Rattle.ice_graphs.specs.UserExceptionWritten.{SpellsSame};
 
 /// An exception that is read is of its type, and its instances are within the limit.
 pub fn exceptions_typed()

@@ -18,7 +18,8 @@ ghost use Rattle.ice_graphs.specs.Reopening.{Reopens};
 ghost use Rattle.ice_graphs.specs.Same.{Spells};
 ghost use Rattle.ice_graphs.specs.Typed.{OfType};
 ghost use Rattle.ice_graphs.specs.Visiting.{order};
-ghost use Rattle.graph_laws.specs.Relaying.{Relays, IsCanonicalThere, IsReadByBoth, IsSpelledBack, IsSpelledThere, IsUnchanged};
+ghost use Rattle.graph_laws.specs.Relaying.{Relays, IsCanonicalThere, IsReadByBoth, IsSpelledBack, IsSpelledThere};
+ghost use Rattle.graph_laws.specs.Relaying.{IsUnchanged};
 ghost use Rattle.graph_laws.specs.Readable.{SpellsReadable, SpellsReadableNumbered};
 ghost use Rattle.graph_laws.specs.Sample.{less, whole};
 ghost use Rattle.graph_laws.specs.Seeing.{OpensAs, Seen};
@@ -61,8 +62,10 @@ pub fn graphs_seen()
 
 /// What the node kept of a slice is members of its class for the reader, so it can be reopened.
 pub fn unknown_slices_reopened()
-    ensures { (t : Tables) (is : List (List Slice)) (class : ℕ) (bytes : List ℕ) (optionals : Bool) (table : List ℕ) (content : Members)
-        → OpensAs t is class bytes optionals table content → Reopens t class bytes optionals table (known class content) }
+    ensures { (t : Tables) (is : List (List Slice)) (class : ℕ) (bytes : List ℕ) (optionals : Bool) (table : List ℕ)
+        (content : Members)
+        → OpensAs t is class bytes optionals table content
+        → Reopens t class bytes optionals table (known class content) }
 {}
 
 /// What spells a graph for the reader, and can be read by the node, spells a graph for the node.

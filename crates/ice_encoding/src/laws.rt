@@ -17,7 +17,8 @@ ghost use Rattle.ice_encoding.specs.Reading.{value_at};
 ghost use Rattle.ice_encoding.specs.Typed.{IsValue};
 ghost use Rattle.ice_encoding.specs.Value.{SpellsPlainValue, plain_value_at};
 ghost use Rattle.ice_encoding.specs.Canonical.{canonical, HasSizes};
-ghost use Rattle.ice_encoding.specs.Encapsulation.{SpellsEncapsulation, encapsulated_at, encapsulation_at, encapsulation_bytes};
+ghost use Rattle.ice_encoding.specs.Encapsulation.{SpellsEncapsulation, encapsulated_at, encapsulation_at};
+ghost use Rattle.ice_encoding.specs.Encapsulation.{encapsulation_bytes};
 
 /// What is read is spelled by the bytes that were taken, none less and none more.
 pub fn values_found()

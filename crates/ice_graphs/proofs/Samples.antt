@@ -153,7 +153,7 @@ unknown_slice : reads fewer (kinds.Class (Some 0)) (1 ∷ 25 ∷ derived_id ++ 7
 unfolding graph_at most_instances measure is_utf8 chars encode
 unknown_slice = refl
 
--- an instance of kept slices alone
+-- an instance of unknown slices alone
 unknown_alone : reads fewer (kinds.Class None) (1 ∷ 53 ∷ other_id ++ 6 ∷ 0 ∷ 0 ∷ 0 ∷ 7 ∷ 255 ∷ []) ((unknown (codes "::Y") (7 ∷ []) true [] ∷ []) ∷ [])
 unfolding graph_at most_instances measure is_utf8 chars encode
 unknown_alone = refl
@@ -173,7 +173,7 @@ two_places : reads tables (kinds.Class (Some 5)) (1 ∷ 57 ∷ two_id ++ 6 ∷ 0
 unfolding graph_at most_instances measure is_utf8 chars encode
 two_places = refl
 
--- a kept slice whose table names its own instance
+-- an unknown slice whose table names its own instance
 unknown_itself : reads fewer (kinds.Class None) (1 ∷ 57 ∷ other_id ++ 5 ∷ 0 ∷ 0 ∷ 0 ∷ 1 ∷ 1 ∷ 2 ∷ []) ((unknown (codes "::Y") (1 ∷ []) false (0 ∷ []) ∷ []) ∷ [])
 unfolding graph_at most_instances measure is_utf8 chars encode
 unknown_itself = refl
@@ -353,7 +353,7 @@ entry_before_past : breaks tables (kinds.Class (Some 0)) (1 ∷ 57 ∷ node_id +
 unfolding graph_at most_instances measure is_utf8 chars encode
 entry_before_past = refl
 
--- a table of a kept slice that has a null
+-- a table of an unknown slice that has a null
 unknown_null_entry : breaks fewer (kinds.Class None) (1 ∷ 57 ∷ other_id ++ 4 ∷ 0 ∷ 0 ∷ 0 ∷ 1 ∷ 0 ∷ []) 17 faults.BadReference
 unfolding graph_at most_instances measure is_utf8 chars encode
 unknown_null_entry = refl

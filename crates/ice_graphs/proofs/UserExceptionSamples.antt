@@ -125,7 +125,7 @@ ends_with_base : breaks tables (16 ∷ g_id ++ 6 ∷ 0 ∷ 0 ∷ 0 ∷ 1 ∷ 120
 unfolding user_exception_at most_instances measure is_utf8 chars encode
 ends_with_base = refl
 
--- a kept one with the flag is the last
+-- a unknown one with the flag is the last
 unknown_flag : reads fewer (48 ∷ g_id ++ 6 ∷ 0 ∷ 0 ∷ 0 ∷ 1 ∷ 120 ∷ []) (unknown (codes "::M::G") (1 ∷ 120 ∷ []) false [] ∷ [])
 unfolding user_exception_at most_instances measure is_utf8 chars encode
 unknown_flag = refl
@@ -135,7 +135,7 @@ unknown_flag_left : breaks fewer (48 ∷ g_id ++ 6 ∷ 0 ∷ 0 ∷ 0 ∷ 1 ∷ 1
 unfolding user_exception_at most_instances measure is_utf8 chars encode
 unknown_flag_left = refl
 
--- a kept one without the flag is the last where the content ends behind it
+-- a unknown one without the flag is the last where the content ends behind it
 unknown_no_flag : reads fewer (16 ∷ g_id ++ 6 ∷ 0 ∷ 0 ∷ 0 ∷ 1 ∷ 120 ∷ []) (unknown (codes "::M::G") (1 ∷ 120 ∷ []) false [] ∷ [])
 unfolding user_exception_at most_instances measure is_utf8 chars encode
 unknown_no_flag = refl

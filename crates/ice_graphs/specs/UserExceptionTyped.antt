@@ -5,7 +5,7 @@ use Rattle.ice_graphs.specs.Exceptions.{of_exceptions, UserException}
 use Rattle.ice_graphs.specs.Instances.{slices_of}
 use Rattle.ice_graphs.specs.Typed.{IsInstance, RefersIn}
 
--- Its slices are kept ones and then an exception of the tables with all its bases in order, or one or more kept ones
+-- Its slices are unknown ones and then an exception of the tables with all its bases in order, or one or more unknown ones
 -- alone. Their members are of the exceptions' own types, and refer to its instances, each of a class that fits.
 pub record OfUserException (t : Tables) (x : UserException) : Type 0 where
   pub slices : IsInstance (of_exceptions t) (RefersIn t x.instances) x.slices

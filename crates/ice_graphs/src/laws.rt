@@ -56,7 +56,7 @@ pub fn exceptions_apart()
         → SpellsException t reach bytes x → SpellsException t reach bytes y → x ≡ y }
 {}
 
-/// A kept slice is one of a class exactly where its bytes are members of the class, with places in its
+/// An unknown slice is one of a class exactly where its bytes are members of the class, with places in its
 /// table.
 pub fn slices_reopened()
     ensures found { (t : Tables) (class : ℕ) (bytes : List ℕ) (optionals : Bool) (table : List ℕ) (s : Slice)

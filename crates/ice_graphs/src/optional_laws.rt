@@ -7,7 +7,8 @@ ghost use Rattle.ice_types.specs.Tables.{Tables};
 ghost use Rattle.ice_prims.specs.Rest.{Rest, IsBytes};
 ghost use Rattle.ice_encoding.specs.Port.{Found, Only, by_number};
 ghost use Rattle.ice_graphs.specs.Optionals.{ArePresent};
-ghost use Rattle.ice_graphs.specs.OptionalMembers.{Members, content_at, SpellsContent, slice_members_at, SpellsSliceMembers};
+ghost use Rattle.ice_graphs.specs.OptionalMembers.{Members, content_at, SpellsContent, slice_members_at};
+ghost use Rattle.ice_graphs.specs.OptionalMembers.{SpellsSliceMembers};
 
 /// What is read of a content is spelled by all bytes of its bound.
 pub fn contents_found()

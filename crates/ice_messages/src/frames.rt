@@ -78,8 +78,8 @@ impl Frames {
     }
 
     /// The next message, whose bytes are held no longer. None while it is not whole. After a fault, whose place counts
-    /// from the first byte of its message, the reader has stopped and answers that fault again. Want of memory leaves the
-    /// reader as it was.
+    /// from the first byte of its message, the reader has stopped and answers that fault again. Want of memory
+    /// leaves the reader as it was.
     pub fn next(&mut self) -> Result<Option<Message>, ReadFault>
         ensures { NextOf self.old self.new result }
     {

@@ -51,8 +51,8 @@ pub fn first_messages()
         → Stream bytes ns left → IsStream (bytes ++ more) ms rest end → (others : List Message) × (ms ≡ ns ++ others) }
 {}
 
-/// Whatever the pieces: the bytes that were fed to a reader are the messages that it handed out, one after the other, and
-/// the bytes that it holds.
+/// Whatever the pieces: the bytes that were fed to a reader are the messages that it handed out, one after the
+/// other, and the bytes that it holds.
 pub fn pieces_read()
     ensures { (bytes : List ℕ) (ms : List Message) (held : Held) → Ran bytes ms held → IsBytes bytes
         → Stream bytes ms held.bytes }

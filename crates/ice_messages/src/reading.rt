@@ -6,7 +6,8 @@ ghost use Rattle.ice_prims.specs.Taking.{GivesUnlessMemory, Takes};
 ghost use Rattle.ice_encoding.specs.Parts.{read_times, exactly};
 ghost use Rattle.ice_encoding.specs.Bounds.{filled};
 ghost use Rattle.ice_messages.specs.Calls.{call};
-ghost use Rattle.ice_messages.specs.Messages.{header, magic, versions, message_type, compression, body_by, calls, message_at, whole_message_at};
+ghost use Rattle.ice_messages.specs.Messages.{header, magic, versions, message_type, compression, body_by, calls};
+ghost use Rattle.ice_messages.specs.Messages.{message_at, whole_message_at};
 ghost use Rattle.ice_messages.specs.Answers.{ReadsPart, Sees, Fills};
 ghost use Rattle.ice_messages.specs.Written.{IsOrderly};
 

@@ -61,7 +61,8 @@ fn take_details(
     identity: Identity,
     cursor: &mut Cursor<'_>,
 ) -> Result<Option<Proxy>, ReadFault>
-    ensures { ReadsPart result cursor.new ((made (form.proxy_of identity) form.details_of form.details).read cursor.old) }
+    ensures { ReadsPart result cursor.new
+        ((made (form.proxy_of identity) form.details_of form.details).read cursor.old) }
 {
     let facet = take_facet(alloc, cursor)?;
     let mode = take_mode(cursor)?;

@@ -58,7 +58,7 @@ module _ (t : Tables) (kind : TypeRef) where
     pub relayed : (f : Format) (input : List ℕ) (g : Graph) (out : Vec ℕ Global) → IsBytes input → numbered_at t all_slices asked (whole input) ≡ Ok g → Writes t asked f g LARGEST (Ok out) → Canonicalizes t kind f input (Ok out)
     relayed f input g out fits read e = let written = writes f g (Ok out) e in (g, holds input g fits read, written.0, written.1, written.2)
 
-    -- a kept slice, or its length, unless memory ran out
+    -- an unknown slice, or its length, unless memory ran out
     pub unwritten : (f : Format) (input : List ℕ) (g : Graph) (fault : WriteFault) → IsBytes input → numbered_at t all_slices asked (whole input) ≡ Ok g → Writes t asked f g LARGEST (Err fault) → Canonicalizes t kind f input (Err (of_write fault))
     unwritten f input g write_faults.Memory fits read e = tt
     unwritten f input g (write_faults.UnknownNeedsSliced n) fits read e = (g, holds input g fits read, e.0)

@@ -45,7 +45,7 @@ module _ (t : Tables) (kind : TypeRef) (root : Member) (is : root ≡ root_of ki
     pub written : (out : Vec ℕ Global) → Writes t (asked t kind root is) f g LARGEST (Ok out) → EncodesText t kind f text (Ok out)
     written out e = let bytes = writes t kind root is f g (Ok out) e in (g, parses text (Ok g) listed, bytes.0, bytes.1, bytes.2)
 
-    -- a kept slice, or its length, unless memory ran out
+    -- an unknown slice, or its length, unless memory ran out
     pub unwritten : (fault : WriteFault) → Writes t (asked t kind root is) f g LARGEST (Err fault) → EncodesText t kind f text (Err (of_write fault))
     unwritten write_faults.Memory e = tt
     unwritten (write_faults.UnknownNeedsSliced n) e = (g, parses text (Ok g) listed, e.0)

@@ -13,7 +13,7 @@ use Rattle.ice_relay.specs.declared.text_fault.TextRelayFault.{TextRelayFault}
 use Rattle.ice_relay.specs.declared.text_fault.TextRelayFault.TheVariants as faults
 
 -- The canonical encapsulation of the graph that the text lists; or why it lists none; or that an instance which the graph
--- reaches has a kept slice, and the format is compact; or the length of the encapsulation, which is more than the limit.
+-- reaches has an unknown slice, and the format is compact; or the length of the encapsulation, which is more than the limit.
 abbrev pub EncodesText : Tables → TypeRef → Format → List ℕ → Result (Vec ℕ Global) TextRelayFault → Type 0
 EncodesText t kind f text (Ok bytes) = (g : Graph) × Lists t (one_value kind) text g × IsWritable f g
     × (bytes.items ≡ canonical_bytes t kind f g) × (length bytes.items ≤ LARGEST)

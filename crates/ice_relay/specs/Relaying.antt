@@ -37,7 +37,7 @@ abbrev pub canonical_bytes : Tables → TypeRef → Format → Graph → List �
 canonical_bytes t kind f g = graph_bytes t (one_value kind) f g
 
 -- The canonical encapsulation of the graph that the input holds; or the input's first fault; or that an instance which
--- the graph reaches has a kept slice, and the format is compact; or the length of the encapsulation, which is more than
+-- the graph reaches has an unknown slice, and the format is compact; or the length of the encapsulation, which is more than
 -- the limit.
 abbrev pub Canonicalizes : Tables → TypeRef → Format → List ℕ → Result (Vec ℕ Global) RelayFault → Type 0
 Canonicalizes t kind f input (Ok bytes) = (g : Graph) × Holds t kind input g × IsWritable f g

@@ -13,7 +13,7 @@ use ice_values::DeclaredMembers;
 use std::alloc::Global;
 
 /// The canonical encapsulation, in the format, of the value that the text notes, with all instances that it
-/// leads to; or why the text notes none; or that one of these has a kept slice and the format is compact; or
+/// leads to; or why the text notes none; or that one of these has an unknown slice and the format is compact; or
 /// the length of the encapsulation, where it is more than 1,048,576 bytes.
 /// (Ice manual, "Data Encoding for Class and Exception Types".)
 pub fn canonical_of_text(

@@ -12,8 +12,9 @@ use ice_values::DeclaredMembers;
 use std::alloc::{AllocError, Global};
 
 /// The canonical encapsulation, in the format, of the value that the whole input holds, with all
-/// instances that it leads to; or the first fault from the left; or that one of these has a kept slice
-/// and the format is compact; or the length of the encapsulation, where it is more than 1,048,576 bytes. (Ice manual, "Data Encoding for Class and Exception Types".)
+/// instances that it leads to; or the first fault from the left; or that one of these has an unknown slice
+/// and the format is compact; or the length of the encapsulation, where it is more than 1,048,576 bytes. (Ice
+/// manual, "Data Encoding for Class and Exception Types".)
 pub fn canonical_of(
     alloc: Global,
     schema: &Schema,

@@ -13,7 +13,7 @@ use std::alloc::AllocError;
 pub enum TextRelayFault {
     /// The text is refused.
     Refused(JsonKind),
-    /// An instance has a kept slice, which only sliced format can carry.
+    /// An instance has an unknown slice, which only sliced format can carry.
     NeedsSliced,
     /// The canonical encapsulation has so many bytes, which is more than the limit.
     TooLong(u64),

@@ -1,7 +1,8 @@
 //! Types and exceptions that are added to a schema.
 
 ghost use Rattle.std.specs.Prelude.{◌≡◌, ◌+◌, ◌<◌, IfOk, OnErr, length};
-ghost use Rattle.ice_types.specs.Tables.{IsTypeId, IsNewId, with_seq, with_dict, with_struct, with_enum, with_exception};
+ghost use Rattle.ice_types.specs.Tables.{IsTypeId, IsNewId, with_seq, with_dict, with_struct, with_enum};
+ghost use Rattle.ice_types.specs.Tables.{with_exception};
 ghost use Rattle.ice_types.specs.Fits.{SeqFits, DictFits, StructFits, EnumFits, ExceptionFits};
 ghost use Rattle.ice_types.specs.Rules.{IsSchema};
 

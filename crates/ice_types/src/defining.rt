@@ -1,7 +1,8 @@
 //! Classes and interfaces, which are declared first and defined once after that.
 
 ghost use Rattle.std.specs.Prelude.{◌≡◌, ◌+◌, ◌<◌, false, IfOk, OnErr, length};
-ghost use Rattle.ice_types.specs.Tables.{IsTypeId, IsNewId, is_defined, with_class, with_interface, define_class, define_interface};
+ghost use Rattle.ice_types.specs.Tables.{IsTypeId, IsNewId, is_defined, with_class, with_interface, define_class};
+ghost use Rattle.ice_types.specs.Tables.{define_interface};
 ghost use Rattle.ice_types.specs.Fits.{ClassFits, InterfaceFits};
 ghost use Rattle.ice_types.specs.Rules.{IsSchema};
 

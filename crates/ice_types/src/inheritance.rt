@@ -4,7 +4,8 @@ ghost use Rattle.std.specs.Prelude.{◌≡◌, ◌≤◌, ◌↔◌, IfSome, IsT
 ghost use Rattle.std.specs.Option.{option_copied};
 ghost use Rattle.ice_types.specs.Kept.{counted};
 ghost use Rattle.ice_types.specs.Measures.{bases_in};
-ghost use Rattle.ice_types.specs.Inherited.{CountsBases, CountsClassBases, InterfaceIsA, IsA, base_in, bases_by_path, first_named, located, operations, ops_in};
+ghost use Rattle.ice_types.specs.Inherited.{CountsBases, CountsClassBases, InterfaceIsA, IsA, base_in, bases_by_path};
+ghost use Rattle.ice_types.specs.Inherited.{first_named, located, operations, ops_in};
 
 use crate::declarations::{ClassDecl, InterfaceDecl, OpDecl};
 use crate::schema::Schema;

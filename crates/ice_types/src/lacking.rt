@@ -1,7 +1,8 @@
 //! Whether a schema is another one without some classes.
 
 ghost use Rattle.std.specs.Prelude.{◌≡◌, ◌<◌, ◌↔◌, ℕ, IsTrue, length, map};
-ghost use Rattle.ice_types.specs.Lacking.{AreTaken, HasRow, HasRows, KeepsIds, KeepsRows, KeepsTypeIds, KeepsTypes, Lacks};
+ghost use Rattle.ice_types.specs.Lacking.{AreTaken, HasRow, HasRows, KeepsIds, KeepsRows, KeepsTypeIds, KeepsTypes};
+ghost use Rattle.ice_types.specs.Lacking.{Lacks};
 ghost use Rattle.ice_types.specs.declared.kind.RowRef.{RowRef};
 ghost use Rattle.ice_types.specs.declared.kind.RowRef.TheVariants as rows;
 

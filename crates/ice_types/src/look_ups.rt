@@ -1,7 +1,8 @@
 //! What a schema finds by name and by place.
 
 ghost use Rattle.std.specs.Prelude.{◌≡◌, ◌↔◌, IfSome, IsTrue};
-ghost use Rattle.ice_types.specs.Tables.{IsTypeId, IsNewId, Names, HasTypeId, HasRowId, Finds, FindsKind, HasId, class_ids, exception_ids, interface_ids, is_defined};
+ghost use Rattle.ice_types.specs.Tables.{IsTypeId, IsNewId, Names, HasTypeId, HasRowId, Finds, FindsKind, HasId};
+ghost use Rattle.ice_types.specs.Tables.{class_ids, exception_ids, interface_ids, is_defined};
 ghost use Rattle.ice_types.specs.declared.kind.TypeRef.{TypeRef};
 
 use crate::kind::{RowRef, TypeRef};

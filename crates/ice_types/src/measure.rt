@@ -1,7 +1,8 @@
 //! What a schema says of each of its types.
 
 ghost use Rattle.std.specs.Prelude.{◌≡◌, ◌+◌, ◌<◌, ◌^◌};
-ghost use Rattle.ice_types.specs.Measures.{built_in, container, enumeration, no_members, proxy, reference, structure, with_member};
+ghost use Rattle.ice_types.specs.Measures.{built_in, container, enumeration, no_members, proxy, reference, structure};
+ghost use Rattle.ice_types.specs.Measures.{with_member};
 
 /// What a schema says of a type.
 #[derive(Clone, Copy, Debug, PartialEq, Eq)]

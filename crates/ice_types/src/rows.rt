@@ -1,6 +1,7 @@
 //! The rows of the tables by place, and what the schema says of each.
 
-ghost use Rattle.std.specs.Prelude.{◌≡◌, ◌<◌, ◌++◌, [], ◌∷◌, List, ℕ, MatchOption, OnOk, OnErr, Some, None, cond, bytes_eq, length, map};
+ghost use Rattle.std.specs.Prelude.{◌≡◌, ◌<◌, ◌++◌, [], ◌∷◌, List, ℕ, MatchOption, OnOk, OnErr, Some, None, cond};
+ghost use Rattle.std.specs.Prelude.{bytes_eq, length, map};
 ghost use Rattle.ice_types.specs.Ids.{row_in};
 ghost use Rattle.ice_types.specs.Tables.{changed, no_types};
 ghost use Rattle.ice_types.specs.Kept.{beside_of, tables_of};

@@ -2,7 +2,9 @@
 
 ghost use Rattle.std.specs.Prelude.{◌↔◌, IsTrue, MatchOption, List, ℕ, slice_get};
 ghost use Rattle.ice_types.specs.Tables.{HasRowId};
-ghost use Rattle.ice_types.specs.Lacking.{AreSame, BothAre, SameBase, SameClass, SameDict, SameEntry, SameEnum, SameException, SameId, SameInterface, SameInterfaceBase, SameKind, SameMember, SameOp, SameRow, SameSeq, SameShape, SameStruct, SameThrow};
+ghost use Rattle.ice_types.specs.Lacking.{AreSame, BothAre, SameBase, SameClass, SameDict, SameEntry, SameEnum};
+ghost use Rattle.ice_types.specs.Lacking.{SameException, SameId, SameInterface, SameInterfaceBase, SameKind};
+ghost use Rattle.ice_types.specs.Lacking.{SameMember, SameOp, SameRow, SameSeq, SameShape, SameStruct, SameThrow};
 ghost use Rattle.ice_types.specs.declared.kind.RowRef.TheVariants as rows;
 
 use crate::declarations::{Entry, Member, OpDecl, Shape};

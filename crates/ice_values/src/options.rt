@@ -199,7 +199,12 @@ impl<'a> OptionsReader<'a> {
         requires none { self.old.item ≡ None }
         requires last { self.old.last ≡ Some lead.tag }
         requires format { lead.format ≤ 7 }
-        ensures advances { (inside : Inside P) (marked : Bool) (members : List Declared) → Advances inside (left_options P.take schema.now inside marked members self.new) (view_present self.new.done) result (option_behind P.take schema.now inside marked members (view_present self.old.done) self.old.steps lead.place lead.tag kind lead.format port.old cursor.old) port.new cursor.new }
+        ensures advances { (inside : Inside P) (marked : Bool) (members : List Declared)
+            → Advances inside (left_options P.take schema.now inside marked members self.new)
+            (view_present self.new.done) result
+            (option_behind P.take schema.now inside marked members (view_present self.old.done) self.old.steps
+            lead.place lead.tag kind lead.format port.old cursor.old)
+            port.new cursor.new }
         ensures room { NarrowsOnAdvance result (P.room port.old) (P.room port.new) }
         ensures less { LessOnAdvance result (2 + options_work self.old) (options_work self.new) }
     {

@@ -1,4 +1,4 @@
--- A kept slice, read as one of a class.
+-- An unknown slice, read as one of a class.
 use Rattle.std.specs.Prelude.{ℕ, Bool, List, [], length, Result, Ok}
 use Rattle.ice_types.specs.Tables.{Tables}
 use Rattle.ice_prims.specs.declared.fault.Fault.{Fault}

@@ -41,8 +41,8 @@ fn may_begin(sort: Sort, before: Before, flags: u8) -> bool
     }
 }
 
-/// Whether a slice of an instance with these flags may stand there. The first one has a type id, and each behind a slice
-/// with a size has both; behind one without a size it has neither. A table comes with a size alone.
+/// Whether a slice of an instance with these flags may stand there. The first one has a type id, and each behind a
+/// slice with a size has both; behind one without a size it has neither. A table comes with a size alone.
 fn may_stand(before: Before, flags: u8) -> bool
     ensures { result ≡ spec.may_stand (view_before before) (flags_of flags) }
 {

@@ -1,4 +1,4 @@
-//! A kept slice, read as one of a class. (Ice manual, "Data Encoding for Class and Exception Types".)
+//! An unknown slice, read as one of a class. (Ice manual, "Data Encoding for Class and Exception Types".)
 
 ghost use Rattle.std.specs.Prelude.{◌≡◌, IfOk, true};
 ghost use Rattle.ice_graphs.specs.Canonical.{is_there};
@@ -20,7 +20,7 @@ use std::alloc::{AllocError, Global};
 /// What stands behind the optional members of a slice, and is not kept.
 const END_MARKER: u8 = 255;
 
-/// A kept slice as one of a class of the schema: its bytes are the members of the class, and the references
+/// An unknown slice as one of a class of the schema: its bytes are the members of the class, and the references
 /// in them are those of its table. The first fault from the left, whose place counts from the first byte
 /// that is kept, or out of memory; nothing is left of either.
 /// (Ice manual, "Data Encoding for Class and Exception Types".)

@@ -86,7 +86,8 @@ impl<'a> Unfinished<'a> {
         cursor: &mut Cursor<'a>,
         arena: &mut Arena<'a>,
     ) -> Result<Advanced, ReadFault>
-        ensures advances { StepsOn sort schema.now self.old self.old.stage self.new result arena.old cursor.old arena.new cursor.new }
+        ensures advances { StepsOn sort schema.now self.old self.old.stage self.new result
+            arena.old cursor.old arena.new cursor.new }
         ensures name { self.new.name ≡ self.old.name }
         ensures room { NarrowsOnAdvance result (room arena.old) (room arena.new) }
         ensures less { LessOnOn result (work_left self.old) (work_left self.new) }

@@ -51,7 +51,9 @@ pub(crate) fn put_head<'a>(
     pen: &mut Pen<'a>,
     out: &mut Vec<u8>,
 ) -> Result<(), AllocError>
-    ensures { WritesPiece (head_of sort (λ form. flags_byte form flags.has_optional flags.has_table flags.has_size flags.is_last) id.now) result pen.old out.old.items pen.new out.new.items }
+    ensures { WritesPiece
+        (head_of sort (λ form. flags_byte form flags.has_optional flags.has_table flags.has_size flags.is_last) id.now)
+        result pen.old out.old.items pen.new out.new.items }
 {
     match sort {
         Sort::Class => put_class_head(id, flags, pen, out),
@@ -66,7 +68,9 @@ fn put_class_head<'a>(
     pen: &mut Pen<'a>,
     out: &mut Vec<u8>,
 ) -> Result<(), AllocError>
-    ensures { WritesPiece (written_head (λ form. flags_byte form flags.has_optional flags.has_table flags.has_size flags.is_last) id.now) result pen.old out.old.items pen.new out.new.items }
+    ensures { WritesPiece
+        (written_head (λ form. flags_byte form flags.has_optional flags.has_table flags.has_size flags.is_last) id.now)
+        result pen.old out.old.items pen.new out.new.items }
 {
     let others = flags.without_id();
     match pen.find(id) {

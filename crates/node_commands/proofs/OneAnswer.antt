@@ -125,7 +125,7 @@ both_apart t kind g h a b (inr p) (inr q) = p.2 ∙ ap too_long (long_apart t ki
 
 -- ---- the commands
 
--- what begins with a kept slice cannot be written in compact format
+-- what begins with an unknown slice cannot be written in compact format
 never_unknown : (slices : List Slice) → BeginsUnknown slices → Compact slices → ⊥
 never_unknown [] begins fits = begins
 never_unknown (known class content ∷ ss) begins fits = begins

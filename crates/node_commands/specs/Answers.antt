@@ -23,7 +23,7 @@ pub data Answer : Type 0 where
   input_refused : Fault → Answer
   -- the text of JSON is refused, for this reason
   json_refused : JsonKind → Answer
-  -- an instance has a kept slice, which compact format cannot carry
+  -- an instance has an unknown slice, which compact format cannot carry
   needs_sliced : Answer
   -- the bytes to be written are so many, which is more than the limit
   too_long : ℕ → Answer

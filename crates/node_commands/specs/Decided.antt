@@ -91,7 +91,7 @@ WithText input t kind answer Next =
     ((why : JsonKind) × IsTextFault input t kind why × (answer ≡ json_refused why))
     ⊎ ((g : Graph) × IsListed input t kind g × Next g)
 
--- in this format the graph can be written, from where it goes on; or an instance that it reaches has a kept slice
+-- in this format the graph can be written, from where it goes on; or an instance that it reaches has an unknown slice
 abbrev pub WithFormat : Format → Graph → Answer → Type 0 → Type 0
 WithFormat f g answer Next = (NeedsSliced f g × (answer ≡ needs_sliced)) ⊎ (IsWritable f g × Next)
 

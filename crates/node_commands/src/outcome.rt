@@ -36,7 +36,7 @@ pub enum Outcome<'a> {
     InputRefused(Fault),
     /// The text is the notation of no graph of the type, or is not read, for this reason.
     JsonRefused(JsonKind),
-    /// An instance has a kept slice, which compact format cannot carry.
+    /// An instance has an unknown slice, which compact format cannot carry.
     NeedsSliced,
     /// The bytes to be written are so many, which is more than the limit.
     TooLong(u64),

@@ -1,4 +1,4 @@
-//! A kept slice, written as it was.
+//! An unknown slice, written as it was.
 
 ghost use Rattle.std.specs.Prelude.{◌≡◌, ◌++◌, OnErr, OnOk};
 ghost use Rattle.ice_graphs.specs.Slices.{slice_size};
@@ -11,7 +11,7 @@ use ice_prims::{put_byte, put_int};
 use ice_types::MOST_NUMBER;
 use std::alloc::AllocError;
 
-/// Puts the size of a kept slice, its bytes, and the end marker of optional members where that stood
+/// Puts the size of an unknown slice, its bytes, and the end marker of optional members where that stood
 /// behind them: what stands between the type id and the table. Out of memory may leave a part of it; so may
 /// bytes of which an int cannot tell the size, which are answered as that is.
 /// (Ice manual, "Data Encoding for Class and Exception Types".)

@@ -5,7 +5,8 @@ ghost use Rattle.std.specs.Char.{encode_utf8};
 ghost use Rattle.std.specs.List.{flat_map, list_any};
 ghost use Rattle.ice_prims.specs.Bytes.{Grows};
 ghost use Rattle.proxy_text.specs.PrintedWords.{escape_in_identity, escapes, octal_escape, quoted_text, printed_text};
-ghost use Rattle.proxy_text.specs.PrintedWords.{identity_escapes, is_special, printed_identity, wants_quotes, whole_name};
+ghost use Rattle.proxy_text.specs.PrintedWords.{identity_escapes, is_special, printed_identity, wants_quotes};
+ghost use Rattle.proxy_text.specs.PrintedWords.{whole_name};
 
 use crate::words::is_blank;
 use ice_types::{Identity, Name};

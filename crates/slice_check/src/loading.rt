@@ -16,8 +16,9 @@ use std::alloc::Global;
 /// Files are loaded depth first, from this one on, each name once: so a ring of includes is no fault, and neither is a
 /// file that includes itself. Each file is checked after those that it includes. The answer to a fault is `Text`:
 ///
-/// - where a text has one (`BadByte`, `OpenString`, `OpenComment`, `BadNumber`, `TooLong`, `Expected`), or an include is
-///   of a name that is not on the shelf (`NoFile`) or is one file too many (`TooManyFiles`), the first such fault on the way;
+/// - where a text has one (`BadByte`, `OpenString`, `OpenComment`, `BadNumber`, `TooLong`, `Expected`), or an
+///   include is of a name that is not on the shelf (`NoFile`) or is one file too many (`TooManyFiles`), the first
+///   such fault on the way;
 /// - else the first fault of the checker, under its own name.
 ///
 /// The place of an include is its `#`, in the file that it stands in; for the first file it is 0, in that file.

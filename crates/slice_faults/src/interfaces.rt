@@ -1,6 +1,7 @@
 //! Interfaces are declared and defined.
 
-ghost use Rattle.std.specs.Prelude.{ℕ, ◌≡◌, ◌<◌, ◌≤◌, ◌^◌, Bool, false, List, [], ◌∷◌, ◌++◌, length, map, flat_map, None, Some, IfOk, OnOk, nat_lt, sum_by};
+ghost use Rattle.std.specs.Prelude.{ℕ, ◌≡◌, ◌<◌, ◌≤◌, ◌^◌, Bool, false, List, [], ◌∷◌, ◌++◌, length, map, flat_map};
+ghost use Rattle.std.specs.Prelude.{None, Some, IfOk, OnOk, nat_lt, sum_by};
 ghost use Rattle.slice_syntax.specs.declared.tree.Item.TheVariants as items;
 ghost use Rattle.slice_syntax.specs.Places.{HasPlainNames, IsPlain};
 ghost use Rattle.ice_types.specs.declared.schema.TheConstants.{MOST_BASES};
@@ -10,7 +11,8 @@ ghost use Rattle.slice_meaning.specs.Known.{standing_here, with_interface_name};
 ghost use Rattle.slice_meaning.specs.Uses.{as_interface, interface_named};
 ghost use Rattle.slice_meaning.specs.Clashes.{reopened_name, is_interface};
 ghost use Rattle.slice_meaning.specs.Members.{op_faults, op_of, named, with_meaning};
-ghost use Rattle.slice_meaning.specs.Faults.{faults, base_count, base_limits, bases_faults, as_interface_base, with_base, paths_by};
+ghost use Rattle.slice_meaning.specs.Faults.{faults, base_count, base_limits, bases_faults, as_interface_base};
+ghost use Rattle.slice_meaning.specs.Faults.{with_base, paths_by};
 ghost use Rattle.slice_meaning.specs.After.{after, interface_at, with_interface_body};
 ghost use Rattle.slice_meaning.specs.Checking.{noted};
 ghost use Rattle.slice_faults.specs.Held.{known_of, HoldsNumbers};

@@ -2,7 +2,8 @@
 
 ghost use Rattle.std.specs.Prelude.{ℕ, ◌≡◌, Bool, false, List, [], ◌∷◌, map, flat_map, cond, OnOk};
 ghost use Rattle.slice_meaning.specs.Checking.{noted};
-ghost use Rattle.slice_meaning.specs.Members.{field_faults, tag_fault, tag_faults, with_tag, order_faults, result_faults, thrown_faults, op_faults};
+ghost use Rattle.slice_meaning.specs.Members.{field_faults, tag_fault, tag_faults, with_tag, order_faults};
+ghost use Rattle.slice_meaning.specs.Members.{result_faults, thrown_faults, op_faults};
 ghost use Rattle.slice_faults.specs.Held.{known_of, HoldsNumbers};
 ghost use Rattle.slice_faults.specs.Sides.{side, is_side};
 

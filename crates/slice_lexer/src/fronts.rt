@@ -3,7 +3,8 @@
 ghost use Rattle.std.specs.Prelude.{◌≡◌, ◌<◌, ◌≤◌, ◌^◌, Ok, length};
 ghost use Rattle.slice_lexer.specs.Bytes.{digits};
 ghost use Rattle.slice_lexer.specs.declared.lexer.TheConstants.{MOST_BYTES};
-ghost use Rattle.slice_lexer.specs.Pieces.{FitsValue, front_at, base_of, comment_at, directive_at, escaped_at, number_at, prefix_of, string_at, symbol_at, symbol_code, word_at, word_kind};
+ghost use Rattle.slice_lexer.specs.Pieces.{FitsValue, front_at, base_of, comment_at, directive_at, escaped_at};
+ghost use Rattle.slice_lexer.specs.Pieces.{number_at, prefix_of, string_at, symbol_at, symbol_code, word_at, word_kind};
 
 use crate::fault::LexFault;
 use crate::piece::Piece;

@@ -1,4 +1,5 @@
-//! The tokens of a Slice text, after "Lexical Rules" in "The Slice Language" of the Ice manual. `specs/Tokens.antt` says what each is.
+//! The tokens of a Slice text, after "Lexical Rules" in "The Slice Language" of the Ice manual. `specs/Tokens.antt`
+//! says what each is.
 //!
 //! A text is pieces, one after the other: blanks, comments and tokens. At each place the longest piece stands.
 //!
@@ -12,7 +13,8 @@
 //! - A directive is the rest of a line from a `#` on, before which only blanks stand in that line.
 //! - The symbols are `{ } ( ) < > [ ] [[ ]] , ; :: = * + -`, numbered from 0 in this order.
 //!
-//! Nothing else may stand in a text, which has at most `MOST_BYTES` bytes. Its first defect from the left is the answer.
+//! Nothing else may stand in a text, which has at most `MOST_BYTES` bytes. Its first defect from the left is the
+//! answer.
 #![tactic(auto)]
 
 mod fault;

@@ -2,7 +2,8 @@
 
 ghost use Rattle.std.specs.Prelude.{◌≡◌, ◌≤◌, false, length};
 ghost use Rattle.std.specs.Char.{digit_value};
-ghost use Rattle.slice_lexer.specs.Bytes.{is_letter, is_word_byte, spoils_number, line, word, digits, is_line_blank, before_close, string_length};
+ghost use Rattle.slice_lexer.specs.Bytes.{is_letter, is_word_byte, spoils_number, line, word, digits, is_line_blank};
+ghost use Rattle.slice_lexer.specs.Bytes.{before_close, string_length};
 
 use memchr::{memchr, memmem};
 

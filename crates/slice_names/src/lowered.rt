@@ -33,7 +33,8 @@ impl Lowered {
 
     /// Puts a name in. Want of memory leaves the names as they were.
     pub fn insert(&mut self, alloc: Global, name: &str, scope: usize) -> Result<(), AllocError>
-        ensures ok { OnOk result (IsChanged (str_to_ascii_lowercase name.now) scope true (has_lowered self.old) (has_lowered self.new)) }
+        ensures ok { OnOk result
+            (IsChanged (str_to_ascii_lowercase name.now) scope true (has_lowered self.old) (has_lowered self.new)) }
         ensures err { OnErr result (IsSame (has_lowered self.old) (has_lowered self.new)) }
     {
         let key = (name.to_ascii_lowercase(alloc)?, scope);

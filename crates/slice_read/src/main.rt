@@ -2,9 +2,9 @@
 //!
 //! usage: slice_read [--tokens | --tree] FILE..
 //!
-//! A line for each file: its name, and `read` or why it is not. `--tokens` prints a line for each token instead, with its
-//! kind and its first byte and the one after its last, and `--tree` one for each item of the tree. There a refusal is
-//! printed with its place and the kind of token that was found.
+//! A line for each file: its name, and `read` or why it is not. `--tokens` prints a line for each token instead,
+//! with its kind and its first byte and the one after its last, and `--tree` one for each item of the tree. There a
+//! refusal is printed with its place and the kind of token that was found.
 #![tactic(auto)]
 
 mod tree;

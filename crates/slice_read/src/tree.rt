@@ -1,7 +1,7 @@
 //! What a file declares, a line for each item.
 //!
-//! `@` stands before each place. A type is its keyword's code or a name, `tag` stands before the tag of what is optional,
-//! and a base or a thrown exception has its word before it each time.
+//! `@` stands before each place. A type is its keyword's code or a name, `tag` stands before the tag of what is
+//! optional, and a base or a thrown exception has its word before it each time.
 
 use ice_types::List;
 use slice_syntax::{Const, Constant, Field, File, Item, OpTree, Path, TypeWord, Word};

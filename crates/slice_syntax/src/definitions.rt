@@ -1,7 +1,8 @@
 //! Definitions but modules, classes and interfaces.
 
 ghost use Rattle.slice_syntax.specs.Reading.{read};
-ghost use Rattle.slice_syntax.specs.Rules.{close, constant_item, definition, dictionary_item, entries, entry, entry_comma, enum_item, member, members, sequence_item, struct_item};
+ghost use Rattle.slice_syntax.specs.Rules.{close, constant_item, definition, dictionary_item, entries, entry};
+ghost use Rattle.slice_syntax.specs.Rules.{entry_comma, enum_item, member, members, sequence_item, struct_item};
 ghost use Rattle.slice_syntax.specs.Taking.{Takes, TakesNoMemory};
 
 use crate::classes::{class, exception};

@@ -3,7 +3,9 @@
 ghost use Rattle.std.specs.Prelude.{◌≡◌, ◌≤◌, length};
 ghost use Rattle.std.specs.List.{prefix_len};
 ghost use Rattle.slice_lexer.specs.Bytes.{is_blank};
-ghost use Rattle.slice_syntax.specs.Lexemes.{unblank, word_length, mark_place, is_bare, is_once, directive_line, directive_word, directive_rest, is_one_word, is_closed, if_text, up_to, included, directive_terminal, text_seen};
+ghost use Rattle.slice_syntax.specs.Lexemes.{unblank, word_length, mark_place, is_bare, is_once, directive_line};
+ghost use Rattle.slice_syntax.specs.Lexemes.{directive_word, directive_rest, is_one_word, is_closed, if_text, up_to};
+ghost use Rattle.slice_syntax.specs.Lexemes.{included, directive_terminal, text_seen};
 
 use crate::terminal::Terminal;
 

@@ -1,7 +1,8 @@
 //! Interfaces and their operations.
 
 ghost use Rattle.slice_syntax.specs.Reading.{read};
-ghost use Rattle.slice_syntax.specs.Rules.{answered, bases, interface_item, operation, operations, parameter, parameter_list, parameters, paths, thrown};
+ghost use Rattle.slice_syntax.specs.Rules.{answered, bases, interface_item, operation, operations, parameter};
+ghost use Rattle.slice_syntax.specs.Rules.{parameter_list, parameters, paths, thrown};
 ghost use Rattle.slice_syntax.specs.Taking.{Takes};
 
 use crate::cursor::Cursor;
@@ -92,7 +93,8 @@ fn operations(alloc: Global, cursor: &mut Cursor) -> Result<List<OpTree>, Stop>
     Ok(ops)
 }
 
-/// `meta [ "idempotent" ] ( "void" | [ opt ] type ) word "(" [ param { "," param } ] ")" [ "throws" scoped { "," scoped } ] ";"`
+/// `meta [ "idempotent" ] ( "void" | [ opt ] type ) word "(" [ param { "," param } ] ")" [ "throws" scoped { ","
+/// scoped } ] ";"`
 #[tactic(auto, unfolding(crate::specs::Rules::operation))]
 fn operation(alloc: Global, cursor: &mut Cursor) -> Result<OpTree, Stop>
     ensures { Takes (λ x. x) result cursor.new (read operation cursor.old) }

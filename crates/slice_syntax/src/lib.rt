@@ -1,10 +1,10 @@
 //! The grammar of Slice: from the tokens of a text to what it declares.
 //!
 //! `parse` answers the tree of exactly the texts that the grammar has, and for any other text the first token after
-//! which no file can go on, or the text's end: some file begins with the tokens before it, and none with those up to it.
-//! `specs/Rules.antt` and `specs/Files.antt` have the grammar, rule by rule, and `specs/Syntax.antt` says what is
-//! answered. `one_answer` is the law that this leaves no choice, and `specs/Places.antt` has what the laws of `text_laws.rt`
-//! say of the places and names in it. `cases/slice-trees.cases` and `cases/slice-faults.cases`
+//! which no file can go on, or the text's end: some file begins with the tokens before it, and none with those up
+//! to it. `specs/Rules.antt` and `specs/Files.antt` have the grammar, rule by rule, and `specs/Syntax.antt` says
+//! what is answered. `one_answer` is the law that this leaves no choice, and `specs/Places.antt` has what the laws
+//! of `text_laws.rt` say of the places and names in it. `cases/slice-trees.cases` and `cases/slice-faults.cases`
 //! have texts with what they declare, and with the token that no file goes on with.
 //!
 //! - A name is a word that is no keyword, or any word after a `\`, which is not part of the name.

@@ -131,7 +131,8 @@ pub enum Item {
     },
 }
 
-/// A whole text. It is flat: a module is an `Enter`, what stands in it, and an `Exit`, and `module A::B` is two of each.
+/// A whole text. It is flat: a module is an `Enter`, what stands in it, and an `Exit`, and `module A::B` is two of
+/// each.
 #[derive(Debug, Drop)]
 pub struct File {
     pub items: List<Item>,

@@ -2,7 +2,9 @@
 
 ghost use Rattle.slice_syntax.specs.Reading.{read};
 ghost use Rattle.std.specs.Prelude.{◌≡◌};
-ghost use Rattle.slice_syntax.specs.Rules.{is_minus, is_true, keyword_code, number_size, file_metadata, given, metadata, named, named_type, names, number, object_type, plain_type, scoped, signed_number, tag, text, texts, truth, type_word, value};
+ghost use Rattle.slice_syntax.specs.Rules.{is_minus, is_true, keyword_code, number_size, file_metadata, given};
+ghost use Rattle.slice_syntax.specs.Rules.{metadata, named, named_type, names, number, object_type, plain_type, scoped};
+ghost use Rattle.slice_syntax.specs.Rules.{signed_number, tag, text, texts, truth, type_word, value};
 ghost use Rattle.slice_syntax.specs.Taking.{Takes, TakesNoMemory};
 
 use crate::cursor::Cursor;

@@ -24,7 +24,7 @@ module _ (u : Tables) (Refer : Refers) where
   IsUnknownSlice (known class content) = ⊥
   IsUnknownSlice (unknown id bytes optionals table) = IsUnknown u Refer id table
 
-  -- kept slices, and then a known class with all its bases, or none
+  -- unknown slices, and then a known class with all its bases, or none
   abbrev pub AreSlices : List Slice → Type 0
   AreSlices [] = Unit {0}
   AreSlices (unknown id bytes optionals table ∷ ss) = IsUnknown u Refer id table × AreSlices ss

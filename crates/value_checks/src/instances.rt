@@ -24,7 +24,7 @@ pub(crate) enum Rows {
 }
 
 /// Whether they are the slices of a user exception whose references stand for instances of the graph: kept
-/// ones and then those of an exception of the schema and of all its bases, in order, or kept ones alone, and
+/// ones and then those of an exception of the schema and of all its bases, in order, or unknown ones alone, and
 /// one at least. The values of its members are of their types; the instances may be of any.
 /// (Ice manual, "User Exceptions".)
 pub fn is_user_exception(schema: &Schema, graph: &Graph, slices: &[Slice]) -> bool
@@ -47,7 +47,7 @@ pub(crate) fn is_fine(schema: &Schema, graph: &Graph, at: u32) -> bool
     )
 }
 
-/// Whether they are kept slices and then those of a known class and of all its bases, in order, or kept
+/// Whether they are unknown slices and then those of a known class and of all its bases, in order, or kept
 /// slices alone, and one at least.
 fn is_instance(schema: &Schema, rows: Rows, graph: &Graph, slices: &[Slice]) -> bool
     ensures { IsTrue result ↔ IsInstance (rows_of rows schema.now) (RefersIn schema.now graph.now.instances)
