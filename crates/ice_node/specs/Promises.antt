@@ -1,0 +1,25 @@
+-- What the program promises of one run, from the words and what is outside before and after it.
+use Rattle.std.specs.Prelude.{ℕ, ◌≡◌, List, Some}
+use Rattle.std.specs.Io.KnownBytes.{Appends}
+use Rattle.ice_prims.specs.Rest.{IsBytes}
+use Rattle.node_commands.specs.Words.{Word}
+use Rattle.node_commands.specs.Outside.{Files, Outside}
+use Rattle.node_commands.specs.Answers.{Answer}
+use Rattle.node_commands.specs.Decided.{Decided}
+use Rattle.node_commands.specs.Statuses.{Answered, EndsWithStatus}
+use Rattle.ice_node.specs.Carrying.{Carries}
+
+pub record KeepsPromises (words : List Word) (before after : Outside) (status : ℕ) : Type 0 where
+  -- There is one answer: its status is returned, it comes for its cause, no more of the input was
+  -- taken than it says, and the sinks got what it says.
+  pub answered : (answer : Answer) × Answered words before after status answer
+  -- Where the outside tells what it holds, and that decides an answer, this one came, unless a read
+  -- or a write failed, or memory ran out.
+  pub exactly : (files : Files) (input : List ℕ) (answer : Answer)
+      → before.files ≡ Some files → before.input ≡ Some input
+      → Decided words files input answer → EndsWithStatus words before after status answer
+  -- Where the outside tells what it holds, `relay` in sliced format has written, with status 0, the
+  -- graph that the input is for whoever knows the classes that FILE lacks.
+  pub carried : (files : Files) (input : List ℕ)
+      → before.files ≡ Some files → before.input ≡ Some input → IsBytes input → status ≡ 0
+      → (out : List ℕ) × Appends before.output after.output out × Carries words files input out
