@@ -12,7 +12,7 @@ from generate import ODD_BYTES, ODD_NUMBERS, Trial
 from graphs import Kept, Known, Ref
 
 TAGS = [0, 0, 1, 1, 2, 3, 7, 28, 29, 30, 31, 254, 255, 256, 2**31 - 1]
-ANY = [("Object", kinds.ANY_CLASS), ("Value", kinds.ANY_CLASS)]
+ANY = [("Object", kinds.ANY_CLASS)]
 # Type ids that no class has, but by chance.
 UNKNOWN_IDS = ["::Gone::Fishing", "::Gone::Fishing", "::Gone::Sailing", "::Ice::Object", "::x", "x", "", "é", "::" + "Long" * 70]
 

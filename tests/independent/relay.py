@@ -32,7 +32,7 @@ def check(shelf, file):
 
 def kind_of(schema, word):
     """Returns the type that a word of the command line names, or None."""
-    built_in = {**kinds.BUILT_IN, "Object": kinds.ANY_CLASS, "Value": kinds.ANY_CLASS, "Object*": kinds.ANY_PROXY}
+    built_in = {**kinds.BUILT_IN, "Object": kinds.ANY_CLASS, "Object*": kinds.ANY_PROXY}
     if word in built_in:
         return built_in[word]
     found = schema.named(word.removesuffix("*"))

@@ -115,9 +115,9 @@ const CALLS: &[Call] = &[
     ),
     (
         &["relay", "w.ice", "Value"],
-        4,
+        2,
         "",
-        "ice: input refused at 6: BadReference\n",
+        "ice: no such name Value\n",
     ),
     (
         &["relay", "w.ice", "::M::N"],

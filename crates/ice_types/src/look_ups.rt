@@ -16,9 +16,9 @@ impl Schema {
         is_type_id(id) && self.row_of_id(id).is_none()
     }
 
-    /// The type that the text names: a built-in type as Slice writes it (`Object` and `Value` are the
-    /// class of all instances, `Object*` is a proxy of any interface), every other one by its type id.
-    /// None where there is no such type. It takes no memory.
+    /// The type that the text names: a built-in type by its one name (`Object` is the class of all
+    /// instances, `Object*` a proxy of any interface), every other one by its type id. None where there
+    /// is no such type: Slice's second word for `Object`, `Value`, is none. It takes no memory.
     pub fn type_named(&self, text: &str) -> Option<TypeRef>
         ensures named { FindsKind (Names self.now text.now) result }
         ensures only { IfSome result (λ kind. (other : TypeRef) → Names self.now text.now other → other ≡ kind) }
@@ -32,7 +32,6 @@ impl Schema {
             "long" => Some(TypeRef::Long),
             "string" => Some(TypeRef::Text),
             "Object" => Some(TypeRef::Class(None)),
-            "Value" => Some(TypeRef::Class(None)),
             "Object*" => Some(TypeRef::Proxy(None)),
             _ => self.type_of_id(text),
         }

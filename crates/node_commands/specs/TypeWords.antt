@@ -10,7 +10,7 @@ abbrev pub IsProxyWord : Tables → Word → TypeRef → Type 0
 IsProxyWord t word kind = (id : List ℕ) × (at : ℕ) × (word ≡ id ++ codes "*")
     × HasId (interface_ids t) id at × (kind ≡ kinds.Proxy (Some at))
 
--- A built-in type's word, `Object` or `Value`, `Object*`, or a type id; and else a proxy's word.
+-- A built-in type's word, `Object`, `Object*`, or a type id; and else a proxy's word.
 abbrev pub IsTypeWord : Tables → Word → TypeRef → Type 0
 IsTypeWord t word kind = Names t word kind
     ⊎ (((other : TypeRef) → Names t word other → ⊥) × IsProxyWord t word kind)

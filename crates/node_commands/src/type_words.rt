@@ -7,8 +7,8 @@ ghost use Rattle.node_commands.specs.TypeWords.{IsTypeWord, IsProxyWord};
 
 use ice_types::{Schema, TypeRef};
 
-/// The type that the word names: a built-in type's word, `Object` or `Value`, `Object*`, a type id, or
-/// an interface's type id followed by `*`. None where it names none.
+/// The type that the word names: a built-in type's word, `Object`, `Object*`, a type id, or an interface's
+/// type id followed by `*`. None where it names none.
 pub fn type_of_word(schema: &Schema, word: &str) -> Option<TypeRef>
     ensures named { FindsKind (IsTypeWord schema.now word.now) result }
     ensures only { IfSome result (λ kind.

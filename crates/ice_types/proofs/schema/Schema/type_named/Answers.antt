@@ -1,4 +1,4 @@
-use Rattle.std.proofs.Common.{None, inl, inr}
+use Rattle.std.proofs.Common.{None}
 use Rattle.ice_types.specs.declared.kind.TypeRef.TheVariants as kinds
 use Rattle.ice_types.proofs.Naming.{names_only, id_named, id_only}
 use Rattle.ice_types.proofs.schema.Schema.type_named.Goals as goal
@@ -22,10 +22,7 @@ pub returns-in-string-clause-only : goal.returns-in-string-clause-only
 returns-in-string-clause-only c = names_only c.args.self.now c.rules.ensures c.args.text.now kinds.Text c.in-string.is
 
 pub returns-in-Object-clause-only : goal.returns-in-Object-clause-only
-returns-in-Object-clause-only c = names_only c.args.self.now c.rules.ensures c.args.text.now (kinds.Class None) (inl c.in-Object.is)
-
-pub returns-in-Value-clause-only : goal.returns-in-Value-clause-only
-returns-in-Value-clause-only c = names_only c.args.self.now c.rules.ensures c.args.text.now (kinds.Class None) (inr c.in-Value.is)
+returns-in-Object-clause-only c = names_only c.args.self.now c.rules.ensures c.args.text.now (kinds.Class None) c.in-Object.is
 
 pub returns-in-text-clause-only : goal.returns-in-text-clause-only
 returns-in-text-clause-only c = names_only c.args.self.now c.rules.ensures c.args.text.now (kinds.Proxy None) c.in-text.is
@@ -33,9 +30,9 @@ returns-in-text-clause-only c = names_only c.args.self.now c.rules.ensures c.arg
 pub returns-in_default-clause-named : goal.returns-in_default-clause-named
 returns-in_default-clause-named c =
     let other = c.in_default in
-    id_named c.args.self.now c.args.text.now other.not-bool other.not-byte other.not-short other.not-int other.not-long other.not-string other.not-Object other.not-Value other.not-text c.type_of_id.result c.type_of_id.ensures
+    id_named c.args.self.now c.args.text.now other.not-bool other.not-byte other.not-short other.not-int other.not-long other.not-string other.not-Object other.not-text c.type_of_id.result c.type_of_id.ensures
 
 pub returns-in_default-clause-only : goal.returns-in_default-clause-only
 returns-in_default-clause-only c =
     let other = c.in_default in
-    id_only c.args.self.now c.args.text.now other.not-bool other.not-byte other.not-short other.not-int other.not-long other.not-string other.not-Object other.not-Value other.not-text c.rules.ensures c.type_of_id.result c.type_of_id.ensures
+    id_only c.args.self.now c.args.text.now other.not-bool other.not-byte other.not-short other.not-int other.not-long other.not-string other.not-Object other.not-text c.rules.ensures c.type_of_id.result c.type_of_id.ensures
