@@ -5,6 +5,3 @@ mod top_call;
 
 pub use node_commands::{Outcome, report};
 pub use top_call::node;
-
-#[cfg(test)]
-mod tests;

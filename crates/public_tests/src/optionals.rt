@@ -1,4 +1,4 @@
-use crate::{Skipped, open_encaps, put_tag, skip_format, take_tag, wrap_encaps};
+use encaps_optionals::{Skipped, open_encaps, put_tag, skip_format, take_tag, wrap_encaps};
 use ice_prims::{Cursor, Fault, Kind};
 use std::process::Abort;
 use std::test::Fail;

@@ -1,4 +1,4 @@
-use crate::{FeedFault, Frames, read_message, write_message};
+use ice_messages::{FeedFault, Frames, read_message, write_message};
 use ice_prims::{Fault, Kind, ReadFault};
 use std::process::Abort;
 use std::test::Fail;

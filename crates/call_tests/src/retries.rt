@@ -1,7 +1,7 @@
-use crate::{Attempt, Client, ClientAction, ClientEvent, Server, ServerAction, ServerEvent};
 use Attempt::{Closed, Lost, NotConnected, NotWhole, Replied, Stale};
 use ClientAction::{AwaitReply, AwaitValidate, Connect, Finish, Send};
 use ClientEvent::{CloseRead, ConnectFailed, Connected, Refused2, ReplyRead, Taken, Validated};
+use retry_core::{Attempt, Client, ClientAction, ClientEvent, Server, ServerAction, ServerEvent};
 use std::process::Abort;
 use std::test::Fail;
 

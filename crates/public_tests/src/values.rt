@@ -1,9 +1,10 @@
-use crate::{DeclaredMembers, Numbers, Optionals, read_members};
 use graph_arena::{Members, Value};
 use ice_prims::{Cursor, Fault, Kind, ReadFault};
 use ice_types::{Member, Name, Schema, TypeRef};
+use ice_values::{DeclaredMembers, Numbers, Optionals, read_members};
 use std::process::Abort;
 use std::test::Fail;
+use value_checks::fits;
 
 /// Where the optional members stand, the bytes, and how many optional ones are read.
 const READ: &[(Optionals, &[u8], usize)] = &[
@@ -91,5 +92,13 @@ fn members_by_their_bytes(rt: HostRuntime) -> Result<(), Fail> {
             _ => return Err(Fail::from("no such fault")),
         }
     }
+    Ok(())
+}
+
+#[test]
+fn forms(rt: HostRuntime) -> Result<(), Fail> {
+    let schema = Schema::new(rt.alloc());
+    assert!(rt; fits(&schema, TypeRef::Int, &Value::Int(7)));
+    assert!(rt; !fits(&schema, TypeRef::Long, &Value::Int(7)));
     Ok(())
 }

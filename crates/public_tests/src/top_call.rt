@@ -1,9 +1,10 @@
 //! `node` over an outside in memory: a call of each command and refusal, and what comes of each
 //! failure. What comes of other words, texts and inputs, the cases show.
 
-use super::node;
-use ice_ports::{MemShelf, MemSink, MemSource};
-use ice_types::{Bytes, List, Name};
+use crate::outside::{bytes, calls, shelf};
+use ice_node::node;
+use ice_ports::{MemSink, MemSource};
+use ice_types::List;
 use std::alloc::{AllocError, Global};
 use std::test::Fail;
 
@@ -260,22 +261,6 @@ const ENDS: &[End] = &[
     (&["messages"], MESSAGE, &[15], b"validate\n"),
 ];
 
-fn bytes(alloc: Global, items: &[u8]) -> Result<Bytes, AllocError> {
-    Ok(List::from_vec(Vec::from_slice(alloc, items)?))
-}
-
-fn calls(alloc: Global, numbers: &[u64]) -> Result<List<u64>, AllocError> {
-    Ok(List::from_vec(Vec::from_slice(alloc, numbers)?))
-}
-
-fn shelf(alloc: Global, failing: &[u64]) -> Result<MemShelf, AllocError> {
-    let mut files = List::new(alloc);
-    for (name, text) in FILES {
-        files.push((Name::of(alloc, name)?, bytes(alloc, text.as_bytes())?))?;
-    }
-    Ok(MemShelf::new(files, calls(alloc, failing)?))
-}
-
 fn word(alloc: Global, text: &str) -> Result<String, AllocError> {
     String::from_str(alloc, text)
 }
@@ -300,7 +285,7 @@ fn comes(
 ) -> Result<bool, AllocError> {
     let (piece, loads, reads, writes, room, line_room) = outside;
     let words = words_of(alloc, words)?;
-    let mut shelf = shelf(alloc, loads)?;
+    let mut shelf = shelf(alloc, FILES, loads)?;
     let mut source = MemSource::new(bytes(alloc, input)?, (*piece).max(1), calls(alloc, reads)?);
     let mut sink = MemSink::new(alloc, (*room).min(99), calls(alloc, writes)?)?;
     let mut errors = MemSink::new(alloc, (*line_room).min(99), calls(alloc, &[])?)?;

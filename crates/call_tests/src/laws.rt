@@ -1,4 +1,4 @@
-use crate::{
+use call_world::{
     Service, at_most_once, calls_can_succeed, connections_sound, dead_for_good, dispatches_logged,
     idempotent_calls_can_repeat, own_replies, seats_placed,
 };

@@ -1,11 +1,11 @@
 //! Lines of inputs in pieces of one byte and of many, and what fails on the way.
 ghost use Rattle.std.specs.Prelude.{◌<◌};
 
-use crate::{Dump, dump_messages};
+use crate::outside::{bytes, calls};
 use ice_ports::{MemSink, MemSource};
 use ice_prims::{Fault, Kind};
-use ice_types::{Bytes, List};
-use std::alloc::{AllocError, Global};
+use ice_types::List;
+use message_dump::{Dump, dump_messages};
 use std::process::Abort;
 use std::test::Fail;
 
@@ -68,10 +68,6 @@ const INPUTS: &[(&[u8], &str, Dump)] = &[
     ),
 ];
 
-fn bytes(alloc: Global, items: &[u8]) -> Result<Bytes, AllocError> {
-    Ok(List::from_vec(Vec::from_slice(alloc, items)?))
-}
-
 /// What is told of the input in pieces of so many bytes.
 fn see_input(
     rt: &(impl AllocGlobal + Abort),
@@ -104,9 +100,7 @@ fn lines_of_inputs(rt: HostRuntime) -> Result<(), Fail> {
 fn failures(rt: HostRuntime) -> Result<(), Fail> {
     let alloc = rt.alloc();
     let validate = b"IceP\x01\0\x01\0\x03\0\x0e\0\0\0";
-    let mut fails = List::new(alloc);
-    fails.push(1)?;
-    let mut source = MemSource::new(bytes(alloc, validate)?, 14, fails);
+    let mut source = MemSource::new(bytes(alloc, validate)?, 14, calls(alloc, &[1])?);
     let mut sink = MemSink::new(alloc, 16, List::new(alloc))?;
     assert_eq!(&rt;
         dump_messages(alloc, &mut source, &mut sink),

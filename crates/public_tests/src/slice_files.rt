@@ -1,10 +1,9 @@
 //! What a file brings with it, in which order, and the first fault on the way.
 
-use super::fault::LoadFault;
-use super::walk::walk_from;
-use super::*;
+use crate::outside::{file, shelf};
 use ice_ports::MemShelf;
-use ice_types::{Bytes, List, Name};
+use ice_types::{List, Schema};
+use slice_check::{LoadFault, load};
 use std::alloc::{AllocError, Global};
 use std::test::Fail;
 
@@ -13,43 +12,53 @@ type Texts = &'static [(&'static str, &'static str)];
 
 /// What comes of a file.
 enum Comes {
-    /// These files, in this order.
-    Files(&'static [&'static str]),
+    /// A schema of these enums, in this order.
+    Enums(&'static [&'static str]),
     /// This fault, by its file, its place and its kind.
     Fault(&'static str, u32, &'static str),
 }
 
-use Comes::{Fault, Files};
+use Comes::{Enums, Fault};
 
 /// What comes of `a`, by what stands on the shelf.
 const LOADS: &[(Texts, Comes)] = &[
     // included ones first
     (
         &[
-            ("a", "#include \"b\"\nmodule A { };"),
-            ("b", "module B { };"),
+            ("a", "#include \"b\"\nmodule A { enum E { e }; };"),
+            ("b", "module B { enum E { e }; };"),
         ],
-        Files(&["b", "a"]),
+        Enums(&["::B::E", "::A::E"]),
     ),
     // a file that includes itself, and a ring
-    (&[("a", "#include \"a\"")], Files(&["a"])),
+    (&[("a", "#include \"a\"")], Enums(&[])),
+    (
+        &[("a", "#include \"a\"\nmodule A { enum E { e }; };")],
+        Enums(&["::A::E"]),
+    ),
     (
         &[
-            ("a", "#include <b>"),
-            ("b", "#include <c>"),
-            ("c", "#include <a>\n#include <b>"),
+            ("a", "#include <b>\nmodule A { enum E { e }; };"),
+            ("b", "#include <c>\nmodule B { enum E { e }; };"),
+            (
+                "c",
+                "#include <a>\n#include <b>\nmodule C { enum E { e }; };",
+            ),
         ],
-        Files(&["c", "b", "a"]),
+        Enums(&["::C::E", "::B::E", "::A::E"]),
     ),
     // two files that include a third one, and an include that stands twice
     (
         &[
-            ("a", "#include \"b\"\n#include \"c\"\n#include \"b\""),
-            ("b", "#include \"d\""),
-            ("c", "#include \"d\""),
-            ("d", "module D { };"),
+            (
+                "a",
+                "#include \"b\"\n#include \"c\"\n#include \"b\"\nmodule A { enum E { e }; };",
+            ),
+            ("b", "#include \"d\"\nmodule B { enum E { e }; };"),
+            ("c", "#include \"d\"\nmodule C { enum E { e }; };"),
+            ("d", "module D { enum E { e }; };"),
         ],
-        Files(&["d", "b", "c", "a"]),
+        Enums(&["::D::E", "::B::E", "::C::E", "::A::E"]),
     ),
     // no such file
     (&[], Fault("a", 0, "NoFile")),
@@ -88,34 +97,23 @@ const LOADS: &[(Texts, Comes)] = &[
     ),
 ];
 
-fn shelf(alloc: Global, texts: Texts, fails: List<u64>) -> Result<MemShelf, AllocError> {
-    let mut files = List::new(alloc);
-    for (name, text) in texts {
-        files.push(file(alloc, name, text)?)?;
-    }
-    Ok(MemShelf::new(files, fails))
-}
-
-fn file(alloc: Global, name: &str, text: &str) -> Result<(Name, Bytes), AllocError> {
-    let bytes = Vec::from_slice(alloc, text.as_bytes())?;
-    Ok((Name::of(alloc, name)?, List::from_vec(bytes)))
-}
-
 /// Whether this comes of `a`.
 fn is_loaded(alloc: Global, shelf: &mut MemShelf, comes: &Comes) -> bool {
-    match (walk_from(alloc, shelf, "a"), comes) {
-        (Ok(files), Files(names)) => {
-            files.names.len() == names.len()
-                && files
-                    .names
-                    .as_slice()
-                    .iter()
-                    .zip(*names)
-                    .all(|(name, other)| name.as_str() == *other)
-        }
+    match (load(alloc, shelf, "a"), comes) {
+        (Ok(schema), Enums(ids)) => has_enums(&schema, ids),
         (Err(fault), Fault(file, place, kind)) => is_fault(&fault, file, *place, kind),
         _ => false,
     }
+}
+
+fn has_enums(schema: &Schema, ids: &[&str]) -> bool {
+    let enums = schema.enums();
+    enums.len() == ids.len()
+        && enums
+            .as_slice()
+            .iter()
+            .zip(ids)
+            .all(|(row, id)| row.id.as_str() == *id)
 }
 
 fn is_fault(fault: &LoadFault, in_file: &str, at: u32, of_kind: &str) -> bool {
@@ -131,19 +129,23 @@ fn is_fault(fault: &LoadFault, in_file: &str, at: u32, of_kind: &str) -> bool {
 fn files_are_loaded_depth_first(rt: HostRuntime) -> Result<(), Fail> {
     let alloc = rt.alloc();
     for (texts, comes) in LOADS {
-        let mut shelf = shelf(alloc, *texts, List::new(alloc))?;
+        let mut shelf = shelf(alloc, texts, &[])?;
         assert!(rt; is_loaded(alloc, &mut shelf, comes));
         assert!(rt; shelf.failures() == 0);
     }
     Ok(())
 }
 
-/// So many files, each of which includes the next one. The last one includes a file that may be there.
+/// So many files with an enum each, each of which includes the next one. The last one includes a file that may be
+/// there, and which is empty.
 fn chain(alloc: Global, count: u32, closed: bool) -> Result<MemShelf, AllocError> {
     let mut files = List::new(alloc);
     for number in 0..count {
         let name = format!(in alloc; "{number}")?;
-        let text = format!(in alloc; "#include \"{}\"", number + 1)?;
+        let next = number + 1;
+        let text = format!(in alloc;
+            "#include \"{next}\"\nmodule M{number} {{ enum E {{ e }}; }};"
+        )?;
         files.push(file(alloc, name.as_str(), text.as_str())?)?;
     }
     if closed {
@@ -156,15 +158,15 @@ fn chain(alloc: Global, count: u32, closed: bool) -> Result<MemShelf, AllocError
 #[test]
 fn a_hundred_files_are_loaded_and_no_more(rt: HostRuntime) -> Result<(), Fail> {
     let alloc = rt.alloc();
-    match walk_from(alloc, &mut chain(alloc, 99, true)?, "0") {
-        Ok(files) => assert!(rt; files.names.len() == 100),
+    match load(alloc, &mut chain(alloc, 99, true)?, "0") {
+        Ok(schema) => assert!(rt; schema.enums().len() == 99),
         Err(_) => assert!(rt; false),
     }
-    match walk_from(alloc, &mut chain(alloc, 100, true)?, "0") {
+    match load(alloc, &mut chain(alloc, 100, true)?, "0") {
         Ok(_) => assert!(rt; false),
         Err(fault) => assert!(rt; is_fault(&fault, "99", 0, "TooManyFiles")),
     }
-    match walk_from(alloc, &mut chain(alloc, 100, false)?, "0") {
+    match load(alloc, &mut chain(alloc, 100, false)?, "0") {
         Ok(_) => assert!(rt; false),
         Err(fault) => assert!(rt; is_fault(&fault, "99", 0, "NoFile")),
     }
@@ -200,13 +202,8 @@ const CHECKS: &[(&str, &str, Option<(&str, u32, &str)>)] = &[
 fn the_checker_sees_each_file_after_those_that_it_includes(rt: HostRuntime) -> Result<(), Fail> {
     let alloc = rt.alloc();
     for (a, b, comes) in CHECKS {
-        let mut files = List::new(alloc);
-        files.push(file(alloc, "a", a)?)?;
-        files.push(file(alloc, "b", b)?)?;
-        match (
-            load(alloc, &mut MemShelf::new(files, List::new(alloc)), "a"),
-            comes,
-        ) {
+        let mut shelf = shelf(alloc, &[("a", a), ("b", b)], &[])?;
+        match (load(alloc, &mut shelf, "a"), comes) {
             (Ok(_), None) => (),
             (Err(fault), Some((file, place, kind))) => {
                 assert!(rt; is_fault(&fault, file, *place, kind));
@@ -220,9 +217,7 @@ fn the_checker_sees_each_file_after_those_that_it_includes(rt: HostRuntime) -> R
 #[test]
 fn a_shelf_that_fails_is_no_fault_of_a_text(rt: HostRuntime) -> Result<(), Fail> {
     let alloc = rt.alloc();
-    let mut fails = List::new(alloc);
-    fails.push(1)?;
-    let mut shelf = shelf(alloc, &[("a", "#include \"b\""), ("b", "")], fails)?;
+    let mut shelf = shelf(alloc, &[("a", "#include \"b\""), ("b", "")], &[1])?;
     assert!(rt; matches!(load(alloc, &mut shelf, "a"), Err(LoadFault::Shelf)));
     assert!(rt; shelf.failures() == 1 && shelf.calls() == 2);
     Ok(())

@@ -1,4 +1,4 @@
-use crate::{Value, is_sorted, sort_pairs};
+use graph_arena::{Value, is_sorted, sort_pairs};
 use ice_types::{Bytes, Endpoint, Identity, List, Name};
 use std::alloc::{AllocError, Global};
 use std::process::Abort;

@@ -5,7 +5,7 @@ ghost use Rattle.graph_arena.specs.Arena.{AreBelow, ContentFits};
 ghost use Rattle.graph_arena.specs.Seen.{view_content};
 ghost use Rattle.graph_arena.specs.View.{view};
 
-use crate::{Graph, Instance, Members, Slice, Value, resolve_members};
+use graph_arena::{Graph, Instance, Members, Slice, Value, resolve_members};
 use ice_types::List;
 use std::process::Abort;
 use std::test::Fail;

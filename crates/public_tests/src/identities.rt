@@ -1,7 +1,7 @@
-use crate::{
+use ice_types::{Identity, Name};
+use proxy_text::{
     TextFault, escape_identity, parse_identity, print_identity, print_word, quote, text_of,
 };
-use ice_types::{Identity, Name};
 use std::process::Abort;
 use std::test::Fail;
 

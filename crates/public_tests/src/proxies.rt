@@ -1,4 +1,4 @@
-use crate::{TextFault, parse_text, print_text};
+use proxy_text::{TextFault, parse_text, print_text};
 use std::process::Abort;
 use std::test::Fail;
 

@@ -1,13 +1,13 @@
-//! Kept slices read as those of a class, which `reopen` does: no program calls it.
+//! Unknown slices read as those of a class, which `reopen` does: no program calls it.
 
 ghost use Rattle.std.specs.Prelude.{IfOk};
 ghost use Rattle.graph_arena.specs.Seen.{view_slice};
 ghost use Rattle.preserved.specs.Unknown.{IsUnknown};
 
+use crate::outside::{bytes, shelf};
 use graph_arena::{Slice, Value};
-use ice_ports::MemShelf;
 use ice_prims::{Fault, Kind, ReadFault};
-use ice_types::{Bytes, List, Name, Schema};
+use ice_types::{List, Name, Schema};
 use instance_reading::reopen;
 use slice_check::load;
 use std::alloc::{AllocError, Global};
@@ -15,8 +15,8 @@ use std::test::Fail;
 
 const TEXT: &str = "module M { class B { int b; }; class D extends B { string x; B other; }; };";
 
-/// The bytes of a kept slice, whether an end marker stood behind them, its table, and what comes of it as a slice of `::M::D`: the
-/// text and the reference, or the fault.
+/// The bytes of an unknown slice, whether an end marker stood behind them, its table, and what comes of it as a
+/// slice of `::M::D`: the text and the reference, or the fault.
 type Row = (
     &'static [u8],
     bool,
@@ -39,17 +39,11 @@ const BAD_REFERENCE: Fault = Fault {
 };
 
 fn schema(alloc: Global) -> Result<Schema, Fail> {
-    let mut files = List::new(alloc);
-    files.push((Name::of(alloc, "s.ice")?, bytes(alloc, TEXT.as_bytes())?))?;
-    let mut shelf = MemShelf::new(files, List::new(alloc));
+    let mut shelf = shelf(alloc, &[("s.ice", TEXT)], &[])?;
     match load(alloc, &mut shelf, "s.ice") {
         Ok(schema) => Ok(schema),
         Err(_) => Err(Fail::from("no schema")),
     }
-}
-
-fn bytes(alloc: Global, items: &[u8]) -> Result<Bytes, AllocError> {
-    Ok(List::from_vec(Vec::from_slice(alloc, items)?))
 }
 
 fn unknown(alloc: Global, data: &[u8], optionals: bool, table: &[u32]) -> Result<Slice, AllocError>
