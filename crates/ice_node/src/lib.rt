@@ -7,6 +7,3 @@ mod top_call;
 pub use laws::limits_numbered;
 pub use node_commands::{Outcome, report};
 pub use top_call::node;
-
-#[cfg(test)]
-mod tests;

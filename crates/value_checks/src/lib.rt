@@ -8,8 +8,6 @@ mod laws;
 mod members;
 mod proxies;
 mod references;
-#[cfg(test)]
-mod tests;
 mod values;
 mod zeros;
 
