@@ -50,6 +50,7 @@ module _ (t : Tables) where
       × (digits : Data) × Has found (codes "bytes") digits × NotesBytes digits bytes
       × (names : Data) × Has found (codes "table") names × NotesList NotesName names table
 
+  -- `{"slices":[..]}`
   abbrev pub NotesInstance : Noting (List Slice)
   NotesInstance d slices = (found : json.Members) × HasNames 1 d found
       × (ds : Data) × Has found (codes "slices") ds × NotesList NotesSlice ds slices

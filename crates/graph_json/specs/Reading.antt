@@ -75,5 +75,6 @@ module _ (t : Tables) where
       (at_name (codes "roots") (noted_content t shape) found))
       (at_name (codes "instances") (list_of instance_of) found)
 
+  -- the graph that JSON lists, None where it lists none
   abbrev pub listed_graph : Shape → Read Graph
   listed_graph shape = of_object 2 (graph_in shape)

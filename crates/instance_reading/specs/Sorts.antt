@@ -60,6 +60,7 @@ abbrev pub behind_unknown : Bool → Option Before
 behind_unknown true = None
 behind_unknown false = Some only_unknown
 
+-- what the slice behind this one follows, None behind the last
 abbrev pub behind_slice : Tables → Option ℕ → Flags → Option Before
 behind_slice t None f = behind_unknown f.is_last
 behind_slice t (Some class) f = behind_base f.has_size (base_of t class)
