@@ -39,7 +39,7 @@ NotesBytes d bytes = (text : List ℕ) × (d ≡ string text) × (decode_of text
 -- ---- graphs
 
 module _ (t : Tables) where
-  -- A known slice has the type id of its class, and the members. A unknown one has its bytes, its type id, whether
+  -- A known slice has the type id of its class, and the members. An unknown one has its bytes, its type id, whether
   -- optional members stand in the bytes, and the names in its table.
   abbrev pub NotesSlice : Noting Slice
   NotesSlice d (known class content) = (found : json.Members) × HasNames 2 d found

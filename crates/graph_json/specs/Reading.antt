@@ -60,7 +60,7 @@ module _ (t : Tables) where
       (at_name (codes "members") (noted_content t (own_members t class)) found))
       (at_name (codes "class") class_of found)
 
-  -- a known slice has two names, and a unknown one four
+  -- a known slice has two names, and an unknown one four
   abbrev pub slice_in : json.Members → Option Slice
   slice_in found = if members_len found == 2 then known_in found else whole 4 unknown_in found
 

@@ -55,7 +55,7 @@ abbrev pub behind_base : Bool → Option ℕ → Option Before
 behind_base sized None = None
 behind_base sized (Some base) = Some (derived sized base)
 
--- behind a unknown one, by the flag of the last
+-- behind an unknown one, by the flag of the last
 abbrev pub behind_unknown : Bool → Option Before
 behind_unknown true = None
 behind_unknown false = Some only_unknown

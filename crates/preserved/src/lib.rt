@@ -3,7 +3,7 @@
 //!
 //! Forms, and why they are so:
 //!
-//! - A unknown slice is told by its first: unknown slices stand before known ones, so an instance has one
+//! - An unknown slice is told by its first: unknown slices stand before known ones, so an instance has one
 //!   exactly where it begins with one (`BeginsUnknown`).
 //! - The bytes of an unknown slice are not looked at. They may be wrong for whoever knows the class; who reopens
 //!   them is told the first fault in them.
