@@ -4,6 +4,8 @@ use Rattle.std.specs.Prelude.{◌≡◌, ℕ, ◌+◌, ◌<◌, ◌≤◌, [], �
 use Rattle.call_world.specs.World.{Connection, Seat, Sent, Validate, Answer, Close, Turn, Dispatched, Refused}
 use Rattle.call_world.specs.Dead.{HasRead}
 
+-- what can happen on one connection alone: validate, bytes handed over, bytes arriving, an answer, a close, a read,
+-- either end leaving, each with what has to hold before
 pub data ConnectionEvent (R : Type 0) : Type 0 where
   Validates : ConnectionEvent R
   -- the client hands over so many bytes more; so many bytes more reach the server

@@ -6,6 +6,7 @@ use Rattle.call_world.specs.World.{World, Connection, Seat, Answer, Dispatched, 
 use Rattle.call_world.specs.Dead.{HasRead, IsDead}
 use Rattle.call_world.specs.Connection.{ConnectionEvent, ConnectionStep, IsReady, turned, refused, begun, seated}
 
+-- what can happen in a world
 pub data Event (C R O : Type 0) : Type 0 where
   -- invocation, its call, whether it is idempotent, whether it asks for a reply
   Start : ℕ → C → Bool → Bool → Event C R O

@@ -22,6 +22,8 @@ pub data Sent (R : Type 0) : Type 0 where
   Answer : ℕ → R → Sent R
   Close : Sent R
 
+-- the seats asked on it, the bytes asked, handed over and arrived, the turns of the first seats, the messages that
+-- the server began to send, how many of them the client has read, and whether each end has left
 pub record Connection (R : Type 0) : Type 0 where
   pub asked : List Seat
   -- the length of all messages asked, in bytes; of these the client handed over so many, and so many
@@ -49,6 +51,8 @@ pub data Outcome (R : Type 0) : Type 0 where
   Handed : Outcome R
   Failed : Outcome R
 
+-- a call, whether it is idempotent, whether it asks for a reply, its attempts (each a place, or none where it did not
+-- connect), how it is finished
 pub record Invocation (C R : Type 0) : Type 0 where
   pub call : C
   pub idempotent : Bool
@@ -58,11 +62,13 @@ pub record Invocation (C R : Type 0) : Type 0 where
   pub attempts : List (Option Place)
   pub result : Option (Outcome R)
 
+-- one entry of the log, with its reply
 pub record Dispatch (R : Type 0) : Type 0 where
   pub connection : ℕ
   pub seat : ℕ
   pub reply : R
 
+-- invocations and connections by number, the log of dispatches, the objects
 pub record World (C R O : Type 0) : Type 0 where
   -- by number; None is not started
   pub invocations : ℕ → Option (Invocation C R)
@@ -75,6 +81,7 @@ pub record World (C R O : Type 0) : Type 0 where
 abbrev pub put_at : {A : Type 0} → (ℕ → A) → ℕ → A → ℕ → A
 put_at items place item n = if n == place then item else items n
 
+-- a connection that nobody used yet
 abbrev pub fresh : {R : Type 0} → Connection R
 fresh = record {
   asked = [];

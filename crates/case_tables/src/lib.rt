@@ -1,4 +1,9 @@
 //! Named codes: a table gives each of its names a code, which counts the rows from 0.
+//!
+//! Forms, and why they are so:
+//!
+//! - `CaseTable` has no model and holds `&'static [&'static str]`, with its length tied to N by a ghost field:
+//!   an array of references in a generic struct, and a model there, are not covered.
 #![tactic(auto)]
 
 ghost use Rattle.std.specs.Prelude.{◌≡◌, ◌≤◌, IsTrue, length};

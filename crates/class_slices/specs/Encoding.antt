@@ -16,6 +16,7 @@ use Rattle.class_slices.specs.declared.encode_fault.EncodeFault.TheVariants as e
 
 -- ---- unknown slices, which stand before the known ones of an instance
 
+-- an instance has an unknown slice (these stand before known ones)
 abbrev pub BeginsUnknown : List Slice → Type 0
 BeginsUnknown [] = ⊥
 BeginsUnknown (known class content ∷ ss) = ⊥

@@ -1,6 +1,15 @@
 //! Graphs of class instances, and user exceptions, in encapsulations: read whole, in either format, with
 //! the first fault, and written in their canonical bytes. (Ice manual, "Data Encoding for Class and
 //! Exception Types", "User Exceptions".)
+//!
+//! Forms, and why they are so:
+//!
+//! - `encode` tests a graph, `encode_typed` asks for one of the type. What was read is of its type, so `relay`
+//!   uses the second, and nothing is looked at twice.
+//! - `encode` takes the graph and gives it back to nobody: its instances are named anew without copying what
+//!   they hold. What the roots do not lead to is left out.
+//! - A longer answer than the limit is told by its length, so it is written before it is refused. The limit is a
+//!   parameter: it is the caller who knows what an encapsulation may have.
 #![tactic(auto)]
 
 mod enclosing;

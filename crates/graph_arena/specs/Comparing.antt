@@ -15,6 +15,7 @@ trees_total = record {
   congr = λ a b c e. ap (λ (t : Tree). tree_cmp t c) (equal_is a b e);
 }
 
+-- the order of values is total, and equality is that of the order: what std's traits ask for
 pub values_total : IsTotalOrder (on view tree_cmp)
 values_total = on_total view trees_total
 

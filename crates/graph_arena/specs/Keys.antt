@@ -5,6 +5,7 @@ use Rattle.ice_encoding.specs.Order.{IsOrdered}
 
 -- the value is so, or some value in it is, the keys among them
 abbrev mutual
+  -- the value is so, or some value in it is, the keys among them
   pub Somewhere : (Tree → Type 0) → Tree → Type 0
   Somewhere P (boolean b) = P (boolean b)
   Somewhere P (byte n) = P (byte n)
@@ -52,6 +53,7 @@ RepeatsKey (enumerator n) = ⊥
 RepeatsKey (proxy p) = ⊥
 RepeatsKey (reference n) = ⊥
 
+-- no key has a dictionary out of order inside
 abbrev pub AreOrderedKeys : Entries → Type 0
 AreOrderedKeys no_entry = Unit {0}
 AreOrderedKeys (entry k v rest) = IsOrdered k × AreOrderedKeys rest

@@ -6,6 +6,7 @@ use Rattle.ice_encoding.specs.Tree.{Tree, boolean, byte, short, int, long, text,
 
 -- each dictionary's pairs, put at their places one after the other, and so inside them
 abbrev mutual
+  -- each dictionary's pairs put at their places one after the other, keys and values sorted first
   pub sorted : Tree → Tree
   sorted (boolean b) = boolean b
   sorted (byte n) = byte n
@@ -35,6 +36,7 @@ has_sorted_key key (entry k v rest) = is_eq (tree_cmp key (sorted k)) || has_sor
 
 -- two pairs of one dictionary inside have the same key, once their keys are sorted
 abbrev mutual
+  -- two pairs of one dictionary have the same key, once sorted
   pub has_equal_keys : Tree → Bool
   has_equal_keys (boolean b) = false
   has_equal_keys (byte n) = false

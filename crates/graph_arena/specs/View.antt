@@ -40,6 +40,7 @@ view_step (Value-F.Enum n) = enumerator n
 view_step (Value-F.Proxy p) = proxy (unboxed p)
 view_step (Value-F.Reference n) = reference n
 
+-- a `Value` as a tree, by a fold; so of values and pairs
 abbrev pub view : Value → Tree
 view = fold-Value Tree view_step
 

@@ -1,5 +1,27 @@
 //! Values of types that are known at run time alone, the order in which they stand as keys, and graphs of
 //! class instances that hold them.
+//!
+//! Forms, and why they are so:
+//!
+//! - `Graph` keeps names in range and keys rising as its invariant. So the calls that follow names, list visits
+//!   and rename test nothing and cannot fail but by memory, and what is written has its pairs in order. Members
+//!   outside a graph keep neither; whoever fills an instance in shows both.
+//! - `resolve_members` changes the references where they stand: it takes no memory and cannot fail. A copy of
+//!   what an instance holds would double the memory of a large graph. The same call renames a graph by first
+//!   visits (`renumbered`), with a table of the places of all names.
+//! - First visits go over a stack of names, an instance's names with the first on top, and marks by place: no
+//!   recursion over instances, which may be as deep as there are instances.
+//! - A sequence of bytes has a form of its own, `Value::Bytes`: one block in place of a `Value` a byte, which
+//!   took ten times the time and 36 bytes of memory for each. It is seen as the same tree as `Seq` of as many
+//!   `Byte`, so no contract speaks of it, and both may meet. What reads bytes makes it; what reads JSON makes
+//!   `Seq`.
+//! - `Value` has the order of keys by hand (`impl Ord`, proved to be `tree_cmp`): a derived order is not to be
+//!   had for a type that holds itself through `List`.
+//! - `sort_pairs` asks nothing of its value: keys that hold dictionaries are sorted too, and two keys are equal
+//!   where they are so once sorted. That this is "two pairs of one dictionary have the same key" is a law for
+//!   values whose keys hold no dictionary out of order (`equal_keys_repeat`).
+//! - `sort_pairs` copies a value that is not in order, and puts the copy in its place at the end: a refusal or
+//!   out of memory then leaves the value as it was. A value in order is left alone.
 #![tactic(auto)]
 
 mod compare;

@@ -76,5 +76,7 @@ module _ (t : Tables) where
   notation_levels zero kind v = null
   notation_levels (suc levels) kind v = notation_step (notation_levels levels) kind v
 
+-- the canonical notation of a value: pairs in the order of the dictionary, names in rising order of their bytes,
+-- proxies as they are printed; null in the place of a part that is not of its type
 unfoldable pub notation : Tables → TypeRef → Write
 notation t kind v = notation_levels t MOST_DEPTH kind v

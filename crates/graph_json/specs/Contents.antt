@@ -64,6 +64,7 @@ abbrev pub content_in : Tables → Shape → json.Members → Option Members
 content_in t shape found = option_and_then (λ required. option_and_then (λ optional. counted (members_len found) (with_optional required optional))
     (options_of (noted_value t) shape.optional found [])) (members_of (noted_value t) shape.required found)
 
+-- the members that JSON notes
 abbrev pub noted_content : Tables → Shape → Read Members
 noted_content t shape d = option_and_then (content_in t shape) (as_object d)
 
@@ -83,6 +84,7 @@ abbrev pub options_noted : (TypeRef → Write) → json.Members → List Member 
 options_noted write found ms [] = found
 options_noted write found ms (o ∷ os) = options_noted write (put_member write (member_tagged o.0 ms) o.1 found) ms os
 
+-- the canonical notation of members
 abbrev pub content_noted : Tables → Shape → Members → Data
 content_noted t shape c = object (options_noted (notation t) (members_noted (notation t) no_members shape.required c.required) shape.optional c.optional)
 
@@ -98,5 +100,6 @@ abbrev pub AreShort : Present → Type 0
 AreShort [] = Unit {0}
 AreShort (o ∷ os) = HasShortTexts o.1 × AreShort os
 
+-- the texts of all proxies are short enough
 abbrev pub ContentIsShort : Members → Type 0
 ContentIsShort c = InEach IsShort c.required × AreShort c.optional

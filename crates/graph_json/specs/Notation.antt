@@ -39,7 +39,7 @@ NotesBytes d bytes = (text : List ℕ) × (d ≡ string text) × (decode_of text
 -- ---- graphs
 
 module _ (t : Tables) where
-  -- A known slice has the type id of its class, and the members. A unknown one has its bytes, its type id, whether
+  -- A known slice has the type id of its class, and the members. An unknown one has its bytes, its type id, whether
   -- optional members stand in the bytes, and the names in its table.
   abbrev pub NotesSlice : Noting Slice
   NotesSlice d (known class content) = (found : json.Members) × HasNames 2 d found
@@ -50,6 +50,7 @@ module _ (t : Tables) where
       × (digits : Data) × Has found (codes "bytes") digits × NotesBytes digits bytes
       × (names : Data) × Has found (codes "table") names × NotesList NotesName names table
 
+  -- `{"slices":[..]}`
   abbrev pub NotesInstance : Noting (List Slice)
   NotesInstance d slices = (found : json.Members) × HasNames 1 d found
       × (ds : Data) × Has found (codes "slices") ds × NotesList NotesSlice ds slices

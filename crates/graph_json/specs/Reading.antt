@@ -60,7 +60,7 @@ module _ (t : Tables) where
       (at_name (codes "members") (noted_content t (own_members t class)) found))
       (at_name (codes "class") class_of found)
 
-  -- a known slice has two names, and a unknown one four
+  -- a known slice has two names, and an unknown one four
   abbrev pub slice_in : json.Members → Option Slice
   slice_in found = if members_len found == 2 then known_in found else whole 4 unknown_in found
 
@@ -75,5 +75,6 @@ module _ (t : Tables) where
       (at_name (codes "roots") (noted_content t shape) found))
       (at_name (codes "instances") (list_of instance_of) found)
 
+  -- the graph that JSON lists, None where it lists none
   abbrev pub listed_graph : Shape → Read Graph
   listed_graph shape = of_object 2 (graph_in shape)

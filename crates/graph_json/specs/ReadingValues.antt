@@ -168,5 +168,6 @@ module _ (t : Tables) where
   value_levels zero kind d = None
   value_levels (suc levels) kind d = value_step (value_levels levels) kind d
 
+-- the value that JSON notes, None where it notes none
 unfoldable pub noted_value : Tables → TypeRef → Read Tree
 noted_value t kind d = value_levels t MOST_DEPTH kind d

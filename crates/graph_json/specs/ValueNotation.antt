@@ -66,6 +66,7 @@ name_noted n = object (member (codes "$") (number (unsigned (suc (suc n)))) no_m
 abbrev pub NotesName : Noting ℕ
 NotesName d n = (size_of (Some n) < 2 ^ 31) × (d ≡ name_noted n)
 
+-- `{"$":N}` for the instance whose number, from 0, is N - 2 and can be written as a size; null for null
 abbrev pub NotesReference : Noting (Option ℕ)
 NotesReference d None = d ≡ null
 NotesReference d (Some n) = NotesName d n
@@ -117,5 +118,8 @@ module _ (t : Tables) where
   NotesLevels zero kind d v = ⊥
   NotesLevels (suc levels) kind d v = NotesParts (NotesLevels levels) kind d v
 
+-- this JSON notes this value of the type: truth values, strings, numbers that are no floats and within the range of
+-- the type, arrays for sequences, arrays of pairs in any order with no key twice for dictionaries, objects with
+-- exactly the names of the members for structs
 unfoldable pub Notes : Tables → TypeRef → Noting Tree
 Notes t kind d v = NotesLevels t MOST_DEPTH kind d v

@@ -1,6 +1,40 @@
 //! The notation of values and graphs in JSON: which JSON notes a value of a type and lists a graph, the
 //! value and the graph that it stands for, the canonical notation of each, and texts of graphs, written
 //! and read.
+//!
+//! Forms, and why they are so:
+//!
+//! - JSON is what `serde_json` reads, so a name that comes twice counts with its last value, and `-0`, `1.0` and
+//!   numbers past 64 bits are no integers.
+//! - A struct's object has exactly the names of its members: each name is found, and there are as many names as
+//!   members. The same serves the members of classes and operations, where an absent optional member has no
+//!   name.
+//! - A reference is told by a number alone, whatever it refers to: whether an instance has that number and its
+//!   class fits is known once the whole graph is.
+//! - A proxy's text is shorter than 1,073,741,824 bytes, so that its places can be told and its sizes can be
+//!   written; and each of its endpoints is within the limit of an encapsulation, so that what is noted is a
+//!   value of the type. `value_checks` tests that.
+//! - What is not of its type is noted as null, so that `json_of` asks nothing of a value.
+//! - What is listed comes before what is noted: `NotesListed` is read off JSON alone, instance by instance, and
+//!   whether the graph is of the type is asked of the whole. So a graph is noted by whatever lists one that is
+//!   the same.
+//! - An object with fixed names has each of them, and as many names as those. So nothing is said of their order,
+//!   and JSON with one name more is refused.
+//! - A text lists one graph, and notes each that is the same. What `from_text` answers is the graph that is
+//!   listed (`Lists`), unreached instances among it, since one answer has to be said; that the text notes it,
+//!   and that a misfit notes none, are clauses beside it. `noted_bytes` says that nothing hangs on which of them
+//!   is written.
+//! - Why a text is refused is a sort of its own (`JsonKind`) beside want of memory, as `Kind` is beside
+//!   `ReadFault`: so an answer of the program cannot say that a text is refused for want of memory.
+//! - `to_text` takes the graph, as `encode_typed` does: its instances are named anew without copying what they
+//!   hold. It asks nothing of the graph, since what is not of its type is noted as null.
+//! - `from_text` asks that the members have names and tags of their own (`HasOwnNames`): one value has, and the
+//!   schema has it of its operations and classes.
+//! - The names in a text are compared with the number of instances before a `Graph` is made, since a graph holds
+//!   no name out of range, even between two calls. To tell the names of the roots they stand for a moment as
+//!   those of a slice.
+//! - That what is kept is bytes is asked where a graph is to be noted, since its type asks nothing of what is
+//!   kept, and hex digits stand for bytes alone.
 #![tactic(auto)]
 
 mod content_read;

@@ -6,6 +6,20 @@
 //! - Exceptions: their types, and what is written for them.
 //! - Relaying by a node that lacks some classes of the reader's schema: it reads what the reader would,
 //!   and what it writes spells the same graph.
+//!
+//! Forms, and why they are so:
+//!
+//! - That canonical bytes are spelled rests on the rules of a schema, by which each type id is UTF-8, as a type
+//!   id that bytes spell has to be. Equal canonical bytes are then spelled by both graphs, and what one piece of
+//!   bytes spells is one graph: no law compares two graphs part by part.
+//! - Two tables at once. A schema that lacks classes has its rows at other places. What the laws relate is
+//!   therefore types, members and slices of two tables by their type ids (`SameKind`, `SameShape` of
+//!   `ice_types`), and not one table with hidden rows: with those an id would no more name one class.
+//! - The node sees a relation, not a function (`Seen`): what it keeps of a slice are the bytes that stood there,
+//!   which the graph alone does not tell (unknown tags, the order of a table). Only of canonical bytes is there
+//!   a function (`closed`).
+//! - Both visit in their own order. What is kept names its whole table, so the node may reach more instances
+//!   than the reader. Nothing is said of the two orders but for canonical bytes, where they are one.
 #![tactic(auto)]
 
 mod canonicity_laws;

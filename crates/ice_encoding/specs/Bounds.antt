@@ -28,6 +28,7 @@ filled read r = read r >>= λ x. ended x.1.bytes x.1.place x.0
 
 -- ---- what fills a bound
 
+-- what fills a bound, with the same four sides as a part
 pub record Content (A : Type 0) : Type 1 where
   -- reading all bytes of the bound, with the first fault
   pub read : Rest → Result A Fault

@@ -21,6 +21,7 @@ abbrev pub tcp_parts : Endpoint → List ℕ × (ℤ × (ℤ × Bool))
 tcp_parts (Tcp host port timeout compress) = (host, (port, (timeout, compress)))
 tcp_parts (Opaque kind major minor bytes) = ([], (pos 0, (pos 0, false)))
 
+-- host, port, timeout, and whether it compresses
 abbrev pub tcp : Part Endpoint
 tcp = made (λ x. Tcp x.0 x.1.0 x.1.1.0 x.1.1.1) tcp_parts (both text (both int (both int bool)))
 

@@ -4,6 +4,7 @@ use Rattle.ice_types.specs.declared.identity.Identity.{Identity}
 use Rattle.ice_prims.specs.declared.fault.Kind.TheVariants.{BadFacet}
 use Rattle.ice_encoding.specs.Parts.{Part, size, text, both, made, tested, chosen, times}
 
+-- name and category
 abbrev pub identity : Part Identity
 identity = made (λ x. record { name = x.0; category = x.1 }) (λ i. (i.name, i.category)) (both text text)
 
@@ -22,5 +23,7 @@ facet_texts (c ∷ cs) = (c ∷ cs) ∷ []
 abbrev pub texts : Part (List (List ℕ))
 texts = chosen (tested (λ n. nat_le n 1) BadFacet size) (times text) length
 
+-- a sequence of at most one text (else `BadFacet` at its size), of which none, and an empty one, are the default
+-- facet
 abbrev pub facet : Part (List ℕ)
 facet = made facet_of facet_texts texts

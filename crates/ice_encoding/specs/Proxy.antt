@@ -19,6 +19,7 @@ abbrev pub located_by : ℕ → Part Location
 located_by zero = made (λ adapter. ([], adapter)) (λ l. l.1) text
 located_by (suc n) = made (λ endpoints. (endpoints, [])) (λ l. l.0) (times endpoint (suc n))
 
+-- endpoints, or where there is none an adapter
 abbrev pub location : Part Location
 location = chosen size located_by (λ l. length l.0)
 
@@ -84,6 +85,7 @@ pub record ProxySizes (p : Proxy) : Type 0 where
   pub endpoints : Each EndpointHasSize p.endpoints
   pub adapter : length p.adapter < 2 ^ 31
 
+-- each size in a proxy is at most the greatest int
 abbrev pub HasProxySizes : Option Proxy → Type 0
 HasProxySizes None = Unit {0}
 HasProxySizes (Some p) = ProxySizes p

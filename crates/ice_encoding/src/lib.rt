@@ -6,6 +6,41 @@
 //! - Parts (`part_laws`): identities, facets, proxies, what an encapsulation bounds, and what stands
 //!   before an optional member.
 //! - Values (`laws`): values of types, and encapsulations of them.
+//!
+//! Forms, and why they are so:
+//!
+//! - A part is one thing with four sides (`Part`), and parts are joined by a handful of ways (`both`, `made`,
+//!   `tested`, `chosen`, `times`). So a call and a proxy are a line for each of their parts, and that reading,
+//!   spelling and writing agree is proved once for each way.
+//! - What fills a bound is another thing (`Content`), since what is whatever is left, as the bytes of an opaque
+//!   endpoint, is not read whatever follows it. `filling` makes one of a part, `enclosed` a part of one behind
+//!   its size.
+//! - A law of every part is that no spelling is shorter than what is put for it. So the canonical bytes of a
+//!   value with proxies are not longer than what came in, though a facet has two spellings.
+//! - Definitions that several crates cite stand below them, with their laws, and with no code but limits.
+//!   Numbers, sizes and texts stand lower still, in `ice_prims`, whose calls cite them.
+//! - Items and members are one rule (`Each`, `each_at`): values of a list of types, one after the other. A
+//!   sequence's list is its element's type, as often as its size says; a struct's is that of its members.
+//! - What holds everywhere in a value is one definition (`Everywhere`), by which sizes (`HasSizes`) and order
+//!   (`IsOrdered`) are said in a line each for the parts that have them.
+//! - How a reference stands is handed in, with the type of what is remembered: to spelling as a `Port R S`, to
+//!   writing as a `Writer`, to reading as the way a reference is read (`refer`) alone, so that code that reads
+//!   has no spelling to name. What is written spells its value at any port; the law in a contract is that of
+//!   `by_number`, since no clause can range over a type of states.
+//! - What a value of a type is (`IsValue`) is said without bytes, so that `equal_values` and `values_canonical`
+//!   speak of all values and not only of those that some bytes spell. No code tests it: `write_value` asks for
+//!   no more than sizes.
+//! - That canonical bytes are as long as any spelling is no law, and none says that a type has a spelling as
+//!   long as its smallest: a proxy's facet has a longer spelling than the canonical one. `values_canonical` says
+//!   that no spelling is shorter.
+//! - Values are the same (`Same`) where dictionaries have as many pairs and each pair of one is among those of
+//!   the other, at every depth. It is no comparison by sorting, so that the law `equal_values` says something.
+//!   Half of a bijection is enough, since no key comes twice.
+//! - An encapsulation is in parts (`opened_at`, `filled`, `encapsulated_at`), over any content, so that two in a
+//!   row and one inside a message can use them. Which bytes it has is one line: those that are put for its
+//!   content.
+//! - `nowhere` answers `LeftOver`, which is no defect of those bytes. The law `levels_suffice` says that reading
+//!   never comes to it for a type of a schema.
 #![tactic(auto)]
 
 mod laws;

@@ -54,6 +54,7 @@ module _ {R S : Type 0} (port : Port R S) (t : Tables) where
   abbrev pub SpellsMembersBy : Speller S Present → Shape → Speller S Members
   SpellsMembersBy Optional shape = Followed (Each (SpellsValue port t MOST_DEPTH) (required_kinds shape)) (λ required. Made (with_optional required) Optional)
 
+  -- the members of a whole content
   abbrev pub SpellsContent : Shape → Speller S Members
   SpellsContent shape = SpellsMembersBy (AllOptions port t false shape.optional) shape
 
@@ -61,5 +62,6 @@ module _ {R S : Type 0} (port : Port R S) (t : Tables) where
   IfFlagged true Spells = Spells
   IfFlagged false Spells = Given []
 
+  -- the members of a slice, whose flag says whether it has optional ones
   abbrev pub SpellsSliceMembers : Bool → Shape → Speller S Members
   SpellsSliceMembers flagged shape = SpellsMembersBy (IfFlagged flagged (AllOptions port t true shape.optional)) shape

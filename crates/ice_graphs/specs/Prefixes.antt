@@ -12,6 +12,9 @@ use Rattle.ice_encoding.specs.Bounds.{ended}
 use Rattle.ice_encoding.specs.Skipping.{count, bound_behind}
 use Rattle.ice_encoding.specs.Port.{Reader, Speller}
 
+-- the length that stands before the value of an optional member by its type: none, as a size, as an int, or the
+-- value's own size where that counts its bytes, as of a text and of a sequence of bytes; and the value behind it,
+-- which fills it
 pub data Prefix : Type 0 where
   -- none
   no_length : Prefix

@@ -31,11 +31,13 @@ encapsulation_at r = do
 abbrev pub IsEncapsulation : List ℕ → Type 0
 IsEncapsulation bytes = (claim content : List ℕ) × (bytes ≡ claim ++ content) × SpellsSigned w32 claim (pos (length bytes)) × (SMALLEST ≤ length bytes) × (length bytes ≤ LARGEST)
 
+-- an encapsulation, kept whole whatever its version
 abbrev pub encapsulation : Part (List ℕ)
 encapsulation = record { read = encapsulation_at; Spells = λ bytes x. (bytes ≡ x) × IsEncapsulation x; put = λ x. x; Is = IsEncapsulation }
 
 -- ---- a call
 
+-- what a request says, part by part
 abbrev pub call : Part Call
 call = made
     (λ x. record { identity = x.0; facet = x.1.0; operation = x.1.1.0; mode = x.1.1.1.0; context = x.1.1.1.1.0; body = x.1.1.1.1.1 })
@@ -81,5 +83,6 @@ answer_by (suc (suc (suc zero))) = missing 3
 answer_by (suc (suc (suc (suc zero)))) = missing 4
 answer_by (suc (suc (suc (suc (suc n))))) = made (Unknown (suc (suc (suc (suc (suc n)))))) text_of text
 
+-- what a reply says, by its status
 abbrev pub answer : Part Answer
 answer = chosen (tested (λ s. nat_le s 7) BadStatus byte) answer_by status_of

@@ -13,6 +13,7 @@ use Rattle.ice_prims.specs.Rest.{Rest, fault, ◌>>=◌}
 use Rattle.ice_prims.specs.Number.{text_at, SpellsText}
 use Rattle.ice_encoding.specs.Parts.{Part, Each, size, text, both, chosen}
 
+-- a name with its value
 abbrev pub Entry : Type 0
 Entry = List ℕ × List ℕ
 

@@ -26,6 +26,7 @@ abbrev pub count_of : ℤ → ℕ
 count_of (pos n) = n
 count_of (negsuc n) = 0
 
+-- a batch's count and calls
 abbrev pub calls : Part (List Call)
 calls = chosen (tested is_count BadSize int) (λ z. times call (count_of z)) (λ items. pos (length items))
 
@@ -60,6 +61,7 @@ reply_of (Reply id a) = (id, a)
 reply_of Validate = (pos 0, Done [])
 reply_of Close = (pos 0, Done [])
 
+-- what follows the header, by the type
 abbrev pub body_by : ℕ → Part Message
 body_by zero = made (λ x. Request x.0 x.1) request_of (both int call)
 body_by (suc zero) = made Batch calls_of calls
@@ -102,9 +104,11 @@ message_at r = do
 abbrev pub SpellsMessage : List ℕ → Message → Type 0
 SpellsMessage bytes m = (type : ℕ) × (head body : List ℕ) × (bytes ≡ head ++ body) × header.Spells head (type, pos (length bytes)) × (length bytes ≤ LARGEST) × (body_by type).Spells body m
 
+-- what is put for a message
 abbrev pub message_bytes : Message → List ℕ
 message_bytes m = header.put (type_of m, pos (HEADER_BYTES + length ((body_by (type_of m)).put m))) ++ (body_by (type_of m)).put m
 
+-- which messages there are
 abbrev pub IsMessage : Message → Type 0
 IsMessage m = (body_by (type_of m)).Is m
 

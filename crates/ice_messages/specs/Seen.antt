@@ -12,6 +12,7 @@ use Rattle.ice_messages.specs.Context.{Entry}
 abbrev pub all_seen : List (Bor (List ℕ) × Bor (List ℕ)) → List Entry
 all_seen entries = map (λ e. (e.0.now, e.1.now)) entries
 
+-- entries that are lent from the bytes
 abbrev pub seen : BTreeMap (Bor (List ℕ)) (Bor (List ℕ)) → List Entry
 seen m = all_seen m.entries
 

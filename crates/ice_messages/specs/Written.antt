@@ -26,6 +26,7 @@ IsAnswer (Raised body) = IsEncapsulation body
 IsAnswer (Missing status i f o) = (2 ≤ status) × (status ≤ 4)
 IsAnswer (Unknown status what) = (5 ≤ status) × (status ≤ 7)
 
+-- what is asked of a message that is written: its modes, statuses, encapsulations, a context in rising order
 abbrev pub IsOrderly : Message → Type 0
 IsOrderly (Request id c) = IsCall c
 IsOrderly (Batch items) = Each IsCall items

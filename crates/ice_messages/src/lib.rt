@@ -1,4 +1,13 @@
 //! Messages of protocol 1.0 as bytes, both ways and in any pieces.
+//!
+//! Forms, and why they are so:
+//!
+//! - The two version bytes of a header are one part, and each byte of `IceP` is one; a message that is cut
+//!   inside its header is `Short` at the part that is cut. A reader of pieces takes bytes of a header that are
+//!   not there yet as good, so a fault is answered as soon as its byte is there.
+//! - A facet that is spelled as one empty text is the default facet, which is written as no text.
+//! - A length that 64 bits cannot hold is told as the greatest number that they can (`TooLong`).
+//! - A body is a whole encapsulation, from its size on, whatever its version and content.
 #![tactic(auto)]
 
 mod fault;

@@ -4,6 +4,19 @@
 //! no other. The versions in memory tell what they hold, so that contracts can speak of it; the
 //! versions over the system tell nothing. What has to go out as a whole goes by `write_all`, which
 //! says how much of it went where a write fails.
+//!
+//! Forms, and why they are so:
+//!
+//! - One exact count. A call counts a failure once and nothing else (`count`). So a failure has its cause, every
+//!   other answer leaves the count as it was, and a call that failed is not made again. At the greatest u64 a
+//!   count stands still, and there a failure shows in no count.
+//! - One fault of the outside (`PortFault`: failed, or out of memory) for the shelf and for what reads from a
+//!   source; `ShelfFault` is its name at a shelf. A contract names `PortFault`, since a clause cannot name an
+//!   alias.
+//! - The bound of one read is a `requires` of `Source::read` (`MOST_OF_A_READ`, 4,096 bytes), so that each
+//!   caller is held to it, over every source.
+//! - `Shelf::load` takes an allocator, since it allocates; so does every call that does.
+//! - Bytes go to a sink as a whole by `write_all`, by which the commands and `message_dump` write.
 #![tactic(auto)]
 
 mod fault_plan;

@@ -1,5 +1,5 @@
 //! Proxies as bytes and as texts: read with the first fault, and written; and the endpoints that can
-//! be used. The texts are those of `proxy_text` and `proxy_words`.
+//! be used. The texts are those of `proxy_text`.
 #![tactic(auto)]
 
 mod read;

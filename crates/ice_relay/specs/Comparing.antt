@@ -31,6 +31,7 @@ next_held t kind = encapsulated_at (graph_at t all_slices (one_value kind))
 abbrev pub and_last : {A : Type 0} → (Rest → Result (A × Rest) Fault) → A × Rest → Result (A × A) Fault
 and_last read first = filled read first.1 >>= λ second. Ok (first.0, second)
 
+-- one of something, then another, and nothing after it
 abbrev pub two_of : {A : Type 0} → (Rest → Result (A × Rest) Fault) → Rest → Result (A × A) Fault
 two_of read r = read r >>= and_last read
 

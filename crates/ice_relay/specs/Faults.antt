@@ -6,10 +6,12 @@ use Rattle.class_slices.specs.declared.write_fault.WriteFault.TheVariants as wri
 use Rattle.ice_relay.specs.declared.fault.RelayFault.{RelayFault}
 use Rattle.ice_relay.specs.declared.fault.RelayFault.TheVariants as faults
 
+-- what a fault of reading and of writing comes to
 abbrev pub of_read : ReadFault → RelayFault
 of_read (read_faults.Broken fault) = faults.Broken fault
 of_read read_faults.Memory = faults.Memory
 
+-- what a fault of writing comes to
 abbrev pub of_write : WriteFault → RelayFault
 of_write (write_faults.UnknownNeedsSliced at) = faults.NeedsSliced
 of_write (write_faults.TooLong n) = faults.TooLong n

@@ -14,6 +14,7 @@ node_members = required (codes "v") kinds.Int
 abbrev pub node_declared : Tables
 node_declared = with_class no_types (codes "::D::N")
 
+-- the schema `module D { class N { int v; N left; N right; }; };`
 abbrev pub drill_tables : Tables
 drill_tables = define_class node_declared 0 None node_members
 

@@ -61,5 +61,6 @@ Tells t shape nodes g (Ok text) = (string_bytes text ≡ told t shape nodes g) �
 Tells t shape nodes g (Err (faults.TooLong n)) = IsTooLong t shape g n
 Tells t shape nodes g (Err faults.Memory) = Unit {0}
 
+-- what a drill comes to: its line, or the length of its first encapsulation that is above the limit
 abbrev pub Drills : ℕ → ℕ → Result (String Global) DrillFault → Type 0
 Drills start count = Tells drill_tables one_node count (drawn start count)

@@ -2,6 +2,18 @@
 //! same value, with all class instances that it leads to; two of them, and whether they are the same; the
 //! line of JSON that tells a value, and the canonical encapsulation of one that came in as text; and a graph
 //! that is drawn from a number, written and relayed, with the line that tells what came of it.
+//!
+//! Forms, and why they are so:
+//!
+//! - A refusal of the input names the first fault of the whole input, although a prefix of it is read, since
+//!   what is read decides the fault (`reading_decides`): four bytes do where the size that they claim is
+//!   negative, too large, or at most four; else one byte more than the claim, or the end. A claim of five is
+//!   read on: it is `Short` of four bytes and `BadSize` of five.
+//! - What becomes of one input under a schema and a type stands here apart from commands, statuses and Slice
+//!   texts.
+//! - A value alone is a content of one member (`one_value`, its name `$value`, which no Slice name is), so an
+//!   encapsulation of any type is read and written by one path, with class instances or without; and members of
+//!   unknown tags may stand behind a value, as behind any members, and are passed over.
 #![tactic(auto)]
 
 mod comparing;

@@ -13,12 +13,16 @@ use Rattle.ice_types.specs.Names.{AreNew}
 
 -- ---- sequences, dictionaries, structs: no type nests deeper than a hundred levels
 
+-- what may be added: no type nests deeper than 100, a dictionary's key may be one, a struct has a member, its members
+-- have names of their own, and its smallest spelling is not longer than 1,048,576 bytes; a struct's members have no
+-- tag
 abbrev pub SeqFits : Tables → TypeRef → Type 0
 SeqFits t element = (m : Measure) × (measure t (MOST_DEPTH - 1) element ≡ Some m)
 
 abbrev pub DictFits : Tables → TypeRef → TypeRef → Type 0
 DictFits t key value = (k v : Measure) × (measure t (MOST_DEPTH - 2) key ≡ Some k) × (k.is_key ≡ true) × (measure t (MOST_DEPTH - 2) value ≡ Some v)
 
+-- the names of members
 abbrev pub names_of : List Member → List (List ℕ)
 names_of members = map (λ m. m.name) members
 
@@ -79,13 +83,16 @@ abbrev pub ClassBaseFits : Tables → Option ℕ → Type 0
 ClassBaseFits t None = Unit {0}
 ClassBaseFits t (Some base) = IsTrue (is_defined t.defined_classes base)
 
+-- the base is there and defined, and the members fit
 abbrev pub ClassFits : Tables → Option ℕ → List Member → Type 0
 ClassFits t base members = ClassBaseFits t base × MembersFit t members
 
+-- the base of an exception is there
 abbrev pub ExceptionBaseFits : Tables → Option ℕ → Type 0
 ExceptionBaseFits t None = Unit {0}
 ExceptionBaseFits t (Some base) = base < length t.exceptions
 
+-- the base is there, and the members fit
 abbrev pub ExceptionFits : Tables → Option ℕ → List Member → Type 0
 ExceptionFits t base members = ExceptionBaseFits t base × MembersFit t members
 
@@ -96,6 +103,8 @@ abbrev pub AreRising : ℕ → List Member → Type 0
 AreRising least [] = Unit {0}
 AreRising least (m ∷ ms) = (tag : ℕ) × (m.tag ≡ Some tag) × (least ≤ tag) × (tag ≤ MOST_NUMBER) × AreRising (suc tag) ms
 
+-- required members without a tag, then optional ones by rising tag; an operation's shapes fit, the names of all its
+-- arguments and results differ, and it throws exceptions of the tables
 abbrev pub ShapeFits : Tables → Shape → Type 0
 ShapeFits t s = AreOf t s.required × AreRequired s.required × AreOf t s.optional × AreRising 0 s.optional
 

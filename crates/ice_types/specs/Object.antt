@@ -40,5 +40,6 @@ strings_declared = with_seq no_types (record { id = codes "::Ice::StringSeq"; el
 abbrev pub object_declared : Tables
 object_declared = with_interface strings_declared (codes "::Ice::Object")
 
+-- the sequence of strings and the interface that every object has
 abbrev pub object_tables : Tables
 object_tables = define_interface object_declared 0 [] object_operations

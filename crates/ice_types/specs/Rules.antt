@@ -26,6 +26,8 @@ pub record HasRoom (t : Tables) : Type 0 where
 abbrev pub EachRow : {A : Type 0} → List A → (A → Type 0) → Type 0
 EachRow {A} rows Is = (at : ℕ) (row : A) → slice_get rows at ≡ Some row → Is row
 
+-- what every schema keeps: room, a flag for each class and interface, type ids of which none is of two rows, each row
+-- of each table fits, and no class or exception is a base of its own
 pub record IsSchema (t : Tables) : Type 0 where
   pub room : HasRoom t
   -- a flag for each class and each interface
@@ -59,9 +61,11 @@ pub record Beside : Type 0 where
   pub exceptions : List ℕ
   pub interfaces : List (Option ℕ)
 
+-- what stands beside no rows
 abbrev pub nothing : Beside
 nothing = record { seqs = []; dicts = []; structs = []; enums = []; classes = []; exceptions = []; interfaces = [] }
 
+-- what stands beside the rows of types is what the tables say of each
 abbrev pub AreMeasures : Tables → (ℕ → TypeRef) → List Measure → Type 0
 AreMeasures t kind found = (at : ℕ) → slice_get found at ≡ measure t MOST_DEPTH (kind at)
 
@@ -71,6 +75,7 @@ defined [] = 0
 defined (true ∷ flags) = suc (defined flags)
 defined (false ∷ flags) = defined flags
 
+-- what stands beside the rows is right
 pub record IsKept (t : Tables) (beside : Beside) : Type 0 where
   pub rules : IsSchema t
   pub seqs : AreMeasures t kinds.Seq beside.seqs

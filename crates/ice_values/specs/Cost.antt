@@ -45,6 +45,7 @@ abbrev pub frames_cost : Tables → List Frame → ℕ
 frames_cost t [] = 0
 frames_cost t (f ∷ fs) = wants t f + frames_cost t fs
 
+-- how much a reader has left to do, so that reading ends
 abbrev pub cost : Tables → ValueReader → ℕ
 cost t reader = wants t reader.top + frames_cost t reader.below
 

@@ -72,6 +72,7 @@ abbrev pub opened_parts : ℕ → Parts → Open
 opened_parts levels (parts.Each e) = each e.sort levels e.left (view_all e.done)
 opened_parts levels (parts.Pairs p) = opened_pairs levels p
 
+-- a value that begins
 abbrev pub opened : Frame → Open
 opened f = opened_parts f.levels f.parts
 
@@ -107,6 +108,7 @@ given (pairs levels key value left (Begun at) None had) v = with_key (has_key v 
 given (pairs levels key value left (Begun at) (Some k) had) v = pairs levels key value left Next None (insert k v had)
 given (pairs levels key value left (Equal at) waits had) v = pairs levels key value left (Equal at) waits had
 
+-- what is made of all parts
 abbrev pub whole : Open → Tree
 whole (each sort levels left had) = closed sort had
 whole (pairs levels key value left part waits had) = dictionary had

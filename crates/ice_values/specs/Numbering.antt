@@ -6,6 +6,7 @@ use Rattle.ice_prims.specs.Rest.{◌>>=◌}
 use Rattle.ice_encoding.specs.Port.{Reader, number_of, size_of}
 use Rattle.ice_encoding.specs.Pausing.{Met, known, Put}
 
+-- a reference as a number, at which nothing begins
 abbrev pub number_taken : Option ℕ → Reader (Unit {0}) Met
 number_taken at s r = size_at r >>= λ n. Ok (known (number_of n.0), s, n.1)
 

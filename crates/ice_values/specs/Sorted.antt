@@ -20,5 +20,6 @@ abbrev pub PutsValueAt : Option Value → Tree → Sorted → Sorted → Type 0
 PutsValueAt None v old new = new ≡ old
 PutsValueAt (Some k) v old new = (view_pairs new.0 ≡ insert (view k) v (view_pairs old.0)) × (new.1 ≡ None)
 
+-- the pair is put at its place
 abbrev pub PutsValue : Tree → Sorted → Sorted → Type 0
 PutsValue v old new = PutsValueAt old.1 v old new

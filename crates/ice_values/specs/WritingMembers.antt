@@ -39,6 +39,7 @@ pub record Remaining : Type 0 where
   -- whether the marker stands behind them
   pub marked : Bool
 
+-- what is still written of members; before the first byte; the members by themselves
 abbrev pub remaining : MembersWriter → Remaining
 remaining writer = record { values = lists writer.values; place = writer.place; optional = view_present writer.optional.now; marked = writer.marked }
 
@@ -85,6 +86,7 @@ abbrev pub OptionsFit : Present → Type 0
 OptionsFit [] = Unit {0}
 OptionsFit (o ∷ os) = (o.0 < 2 ^ 31) × HasSizes o.1 × OptionsFit os
 
+-- sizes and tags are at most the greatest int
 abbrev pub ContentCanBeWritten : Members → Type 0
 ContentCanBeWritten c = InEach HasSize c.required × OptionsFit c.optional
 

@@ -65,5 +65,6 @@ by_flag false = Absent
 abbrev pub is_known : Option ℕ × List (refs.Reference ℕ) × Rest → Result (Met × List (refs.Reference ℕ) × Rest) Fault
 is_known x = Ok (known x.0, x.1, x.2)
 
+-- a place in a table as a port meets it
 abbrev pub entry_met : Bool → Option ℕ → Reader (List (refs.Reference ℕ)) Met
 entry_met tabled declared s r = refs.entry_at tabled declared s r >>= is_known

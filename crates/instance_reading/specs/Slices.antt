@@ -100,9 +100,11 @@ module _ (inside : Inside (State ℕ)) (sort : Sort) (t : Tables) where
   unfoldable pub left_members : CompactSlice → Reader (State ℕ) graphs.Slice
   left_members c = made (known c.class) (left_of_members (inline_at most_instances) t inside (own_fields (rows_of sort t) c.class) c.members)
 
+  -- what is still read of a slice without a size and of those that follow
   abbrev pub left_compact : ℕ → CompactSlice → Reader (State ℕ) (List graphs.Slice)
   left_compact steps c = followed (left_members c) (λ slice. made (one_more slice) (left_next (refer_by inside) sort t steps (view_next c.next)))
 
+  -- the same of any stage of an instance
   abbrev pub left_stage : ℕ → Stage → Reader (State ℕ) (List graphs.Slice)
   left_stage steps (stages.Next before) = slices_from (refer_by inside) sort t steps (view_before before)
   left_stage steps (stages.Open o) = left_open (refer_by inside) sort t steps (opened o)

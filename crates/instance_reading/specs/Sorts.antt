@@ -55,11 +55,12 @@ abbrev pub behind_base : Bool → Option ℕ → Option Before
 behind_base sized None = None
 behind_base sized (Some base) = Some (derived sized base)
 
--- behind a unknown one, by the flag of the last
+-- behind an unknown one, by the flag of the last
 abbrev pub behind_unknown : Bool → Option Before
 behind_unknown true = None
 behind_unknown false = Some only_unknown
 
+-- what the slice behind this one follows, None behind the last
 abbrev pub behind_slice : Tables → Option ℕ → Flags → Option Before
 behind_slice t None f = behind_unknown f.is_last
 behind_slice t (Some class) f = behind_base f.has_size (base_of t class)

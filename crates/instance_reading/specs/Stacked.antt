@@ -63,6 +63,7 @@ ReadsInstance (Err e) read s r = Fails e read
 abbrev pub is_within : List Unfinished → State ℕ → Type 0
 is_within stack s = length stack + room s ≤ most_instances
 
+-- how many steps are left
 abbrev pub steps_left : List Unfinished → State ℕ → ℕ
 steps_left stack s = 2 * room s + length stack
 

@@ -39,6 +39,7 @@ module _ (inside : Inside (State ℕ)) (sort : Sort) (t : Tables) where
   abbrev pub left_by : Unfinished → Stage → Reader (State ℕ) (List graphs.Slice)
   left_by u stage = made (behind (view_slices u.slices)) (left_stage inside sort t u.steps stage)
 
+  -- what is still read of an instance that has begun
   abbrev pub left_slices : Unfinished → Reader (State ℕ) (List graphs.Slice)
   left_slices u = left_by u u.stage
 
@@ -82,6 +83,7 @@ Completes sort old slice next now result = (inside : Inside (State ℕ)) (t : Ta
 
 -- ---- that reading ends
 
+-- how many instances may still begin
 abbrev pub room : State ℕ → ℕ
 room s = most_instances - length s.instances
 

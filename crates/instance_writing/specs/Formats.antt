@@ -4,6 +4,7 @@ use Rattle.ice_graphs.specs.Canonical as canonical
 use Rattle.instance_writing.specs.declared.format.Format.{Format}
 use Rattle.instance_writing.specs.declared.format.Format.TheVariants.{Sliced, Compact}
 
+-- sliced or compact, as the definitions have it
 abbrev pub view_format : Format → canonical.Format
 view_format Sliced = sliced
 view_format Compact = compact

@@ -25,5 +25,6 @@ message_words n (Reply id a) = codes "reply" & (signed_decimal id & (decimal (st
 message_words n Validate = codes "validate"
 message_words n Close = codes "close"
 
+-- the line that tells a message of so many bytes
 abbrev pub message_line : ℕ → Message → List ℕ
 message_line n m = message_words n m ++ 10 ∷ []

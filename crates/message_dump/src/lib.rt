@@ -1,4 +1,13 @@
 //! Messages as lines of text: out of a source, into a sink, each as soon as it is known.
+//!
+//! Forms, and why they are so:
+//!
+//! - `messages` has answers of its own for what comes after some lines were written (`refused_after`,
+//!   `read_failed_after`, `no_memory_after`): each says what the sink got. A refusal tells the fault of the
+//!   whole input, though the program has read no more than a piece behind it: a fault that is known stays,
+//!   whatever follows.
+//! - The bytes of a reply's body are counted as they stand, since an empty facet has two spellings: a line goes
+//!   by the message and its length.
 #![tactic(auto)]
 
 mod dump;

@@ -54,31 +54,37 @@ answer_of outcomes.MemoryAfter bytes = no_memory_after bytes
 
 -- ---- what a fault of a part comes to
 
+-- the outcome of a fault of the outside
 abbrev pub of_port : PortFault → Outcome
 of_port port_faults.Failed = outcomes.ReadFailed
 of_port port_faults.Memory = outcomes.Memory
 
+-- of loading FILE
 abbrev pub of_load : LoadFault → Outcome
 of_load (load_faults.Text file place kind) = outcomes.SliceRefused file place kind
 of_load load_faults.Shelf = outcomes.ReadFailed
 of_load load_faults.Memory = outcomes.Memory
 
+-- of reading an input
 abbrev pub of_read : ReadFault → Outcome
 of_read (read_faults.Broken fault) = outcomes.InputRefused fault
 of_read read_faults.Memory = outcomes.Memory
 
+-- of a relay
 abbrev pub of_relay : RelayFault → Outcome
 of_relay (relay_faults.Broken fault) = outcomes.InputRefused fault
 of_relay relay_faults.NeedsSliced = outcomes.NeedsSliced
 of_relay (relay_faults.TooLong length) = outcomes.TooLong length
 of_relay relay_faults.Memory = outcomes.Memory
 
+-- of a text of JSON
 abbrev pub of_json : TextRelayFault → Outcome
 of_json (json_faults.Refused why) = outcomes.JsonRefused why
 of_json json_faults.NeedsSliced = outcomes.NeedsSliced
 of_json (json_faults.TooLong length) = outcomes.TooLong length
 of_json json_faults.Memory = outcomes.Memory
 
+-- of a drill
 abbrev pub of_drill : DrillFault → Outcome
 of_drill (drill_faults.TooLong length) = outcomes.TooLong length
 of_drill drill_faults.Memory = outcomes.Memory
@@ -101,11 +107,13 @@ PrintsFor written before after outcome =
     ((outcome ≡ written) × (after ≡ before))
     ⊎ ((outcome ≡ outcomes.WriteFailed) × (after ≡ one_more before))
 
+-- the answer was written, with this outcome, and no write failed; or one did
 abbrev pub Prints : (before after : ℕ) → Outcome → Type 0
 Prints = PrintsFor outcomes.Done
 
 -- ---- a verdict
 
+-- the line of whether two values are the same
 abbrev pub verdict_line : Bool → List ℕ
 verdict_line true = codes "same\n"
 verdict_line false = codes "different\n"

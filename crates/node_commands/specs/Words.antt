@@ -10,9 +10,11 @@ use Rattle.node_commands.specs.declared.words.Task.TheVariants as tasks
 use Rattle.node_commands.specs.declared.words.Command.{Command as Written}
 use Rattle.node_commands.specs.declared.words.Command.TheVariants as written
 
+-- the bytes of a word of the command line
 abbrev pub Word : Type 0
 Word = List ℕ
 
+-- what the words ask for; `values` stands for each task with values of a type: `relay`, `same`, `dump` and `encode`
 pub data Command : Type 0 where
   -- a task with values: the Slice file, and the name of their type
   values : Task → Word → Word → Command

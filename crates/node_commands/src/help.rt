@@ -36,7 +36,7 @@ usage: ice COMMAND
   --version        writes the version
 
 FILE is the path of a Slice file. Included files are paths too, from the folder that ice runs in.
-TYPE is bool, byte, short, int, long, string, Object or Value, Object*, a type id of FILE, as
+TYPE is bool, byte, short, int, long, string, Object, Object*, a type id of FILE, as
 ::M::Q, or an interface's type id followed by *. A word has at most 8,192 bytes, in UTF-8.
 
 An encapsulation is a value's bytes with their size and version before them, of encoding 1.1: 6 to
@@ -60,7 +60,7 @@ the words, FILE and what it includes, TYPE, the input, the output.
                                  or nests more than 127 deep (NotJson); it lists more than 100,000
                                  instances (TooMany); it tells no value of TYPE, or a proxy with an
                                  endpoint of more than 1,048,576 bytes (Misfit)
-  4  ice: unknown slice needs sliced format
+  4  ice: kept slice needs sliced format
                                  with --compact, an instance has a slice of a class that FILE lacks
   4  ice: answer too long: LENGTH
                                  the canonical encapsulation has LENGTH bytes, more than 1,048,576,
@@ -91,7 +91,7 @@ visits. A value V is
 
 I is {\"slices\":[S,..]}, from the most derived class on. S is {\"class\":ID,\"members\":{\"NAME\":V,..}},
 with the members that this class itself declares, and without optional ones that are absent; or, of
-a class that FILE lacks, {\"bytes\":HEX,\"unknown\":ID,\"optionals\":BOOL,\"table\":[{\"$\":N},..]}. An object
+a class that FILE lacks, {\"bytes\":HEX,\"kept\":ID,\"optionals\":BOOL,\"table\":[{\"$\":N},..]}. An object
 has no other names; of a name that comes twice the last value counts. Instances that nothing refers
 to are not written.
 

@@ -1,6 +1,29 @@
 //! What the program does for the words of the command line: which command they ask for, which type a word
 //! names, what each command finds before any of it is written, or why it finds nothing, and the status and
 //! the line of each answer.
+//!
+//! Forms, and why they are so:
+//!
+//! - Status 5 after a failed read of the input says that FILE means a schema in which TYPE is named. It cannot
+//!   say that bytes were asked for: a read of none that fails at that place is as good a cause.
+//! - Each fault of a part becomes its outcome by `?` (`impl From<..> for Outcome`, whose `from_gives` names the
+//!   outcome). `?` has its proof in each of `relay`, `load_schema` and `canonical_of`. What the first failing
+//!   step comes to is an answer's cause whatever comes after it: `FindsSchema` is said for every TYPE, input and
+//!   further count.
+//! - What a command comes to is told in steps (`WithSchema`, `WithType`, `WithGraph`, `WithinLimit`), each of
+//!   which decides only what those before it let through. So the order of refusals is the definition itself, a
+//!   command is a line of steps, and that at most one answer is decided is one lemma a step, whatever command
+//!   uses it.
+//! - The line on the sink of errors is written in at most seven pieces: constants, the word, or a fault's file,
+//!   place and kind. The digits of a place stand in a buffer on the stack (`itoa`), so that no memory is wanted
+//!   for it.
+//! - The commands find what is to be written, or an outcome, and `run` writes it. A task with values finds bytes
+//!   or a verdict (`Found`), so FILE and TYPE are dealt with once, in `found_of`, and each task is said by what
+//!   it does with a source and a type (`FindsTask`).
+//! - That no two forms are one is shown by a number that the words tell (how many they are, how long the first
+//!   is, its second byte), so a further command is a line and not a row against each other one.
+//! - `drill` takes its numbers in one form each: a sign or a zero in front is a faulty command line, so that one
+//!   graph has one call.
 #![tactic(auto)]
 
 mod checking;

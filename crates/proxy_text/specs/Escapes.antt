@@ -9,6 +9,7 @@ use Rattle.ice_types.specs.declared.identity.Identity.{Identity}
 
 -- ---- letters: the bytes that a word stands for, and whether an escape made them
 
+-- the bytes that a word stands for, and whether an escape made them
 pub record Letter : Type 0 where
   pub byte : ℕ
   pub is_escaped : Bool

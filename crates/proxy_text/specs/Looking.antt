@@ -23,6 +23,7 @@ word_from colon place r = None
 word_from at place r = None
 word_from end place r = None
 
+-- what is looked for next
 unfoldable pub word_ahead : Rest → Option (List ℕ × ℕ × Rest)
 word_ahead r = word_from (next r).token (next r).place (next r).rest
 

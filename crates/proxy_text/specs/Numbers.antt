@@ -33,6 +33,7 @@ abbrev pub fits : ℕ → ℤ → Bool
 fits bits (pos n) = nat_lt n (2 ^ (bits - 1))
 fits bits (negsuc n) = nat_lt n (2 ^ (bits - 1))
 
+-- the words that are numbers, versions and bytes, and how these are printed
 abbrev pub number : ℕ → List ℕ → Option ℤ
 number bits bytes = option_and_then (λ z. if fits bits z then Some z else None) (integer bytes)
 

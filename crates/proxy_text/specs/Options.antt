@@ -23,6 +23,7 @@ listed (row ∷ rows) bytes = if bytes_eq bytes row.0 then Some row.1 else liste
 abbrev pub no_options : Options
 no_options = record { facet = None; mode = None; secure = false; protocol = None; encoding = None }
 
+-- the options of a proxy
 abbrev pub flags : List (List ℕ × Flag)
 flags = (codes "-f", kinds.Facet) ∷ (codes "-t", kinds.Mode 0) ∷ (codes "-o", kinds.Mode 1) ∷ (codes "-O", kinds.Mode 2) ∷ (codes "-d", kinds.Mode 3) ∷ (codes "-D", kinds.Mode 4)
     ∷ (codes "-s", kinds.Secure) ∷ (codes "-p", kinds.Protocol) ∷ (codes "-e", kinds.Encoding) ∷ []
@@ -61,6 +62,7 @@ module _ {O F : Type 0} (rows : List (List ℕ × F)) (given : F → O → Bool)
   options_within zero o r = Err r.place
   options_within (suc steps) o r = option_from (options_within steps) o r (word_ahead r)
 
+  -- options in any order, each once at most, and of the modes one alone
   abbrev pub options_at : O → Rest → Parsed (O × Rest)
   options_at none r = options_within (suc (length r.bytes)) none r
 
@@ -69,6 +71,7 @@ module _ {O F : Type 0} (rows : List (List ℕ × F)) (given : F → O → Bool)
 abbrev pub no_tcp_options : TcpOptions
 no_tcp_options = record { host = None; port = None; timeout = None; compress = false }
 
+-- the options of an endpoint of TCP
 abbrev pub tcp_flags : List (List ℕ × TcpFlag)
 tcp_flags = (codes "-h", tcp_kinds.Host) ∷ (codes "-p", tcp_kinds.Port) ∷ (codes "-t", tcp_kinds.Timeout) ∷ (codes "-z", tcp_kinds.Compress) ∷ []
 

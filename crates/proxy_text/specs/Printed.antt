@@ -49,6 +49,7 @@ printed_endpoints es = flat_map (λ e. 58 ∷ printed_endpoint e) es
 abbrev pub printed_options : Proxy → List ℕ
 printed_options p = unless_empty (codes " -f ") p.facet ++ (printed_mode p.mode ++ (when p.secure (codes " -s") ++ (printed_protocol p.protocol ++ (codes " -e " ++ printed_version p.encoding))))
 
+-- the printed text of a proxy
 abbrev pub printed_proxy : Proxy → List ℕ
 printed_proxy p = printed_identity p.identity ++ (printed_options p ++ (printed_endpoints p.endpoints ++ unless_empty (codes " @ ") p.adapter))
 

@@ -26,9 +26,11 @@ escape_of c =
 abbrev pub escape_in_identity : ℕ → List ℕ
 escape_in_identity c = if c == 47 then short 47 else escape_of c
 
+-- how a text is printed, byte by byte
 abbrev pub escapes : List ℕ → List ℕ
 escapes text = flat_map escape_of text
 
+-- the same between quotes
 abbrev pub in_quotes : List ℕ → List ℕ
 in_quotes bytes = 34 ∷ bytes ++ 34 ∷ []
 
@@ -49,6 +51,7 @@ wants_quotes (c ∷ cs) = c == 45 || list_any is_special (c ∷ cs)
 abbrev pub printed_as : List ℕ → List ℕ → List ℕ
 printed_as text bytes = if wants_quotes text then in_quotes bytes else bytes
 
+-- a text, in quotes where it wants them
 abbrev pub printed_text : List ℕ → List ℕ
 printed_text text = printed_as text (escapes text)
 
@@ -62,5 +65,6 @@ whole_name i = elim i.category [ [] ↦ i.name | c ∷ cs ↦ (c ∷ cs) ++ 47 �
 abbrev pub identity_escapes : Identity → List ℕ
 identity_escapes i = elim i.category [ [] ↦ flat_map escape_in_identity i.name | c ∷ cs ↦ flat_map escape_in_identity (c ∷ cs) ++ 47 ∷ flat_map escape_in_identity i.name ]
 
+-- an identity: its category, `/` and its name, with each `/` inside them escaped
 abbrev pub printed_identity : Identity → List ℕ
 printed_identity i = printed_as (whole_name i) (identity_escapes i)

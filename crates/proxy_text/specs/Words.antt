@@ -37,6 +37,7 @@ blanks bytes = length (take_while is_blank bytes)
 
 -- ---- what stands next
 
+-- a word as it stands, `:`, `@` or the end
 pub data Token : Type 0 where
   -- the bytes of a word, as they stand
   word : List ℕ → Token

@@ -11,6 +11,15 @@
 //! - Printed, `\`, `"`, `'`, newline, carriage return and tab have their escapes, other bytes below 32 and 127 stand in
 //!   octal, and `/` within a category or a name is `\/`. A word is in quotes where it is empty, has a blank, `:`, `@`
 //!   or `"`, or begins with `-`.
+//!
+//! Forms, and why they are so:
+//!
+//! - The text of a proxy is read by a function (`proxy_text`), which answers the first word that cannot stand;
+//!   laws tie it to the printed form in both directions. No relation of the grammar stands beside it: which
+//!   words may follow is said by the tables of options (`flags`, `tcp_flags`, `transports`) and by what each
+//!   word means (`text_of`, `number`, `version`, `hexadecimal`).
+//! - A word is found before it is understood: where it ends hangs on quotes and `\` alone, what it stands for on
+//!   the letters that its escapes make. So a `/` of an escape parts no identity.
 #![tactic(auto)]
 
 mod endpoints;

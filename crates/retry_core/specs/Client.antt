@@ -11,6 +11,8 @@ use Rattle.retry_core.specs.declared.client_table.ClientNext.TheVariants.{Goes, 
 use Rattle.retry_core.specs.Retries.{may_follow}
 use Rattle.retry_core.specs.ClientTable.{client_row}
 
+-- what contracts see of a `Client`: idempotent or not, the request's length, the retries left, the state, the
+-- attempts that have ended
 pub record Invoking : Type 0 where
   pub idempotent : Bool
   -- of the request, in bytes
@@ -21,6 +23,7 @@ pub record Invoking : Type 0 where
   -- that have ended
   pub attempts : List Attempt
 
+-- the start
 abbrev pub began : Bool → ℕ → ℕ → Invoking
 began idempotent length retries = record {
   idempotent = idempotent;
@@ -30,6 +33,7 @@ began idempotent length retries = record {
   attempts = [];
 }
 
+-- the row of an event
 abbrev pub row_of : Invoking → ClientEvent → Option ClientNext
 row_of i event = client_row i.length i.state event
 
@@ -49,11 +53,13 @@ ended i attempt = record i {
   attempts = i.attempts ++ attempt ∷ [];
 }
 
+-- the state after an event
 abbrev pub next_of : Invoking → Option ClientNext → Invoking
 next_of i None = i
 next_of i (Some (Goes state action)) = record i { state = state }
 next_of i (Some (Ends attempt)) = ended i attempt
 
+-- what is done at it
 abbrev pub action_of : Invoking → Option ClientNext → ClientAction
 action_of i None = Connect
 action_of i (Some (Goes state action)) = action

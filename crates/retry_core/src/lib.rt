@@ -6,6 +6,13 @@
 //!
 //! An invocation that is not idempotent is never tried again where its request was sent whole and lost, so
 //! the server may have dispatched it. (Ice manual, "Automatic Retries".)
+//!
+//! Forms, and why they are so:
+//!
+//! - `Taken(n)` past the length cannot come: it has no row, and so has none one that would pass 64 bits.
+//! - `Client::attempts` answers a slice and not a `List`: a `List` that is pushed to may want memory, and `step`
+//!   takes none. Contracts see a list either way. `Client::new` takes one byte for each attempt.
+//! - `accepts` stands beside `step` on both ends, so that a caller that cannot know can ask.
 #![tactic(auto)]
 
 mod attempt;

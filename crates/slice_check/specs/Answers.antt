@@ -30,6 +30,7 @@ is_failed (Err faults.Memory) = false
 
 -- ---- what a fault of a part comes to
 
+-- what a fault of the shelf comes to
 abbrev pub of_port : PortFault → LoadFault
 of_port ports.Failed = faults.Shelf
 of_port ports.Memory = faults.Memory

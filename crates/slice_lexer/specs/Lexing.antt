@@ -44,6 +44,7 @@ Lexes text tokens = ReadsTokens text tokens (length text)
 abbrev pub LexBreaks : List ℕ → LexFault → Type 0
 LexBreaks text fault = (tokens : List Token) × (place : ℕ) × ReadsTokens text tokens place × (place < length text) × BreaksAt text place fault
 
+-- the text has some tokens, or some first defect
 abbrev pub HasTokens : List ℕ → Type 0
 HasTokens text = (tokens : List Token) × Lexes text tokens
 

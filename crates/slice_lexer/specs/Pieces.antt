@@ -13,6 +13,8 @@ use Rattle.slice_lexer.specs.declared.piece.Piece.{Piece}
 use Rattle.slice_lexer.specs.declared.piece.Piece.TheVariants as pieces
 use Rattle.slice_lexer.specs.Bytes.{quote, hash, slash, backslash, first, is_blank, is_letter, spoils_number, begins_with, line, word, digits, is_line_blank, before_close, string_length}
 
+-- what is read at a place, byte by byte: the definition of the inner functions alone. `proofs/Agree.antt` and
+-- `Exact.antt` prove that it reads exactly what `Begins` and `Breaks` say
 abbrev pub Front : Type 0
 Front = Result Piece LexFault
 

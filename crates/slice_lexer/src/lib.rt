@@ -15,6 +15,19 @@
 //!
 //! Nothing else may stand in a text, which has at most `MOST_BYTES` bytes. Its first defect from the left is the
 //! answer.
+//!
+//! Forms, and why they are so:
+//!
+//! - What a token is, is a relation, in the manual's terms, and the contract of `tokens` cites nothing else. A
+//!   reading function (`front`) stands below it for the inner functions, and is proved to read exactly what
+//!   stands there; so a mistake that is made in the code and in `front` alike is refused.
+//! - A blank is one byte, a comment one piece: `IsGap` has no longest form for blanks, since a run of them is a
+//!   run of pieces. For strings and block comments the end is fixed by their form.
+//! - The classes of bytes (`is_letter`, `is_blank`, ..) and "the line so far is blank" are shared by the
+//!   relations and the reading: each is one line in the manual's terms.
+//! - The ends of lines and block comments are found by `memchr`; `proofs/Searches.antt` leads from what that
+//!   crate answers to `line` and `before_close`. A string's end stays a loop, since a `\` takes the byte after
+//!   it; words and digits stay `take_while`, since `memchr` knows no class of bytes.
 #![tactic(auto)]
 
 mod fault;

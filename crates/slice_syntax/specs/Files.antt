@@ -51,6 +51,7 @@ directive =
 unfoldable pub directives : Grammar (List Head)
 directives = many directive
 
+-- the names of the `#include`s among the heads of a file
 abbrev pub includes_in : List Head → List (List ℕ × ℕ)
 includes_in [] = []
 includes_in (guard ∷ heads) = includes_in heads

@@ -58,9 +58,11 @@ g ⊛ h = both (λ make x. make x) g h
 abbrev pub one : Terminal → Grammar ℕ
 one terminal = token (terminal ∷ []) (λ l. l.from)
 
+-- a rule or nothing
 abbrev pub optional : {A : Type 0} → Grammar A → Grammar (Option A)
 optional g = or (made (λ x. Some x) g) (nothing None)
 
+-- any number
 abbrev pub many : {A : Type 0} → Grammar A → Grammar (List A)
 many g = series (λ x. true) g
 

@@ -68,6 +68,7 @@ moves_at others ls = runs_at (λ o. starts (move o)) (λ o. read (move o)) moved
 abbrev pub modules_at : Lexemes → Reading (List Item)
 modules_at ls = moves_at [] ls >>= (λ ms. Ok (all_items [] ms.0, ms.1))
 
+-- reading a file's `#endif`
 abbrev pub closing_at : Bool → Lexemes → Reading (Unit {0})
 closing_at true ls = read (one terminals.EndGuard) ls >>= (λ x. Ok (tt, x.1))
 closing_at false ls = Ok (tt, ls)
@@ -82,6 +83,7 @@ file_of heads items = record { items = items; included = includes_in heads }
 abbrev pub file_at : Lexemes → Reading File
 file_at ls = read directives ls >>= (λ h. rest_at (is_guarded h.0) h.1 >>= (λ i. Ok (file_of h.0 i.0, i.1)))
 
+-- reading its end
 abbrev pub end_at : Lexemes → Reading (Unit {0})
 end_at [] = Ok (tt, [])
 end_at (l ∷ ls) = Err (l ∷ ls)

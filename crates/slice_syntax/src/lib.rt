@@ -13,6 +13,14 @@
 //!   `[[..]]`. NAME is UTF-8. After the modules stands `#endif`, once, exactly where an `#ifndef` stands before them.
 //! - Blanks may stand after the `#` of a directive, between its parts and at its end. A comment may not.
 //! - A module in a module takes no stack: the tree is flat, and modules are read in one loop.
+//!
+//! Forms, and why they are so:
+//!
+//! - The grammar of Slice is data (`Grammar`), and what a rule spells is one relation over it (`Spells`): a rule
+//!   is written as in the EBNF above it, and what holds of every rule is proved once, joiner by joiner. Modules
+//!   in modules are a relation by cases beside it, since they are read by one loop.
+//! - A list of what a rule may begin with is made by one macro (`or_type`) in `slice_syntax/src/words.rt`, since
+//!   `begins` takes one slice.
 #![tactic(auto)]
 
 mod classes;

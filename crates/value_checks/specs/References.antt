@@ -9,6 +9,7 @@ use Rattle.value_checks.specs.declared.references.References.TheVariants.{No, An
 abbrev pub AnyRefers : Refers
 AnyRefers declared name = Unit {0}
 
+-- which references may stand: none, any, or those to instances of a graph that fit
 abbrev pub MayStand : Tables → References → Refers
 MayStand t No = no_reference
 MayStand t Any = AnyRefers

@@ -7,6 +7,7 @@ use Rattle.ice_graphs.specs.Exceptions.{of_exceptions}
 use Rattle.value_checks.specs.declared.instances.Rows.{Rows}
 use Rattle.value_checks.specs.declared.instances.Rows.TheVariants.{Classes, Exceptions}
 
+-- the tables in which the classes of slices are the schema's classes, or its exceptions
 abbrev pub rows_of : Rows → Tables → Tables
 rows_of Classes t = t
 rows_of Exceptions t = of_exceptions t
