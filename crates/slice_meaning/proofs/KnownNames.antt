@@ -7,7 +7,7 @@ use Rattle.slice_syntax.specs.declared.tree.Word.{Word}
 use Rattle.slice_syntax.specs.declared.tree.TypeWord.{TypeWord}
 use Rattle.slice_syntax.specs.declared.tree.TypeWord.TheVariants as words
 use Rattle.slice_syntax.specs.Lexemes.{code as code_of}
-use Rattle.slice_syntax.specs.Sorts.{word_bool, word_byte, word_short, word_int, word_long, word_string, word_object, word_value}
+use Rattle.slice_syntax.specs.Terminals.{word_bool, word_byte, word_short, word_int, word_long, word_string, word_object, word_value}
 use Rattle.slice_syntax.specs.Places.{Each}
 use Rattle.ice_types.specs.declared.kind.TypeRef.{TypeRef}
 use Rattle.ice_types.specs.declared.kind.TypeRef.TheVariants as kinds
