@@ -26,4 +26,4 @@ is_class id (rows.Exception at) h = absurd cc
 is_class id (rows.Interface at) h = absurd cc
 
 pub lacks_one : Lacks whole less
-lacks_one = record { unknown = has_row; lost = is_class }
+lacks_one = record { kept = has_row; lost = is_class }

@@ -33,7 +33,7 @@ pub record Agrees (t u : Tables) : Type 0 where
 
 module _ (t u : Tables) (rules : IsSchema t) (lacks : Lacks t u) where
   one_row : (a b : RowRef) → SameId t u a b → SameRow t u a b
-  one_row a b (id, here, there) = let k = lacks.unknown id b there in subst (λ (r : RowRef). SameRow t u r b) (rules.apart id k.0 a k.1 here) k.2
+  one_row a b (id, here, there) = let k = lacks.kept id b there in subst (λ (r : RowRef). SameRow t u r b) (rules.apart id k.0 a k.1 here) k.2
 
   seqs_agree : (a b : ℕ) → SameRow t u (rows.Seq a) (rows.Seq b) → BothAre (SameSeq t u) (slice_get t.seqs a) (slice_get u.seqs b)
   seqs_agree a b (c, is, both) = let e : c ≡ b = cc in subst (λ (k : ℕ). BothAre (SameSeq t u) (slice_get t.seqs a) (slice_get u.seqs k)) e both
@@ -70,7 +70,7 @@ module _ (t u : Tables) (rules : IsSchema t) (lacks : Lacks t u) where
 
   -- each class of the second schema is one of the first
   pub own_class : (id : List ℕ) (b : ℕ) → HasId (class_ids u) id b → (a : ℕ) × HasId (class_ids t) id a
-  own_class id b there = let k = lacks.unknown id (rows.Class b) there in class_own id b k.0 k.1 k.2
+  own_class id b there = let k = lacks.kept id (rows.Class b) there in class_own id b k.0 k.1 k.2
 
 -- ---- a schema agrees with itself
 

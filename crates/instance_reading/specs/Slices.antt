@@ -128,8 +128,8 @@ ReadsId sort place b (Ok id) s r s' r' = id_by sort place (flags_of b).id s r �
 ReadsId sort place b (Err e) s r s' r' = Fails e (id_by sort place (flags_of b).id s r)
 
 abbrev pub FindsId : Fault → ℕ → List (List ℕ) → Result (Bor (List ℕ)) ReadFault → Type 0
-FindsId unknown index ids (Ok id) = (i : ℕ) × (index ≡ suc i) × (slice_get ids i ≡ Some id.now)
-FindsId unknown index ids (Err e) = (e ≡ faults.Broken unknown) × ((s : State ℕ) (r : Rest) → s.ids ≡ ids → id_indexed unknown.place index s r ≡ fault unknown.place BadTypeId)
+FindsId wrong index ids (Ok id) = (i : ℕ) × (index ≡ suc i) × (slice_get ids i ≡ Some id.now)
+FindsId wrong index ids (Err e) = (e ≡ faults.Broken wrong) × ((s : State ℕ) (r : Rest) → s.ids ≡ ids → id_indexed wrong.place index s r ≡ fault wrong.place BadTypeId)
 
 -- the class passes the tests behind a type id, or the first that fails is the fault
 abbrev pub Tests : {X : Type 0} → Sort → Tables → flags.Before → Flags → ℕ → ℕ → Option ℕ → Result X Fault → Type 0
