@@ -19,8 +19,6 @@
 
 mod laws;
 mod service;
-#[cfg(test)]
-mod tests;
 
 pub use laws::{
     at_most_once, calls_can_succeed, connections_sound, dead_for_good, dispatches_logged,

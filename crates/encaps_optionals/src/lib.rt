@@ -15,6 +15,3 @@ pub use prefix::{bound_by_int, bound_by_size};
 pub use size::claimed_size;
 pub use skipping::{Skipped, skip_format};
 pub use tags::{put_tag, take_tag};
-
-#[cfg(test)]
-mod tests;

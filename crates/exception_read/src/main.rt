@@ -7,9 +7,6 @@
 //! status and the line of `ice relay`.
 #![tactic(auto)]
 
-#[cfg(test)]
-mod tests;
-
 use class_slices::{Format, UserExceptionFault, read_exception, write_exception};
 use ice_encoding::LARGEST;
 use ice_ports::{FolderShelf, Shelf, Source, StdSink, StdSource};

@@ -26,8 +26,6 @@
 
 mod compare;
 mod graph;
-#[cfg(test)]
-mod graph_tests;
 mod instance;
 mod laws;
 mod listing;
@@ -38,8 +36,6 @@ mod proxy_order;
 mod renumbering;
 mod resolving;
 mod sort;
-#[cfg(test)]
-mod tests;
 mod value;
 mod visiting;
 

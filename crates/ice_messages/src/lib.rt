@@ -30,6 +30,3 @@ pub use laws::{
 pub use message::{Answer, Call, Message};
 pub use reading::read_message;
 pub use writing::write_message;
-
-#[cfg(test)]
-mod tests;

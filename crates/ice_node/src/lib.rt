@@ -10,10 +10,9 @@
 //!   classes. A clause for each status would say the same in eight places.
 #![tactic(auto)]
 
+mod laws;
 mod top_call;
 
+pub use laws::limits_numbered;
 pub use node_commands::{Outcome, report};
 pub use top_call::node;
-
-#[cfg(test)]
-mod tests;

@@ -3,4 +3,5 @@ pub mod Files
 pub mod Plan
 pub mod Memory
 pub mod Streams
+pub mod Talks
 pub mod Writing

@@ -4,6 +4,8 @@ ghost use Rattle.std.specs.Io.{ReadsAtMost, WritesAtMost};
 ghost use Rattle.std.specs.Io.KnownBytes.{ReadConsumes, WriteAppends};
 ghost use Rattle.ice_ports.specs.Failures.{count_after};
 ghost use Rattle.ice_ports.specs.Files.{Finds, IsThere, is_failed};
+ghost use Rattle.ice_ports.specs.Talks.{read_part, write_part};
+ghost use Rattle.ice_ports.specs.declared.talk.Talk.{Talk};
 
 use ice_types::Bytes;
 use std::alloc::{AllocError, Global};
@@ -57,6 +59,9 @@ pub trait Source {
     // How many reads failed, as far as u64 counts.
     ghost failures: { Self → ℕ };
 
+    // A read of this part can lead from the one to the other: what it leaves as it was is said here.
+    ghost reads: { Self → Talk → Self → Type 0 } = { λ _ _ _. Unit {0} };
+
     /// Puts bytes at the start of `into`, which has at most `MOST_OF_A_READ`, and answers how many.
     /// 0 for a slice that is not empty is the end. `Failed` took nothing and is counted once; no other
     /// answer is counted.
@@ -64,7 +69,8 @@ pub trait Source {
         requires { length into.old ≤ MOST_OF_A_READ }
         ensures bound { ReadsAtMost result into.new }
         ensures bytes { ReadConsumes (left self.old) (left self.new) result into.new }
-        ensures count { failures self.new ≡ count_after (failures self.old) (is_err result) };
+        ensures count { failures self.new ≡ count_after (failures self.old) (is_err result) }
+        ensures reads { reads self.old (read_part result into.new) self.new };
 }
 
 /// Where bytes go.
@@ -75,13 +81,17 @@ pub trait Sink {
     // How many writes failed, as far as u64 counts.
     ghost failures: { Self → ℕ };
 
+    // A write of this part can lead from the one to the other: what it leaves as it was is said here.
+    ghost writes: { Self → Talk → Self → Type 0 } = { λ _ _ _. Unit {0} };
+
     /// Takes a prefix of `piece` and answers its length, 0 for an empty piece alone.
     /// `Failed` took none and is counted once; no other answer is counted.
     fn write(&mut self, piece: &[u8]) -> Result<usize, Failed>
         ensures bound { WritesAtMost result piece.now }
         ensures bytes { WriteAppends (taken self.old) (taken self.new) result piece.now }
         ensures progress { IfOk result (λ n. 0 < length piece.now → 0 < n) }
-        ensures count { failures self.new ≡ count_after (failures self.old) (is_err result) };
+        ensures count { failures self.new ≡ count_after (failures self.old) (is_err result) }
+        ensures writes { writes self.old (write_part result piece.now) self.new };
 }
 
 /// Files by name.

@@ -1,85 +1,9 @@
-//! The objects in memory through their traits, files at the edges of what a path may be, and calls
-//! of the system that are interrupted. What the standard streams do, the cases show.
+//! Calls of the system that are interrupted, which no public call can bring about.
 ghost use Rattle.std.specs.Prelude.{◌≤◌, IfOk};
 
-use super::std_streams::{read_once, write_once};
-use super::*;
-use ice_types::{Bytes, List, Name};
-use std::alloc::{AllocError, Global};
+use crate::ports::Failed;
+use crate::std_streams::{read_once, write_once};
 use std::io::{self, Error, ErrorKind, Read, Write};
-use std::test::Fail;
-
-/// Hands what one read gives to a sink, and answers how many bytes it took.
-fn move_piece<S: Source, K: Sink>(source: &mut S, sink: &mut K) -> Result<usize, Failed> {
-    let mut room = [0u8; 8];
-    let count = source.read(&mut room)?;
-    sink.write(&room[..count])
-}
-
-/// Whether the shelf answers this content, or None.
-fn has<H: Shelf>(alloc: Global, shelf: &mut H, name: &str, content: Option<&[u8]>) -> bool {
-    match shelf.load(alloc, name) {
-        Ok(Some(bytes)) => content == Some(bytes.as_slice()),
-        Ok(None) => content.is_none(),
-        Err(_) => false,
-    }
-}
-
-fn bytes(alloc: Global, items: &[u8]) -> Result<Bytes, AllocError> {
-    Ok(List::from_vec(Vec::from_slice(alloc, items)?))
-}
-
-fn calls(alloc: Global, number: u64) -> Result<List<u64>, AllocError> {
-    let mut numbers = List::new(alloc);
-    numbers.push(number)?;
-    Ok(numbers)
-}
-
-/// What moves out of six bytes that come by four, where the second read fails, into a sink that has
-/// room for five, where the fourth write fails.
-const MOVES: &[Result<usize, Failed>] = &[Ok(4), Err(Failed), Ok(1), Ok(0), Err(Failed)];
-
-#[test]
-fn pieces_move_until_the_end_of_the_input_and_of_the_room(rt: HostRuntime) -> Result<(), Fail> {
-    let alloc = rt.alloc();
-    let mut source = MemSource::new(bytes(alloc, b"abcdef")?, 4, calls(alloc, 1)?);
-    let mut sink = MemSink::new(alloc, 5, calls(alloc, 3)?)?;
-    for want in MOVES {
-        assert!(rt; move_piece(&mut source, &mut sink) == *want);
-    }
-    assert!(rt; sink.taken() == b"abcde".as_slice());
-    assert!(rt; source.calls() == 5 && source.failures() == 1);
-    assert!(rt; sink.calls() == 4 && sink.failures() == 1);
-    Ok(())
-}
-
-/// Names, and what a folder answers of which no more than three bytes of a file are read.
-const LOADS: &[(&str, Option<&[u8]>)] = &[
-    ("/dev/zero", Some(&[0, 0, 0])),
-    ("/dev/zero/below", None),
-    ("a\0b", None),
-    ("", None),
-];
-
-/// A name of 256 bytes: no file of the system has one.
-const TOO_LONG: &str = "\
-    0123456789abcdef0123456789abcdef0123456789abcdef0123456789abcdef\
-    0123456789abcdef0123456789abcdef0123456789abcdef0123456789abcdef\
-    0123456789abcdef0123456789abcdef0123456789abcdef0123456789abcdef\
-    0123456789abcdef0123456789abcdef0123456789abcdef0123456789abcdef";
-
-#[test]
-fn a_folder_has_files_and_no_others(rt: HostRuntime) {
-    let alloc = rt.alloc();
-    let mut shelf = FolderShelf::new(rt, 3);
-    for (name, content) in LOADS {
-        assert!(rt; has(alloc, &mut shelf, name, *content));
-    }
-    assert!(rt; has(alloc, &mut shelf, TOO_LONG, None));
-    assert!(rt; shelf.failures() == 0);
-    assert!(rt; !has(alloc, &mut shelf, ".", None));
-    assert!(rt; shelf.failures() == 1);
-}
 
 /// Is interrupted twice, and then answers.
 #[derive(Drop)]

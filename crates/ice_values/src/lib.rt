@@ -77,6 +77,3 @@ pub use reader::{Paused, ValueReader};
 pub use tagged::kind_tagged;
 pub use value::{read_plain_value, read_value, write_plain_value, write_value};
 pub use writer::{ValueWriter, WritePaused};
-
-#[cfg(test)]
-mod tests;

@@ -18,6 +18,3 @@ mod telling;
 pub use dump::{Dump, MOST_MESSAGES, dump_messages};
 pub use laws::{dumps_all, dumps_apart, reading_decides};
 pub use lines::{BEFORE_REPLY_BODY, message_line};
-
-#[cfg(test)]
-mod tests;

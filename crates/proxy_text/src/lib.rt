@@ -47,8 +47,3 @@ pub use printing::{escape_identity, print_identity, print_word, quote};
 pub use reading::{identity_of, text_of};
 pub use word_laws::{identities_printed, printed_is_a_word, texts_printed, words_stand_next};
 pub use words::{Token, Words};
-
-#[cfg(test)]
-mod tests;
-#[cfg(test)]
-mod word_tests;

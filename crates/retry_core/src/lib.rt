@@ -20,8 +20,6 @@ mod client;
 mod client_table;
 mod laws;
 mod server;
-#[cfg(test)]
-mod tests;
 
 pub use attempt::Attempt;
 pub use client::Client;

@@ -38,6 +38,3 @@ mod walk;
 
 pub use fault::LoadFault;
 pub use loading::load;
-
-#[cfg(test)]
-mod tests;

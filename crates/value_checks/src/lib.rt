@@ -16,8 +16,6 @@ mod laws;
 mod members;
 mod proxies;
 mod references;
-#[cfg(test)]
-mod tests;
 mod values;
 mod zeros;
 

@@ -1,0 +1,167 @@
+use Attempt::{Closed, Lost, NotConnected, NotWhole, Replied, Stale};
+use ClientAction::{AwaitReply, AwaitValidate, Connect, Finish, Send};
+use ClientEvent::{CloseRead, ConnectFailed, Connected, Refused2, ReplyRead, Taken, Validated};
+use retry_core::{Attempt, Client, ClientAction, ClientEvent, Server, ServerAction, ServerEvent};
+use std::process::Abort;
+use std::test::Fail;
+
+/// What comes, and what the client does then.
+type Steps = &'static [(ClientEvent, ClientAction)];
+
+/// Calls of `add`, which is not idempotent, and of `total`, which is, with a request of 38 bytes: whether it
+/// is idempotent, its retries, what comes, and the attempts.
+const CALLS: &[(bool, u32, Steps, &[Attempt])] = &[
+    // The first link takes 37 bytes and fails, the second all of them and gives the reply.
+    (
+        false,
+        1,
+        &[
+            (Connected, AwaitValidate),
+            (Validated, Send),
+            (Taken(37), Send),
+            (ClientEvent::Lost, Connect),
+            (Connected, AwaitValidate),
+            (Validated, Send),
+            (Taken(38), AwaitReply),
+            (ReplyRead, Finish(Replied)),
+        ],
+        &[NotWhole, Replied],
+    ),
+    // The link takes 38 bytes and fails its read.
+    (
+        false,
+        2,
+        &[
+            (Connected, AwaitValidate),
+            (Validated, Send),
+            (Taken(38), AwaitReply),
+            (ClientEvent::Lost, Finish(Lost)),
+        ],
+        &[Lost],
+    ),
+    // Three links do so, and the call is idempotent.
+    (
+        true,
+        2,
+        &[
+            (Connected, AwaitValidate),
+            (Validated, Send),
+            (Taken(38), AwaitReply),
+            (ClientEvent::Lost, Connect),
+            (Connected, AwaitValidate),
+            (Validated, Send),
+            (Taken(38), AwaitReply),
+            (ClientEvent::Lost, Connect),
+            (Connected, AwaitValidate),
+            (Validated, Send),
+            (Taken(38), AwaitReply),
+            (ClientEvent::Lost, Finish(Lost)),
+        ],
+        &[Lost, Lost, Lost],
+    ),
+    // The first link gives a close, the second the reply.
+    (
+        false,
+        1,
+        &[
+            (Connected, AwaitValidate),
+            (Validated, Send),
+            (Taken(38), AwaitReply),
+            (CloseRead, Connect),
+            (Connected, AwaitValidate),
+            (Validated, Send),
+            (Taken(20), Send),
+            (Taken(18), AwaitReply),
+            (Validated, AwaitReply),
+            (ReplyRead, Finish(Replied)),
+        ],
+        &[Closed, Replied],
+    ),
+    // The same with no retry.
+    (
+        false,
+        0,
+        &[
+            (Connected, AwaitValidate),
+            (Validated, Send),
+            (Taken(38), AwaitReply),
+            (CloseRead, Finish(Closed)),
+        ],
+        &[Closed],
+    ),
+    // A connect that fails, and a cached place without the object.
+    (
+        false,
+        2,
+        &[
+            (ConnectFailed, Connect),
+            (Connected, AwaitValidate),
+            (Validated, Send),
+            (Taken(38), AwaitReply),
+            (Refused2 { cached: true }, Connect),
+            (Connected, AwaitValidate),
+            (Validated, Send),
+            (Taken(38), AwaitReply),
+            (Refused2 { cached: false }, Finish(Replied)),
+        ],
+        &[NotConnected, Stale, Replied],
+    ),
+];
+
+#[test]
+fn clients(rt: HostRuntime) -> Result<(), Fail> {
+    for &(idempotent, retries, steps, attempts) in CALLS {
+        let mut client = Client::new(rt.alloc(), idempotent, 38, retries)?;
+        for &(event, action) in steps {
+            assert!(rt; client.accepts(event), "{event:?} of {steps:?}");
+            assert_eq!(rt; client.step(event), action, "at {event:?} of {steps:?}");
+        }
+        assert_eq!(rt; client.attempts(), attempts, "after {steps:?}");
+    }
+    Ok(())
+}
+
+/// Connections, each up to where the server leaves: what comes, and what the server does then.
+const CONNECTIONS: &[&[(ServerEvent, ServerAction)]] = &[
+    &[
+        (ServerEvent::Opened, ServerAction::SendValidate),
+        (ServerEvent::Request, ServerAction::Dispatch),
+        (ServerEvent::Answered, ServerAction::SendReply),
+        (ServerEvent::Heartbeat, ServerAction::Read),
+        (ServerEvent::EnoughRead, ServerAction::SendClose),
+    ],
+    &[
+        (ServerEvent::Opened, ServerAction::SendValidate),
+        (ServerEvent::Request, ServerAction::Dispatch),
+        (ServerEvent::Lost, ServerAction::Leave),
+    ],
+    &[
+        (ServerEvent::Opened, ServerAction::SendValidate),
+        (ServerEvent::CloseRead, ServerAction::Leave),
+    ],
+];
+
+#[test]
+fn servers(rt: HostRuntime) -> Result<(), Fail> {
+    for &steps in CONNECTIONS {
+        let mut server = Server::new();
+        for &(event, action) in steps {
+            assert!(rt; server.accepts(event), "{event:?} of {steps:?}");
+            assert_eq!(rt; server.step(event), action, "at {event:?} of {steps:?}");
+        }
+        assert!(rt; !server.accepts(ServerEvent::Lost) && !server.accepts(ServerEvent::Request));
+    }
+    Ok(())
+}
+
+#[test]
+fn what_cannot_come(rt: HostRuntime) -> Result<(), Fail> {
+    let mut client = Client::new(rt.alloc(), false, 38, 0)?;
+    assert!(rt; !client.accepts(ReplyRead) && !client.accepts(ClientEvent::Lost));
+    client.step(Connected);
+    client.step(Validated);
+    assert!(rt; client.accepts(Taken(38)) && !client.accepts(Taken(39)));
+    assert!(rt; !client.accepts(ReplyRead) && !client.accepts(Taken(u64::MAX)));
+    assert!(rt; !Server::new().accepts(ServerEvent::Request));
+    Ok(())
+}

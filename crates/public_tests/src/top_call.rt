@@ -1,0 +1,337 @@
+//! `node` over an outside in memory: a call of each command and refusal, and what comes of each
+//! failure. What comes of other words, texts and inputs, the cases show.
+
+use crate::outside::{bytes, calls, shelf};
+use ice_node::node;
+use ice_ports::{MemSink, MemSource};
+use ice_types::List;
+use std::alloc::{AllocError, Global};
+use std::test::Fail;
+
+/// The shelf: each file's name and text.
+const FILES: &[(&str, &str)] = &[
+    (
+        "s.ice",
+        "#include \"t.ice\"\nmodule M { sequence<T::Small> Q; sequence<Q> Qs; };",
+    ),
+    ("t.ice", "module T { sequence<byte> Small; };"),
+    (
+        "w.ice",
+        "module M { dictionary<string, int> D; sequence<byte> Q; class N { int v; N next; }; \
+        class P { int p; }; class O { optional(1) int a; }; class B { int b; }; \
+        class F extends B { string d; B other; }; };",
+    ),
+    (
+        "forest.ice",
+        "module Points { struct Point { int x; int y; }; sequence<Point> List; }; \
+        module Trees { class Tree { int value; Tree left; Tree right; }; }; \
+        module Forests { interface Named { string name(); }; interface Forest extends Named { \
+        void put(Trees::Tree t); idempotent Trees::Tree get(); }; };",
+    ),
+    (
+        "i.ice",
+        "module M { interface I; enum E { a, b }; struct S { int n; I* i; }; sequence<S> Q; \
+        dictionary<E, Q> D; dictionary<E, int> K; exception X { S s; }; };",
+    ),
+    ("m.ice", "module M { struct S { float x; }; };"),
+    ("a.ice", "#include \"b.ice\""),
+    ("u.ice", "module M { class C; sequence<C> Q; };"),
+    ("e.ice", "module M { enum E { a, A }; };"),
+    ("n.ice", "module M { };\n"),
+    (
+        "l.ice",
+        "#include \"n.ice\"\n#include \"e.ice\"\nmodule M { struct S { }; };",
+    ),
+    ("x.ice", "module M { struct S { int a }; };"),
+];
+
+/// The words of a call, and the status, output and line that are wanted.
+type Call = (&'static [&'static str], u8, &'static str, &'static str);
+
+const CALLS: &[Call] = &[
+    (
+        &["check", "w.ice"],
+        0,
+        "ok: 2 types, 5 classes, 0 exceptions, 0 interfaces\n",
+        "",
+    ),
+    (
+        &["check", "forest.ice"],
+        0,
+        "ok: 2 types, 1 classes, 0 exceptions, 2 interfaces\n",
+        "",
+    ),
+    (
+        &["check", "i.ice"],
+        0,
+        "ok: 5 types, 0 classes, 1 exceptions, 1 interfaces\n",
+        "",
+    ),
+    (
+        &["check", "s.ice"],
+        0,
+        "ok: 3 types, 0 classes, 0 exceptions, 0 interfaces\n",
+        "",
+    ),
+    (&["check", "m.ice"], 3, "", "ice: m.ice:22: FloatUsed\n"),
+    (&["check", "none.ice"], 3, "", "ice: none.ice:0: NoFile\n"),
+    (&["check", "a.ice"], 3, "", "ice: a.ice:0: NoFile\n"),
+    (&["check", "u.ice"], 3, "", "ice: u.ice:17: Undefined\n"),
+    (&["check", "e.ice"], 3, "", "ice: e.ice:23: Clash\n"),
+    (&["check", "l.ice"], 3, "", "ice: e.ice:23: Clash\n"),
+    (&["check", "x.ice"], 3, "", "ice: x.ice:28: Expected\n"),
+    (&["check"], 2, "", "ice: usage\n"),
+    (&["check", "w.ice", "int"], 2, "", "ice: usage\n"),
+    (&["relay"], 2, "", "ice: usage\n"),
+    (&["relay", "w.ice"], 2, "", "ice: usage\n"),
+    (
+        &["relay", "l.ice", "::M::Zed"],
+        3,
+        "",
+        "ice: e.ice:23: Clash\n",
+    ),
+    (
+        &["relay", "w.ice", "::M::Zed"],
+        2,
+        "",
+        "ice: no such name ::M::Zed\n",
+    ),
+    (
+        &["relay", "i.ice", "::M::I"],
+        2,
+        "",
+        "ice: no such name ::M::I\n",
+    ),
+    (
+        &["relay", "i.ice", "::M::X"],
+        2,
+        "",
+        "ice: no such name ::M::X\n",
+    ),
+    (
+        &["relay", "w.ice", "::M::N*"],
+        2,
+        "",
+        "ice: no such name ::M::N*\n",
+    ),
+    (
+        &["relay", "w.ice", "Value"],
+        2,
+        "",
+        "ice: no such name Value\n",
+    ),
+    (
+        &["relay", "w.ice", "::M::N"],
+        4,
+        "",
+        "ice: input refused at 6: BadReference\n",
+    ),
+    (
+        &["relay", "w.ice", "Object*"],
+        4,
+        "",
+        "ice: input refused at 9: Short\n",
+    ),
+    (
+        &["relay", "i.ice", "::M::I*"],
+        4,
+        "",
+        "ice: input refused at 9: Short\n",
+    ),
+    (
+        &["relay", "i.ice", "::M::D"],
+        4,
+        "",
+        "ice: input refused at 7: BadEnum\n",
+    ),
+    (
+        &["relay", "i.ice", "::M::K"],
+        4,
+        "",
+        "ice: input refused at 7: BadEnum\n",
+    ),
+    (
+        &["relay", "w.ice", "::M::D"],
+        4,
+        "",
+        "ice: input refused at 8: Short\n",
+    ),
+    (
+        &["proxy", "a"],
+        0,
+        "a -t -e 1.1\n016100000000010001010000\n",
+        "",
+    ),
+    (&["proxy", ":tcp"], 4, "", "ice: text refused at 0\n"),
+    (
+        &["dump", "s.ice", "::T::Small"],
+        0,
+        "{\"instances\":[],\"roots\":{\"$value\":[7,8]}}\n",
+        "",
+    ),
+    (
+        &["dump", "s.ice", "int"],
+        4,
+        "",
+        "ice: input refused at 6: Short\n",
+    ),
+    (
+        &["encode", "s.ice", "::T::Small"],
+        4,
+        "",
+        "ice: text refused: NotJson\n",
+    ),
+    (
+        &["drill", "1", "2"],
+        0,
+        "nodes 2 reached 2 compact 29 sliced 42 same yes\n",
+        "",
+    ),
+    (&["drill", "1", "0"], 2, "", "ice: usage\n"),
+    (&["messages"], 4, "", "ice: input refused at 0: BadMagic\n"),
+];
+
+const INPUT: &[u8] = &[9, 0, 0, 0, 1, 1, 2, 7, 8];
+
+/// Two inputs, one after the other.
+const TWO: &[u8] = &[9, 0, 0, 0, 1, 1, 2, 7, 8, 9, 0, 0, 0, 1, 1, 2, 7, 8];
+
+const TEXT: &[u8] = b"{\"instances\":[],\"roots\":{\"$value\":[7,8]}}";
+
+/// A message that is a header alone.
+const MESSAGE: &[u8] = b"IceP\x01\x00\x01\x00\x03\x00\x0e\x00\x00\x00";
+
+const RELAY: &[&str] = &["relay", "s.ice", "::T::Small"];
+
+const READ: &str = "ice: read failed\n";
+
+const WRITE: &str = "ice: write failed\n";
+
+/// How the outside is: how many bytes a read gives at most; which loads, reads and writes fail,
+/// counted from 0; how many bytes the sink and the sink of errors take.
+type Outside = (
+    u32,
+    &'static [u64],
+    &'static [u64],
+    &'static [u64],
+    u32,
+    u32,
+);
+
+const WELL: Outside = (4096, &[], &[], &[], 99, 99);
+
+/// The outside of a relay of nine bytes, and the status, output and line that are wanted.
+type Run = (Outside, u8, &'static [u8], &'static str);
+
+/// The file and the one that it includes are two loads. Nine bytes in pieces of one byte are ten
+/// reads, the last of which finds the end.
+const RUNS: &[Run] = &[
+    ((1, &[], &[], &[], 99, 99), 0, INPUT, ""),
+    ((4096, &[2], &[], &[1], 99, 0), 0, INPUT, ""),
+    ((4096, &[0], &[], &[], 99, 99), 5, b"", READ),
+    ((4096, &[1], &[], &[], 99, 99), 5, b"", READ),
+    ((4096, &[], &[1], &[], 99, 99), 5, b"", READ),
+    ((1, &[], &[0], &[], 99, 99), 5, b"", READ),
+    ((1, &[], &[4], &[], 99, 99), 5, b"", READ),
+    ((1, &[], &[9], &[], 99, 3), 5, b"", "ice"),
+    ((1, &[], &[10], &[], 99, 99), 0, INPUT, ""),
+    ((1, &[], &[], &[0], 99, 99), 6, b"", WRITE),
+    ((1, &[], &[], &[], 3, 99), 6, &[9, 0, 0], WRITE),
+    ((1, &[], &[], &[], 0, 0), 6, b"", ""),
+];
+
+/// The words of a call, its input, the first read past the one that finds the end, and the output that is wanted.
+type End = (
+    &'static [&'static str],
+    &'static [u8],
+    &'static [u64],
+    &'static [u8],
+);
+
+/// Inputs that are read a byte at a time.
+const ENDS: &[End] = &[
+    (
+        &["dump", "s.ice", "::T::Small"],
+        INPUT,
+        &[10],
+        b"{\"instances\":[],\"roots\":{\"$value\":[7,8]}}\n",
+    ),
+    (&["same", "s.ice", "::T::Small"], TWO, &[19], b"same\n"),
+    (&["encode", "s.ice", "::T::Small"], TEXT, &[42], INPUT),
+    (&["messages"], MESSAGE, &[15], b"validate\n"),
+];
+
+fn word(alloc: Global, text: &str) -> Result<String, AllocError> {
+    String::from_str(alloc, text)
+}
+
+fn words_of(alloc: Global, texts: &[&str]) -> Result<List<String>, AllocError> {
+    let mut words = List::new(alloc);
+    for text in texts {
+        words.push(word(alloc, text)?)?;
+    }
+    Ok(words)
+}
+
+/// Whether the call comes to the status, output and line.
+fn comes(
+    alloc: Global,
+    words: &[&str],
+    input: &[u8],
+    outside: &Outside,
+    status: u8,
+    output: &[u8],
+    line: &str,
+) -> Result<bool, AllocError> {
+    let (piece, loads, reads, writes, room, line_room) = outside;
+    let words = words_of(alloc, words)?;
+    let mut shelf = shelf(alloc, FILES, loads)?;
+    let mut source = MemSource::new(bytes(alloc, input)?, (*piece).max(1), calls(alloc, reads)?);
+    let mut sink = MemSink::new(alloc, (*room).min(99), calls(alloc, writes)?)?;
+    let mut errors = MemSink::new(alloc, (*line_room).min(99), calls(alloc, &[])?)?;
+    let words = words.as_slice();
+    let ended = node(
+        alloc,
+        words,
+        &mut shelf,
+        &mut source,
+        &mut sink,
+        &mut errors,
+    );
+    Ok(ended == status && sink.taken() == output && errors.taken() == line.as_bytes())
+}
+
+#[test]
+fn each_answer_has_its_status_and_line(rt: HostRuntime) -> Result<(), Fail> {
+    for (at, (words, status, output, line)) in CALLS.iter().enumerate() {
+        let output = output.as_bytes();
+        assert!(rt;
+            comes(rt.alloc(), words, INPUT, &WELL, *status, output, line)?,
+            "in call {at}"
+        );
+    }
+    Ok(())
+}
+
+#[test]
+fn each_failure_has_its_status(rt: HostRuntime) -> Result<(), Fail> {
+    for (at, (outside, status, output, line)) in RUNS.iter().enumerate() {
+        assert!(rt;
+            comes(rt.alloc(), RELAY, INPUT, outside, *status, output, line)?,
+            "in run {at}"
+        );
+    }
+    Ok(())
+}
+
+#[test]
+fn an_input_that_has_ended_is_not_read_again(rt: HostRuntime) -> Result<(), Fail> {
+    for (at, (words, input, reads, output)) in ENDS.iter().enumerate() {
+        let outside: Outside = (1, &[], *reads, &[], 99, 99);
+        assert!(rt;
+            comes(rt.alloc(), words, input, &outside, 0, output, "")?,
+            "in call {at}"
+        );
+    }
+    Ok(())
+}
