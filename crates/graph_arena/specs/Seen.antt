@@ -18,7 +18,7 @@ view_option option = (option.0, view option.1)
 abbrev pub view_present : List (ℕ × Value) → Present
 view_present options = map view_option options
 
--- members, a slice, an instance, without where they lie in memory
+-- members, without where they lie in memory
 abbrev pub view_content : Members → members.Members
 view_content c = members.with_optional (view_all c.required) (view_present c.optional)
 

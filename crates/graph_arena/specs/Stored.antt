@@ -258,7 +258,7 @@ slices = record { to = slice_to; from = λ g. slice_by (num (first g)) (second g
 abbrev coded_by : {A : Type 0} → Stores A → Coded A
 coded_by a = record { code = a.to; inj = λ x y p. sym (a.back x) ∙ ap a.from p ∙ a.back y }
 
--- members, instances and graphs as the logic stores them: each is told apart from every other one
+-- members as the logic stores them: each is told apart from every other one
 pub members_code : Coded Members
 members_code = coded_by members
 

@@ -49,7 +49,7 @@ module _ {S : Type 0} (take : Option ℕ → Reader S Met) (t : Tables) (inside 
   from_member None had kinds s r = required_behind had kinds s r
   from_member (Some reader) had kinds s r = then (left_of take t inside reader s r) (λ v. required_behind (add had v) kinds)
 
-  -- what is still read of the required members, of the optional ones, of both
+  -- what is still read of the required members
   abbrev pub left_required : List Member → RequiredReader → Reader S Trees
   left_required members reader = from_member reader.reader (view_all reader.done) (kinds_left members reader.next)
 

@@ -39,7 +39,7 @@ pub record Remaining : Type 0 where
   -- whether the marker stands behind them
   pub marked : Bool
 
--- what is still written of members; before the first byte; the members by themselves
+-- what is still written of members
 abbrev pub remaining : MembersWriter → Remaining
 remaining writer = record { values = lists writer.values; place = writer.place; optional = view_present writer.optional.now; marked = writer.marked }
 
