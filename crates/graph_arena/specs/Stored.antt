@@ -262,8 +262,10 @@ coded_by a = record { code = a.to; inj = λ x y p. sym (a.back x) ∙ ap a.from 
 pub members_code : Coded Members
 members_code = coded_by members
 
+-- so instances
 pub instances_code : Coded (List (List Slice))
 instances_code = coded_list (coded_list (coded_by slices))
 
+-- so graphs
 pub graph_code : Coded Graph
 graph_code = code_by (Members × List (List Slice)) (coded× members_code instances_code) (λ g. (g.roots, g.instances)) (λ p. record { roots = p.0; instances = p.1 }) (λ _. refl)

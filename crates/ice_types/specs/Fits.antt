@@ -17,6 +17,7 @@ use Rattle.ice_types.specs.Names.{AreNew}
 abbrev pub SeqFits : Tables → TypeRef → Type 0
 SeqFits t element = (m : Measure) × (measure t (MOST_DEPTH - 1) element ≡ Some m)
 
+-- a dictionary may be added: its key may be one, and no part nests too deep
 abbrev pub DictFits : Tables → TypeRef → TypeRef → Type 0
 DictFits t key value = (k v : Measure) × (measure t (MOST_DEPTH - 2) key ≡ Some k) × (k.is_key ≡ true) × (measure t (MOST_DEPTH - 2) value ≡ Some v)
 

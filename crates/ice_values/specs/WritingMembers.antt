@@ -90,6 +90,7 @@ OptionsFit (o ∷ os) = (o.0 < 2 ^ 31) × HasSizes o.1 × OptionsFit os
 abbrev pub ContentCanBeWritten : Members → Type 0
 ContentCanBeWritten c = InEach HasSize c.required × OptionsFit c.optional
 
+-- the sizes and tags of what is left are at most the greatest int
 abbrev pub RemainingFits : Remaining → List ℕ → Type 0
 RemainingFits r out = all_fit r.values × OptionsFit r.optional × Stands r.place out
 

@@ -39,6 +39,7 @@ pub data Answer : Type 0 where
   read_failed_after : List ℕ → Answer
   no_memory_after : List ℕ → Answer
 
+-- the status of each
 abbrev pub status : Answer → ℕ
 status (done bytes) = 0
 status (different bytes) = 1
