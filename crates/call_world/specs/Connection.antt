@@ -19,6 +19,7 @@ pub data ConnectionEvent (R : Type 0) : Type 0 where
   ClientLeaves : ConnectionEvent R
   ServerLeaves : ConnectionEvent R
 
+-- the server began to send an answer for the seat
 abbrev pub IsAnswered : {R : Type 0} → Connection R → ℕ → Type 0
 IsAnswered {R} k seat = (n : ℕ) × (r : R) × (slice_get k.answered n ≡ Some (Answer seat r))
 

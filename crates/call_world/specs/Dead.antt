@@ -6,6 +6,7 @@ use Rattle.call_world.specs.World.{World, Connection, Seat, Sent, Answer, Close,
 abbrev pub HasRead : {R : Type 0} → Connection R → Sent R → Type 0
 HasRead {R} k message = (n : ℕ) × (n < k.read) × (slice_get k.answered n ≡ Some message)
 
+-- why a seat can never be dispatched any more, as its client can tell
 pub data IsDeadSeat {R : Type 0} (status : R → ℕ) (k : Connection R) (seat : ℕ) : Type 0 where
   -- the client has left and handed over fewer bytes than reach the end of its message
   NotWhole : (s : Seat) → slice_get k.asked seat ≡ Some s → k.client_left ≡ true → k.handed < s.ends → IsDeadSeat status k seat

@@ -11,6 +11,7 @@ names_of table = names_seen table.names.now
 abbrev pub HasRow : {N : ℕ} → CaseTable N → ℕ → Name → Type 0
 HasRow table code name = slice_get (names_of table) code ≡ Some name
 
+-- the name stands in no row
 abbrev pub HasNoRow : {N : ℕ} → CaseTable N → Name → Type 0
 HasNoRow table name = Contains (names_of table) name → ⊥
 

@@ -19,6 +19,7 @@ abbrev pub AreOrdered : Present → Type 0
 AreOrdered [] = Unit {0}
 AreOrdered (o ∷ os) = IsOrdered o.1 × AreOrdered os
 
+-- each dictionary in the members has its keys in rising order
 abbrev pub HasOrder : Members → Type 0
 HasOrder c = InEach KeysRise c.required × AreOrdered c.optional
 

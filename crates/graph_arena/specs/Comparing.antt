@@ -19,6 +19,7 @@ trees_total = record {
 pub values_total : IsTotalOrder (on view tree_cmp)
 values_total = on_total view trees_total
 
+-- equality by the order is an equivalence
 pub values_equal : IsEquivalence (eq_by_cmp (on view tree_cmp))
 values_equal = eq_by_cmp_equiv values_total
 

@@ -18,10 +18,11 @@ view_option option = (option.0, view option.1)
 abbrev pub view_present : List (ℕ × Value) → Present
 view_present options = map view_option options
 
--- members, a slice, an instance, without where they lie in memory
+-- members, without where they lie in memory
 abbrev pub view_content : Members → members.Members
 view_content c = members.with_optional (view_all c.required) (view_present c.optional)
 
+-- so a slice
 abbrev pub view_slice : Slice → graphs.Slice
 view_slice (Known class content) = known class (view_content content)
 view_slice (Unknown id bytes optionals table) = unknown id bytes optionals table
@@ -29,5 +30,6 @@ view_slice (Unknown id bytes optionals table) = unknown id bytes optionals table
 abbrev pub view_slices : List Slice → List graphs.Slice
 view_slices slices = map view_slice slices
 
+-- so an instance
 abbrev pub view_instance : Instance → List graphs.Slice
 view_instance i = view_slices i.slices

@@ -258,12 +258,14 @@ slices = record { to = slice_to; from = λ g. slice_by (num (first g)) (second g
 abbrev coded_by : {A : Type 0} → Stores A → Coded A
 coded_by a = record { code = a.to; inj = λ x y p. sym (a.back x) ∙ ap a.from p ∙ a.back y }
 
--- members, instances and graphs as the logic stores them: each is told apart from every other one
+-- members as the logic stores them: each is told apart from every other one
 pub members_code : Coded Members
 members_code = coded_by members
 
+-- so instances
 pub instances_code : Coded (List (List Slice))
 instances_code = coded_list (coded_list (coded_by slices))
 
+-- so graphs
 pub graph_code : Coded Graph
 graph_code = code_by (Members × List (List Slice)) (coded× members_code instances_code) (λ g. (g.roots, g.instances)) (λ p. record { roots = p.0; instances = p.1 }) (λ _. refl)

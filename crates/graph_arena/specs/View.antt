@@ -44,6 +44,7 @@ view_step (Value-F.Reference n) = reference n
 abbrev pub view : Value → Tree
 view = fold-Value Tree view_step
 
+-- so of values
 abbrev pub view_all : List Value → Trees
 view_all values = trees_of (map view values)
 

@@ -72,6 +72,7 @@ module _ (t : Tables) where
   notation_step write (kinds.Class declared) (tree.reference n) = reference_noted n
   notation_step write kind v = null
 
+  -- over so many levels
   abbrev pub notation_levels : ℕ → TypeRef → Write
   notation_levels zero kind v = null
   notation_levels (suc levels) kind v = notation_step (notation_levels levels) kind v

@@ -52,6 +52,7 @@ abbrev pub option_there : (TypeRef → Read Tree) → Member → Present → Opt
 option_there read m before None = Some before
 option_there read m before (Some d) = option_and_then (λ tag. option_map (λ v. put_at tag v before) (read m.kind d)) m.tag
 
+-- the optional members that an object has
 abbrev pub options_of : (TypeRef → Read Tree) → List Member → json.Members → Present → Option Present
 options_of read [] found before = Some before
 options_of read (m ∷ ms) found before = option_and_then (λ next. options_of read ms found next) (option_there read m before (get_member m.name found))

@@ -29,6 +29,7 @@ abbrev pub NotesEach : {A : Type 0} → Noting A → Items → List A → Type 0
 NotesEach One no_items xs = xs ≡ []
 NotesEach {A} One (item d ds) xs = (y : A) × (ys : List A) × (xs ≡ y ∷ ys) × One d y × NotesEach One ds ys
 
+-- an array whose items note those of a list, in order
 abbrev pub NotesList : {A : Type 0} → Noting A → Noting (List A)
 NotesList One d xs = (ds : Items) × (d ≡ array ds) × NotesEach One ds xs
 

@@ -39,6 +39,7 @@ bytes_of d = option_and_then (λ text. decoded (decode_of text)) (as_str d)
 
 -- ---- graphs
 
+-- an unknown slice
 abbrev pub unknown_in : json.Members → Option Slice
 unknown_in found = option_and_then (λ bytes. option_and_then (λ id. option_and_then (λ optionals.
     option_map (unknown id bytes optionals)
@@ -55,6 +56,7 @@ module _ (t : Tables) where
   abbrev pub class_of : Read ℕ
   class_of d = option_and_then (class_named t) (as_str d)
 
+  -- a slice of a class of the schema
   abbrev pub known_in : json.Members → Option Slice
   known_in found = option_and_then (λ class. option_map (known class)
       (at_name (codes "members") (noted_content t (own_members t class)) found))
@@ -64,12 +66,15 @@ module _ (t : Tables) where
   abbrev pub slice_in : json.Members → Option Slice
   slice_in found = if members_len found == 2 then known_in found else whole 4 unknown_in found
 
+  -- a slice: known, or else unknown
   abbrev pub slice_of : Read Slice
   slice_of d = option_and_then slice_in (as_object d)
 
+  -- the slices of an instance
   abbrev pub instance_of : Read (List Slice)
   instance_of = of_object 1 (at_name (codes "slices") (list_of slice_of))
 
+  -- the graph that an object lists
   abbrev pub graph_in : Shape → json.Members → Option Graph
   graph_in shape found = option_and_then (λ instances. option_map (with_roots instances)
       (at_name (codes "roots") (noted_content t shape) found))

@@ -150,6 +150,7 @@ whole count read found = if members_len found == count then read found else None
 -- ---- a value
 
 module _ (t : Tables) where
+  -- the value of a type, over the types inside it
   abbrev pub value_step : (TypeRef → Read Tree) → TypeRef → Read Tree
   value_step read kinds.Bool d = option_map tree.boolean (as_bool d)
   value_step read kinds.Byte d = option_and_then byte_from (integer_of d)
@@ -164,6 +165,7 @@ module _ (t : Tables) where
   value_step read (kinds.Proxy at) d = option_map tree.proxy (proxy_of d)
   value_step read (kinds.Class declared) d = option_map tree.reference (reference_of d)
 
+  -- over so many levels
   abbrev pub value_levels : ℕ → TypeRef → Read Tree
   value_levels zero kind d = None
   value_levels (suc levels) kind d = value_step (value_levels levels) kind d

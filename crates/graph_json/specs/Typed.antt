@@ -14,6 +14,7 @@ abbrev pub SliceNotable : Slice → Type 0
 SliceNotable (known class content) = ContentIsShort content
 SliceNotable (unknown id bytes optionals table) = IsBytes bytes
 
+-- so in each slice of an instance
 abbrev pub InstanceNotable : List Slice → Type 0
 InstanceNotable [] = Unit {0}
 InstanceNotable (s ∷ ss) = SliceNotable s × InstanceNotable ss
@@ -30,6 +31,7 @@ abbrev pub SliceHasValues : Tables → Slice → Type 0
 SliceHasValues t (known class content) = IsKnown t by_size class content
 SliceHasValues t (unknown id bytes optionals table) = AreReferred by_size table
 
+-- so in each slice of an instance
 abbrev pub InstanceHasValues : Tables → List Slice → Type 0
 InstanceHasValues t [] = Unit {0}
 InstanceHasValues t (s ∷ ss) = SliceHasValues t s × InstanceHasValues t ss

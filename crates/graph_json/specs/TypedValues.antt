@@ -9,6 +9,7 @@ abbrev pub HasShortText : Option Proxy → Type 0
 HasShortText None = Unit {0}
 HasShortText (Some p) = length (printed_proxy p) < 2 ^ 30
 
+-- the printed text of a proxy is short enough; nothing is asked of another value
 abbrev pub IsShort : Tree → Type 0
 IsShort (boolean b) = Unit {0}
 IsShort (byte n) = Unit {0}

@@ -60,6 +60,8 @@ abbrev pub kind_of : Endpoint → ℤ
 kind_of (Tcp host port timeout compress) = pos 1
 kind_of (Opaque kind major minor bytes) = kind
 
+-- a type and an encapsulation of any version: type 1 in version 1.1 is TCP, of every other the content is kept as it
+-- is
 abbrev pub endpoint : Part Endpoint
 endpoint = chosen short (λ kind. enclosed (said kind)) kind_of
 

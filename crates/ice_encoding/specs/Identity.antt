@@ -16,10 +16,12 @@ abbrev pub facet_of : List (List ℕ) → List ℕ
 facet_of [] = []
 facet_of (name ∷ others) = name
 
+-- the texts of a facet: none of the default one
 abbrev pub facet_texts : List ℕ → List (List ℕ)
 facet_texts [] = []
 facet_texts (c ∷ cs) = (c ∷ cs) ∷ []
 
+-- at most one text
 abbrev pub texts : Part (List (List ℕ))
 texts = chosen (tested (λ n. nat_le n 1) BadFacet size) (times text) length
 

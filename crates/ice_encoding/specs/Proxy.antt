@@ -33,6 +33,7 @@ mode = tested (λ m. nat_le m 4) BadMode byte
 abbrev pub Details : Type 0
 Details = List ℕ × (ℕ × (Bool × ((ℕ × ℕ) × ((ℕ × ℕ) × Location))))
 
+-- all that follows the identity
 abbrev pub details : Part Details
 details = both facet (both mode (both bool (both version (both version location))))
 
@@ -71,6 +72,8 @@ abbrev pub identity_of : Option Proxy → Identity
 identity_of None = no_identity
 identity_of (Some p) = p.identity
 
+-- an identity without a name is that of the null proxy, and one with a category alone is `BadIdentity` at its first
+-- byte
 abbrev pub proxy : Part (Option Proxy)
 proxy = chosen (tested is_whole BadIdentity identity) (λ i. named i i.name) identity_of
 

@@ -18,6 +18,7 @@ abbrev pub natural_of : ℤ → ℕ
 natural_of (pos n) = n
 natural_of (negsuc n) = 0
 
+-- an int that is not negative, else `BadSize`
 abbrev pub count : Part ℕ
 count = made natural_of pos (tested is_natural BadSize int)
 

@@ -16,6 +16,7 @@ abbrev pub tag_by : Bool → ℕ → Part ℕ
 tag_by true b = nothing (b / 8)
 tag_by false b = size
 
+-- the tag behind a leading byte
 abbrev pub behind_leading : ℕ → Part ℕ
 behind_leading b = tag_by (nat_lt b 240) b
 

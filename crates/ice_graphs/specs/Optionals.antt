@@ -88,6 +88,7 @@ module _ {R S : Type 0} (port : Port R S) (t : Tables) where
   SkippedBy true format = Made not_unknown (port.Spells None)
   SkippedBy false format = PassedOver format
 
+  -- which bytes spell what stands under a tag: the value of the member of this type, or of one that is not known
   abbrev pub Tagged : Option TypeRef → ℕ → Speller S (Option Tree)
   Tagged None format = SkippedBy (format == FORMAT_CLASS) format
   Tagged (Some kind) format = Where (format == optional_format t kind) (Made Some (Framed (prefix_of t kind) (SpellsValue port t MOST_DEPTH kind)))
@@ -100,5 +101,6 @@ module _ {R S : Type 0} (port : Port R S) (t : Tables) where
         × (bytes ≡ lead ++ (a ++ b)) × tag.Spells lead (number, format) × IsTrue (rises last number) × Tagged (kind_tagged number members) format a v from mid
         × (values ≡ with_option number v others) × Options n (Some number) b others mid to
 
+    -- which bytes spell all of them
     abbrev pub AllOptions : Speller S Present
     AllOptions bytes values from to = (n : ℕ) × Options n None bytes values from to

@@ -52,6 +52,7 @@ prefix_by itself format =
     if format == FORMAT_VSIZE then (if itself then own_size else as_size)
     else (if format == FORMAT_FSIZE then as_int else no_length)
 
+-- the prefix of a type
 abbrev pub prefix_of : Tables → TypeRef → Prefix
 prefix_of t kind = prefix_by (counts_itself t kind) (optional_format t kind)
 
@@ -69,12 +70,14 @@ counted read s r = bound_behind size r >>= λ bound. read s r
 
 -- ---- a value behind its prefix
 
+-- reading a value behind its prefix, which it fills
 abbrev pub framed : {R A : Type 0} → Prefix → Reader R A → Reader R A
 framed no_length read = read
 framed own_size read = counted read
 framed as_size read = prefixed size read
 framed as_int read = prefixed count read
 
+-- which bytes spell it with its prefix
 abbrev pub Framed : {S A : Type 0} → Prefix → Speller S A → Speller S A
 Framed no_length Spells = Spells
 Framed own_size Spells = Spells

@@ -60,5 +60,6 @@ entries n = record {
   Is = λ es. (length es ≡ n) × AreRising es × Each (both text text).Is es;
 }
 
+-- a size and so many entries
 abbrev pub context : Part (List Entry)
 context = chosen size entries length

@@ -33,6 +33,7 @@ IsFront bytes = BeginsHeader bytes ⊎ BeginsMessage bytes
 abbrev pub good_header : List ℕ
 good_header = 73 ∷ 99 ∷ 101 ∷ 80 ∷ 1 ∷ 0 ∷ 1 ∷ 0 ∷ 3 ∷ 0 ∷ 14 ∷ 0 ∷ 0 ∷ 0 ∷ []
 
+-- the header that begins here, as if the bytes that are not there yet were good
 abbrev pub started : List ℕ → Result ((ℕ × ℤ) × Rest) Fault
 started bytes = header.read (whole (bytes ++ drop (length bytes) good_header))
 

@@ -3,11 +3,10 @@
 //! Forms, and why they are so:
 //!
 //! - `ice_node` is the call alone, over `node_commands`, which does what the words ask for. So the laws of
-//!   `graph_laws` are in reach of one function, and the tests of the whole call, which prove the crate that they
-//!   stand in a second time, prove little again.
-//! - `node` has three clauses. `answered` says of the answer that came all that stands with it; `exactly` says
-//!   the other direction; `carried` says what `relay` in sliced format has written for those who know more
-//!   classes. A clause for each status would say the same in eight places.
+//!   `graph_laws` are in reach of one function.
+//! - `node` keeps three promises (`KeepsPromises`). `answered` says of the answer that came all that stands with
+//!   it; `exactly` says the other direction; `carried` says what `relay` in sliced format has written for those
+//!   who know more classes. A clause for each status would say the same in eight places.
 #![tactic(auto)]
 
 mod laws;

@@ -22,5 +22,6 @@ drill_tables = define_class node_declared 0 None node_members
 abbrev pub root : Member
 root = required (codes "root") (kinds.Class (Some 0))
 
+-- one value of its class
 abbrev pub one_node : Shape
 one_node = record { required = root ∷ []; optional = [] }

@@ -7,6 +7,7 @@ use Rattle.ice_types.specs.Tables.{Tables}
 abbrev pub class_base : Tables → ℕ → Option (Option ℕ)
 class_base t at = option_map (λ c. c.base) (slice_get t.classes at)
 
+-- the base of the exception at a place
 abbrev pub exception_base : Tables → ℕ → Option (Option ℕ)
 exception_base t at = option_map (λ e. e.base) (slice_get t.exceptions at)
 

@@ -13,12 +13,11 @@ use Rattle.ice_types.specs.Names.{AreNew}
 
 -- ---- sequences, dictionaries, structs: no type nests deeper than a hundred levels
 
--- what may be added: no type nests deeper than 100, a dictionary's key may be one, a struct has a member, its members
--- have names of their own, and its smallest spelling is not longer than 1,048,576 bytes; a struct's members have no
--- tag
+-- a sequence may be added: its element is a type of the tables, and it nests at most 100 deep
 abbrev pub SeqFits : Tables → TypeRef → Type 0
 SeqFits t element = (m : Measure) × (measure t (MOST_DEPTH - 1) element ≡ Some m)
 
+-- a dictionary may be added: its key may be one, and no part nests too deep
 abbrev pub DictFits : Tables → TypeRef → TypeRef → Type 0
 DictFits t key value = (k v : Measure) × (measure t (MOST_DEPTH - 2) key ≡ Some k) × (k.is_key ≡ true) × (measure t (MOST_DEPTH - 2) value ≡ Some v)
 
@@ -103,8 +102,7 @@ abbrev pub AreRising : ℕ → List Member → Type 0
 AreRising least [] = Unit {0}
 AreRising least (m ∷ ms) = (tag : ℕ) × (m.tag ≡ Some tag) × (least ≤ tag) × (tag ≤ MOST_NUMBER) × AreRising (suc tag) ms
 
--- required members without a tag, then optional ones by rising tag; an operation's shapes fit, the names of all its
--- arguments and results differ, and it throws exceptions of the tables
+-- required members without a tag, then optional ones by rising tag
 abbrev pub ShapeFits : Tables → Shape → Type 0
 ShapeFits t s = AreOf t s.required × AreRequired s.required × AreOf t s.optional × AreRising 0 s.optional
 

@@ -38,6 +38,7 @@ unfoldable pub open_wants : Tables → Open → ℕ
 open_wants t (each sort levels left had) = 1 + length (kinds_left t left) * weight t levels
 open_wants t (pairs levels key value left part waits had) = 1 + (2 * left + value_waits part waits) * weight t levels
 
+-- how much the parts of a value that has begun ask for
 abbrev pub wants : Tables → Frame → ℕ
 wants t f = open_wants t (opened f)
 

@@ -60,6 +60,7 @@ HasParts (kinds.Class at) = ⊥
 abbrev pub seen : {A : Type 0} → (A → Tree) → Result (A × Rest) Fault → Result (Tree × Rest) Fault
 seen make read = read >>= λ x. Ok (make x.0, x.1)
 
+-- reading a value without parts
 abbrev pub leaf_at : Tables → TypeRef → Rest → Result (Tree × Rest) Fault
 leaf_at t kinds.Bool r = seen boolean (bool_at r)
 leaf_at t kinds.Byte r = seen byte (byte_at r)

@@ -10,5 +10,6 @@ use Rattle.ice_encoding.specs.Pausing.{Met, known, Put}
 abbrev pub number_taken : Option ℕ → Reader (Unit {0}) Met
 number_taken at s r = size_at r >>= λ n. Ok (known (number_of n.0), s, n.1)
 
+-- the bytes of a reference as a number, at which nothing begins
 abbrev pub number_put : Option ℕ → Unit {0} → Put (Unit {0})
 number_put n s = record { bytes = size_bytes (size_of n); begun = None; after = s }

@@ -21,6 +21,7 @@ with_tag members = filter (λ m. is_some m.tag) members
 abbrev pub told_apart : Shape → Shape
 told_apart s = record { required = without_tag s.required; optional = with_tag s.optional }
 
+-- the shape of the members that are handed over
 abbrev pub shape_seen : DeclaredMembers → Shape
 shape_seen f = told_apart (handed f)
 

@@ -13,6 +13,7 @@ abbrev pub met_of : Met → pausing.Met
 met_of (mets.Known name) = pausing.known name
 met_of (mets.Begins n) = pausing.begins n
 
+-- what a port that reads answers
 abbrev pub TakesMet : {S : Type 0} → Result Met ReadFault → Result (pausing.Met × S × Rest) Fault → S → Rest → Type 0
 TakesMet (Ok x) take s' r' = take ≡ Ok (met_of x, s', r')
 TakesMet (Err e) take s' r' = Fails e take

@@ -49,7 +49,7 @@ module _ {S : Type 0} (take : Option ℕ → Reader S Met) (t : Tables) (inside 
   from_member None had kinds s r = required_behind had kinds s r
   from_member (Some reader) had kinds s r = then (left_of take t inside reader s r) (λ v. required_behind (add had v) kinds)
 
-  -- what is still read of the required members, of the optional ones, of both
+  -- what is still read of the required members
   abbrev pub left_required : List Member → RequiredReader → Reader S Trees
   left_required members reader = from_member reader.reader (view_all reader.done) (kinds_left members reader.next)
 
@@ -68,6 +68,7 @@ module _ {S : Type 0} (take : Option ℕ → Reader S Met) (t : Tables) (inside 
     from_item None had steps last s r = options_behind had steps last s r
     from_item (Some item) had steps last s r = then (then (left_of take t inside item.reader s r) (leaving item.behind)) (λ v. options_behind (kept had item.tag (Some v)) steps last)
 
+    -- of the optional ones
     abbrev pub left_options : OptionsReader → Reader S Present
     left_options reader = from_item reader.item (view_present reader.done) reader.steps reader.last
 

@@ -39,7 +39,7 @@ pub record Remaining : Type 0 where
   -- whether the marker stands behind them
   pub marked : Bool
 
--- what is still written of members; before the first byte; the members by themselves
+-- what is still written of members
 abbrev pub remaining : MembersWriter → Remaining
 remaining writer = record { values = lists writer.values; place = writer.place; optional = view_present writer.optional.now; marked = writer.marked }
 
@@ -90,6 +90,7 @@ OptionsFit (o ∷ os) = (o.0 < 2 ^ 31) × HasSizes o.1 × OptionsFit os
 abbrev pub ContentCanBeWritten : Members → Type 0
 ContentCanBeWritten c = InEach HasSize c.required × OptionsFit c.optional
 
+-- the sizes and tags of what is left are at most the greatest int
 abbrev pub RemainingFits : Remaining → List ℕ → Type 0
 RemainingFits r out = all_fit r.values × OptionsFit r.optional × Stands r.place out
 

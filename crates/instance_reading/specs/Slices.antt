@@ -84,6 +84,7 @@ module _ (refer : Option ℕ → Reader (State ℕ) (Option ℕ)) where
     left_next None = given []
     left_next (Some before) = slices_from refer sort t steps before
 
+    -- what is still read of the slice
     abbrev pub left_open : Open → Reader (State ℕ) (List graphs.Slice)
     left_open o = followed (left_table o) (λ slice. made (one_more slice) (left_next o.next))
 

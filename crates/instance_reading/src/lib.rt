@@ -15,6 +15,8 @@
 //!   says which classes there are (`read_same`).
 //! - An instance is read whole where it begins in the members of a content or in the slices of an exception
 //!   (`read_instance`): a stack stands only while one is read, and both readers are a loop of a few lines.
+//! - An instance with a single slice takes room for one: a list that grows takes room for four at first, which a
+//!   chain of 100,000 instances of nine bytes would pay for with 35 MiB.
 #![tactic(auto)]
 
 mod arena;

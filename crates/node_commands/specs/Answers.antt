@@ -8,8 +8,7 @@ use Rattle.graph_json.specs.Texts.{kind_name as json_kind_name}
 use Rattle.slice_meaning.specs.Printed.{LoadBreak}
 use Rattle.node_commands.specs.Words.{Word}
 
--- the answers of the program, their statuses, and their lines on the sink of errors; where a fault of a Slice text
--- stands, as `FILE:PLACE: KIND`, and one of an input, as `PLACE: KIND`
+-- the answers of the program
 pub data Answer : Type 0 where
   -- these bytes were written
   done : List ℕ → Answer
@@ -40,6 +39,7 @@ pub data Answer : Type 0 where
   read_failed_after : List ℕ → Answer
   no_memory_after : List ℕ → Answer
 
+-- the status of each
 abbrev pub status : Answer → ℕ
 status (done bytes) = 0
 status (different bytes) = 1

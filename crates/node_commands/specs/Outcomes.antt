@@ -118,6 +118,7 @@ abbrev pub verdict_line : Bool → List ℕ
 verdict_line true = codes "same\n"
 verdict_line false = codes "different\n"
 
+-- the outcome of whether two values are the same
 abbrev pub verdict : Bool → Outcome
 verdict true = outcomes.Done
 verdict false = outcomes.Different
@@ -134,6 +135,7 @@ abbrev pub found_outcome : Found → Outcome
 found_outcome (founds.Bytes bytes) = outcomes.Done
 found_outcome (founds.Verdict same) = verdict same
 
+-- the answer of what was found
 abbrev pub found_answer : Found → Answer
 found_answer found = answer_of (found_outcome found) (found_bytes found)
 
@@ -227,6 +229,7 @@ abbrev pub bytes_found : {E : Type 0} → Result (Vec ℕ Global) E → Result (
 bytes_found (Ok found) = Ok found.items
 bytes_found (Err e) = Err e
 
+-- the bytes of a text that was found
 abbrev pub text_found : {E : Type 0} → Result (String Global) E → Result (List ℕ) E
 text_found (Ok found) = Ok (string_bytes found)
 text_found (Err e) = Err e

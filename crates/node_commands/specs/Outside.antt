@@ -43,11 +43,12 @@ outside files input output errors failures error_failures = record {
 
 -- ---- what failed between two moments: one call at most
 
--- between two moments no call failed; or one of this object did, once, and none of the others
+-- between two moments no call failed
 abbrev pub NoneFailed : Failures → Failures → Type 0
 NoneFailed before after = (after.shelf ≡ before.shelf)
     × (after.source ≡ before.source) × (after.sink ≡ before.sink)
 
+-- the shelf failed, once, and none of the others; so below of the source and the sink
 abbrev pub ShelfFailed : Failures → Failures → Type 0
 ShelfFailed before after = (after.shelf ≡ one_more before.shelf)
     × (after.source ≡ before.source) × (after.sink ≡ before.sink)

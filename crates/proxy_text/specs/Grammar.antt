@@ -54,6 +54,7 @@ abbrev pub endpoint_by : Transport → Rest → Parsed (Endpoint × Rest)
 endpoint_by transport_kinds.Tcp r = options_at tcp_flags is_tcp_given with_tcp_flag no_tcp_options r >>= λ o. Ok (tcp_of o.0, o.1)
 endpoint_by transport_kinds.Opaque r = opaque_at r
 
+-- an endpoint that begins here
 abbrev pub endpoint_at : Rest → Parsed (Endpoint × Rest)
 endpoint_at r = word_as (listed transports) r >>= λ t. endpoint_by t.0 t.1
 
@@ -77,6 +78,7 @@ abbrev pub location_from : Rest → Option Rest → Parsed (List Endpoint × Lis
 location_from r None = endpoints_at r >>= λ es. Ok (es, [])
 location_from r (Some behind) = word_as text_of behind >>= λ adapter. end_at adapter.1 >>= λ e. Ok ([], adapter.0)
 
+-- the endpoints or the adapter behind the options
 abbrev pub location_at : Rest → Parsed (List Endpoint × List ℕ)
 location_at r = location_from r (at_ahead r)
 

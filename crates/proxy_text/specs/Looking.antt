@@ -46,6 +46,7 @@ at_from colon r = None
 at_from at r = Some r
 at_from end r = None
 
+-- whether `@` stands next, and what follows it
 unfoldable pub at_ahead : Rest → Option Rest
 at_ahead r = at_from (next r).token (next r).rest
 

@@ -14,6 +14,7 @@ ServerRun state (event ∷ events) actions =
     (action : ServerAction) × (next_ : ServerState) × (rest : List ServerAction)
     × (server_row state event ≡ Some (action, next_)) × ServerRun next_ events rest × (actions ≡ action ∷ rest)
 
+-- the action dispatches a request
 abbrev pub is_dispatch : ServerAction → Bool
 is_dispatch Dispatch = true
 is_dispatch SendValidate = false
@@ -22,6 +23,7 @@ is_dispatch Read = false
 is_dispatch SendClose = false
 is_dispatch Leave = false
 
+-- the action sends a reply
 abbrev pub is_reply : ServerAction → Bool
 is_reply SendReply = true
 is_reply SendValidate = false

@@ -17,6 +17,7 @@ StandsAt text place piece = Begins (take place text) (drop place text) piece
 abbrev pub BreaksAt : List ℕ → ℕ → LexFault → Type 0
 BreaksAt text place fault = Breaks place (take place text) (drop place text) fault
 
+-- how long a piece is
 abbrev pub length_of : Piece → ℕ
 length_of (pieces.Gap length) = length
 length_of (pieces.Token kind length) = length
@@ -48,6 +49,7 @@ LexBreaks text fault = (tokens : List Token) × (place : ℕ) × ReadsTokens tex
 abbrev pub HasTokens : List ℕ → Type 0
 HasTokens text = (tokens : List Token) × Lexes text tokens
 
+-- the text has some first defect
 abbrev pub HasDefect : List ℕ → Type 0
 HasDefect text = (fault : LexFault) × LexBreaks text fault
 

@@ -113,5 +113,6 @@ front place before bytes =
     else if first bytes == hash then directive_at place before bytes
     else symbol_at place bytes
 
+-- what stands at this place of the text
 abbrev pub front_at : List ℕ → ℕ → Front
 front_at text place = front place (take place text) (drop place text)

@@ -26,6 +26,7 @@ IsEscaped (byte ∷ bytes) = (byte ≡ backslash) × IsIdentifier bytes
 
 -- Integer literals.
 
+-- digits of a base
 abbrev pub AreDigits : ℕ → List ℕ → Type 0
 AreDigits base bytes = IsTrue (list_all (λ byte. is_digit byte base) bytes)
 
@@ -64,6 +65,7 @@ IsString bytes = (inside : List ℕ) × (bytes ≡ quote ∷ inside ++ quote ∷
 
 -- Lines.
 
+-- no line ends in these bytes
 abbrev pub IsOnOneLine : List ℕ → Type 0
 IsOnOneLine bytes = IsTrue (list_all (λ byte. not (byte == newline)) bytes)
 

@@ -48,6 +48,7 @@ directive =
     (or (token (terminals.Aside ∷ []) (λ l. aside))
     (made (λ place. aside) file_metadata)))
 
+-- the heads of a file, which stand before its modules
 unfoldable pub directives : Grammar (List Head)
 directives = many directive
 
@@ -69,6 +70,7 @@ is_guarded (include name ∷ heads) = is_guarded heads
 abbrev pub Notes : List (List ℕ × ℕ) → List (List ℕ × ℕ) → Bool → List Head → Type 0
 Notes old new guarded heads = (guarded ≡ is_guarded heads) × (new ≡ old ++ includes_in heads)
 
+-- what is known after one head
 abbrev pub NotesOne : List (List ℕ × ℕ) → List (List ℕ × ℕ) → Bool → Head → Type 0
 NotesOne old new guards h = Notes old new guards (h ∷ [])
 

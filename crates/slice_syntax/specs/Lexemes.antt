@@ -18,6 +18,7 @@ pub record Lexeme : Type 0 where
   pub from : ℕ
   pub bytes : List ℕ
 
+-- tokens, each with its bytes
 abbrev pub Lexemes : Type 0
 Lexemes = List Lexeme
 

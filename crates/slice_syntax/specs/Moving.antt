@@ -32,6 +32,7 @@ abbrev pub move : Open → Grammar Move
 move [] = outer_move
 move (count ∷ others) = inner_move
 
+-- which modules are open after a move
 abbrev pub moved : Open → Move → Open
 moved others (enter words) = length words ∷ others
 moved others (hold item) = others

@@ -31,6 +31,7 @@ starts (both make g h) = cond (is_empty g) (starts g ++ starts h) (starts g)
 starts (or g h) = starts g ++ starts h
 starts (series more g) = starts g
 
+-- one token of these terminals
 abbrev pub token_at : {A : Type 0} → List Terminal → (Lexeme → A) → Lexemes → Reading A
 token_at terminals view [] = Err []
 token_at terminals view (l ∷ ls) = cond (has terminals (terminal_of l)) (Ok (view l, ls)) (Err (l ∷ ls))

@@ -64,6 +64,7 @@ module _ (t : Tables) (g : Graph) where
     IsWell None = AreMembers t (RefersIn t g.instances) shape g.roots
     IsWell (Some n) = IsFine n
 
+    -- the roots, or an instance of the graph
     abbrev pub IsPart : Option ℕ → Type 0
     IsPart None = Unit {0}
     IsPart (Some n) = n < length g.instances

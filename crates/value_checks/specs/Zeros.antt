@@ -15,10 +15,12 @@ abbrev pub first_number : List Entry → ℕ
 first_number [] = 0
 first_number (e ∷ es) = e.number
 
+-- the entries of an enum that is there
 abbrev pub entries_in : Option EnumDecl → List Entry
 entries_in None = []
 entries_in (Some e) = e.entries
 
+-- the members of a struct that is there
 abbrev pub members_in : Option StructDecl → List Member
 members_in None = []
 members_in (Some d) = d.members
