@@ -6,8 +6,8 @@ usage: build.py run WORD..    builds the program, and becomes it with these word
        build.py take FILE     notes that the program that is there was built of the sources as they stood at FILE's time
 
 The crates that the program stands on are proved side by side, and no others. Each has a line on standard error as it
-ends; on a terminal it is the last one, written anew. What was interrupted goes on where it was. Another `ice`, and one
-that finds `rt ci` at work in this checkout, waits; a program that `rt ci` built of these sources is taken as it is. Status
+ends; on a terminal it is the last one, written anew. What was interrupted goes on where it was. A second call, and one
+that finds `rt ci` at work in this checkout, waits and says so; a program that `rt ci` built of these sources is taken as it is. Status
 70 says that the program could not be built; the whole log of that is crates/ice/out/launcher.log.
 """
 import contextlib
@@ -359,7 +359,7 @@ def is_built_here(crates):
     """Builds the program, unless `rt ci` has. Returns False where another process was at it meanwhile."""
     # rt locks the crates' folders, so the lock is on this file.
     with open(f"{TOP}/ice", "rb") as lock:
-        if waits_for(lock, fcntl.LOCK_EX, "another one is building the program: waiting for it"):
+        if waits_for(lock, fcntl.LOCK_EX, "another call is building the program: waiting for it"):
             return False
         if not is_taken_from_gate(crates):
             build(crates)
