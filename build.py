@@ -7,8 +7,8 @@ usage: build.py run WORD..    builds the program, and becomes it with these word
 
 The crates that the program stands on are proved side by side, and no others. Each has a line on standard error as it
 ends; on a terminal it is the last one, written anew. What was interrupted goes on where it was. A second call, and one
-that finds `rt ci` at work in this checkout, waits and says so; a program that `rt ci` built of these sources is taken as it is. Status
-70 says that the program could not be built; the whole log of that is crates/ice/out/launcher.log.
+that finds `rt ci` at work in this checkout, waits and says so; a program that `rt ci` built of these sources is taken as
+it is. Status 70 says that the program could not be built; the whole log of that is crates/ice/out/launcher.log.
 """
 import contextlib
 import fcntl
