@@ -6,9 +6,9 @@ usage: build.py run WORD..    builds the program, and becomes it with these word
        build.py take FILE     notes that the program that is there was built of the sources as they stood at FILE's time
 
 The crates that the program stands on are proved side by side, and no others. Each has a line on standard error as it
-ends; on a terminal it is the last one, written anew. What was interrupted goes on where it was. Another `ice`, and one
-that finds `rt ci` at work in this checkout, waits; a program that `rt ci` built of these sources is taken as it is. Status
-70 says that the program could not be built; the whole log of that is crates/ice/out/launcher.log.
+ends; on a terminal it is the last one, written anew. What was interrupted goes on where it was. A second call, and one
+that finds `rt ci` at work in this checkout, waits and says so; a program that `rt ci` built of these sources is taken as
+it is. Status 70 says that the program could not be built; the whole log of that is crates/ice/out/launcher.log.
 """
 import contextlib
 import fcntl
@@ -96,7 +96,7 @@ def changed_last(crates):
         for folder, folders, names in os.walk(f"{TOP}/crates/{crate}"):
             folders[:] = [it for it in folders if it != "out"]
             files += [f"{folder}/{it}" for it in names]
-    return max(os.stat(it).st_mtime_ns for it in files)
+    return max(os.lstat(it).st_mtime_ns for it in files)
 
 
 # The stamp
@@ -247,8 +247,9 @@ def lines_of(stream, idle):
 
 
 def run_rt(words, folder, progress, log):
-    """Runs rt with its output in the log, tells each crate that ends, and returns its status, or 0 as soon as it says that the program is
-    proved: then it is ended, and so where this process is. It has a session of its own, in which no Ctrl-C reaches it."""
+    """Runs rt with its output in the log, tells each crate that ends, and returns its status. As soon as `rt ci` says that the program is
+    proved, or that a crate is not, that is all there is to know: rt is ended, with status 0 or 1. It has a session of its own, in which
+    no Ctrl-C reaches it, and is ended where this process is."""
     how = {"stdin": subprocess.DEVNULL, "stdout": subprocess.PIPE, "stderr": subprocess.STDOUT, "start_new_session": True}
     child = subprocess.Popen(["rt", *words], cwd=folder, **how)
     try:
@@ -257,8 +258,8 @@ def run_rt(words, folder, progress, log):
             ended = ENDED[WAY].match(line)
             if ended:
                 progress.end(ended[1])
-                if PROVED.match(line):
-                    return 0
+                if PROVED.match(line) or line.endswith("NOT PROVED"):
+                    return 0 if PROVED.match(line) else 1
             elif line.startswith("rt: ") and "waiting for " in line:
                 progress.close()
                 tell(f"ice: {line}")
@@ -278,12 +279,17 @@ def build_by_all(_, progress, log):
 def build_by_ci(crates, progress, log):
     """Proves a copy without must-fail edits, and keeps what it proves beside the toolchain, where `rt ci` finds it in any checkout.
     Tests are proved where processors are free, until the program is."""
-    left_out = {f"{TOP}/crates/{it}": ["out", "must-fail"] for it in crates}
+    folders = [f"{TOP}/crates/{it}" for it in crates]
+
+    def left_out(folder, names):
+        """Links too, which rt takes for none of its files and editors leave while they change one."""
+        return [it for it in names if folder in folders and it in ("out", "must-fail") or os.path.islink(f"{folder}/{it}")]
+
     # rt removes what is left of a folder of this name, where this process was killed.
     room = tempfile.mkdtemp(prefix=f"rt-copy-{os.getpid()}-")
     try:
         for it in crates:
-            shutil.copytree(f"{TOP}/crates/{it}", f"{room}/crates/{it}", ignore=lambda at, _: left_out.get(at, []))
+            shutil.copytree(f"{TOP}/crates/{it}", f"{room}/crates/{it}", ignore=left_out)
         with open(f"{TOP}/crates.txt", encoding="utf-8") as whole, open(f"{room}/crates.txt", "w", encoding="utf-8") as part:
             part.writelines(it for it in whole if it.partition(":")[0].split()[:1] in [[name] for name in crates])
         if os.path.exists(f"{TOP}/HANDLES"):
@@ -353,7 +359,7 @@ def is_built_here(crates):
     """Builds the program, unless `rt ci` has. Returns False where another process was at it meanwhile."""
     # rt locks the crates' folders, so the lock is on this file.
     with open(f"{TOP}/ice", "rb") as lock:
-        if waits_for(lock, fcntl.LOCK_EX, "another one is building the program: waiting for it"):
+        if waits_for(lock, fcntl.LOCK_EX, "another call is building the program: waiting for it"):
             return False
         if not is_taken_from_gate(crates):
             build(crates)
