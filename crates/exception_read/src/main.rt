@@ -2,16 +2,15 @@
 //!
 //! usage: exception_read [--compact] FILE
 //!
-//! The input is one encapsulation of an exception. Its slices whose exceptions the Slice file FILE has are read,
-//! the others are kept. It is written in sliced format, with `--compact` in compact format. A refusal has the
-//! status and the line of `ice relay`.
+//! The input is one encapsulation of an exception. Its slices whose exceptions the Slice file FILE has are read, the others are kept. It
+//! is written in sliced format, with `--compact` in compact format. A refusal has the status and the line of `ice relay`.
 #![tactic(auto)]
 
-use class_slices::{Format, UserExceptionFault, read_exception, write_exception};
+use class_slices::{Format, UserException, UserExceptionFault, read_exception, write_exception};
 use ice_encoding::LARGEST;
-use ice_ports::{FolderShelf, Shelf, Source, StdSink, StdSource};
-use ice_prims::ReadFault;
+use ice_ports::{FolderShelf, Shelf, Sink, Source, StdSink, StdSource};
 use ice_relay::read_input;
+use ice_types::Schema;
 use node_commands::{Outcome, print, report};
 use slice_check::load;
 use slice_lexer::MOST_BYTES;
@@ -22,8 +21,7 @@ use std::{env, io};
 /// No more bytes of a file are read: a text has fewer.
 const MOST_OF_A_FILE: u64 = MOST_BYTES as u64 + 1;
 
-/// The name of the file and the format that the words after the program's name ask for, None where they are none of
-/// the listed forms.
+/// The name of the file and the format that the words after the program's name ask for, None where they are none of the listed forms.
 fn asked(words: &[String]) -> Option<(&str, Format)> {
     match words {
         [_, file] => Some((file.as_str(), Format::Sliced)),
@@ -34,24 +32,66 @@ fn asked(words: &[String]) -> Option<(&str, Format)> {
     }
 }
 
-/// What is written for the exception that the source holds, or why there is nothing.
-fn written<H: Shelf, S: Source>(
+/// Reads and writes as the words ask, and answers the status to end with.
+fn relayed<H: Shelf, S: Source, K: Sink, E: Sink>(
     alloc: Global,
     words: &[String],
     shelf: &mut H,
     source: &mut S,
-) -> Result<Vec<u8>, Outcome<'static>> {
-    let (file, format) = asked(words).ok_or(Outcome::Usage)?;
-    let schema = load(alloc, shelf, file)?;
-    let input = read_input(alloc, source)?;
-    let user_exception = read_exception(alloc, &schema, input.as_slice()).map_err(of_reading)?;
-    write_exception(alloc, &schema, user_exception, format, LARGEST as u32).map_err(of_writing)
+    sink: &mut K,
+    errors: &mut E,
+) -> u8 {
+    let Some((file, format)) = asked(words) else {
+        return report(Outcome::Usage, errors);
+    };
+    match load(alloc, shelf, file) {
+        Ok(schema) => relayed_by(alloc, &schema, format, source, sink, errors),
+        Err(fault) => report(Outcome::from(fault), errors),
+    }
 }
 
-fn of_reading(fault: ReadFault) -> Outcome<'static> {
-    match fault {
-        ReadFault::Broken(fault) => Outcome::InputRefused(fault),
-        ReadFault::Memory => Outcome::Memory,
+/// The same by a schema.
+fn relayed_by<S: Source, K: Sink, E: Sink>(
+    alloc: Global,
+    schema: &Schema,
+    format: Format,
+    source: &mut S,
+    sink: &mut K,
+    errors: &mut E,
+) -> u8 {
+    match read_input(alloc, source) {
+        Ok(input) => read(alloc, schema, format, input.as_slice(), sink, errors),
+        Err(fault) => report(Outcome::from(fault), errors),
+    }
+}
+
+/// The same of an input.
+fn read<K: Sink, E: Sink>(
+    alloc: Global,
+    schema: &Schema,
+    format: Format,
+    input: &[u8],
+    sink: &mut K,
+    errors: &mut E,
+) -> u8 {
+    match read_exception(alloc, schema, input) {
+        Ok(found) => written(alloc, schema, format, found, sink, errors),
+        Err(fault) => report(Outcome::from(fault), errors),
+    }
+}
+
+/// The same of an exception.
+fn written<K: Sink, E: Sink>(
+    alloc: Global,
+    schema: &Schema,
+    format: Format,
+    found: UserException,
+    sink: &mut K,
+    errors: &mut E,
+) -> u8 {
+    match write_exception(alloc, schema, found, format, LARGEST as u32) {
+        Ok(bytes) => report(print(bytes.as_slice(), sink), errors),
+        Err(fault) => report(of_writing(fault), errors),
     }
 }
 
@@ -65,16 +105,24 @@ fn of_writing(fault: UserExceptionFault) -> Outcome<'static> {
     }
 }
 
+fn words(rt: &HostRuntime) -> io::Result<Vec<String>> {
+    Ok(env::args(rt)?.collect(rt.alloc())?)
+}
+
 fn main(rt: HostRuntime) -> io::Result<ExitCode> {
-    let alloc = rt.alloc();
-    let words: Vec<String> = env::args(&rt)?.collect(alloc)?;
+    let words = words(&rt)?;
     let mut source = StdSource::input(&rt);
     let mut sink = StdSink::output(&rt);
     let mut errors = StdSink::error(&rt);
-    let mut shelf = FolderShelf::new(&rt, MOST_OF_A_FILE);
-    let outcome = match written(alloc, words.as_slice(), &mut shelf, &mut source) {
-        Ok(bytes) => print(bytes.as_slice(), &mut sink),
-        Err(outcome) => outcome,
-    };
-    Ok(ExitCode::from(report(outcome, &mut errors)))
+    let alloc = rt.alloc();
+    let mut shelf = FolderShelf::new(rt, MOST_OF_A_FILE);
+    let status = relayed(
+        alloc,
+        words.as_slice(),
+        &mut shelf,
+        &mut source,
+        &mut sink,
+        &mut errors,
+    );
+    Ok(ExitCode::from(status))
 }

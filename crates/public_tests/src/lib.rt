@@ -3,6 +3,8 @@
 #![tactic(auto)]
 
 #[cfg(test)]
+mod calls;
+#[cfg(test)]
 mod dumps;
 #[cfg(test)]
 mod exceptions;
@@ -23,8 +25,12 @@ mod ports;
 #[cfg(test)]
 mod proxies;
 #[cfg(test)]
+mod retries;
+#[cfg(test)]
 mod slice_files;
 #[cfg(test)]
 mod top_call;
+#[cfg(test)]
+mod turnstiles;
 #[cfg(test)]
 mod values;
