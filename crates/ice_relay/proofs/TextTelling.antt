@@ -21,7 +21,7 @@ use Rattle.ice_relay.specs.Relaying.{root_of, one_value}
 use Rattle.ice_relay.proofs.Holding.{asked, asked_is, holds, writes}
 use Rattle.ice_relay.specs.Dumping.{Dumps}
 use Rattle.ice_relay.specs.Encoding.{EncodesText}
-use Rattle.ice_relay.specs.TextFaults.{of_json, of_write}
+use Rattle.ice_relay.specs.Faults.{of_json, of_write}
 
 module _ (t : Tables) (kind : TypeRef) (root : Member) (is : root ≡ root_of kind) where
   -- ---- a line

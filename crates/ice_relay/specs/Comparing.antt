@@ -60,6 +60,7 @@ abbrev pub Compares : Tables → TypeRef → List ℕ → Result Bool RelayFault
 Compares t kind input (Ok same) = (g h : Graph) × HoldTwo t kind input g h × CanBeCompared t kind g h
     × (IsTrue same ↔ Same g h)
 Compares t kind input (Err (faults.Broken fault)) = two_held t kind input ≡ Err fault
+Compares t kind input (Err (faults.TextRefused why)) = ⊥
 Compares t kind input (Err faults.NeedsSliced) = ⊥
 Compares t kind input (Err (faults.TooLong n)) = (g h : Graph) × HoldTwo t kind input g h × IsFirstLong t kind g h n
 Compares t kind input (Err faults.Memory) = Unit {0}

@@ -3,7 +3,6 @@ pub mod Faults
 pub mod Relaying
 pub mod Comparing
 pub mod TextStreams
-pub mod TextFaults
 pub mod Dumping
 pub mod Encoding
 pub mod Drawn

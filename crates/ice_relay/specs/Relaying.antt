@@ -43,6 +43,7 @@ abbrev pub Canonicalizes : Tables → TypeRef → Format → List ℕ → Result
 Canonicalizes t kind f input (Ok bytes) = (g : Graph) × Holds t kind input g × IsWritable f g
     × (bytes.items ≡ canonical_bytes t kind f g) × (length bytes.items ≤ LARGEST)
 Canonicalizes t kind f input (Err (faults.Broken fault)) = held t kind input ≡ Err fault
+Canonicalizes t kind f input (Err (faults.TextRefused why)) = ⊥
 Canonicalizes t kind f input (Err faults.NeedsSliced) = (g : Graph) × Holds t kind input g × NeedsSliced f g
 Canonicalizes t kind f input (Err (faults.TooLong n)) = (g : Graph) × Holds t kind input g × IsWritable f g
     × (n ≡ length (canonical_bytes t kind f g)) × (LARGEST < n)

@@ -3,8 +3,8 @@
 ghost use Rattle.instance_writing.specs.Formats.{view_format};
 ghost use Rattle.ice_relay.specs.Encoding.{EncodesText};
 
+use crate::fault::RelayFault;
 use crate::relay::root_of;
-use crate::text_fault::TextRelayFault;
 use class_slices::{Format, encode_typed};
 use graph_json::from_text;
 use ice_encoding::LARGEST;
@@ -22,7 +22,7 @@ pub fn canonical_of_text(
     kind: TypeRef,
     format: Format,
     text: &[u8],
-) -> Result<Vec<u8>, TextRelayFault>
+) -> Result<Vec<u8>, RelayFault>
     ensures { EncodesText schema.now kind (view_format format) text.now result }
 {
     let root = [root_of(alloc, kind)?];

@@ -29,7 +29,6 @@ mod laws;
 mod node_schema;
 mod relay;
 mod telling;
-mod text_fault;
 mod text_input;
 
 pub use comparing::{MOST_COMPARED, are_same};
@@ -41,5 +40,4 @@ pub use fault::RelayFault;
 pub use input::{read_input, read_two, read_up_to, reading_decides, two_decided};
 pub use laws::{noted_bytes, text_decides};
 pub use relay::{canonical_of, root_of};
-pub use text_fault::TextRelayFault;
 pub use text_input::read_text;

@@ -13,8 +13,6 @@ use Rattle.ice_graphs.specs.Canonical.{Format as Form, IsWritable}
 use Rattle.ice_graphs.specs.Same.{Same}
 use Rattle.graph_json.specs.declared.fault.JsonKind.{JsonKind}
 use Rattle.graph_json.specs.Texts.{IsRefused, Lists}
-use Rattle.ice_relay.specs.declared.text_fault.TextRelayFault.{TextRelayFault}
-use Rattle.ice_relay.specs.declared.text_fault.TextRelayFault.TheVariants as text_faults
 use Rattle.ice_relay.specs.Dumping.{Dumps}
 use Rattle.ice_relay.specs.Encoding.{EncodesText}
 use Rattle.ice_relay.specs.TextStreams.{ReadsText}
@@ -44,7 +42,7 @@ use Rattle.node_commands.specs.Answers.{Answer, done, slice_refused, input_refus
 use Rattle.node_commands.specs.Decided.{IsSchema, IsNamed, WithType, IsHeld, IsInputFault, AreHeld, IsFaultOfTwo, IsListed, IsTextFault, Encapsulates, IsVerdict, Does}
 use Rattle.node_commands.specs.Causes.{Causes}
 use Rattle.node_commands.specs.Effects.{TakesTask, Takes}
-use Rattle.node_commands.specs.Outcomes.{GivesNoSchema, FindsNone, FindsTask, Finds, TakesFound, answer_of, found_answer, of_port, of_read, of_relay, of_json}
+use Rattle.node_commands.specs.Outcomes.{GivesNoSchema, FindsNone, FindsTask, Finds, TakesFound, answer_of, found_answer, of_port, of_read, of_relay}
 use Rattle.node_commands.specs.declared.found.Found.{Found}
 use Rattle.node_commands.specs.declared.found.Found.TheVariants as founds
 use Rattle.node_commands.specs.declared.outcome.Outcome.{Outcome}
@@ -180,6 +178,7 @@ module _ (t : Tables) (kind : TypeRef) (input now : Option (List ℕ)) (got : Li
 
     pub relay_none : (before after : ℕ) (fault : RelayFault) (outcome : Outcome) → outcome ≡ of_relay fault → Canonicalizes t kind (view_format format) got (Err fault) → after ≡ before → FindsNone (tasks.Relay format) input t kind before after (answer_of outcome [])
     relay_none before after (faults.Broken fault) outcome from refused count = rw from (inl (fault, fault_read t kind input now got fault read refused, refl), count)
+    relay_none before after (faults.TextRefused why) outcome from never count = absurd never
     relay_none before after faults.NeedsSliced outcome from (g, holds, needs) count = rw from (inr (g, graph_read t kind input now got g read holds, inl (needs, refl)), count)
     relay_none before after (faults.TooLong n) outcome from (g, holds, writable, is, above) count = rw from (inr (g, graph_read t kind input now got g read holds, too_much (view_format format) t kind g n writable is above), count)
     relay_none before after faults.Memory outcome from refused count = rw from count
@@ -196,11 +195,12 @@ module _ (t : Tables) (kind : TypeRef) (input now : Option (List ℕ)) (got : Li
     pub encode_finds : (bytes : Vec ℕ Global) → EncodesText t kind (view_format format) got (Ok bytes) → Does (tasks.Encode format) input t kind (done bytes.items)
     encode_finds bytes (g, lists, writable, is, small) = inr (g, text_read t kind input now got g read lists, written (view_format format) t kind g bytes.items writable is small)
 
-    pub encode_none : (before after : ℕ) (fault : TextRelayFault) (outcome : Outcome) → outcome ≡ of_json fault → EncodesText t kind (view_format format) got (Err fault) → after ≡ before → FindsNone (tasks.Encode format) input t kind before after (answer_of outcome [])
-    encode_none before after (text_faults.Refused why) outcome from refused count = rw from (inl (why, fault_of_text t kind input now got why read refused, refl), count)
-    encode_none before after text_faults.NeedsSliced outcome from (g, lists, needs) count = rw from (inr (g, text_read t kind input now got g read lists, inl (needs, refl)), count)
-    encode_none before after (text_faults.TooLong n) outcome from (g, lists, writable, is, above) count = rw from (inr (g, text_read t kind input now got g read lists, too_much (view_format format) t kind g n writable is above), count)
-    encode_none before after text_faults.Memory outcome from refused count = rw from count
+    pub encode_none : (before after : ℕ) (fault : RelayFault) (outcome : Outcome) → outcome ≡ of_relay fault → EncodesText t kind (view_format format) got (Err fault) → after ≡ before → FindsNone (tasks.Encode format) input t kind before after (answer_of outcome [])
+    encode_none before after (faults.Broken fault) outcome from never count = absurd never
+    encode_none before after (faults.TextRefused why) outcome from refused count = rw from (inl (why, fault_of_text t kind input now got why read refused, refl), count)
+    encode_none before after faults.NeedsSliced outcome from (g, lists, needs) count = rw from (inr (g, text_read t kind input now got g read lists, inl (needs, refl)), count)
+    encode_none before after (faults.TooLong n) outcome from (g, lists, writable, is, above) count = rw from (inr (g, text_read t kind input now got g read lists, too_much (view_format format) t kind g n writable is above), count)
+    encode_none before after faults.Memory outcome from refused count = rw from count
 
   module _ (read : ReadsTwo input now got) where
     pub same_finds : (same : Bool) → Compares t kind got (Ok same) → Does tasks.Same input t kind (found_answer (founds.Verdict same))
@@ -215,6 +215,7 @@ module _ (t : Tables) (kind : TypeRef) (input now : Option (List ℕ)) (got : Li
 
     pub same_none : (before after : ℕ) (fault : RelayFault) (outcome : Outcome) → outcome ≡ of_relay fault → Compares t kind got (Err fault) → after ≡ before → FindsNone tasks.Same input t kind before after (answer_of outcome [])
     same_none before after (faults.Broken fault) outcome from refused count = rw from (inl (fault, fault_of_two t kind input now got fault read refused, refl), count)
+    same_none before after (faults.TextRefused why) outcome from never count = absurd never
     same_none before after faults.NeedsSliced outcome from never count = absurd never
     same_none before after (faults.TooLong n) outcome from (g, h, both, long) count = rw from (inr (g, h, two_read t kind input now got g h read both, inr (n, long, refl)), count)
     same_none before after faults.Memory outcome from refused count = rw from count

@@ -7,8 +7,6 @@ use Rattle.ice_prims.specs.declared.fault.ReadFault.{ReadFault}
 use Rattle.ice_prims.specs.declared.fault.ReadFault.TheVariants as read_faults
 use Rattle.ice_relay.specs.declared.fault.RelayFault.{RelayFault}
 use Rattle.ice_relay.specs.declared.fault.RelayFault.TheVariants as relay_faults
-use Rattle.ice_relay.specs.declared.text_fault.TextRelayFault.{TextRelayFault}
-use Rattle.ice_relay.specs.declared.text_fault.TextRelayFault.TheVariants as json_faults
 use Rattle.ice_relay.specs.declared.drill_fault.DrillFault.{DrillFault}
 use Rattle.ice_relay.specs.declared.drill_fault.DrillFault.TheVariants as drill_faults
 use Rattle.ice_ports.specs.declared.ports.PortFault.{PortFault}
@@ -70,19 +68,13 @@ abbrev pub of_read : ReadFault → Outcome
 of_read (read_faults.Broken fault) = outcomes.InputRefused fault
 of_read read_faults.Memory = outcomes.Memory
 
--- of a relay
+-- of a relay, of bytes or of a text
 abbrev pub of_relay : RelayFault → Outcome
 of_relay (relay_faults.Broken fault) = outcomes.InputRefused fault
+of_relay (relay_faults.TextRefused why) = outcomes.JsonRefused why
 of_relay relay_faults.NeedsSliced = outcomes.NeedsSliced
 of_relay (relay_faults.TooLong length) = outcomes.TooLong length
 of_relay relay_faults.Memory = outcomes.Memory
-
--- of a text of JSON
-abbrev pub of_json : TextRelayFault → Outcome
-of_json (json_faults.Refused why) = outcomes.JsonRefused why
-of_json json_faults.NeedsSliced = outcomes.NeedsSliced
-of_json (json_faults.TooLong length) = outcomes.TooLong length
-of_json json_faults.Memory = outcomes.Memory
 
 -- of a drill
 abbrev pub of_drill : DrillFault → Outcome

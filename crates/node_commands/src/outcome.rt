@@ -10,7 +10,7 @@ ghost use Rattle.node_commands.specs.Outcomes.{answer_of};
 use graph_json::JsonKind;
 use ice_ports::PortFault;
 use ice_prims::{Fault, Kind, ReadFault};
-use ice_relay::{DrillFault, RelayFault, TextRelayFault};
+use ice_relay::{DrillFault, RelayFault};
 use ice_types::Name;
 use itoa::Buffer;
 use message_dump::Dump;
@@ -204,25 +204,10 @@ impl From<RelayFault> for Outcome<'_> {
     fn from(fault: RelayFault) -> Self {
         match fault {
             RelayFault::Broken(fault) => Outcome::InputRefused(fault),
+            RelayFault::TextRefused(why) => Outcome::JsonRefused(why),
             RelayFault::NeedsSliced => Outcome::NeedsSliced,
             RelayFault::TooLong(length) => Outcome::TooLong(length),
             RelayFault::Memory => Outcome::Memory,
-        }
-    }
-}
-
-impl From<TextRelayFault> for Outcome<'_> {
-    ghost use Rattle.std.specs.Prelude.{◌≡◌};
-    ghost use Rattle.node_commands.specs.Outcomes.{of_json};
-
-    ghost from_gives = { λ fault outcome. outcome ≡ of_json fault };
-
-    fn from(fault: TextRelayFault) -> Self {
-        match fault {
-            TextRelayFault::Refused(why) => Outcome::JsonRefused(why),
-            TextRelayFault::NeedsSliced => Outcome::NeedsSliced,
-            TextRelayFault::TooLong(length) => Outcome::TooLong(length),
-            TextRelayFault::Memory => Outcome::Memory,
         }
     }
 }
