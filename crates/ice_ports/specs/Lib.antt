@@ -5,3 +5,6 @@ pub mod Memory
 pub mod Streams
 pub mod Talks
 pub mod Writing
+pub mod Nets
+pub mod MemLinks
+pub mod MemNets

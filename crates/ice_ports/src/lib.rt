@@ -1,4 +1,5 @@
-//! The outside, as traits: where bytes come from, where they go, and files by name.
+//! The outside, as traits: where bytes come from, where they go, files by name, connections, and the
+//! nets that make them.
 //!
 //! Each object counts its failures: the count rises by one in a call that answers a failure, and in
 //! no other. The versions in memory tell what they hold, so that contracts can speak of it; the
@@ -19,27 +20,42 @@
 //! - Bytes go to a sink as a whole by `write_all`, by which the commands and `message_dump` write.
 #![tactic(auto)]
 
+mod asked;
+mod connects;
 mod fault_plan;
 mod folder_shelf;
 mod links;
+mod mem_link;
+mod mem_listener;
+mod mem_net;
 mod mem_shelf;
 mod mem_sink;
 mod mem_source;
+mod nets;
 mod output;
+mod plan_of_link;
 mod ports;
 mod std_streams;
 mod talk;
+mod tcp;
 
+pub use asked::{Asked, MOST_OF_A_HOST};
 pub use fault_plan::FaultPlan;
 pub use folder_shelf::FolderShelf;
 pub use links::{Link, read_link, write_link};
+pub use mem_link::MemLink;
+pub use mem_listener::{MemListener, MemTray};
+pub use mem_net::MemNet;
 pub use mem_shelf::MemShelf;
 pub use mem_sink::{MOST_ROOM, MemSink};
 pub use mem_source::MemSource;
+pub use nets::{Listener, Net, Tray};
 pub use output::{write_all, write_pieces};
+pub use plan_of_link::Plan;
 pub use ports::{Failed, MOST_OF_A_READ, PortFault, Shelf, ShelfFault, Sink, Source};
 pub use std_streams::{StdSink, StdSource};
 pub use talk::Talk;
+pub use tcp::{TcpLink, TcpListener, TcpNet, TcpTray};
 
 #[cfg(test)]
 mod tests;
