@@ -1,9 +1,9 @@
 //! Connections of the system over TCP, which tell nothing. What is interrupted by a signal is done
 //! again, by the loops here and by std's `connect` and `accept`. A write to a peer that is gone fails,
 //! with no signal.
-ghost use Rattle.std.specs.Prelude.{◌≡◌, ◌<◌, None, IfOk, IfSome, length, is_err, nat_lt};
+ghost use Rattle.std.specs.Prelude.{◌≡◌, ◌<◌, false, None, IsSome, IfOk, IfSome, is_err};
 ghost use Rattle.ice_ports.specs.Failures.{count_after};
-ghost use Rattle.ice_ports.specs.Nets.{has_failed};
+ghost use Rattle.ice_ports.specs.Nets.{has_failed, is_over};
 
 use super::links::Link;
 use super::nets::{Listener, Net, Tray};
@@ -175,7 +175,14 @@ impl Listener for TcpListener {
         self.port
     }
 
-    fn accept(&mut self) -> Result<Option<TcpLink>, Failed> {
+    fn accept(&mut self) -> Result<Option<TcpLink>, Failed>
+        ensures some { IfOk result (λ answer. IsSome answer) }
+        ensures over { is_over result ≡ false }
+        ensures new { IfOk result (λ answer. IfSome answer (λ link.
+            (link.reads_failed ≡ 0) × (link.writes_failed ≡ 0))) }
+        ensures count { self.new.failures ≡ count_after self.old.failures (is_err result) }
+        ensures port { self.new.port ≡ self.old.port }
+    {
         match next_link(&self.socket) {
             Ok(link) => Ok(Some(link)),
             Err(failed) => {
