@@ -2,8 +2,9 @@
 //!
 //! usage: exception_read [--compact] FILE
 //!
-//! The input is one encapsulation of an exception. Its slices whose exceptions the Slice file FILE has are read, the others are kept. It
-//! is written in sliced format, with `--compact` in compact format. A refusal has the status and the line of `ice relay`.
+//! The input is one encapsulation of an exception. Its slices whose exceptions the Slice file FILE has are read,
+//! the others are kept. It is written in sliced format, with `--compact` in compact format. A refusal has the
+//! status and the line of `ice relay`.
 #![tactic(auto)]
 
 use class_slices::{Format, UserException, UserExceptionFault, read_exception, write_exception};
@@ -21,7 +22,8 @@ use std::{env, io};
 /// No more bytes of a file are read: a text has fewer.
 const MOST_OF_A_FILE: u64 = MOST_BYTES as u64 + 1;
 
-/// The name of the file and the format that the words after the program's name ask for, None where they are none of the listed forms.
+/// The name of the file and the format that the words after the program's name ask for, None where they are none of
+/// the listed forms.
 fn asked(words: &[String]) -> Option<(&str, Format)> {
     match words {
         [_, file] => Some((file.as_str(), Format::Sliced)),
