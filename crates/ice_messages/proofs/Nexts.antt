@@ -15,7 +15,7 @@ use Rattle.ice_messages.specs.declared.message.Message.{Message}
 use Rattle.ice_messages.specs.declared.message.TheConstants.{HEADER_BYTES}
 use Rattle.ice_messages.specs.Messages.{header, message_at, whole_message_at}
 use Rattle.ice_messages.specs.Streams.{good_header, counted, next_at}
-use Rattle.ice_messages.specs.Next.{whole_next, size_counted, IsCounted}
+use Rattle.ice_messages.specs.Next.{whole_next, size_counted, StandsNext, IsCounted}
 use Rattle.ice_prims.proofs.Parts.{Took-fits, then_ok}
 use Rattle.ice_messages.specs.Written.{IsOrderly}
 use Rattle.ice_messages.proofs.Orderly.{orderly}
@@ -49,18 +49,18 @@ module _ (bytes : List ℕ) (long : HEADER_BYTES ≤ length bytes) where
   pub size_bad : (e : Fault) → size_counted bytes ≡ Err e → next_at bytes ≡ Err e
   size_bad e is = next_counted (Err e) is
 
-  tested_count : (n : ℕ) (b : Bool) → leb n (length bytes) ≡ b → next_at bytes ≡ counted bytes n → IsCounted (Ok b) bytes
-  tested_count n true e is = let all : ltb (length bytes) n ≡ false = le-ltb _ _ (leb-true _ _ e) in is ∙ ap (λ (b : Bool). cond b (Ok None) (whole_next bytes)) all
-  tested_count n false e is = let less : ltb (length bytes) n ≡ true = lt-ltb _ _ (leb-false _ _ e) in is ∙ ap (λ (b : Bool). cond b (Ok None) (whole_next bytes)) less
+  tested_count : (n : ℕ) (b : Bool) → leb n (length bytes) ≡ b → size_counted bytes ≡ Ok n → next_at bytes ≡ counted bytes n → IsCounted (Ok b) bytes
+  tested_count n true e size is = let all : ltb (length bytes) n ≡ false = le-ltb _ _ (leb-true _ _ e) in (is ∙ ap (λ (b : Bool). cond b (Ok None) (whole_next bytes)) all, (n, size, leb-true _ _ e))
+  tested_count n false e size is = let less : ltb (length bytes) n ≡ true = lt-ltb _ _ (leb-false _ _ e) in is ∙ ap (λ (b : Bool). cond b (Ok None) (whole_next bytes)) less
 
   pub is_counted : (n : ℕ) → size_counted bytes ≡ Ok n → IsCounted (Ok (leb n (length bytes))) bytes
-  is_counted n is = tested_count n (leb n (length bytes)) refl (next_counted (Ok n) is)
+  is_counted n is = tested_count n (leb n (length bytes)) refl is (next_counted (Ok n) is)
 
 -- ---- the message
 
-pub next_fails : (e : ReadFault) (bytes : List ℕ) → next_at bytes ≡ whole_next bytes → Fails e (message_at (whole bytes)) → Fails e (next_at bytes)
-next_fails faults.Memory bytes is h = tt
-next_fails (faults.Broken f) bytes is h = is ∙ (rw h refl)
+pub next_fails : (e : ReadFault) (bytes : List ℕ) → IsCounted (Ok true) bytes → Fails e (message_at (whole bytes)) → StandsNext (Err e) bytes
+next_fails faults.Memory bytes is h = is.1
+next_fails (faults.Broken f) bytes is h = is.0 ∙ (rw h refl)
 
 pub next_is : (bytes : List ℕ) (m : Message) (r : Rest) → IsBytes bytes → next_at bytes ≡ whole_next bytes → message_at (whole bytes) ≡ Ok (m, r) → (next_at bytes ≡ Ok (Some (m, after (whole bytes) r.place))) × (r.place ≤ length bytes) × IsOrderly m
 next_is bytes m r fits is h =

@@ -3,7 +3,7 @@ use Rattle.std.specs.Prelude.{ℕ, ◌≡◌, ◌≤◌, Bool, true, false, List
 use Rattle.ice_prims.specs.declared.fault.Fault.{Fault}
 use Rattle.ice_prims.specs.declared.fault.ReadFault.{ReadFault}
 use Rattle.ice_prims.specs.Rest.{Rest, after, whole, ◌>>=◌}
-use Rattle.ice_prims.specs.Taking.{Fails}
+use Rattle.ice_prims.specs.declared.fault.ReadFault.TheVariants as faults
 use Rattle.ice_encoding.specs.Bounds.{claimed}
 use Rattle.ice_encoding.specs.declared.limits.TheConstants.{LARGEST}
 use Rattle.ice_messages.specs.declared.message.Message.{Message}
@@ -16,18 +16,23 @@ use Rattle.ice_messages.specs.declared.message.TheConstants.{HEADER_BYTES}
 abbrev pub whole_next : List ℕ → Result (Option (Message × Rest)) Fault
 whole_next bytes = message_at (whole bytes) >>= λ m. Ok (Some m)
 
--- the message with how many bytes it has, or none
-abbrev pub StandsNext : Result (Option (Message × ℕ)) ReadFault → List ℕ → Type 0
-StandsNext (Ok None) bytes = next_at bytes ≡ Ok None
-StandsNext (Ok (Some x)) bytes = (next_at bytes ≡ Ok (Some (x.0, after (whole bytes) x.1))) × (x.1 ≤ length bytes) × IsOrderly x.0
-StandsNext (Err e) bytes = Fails e (next_at bytes)
-
 -- the size that a whole header counts
 abbrev pub size_counted : List ℕ → Result ℕ Fault
 size_counted bytes = header.read (whole bytes) >>= λ head. claimed 10 LARGEST HEADER_BYTES head.0.1
 
+-- a header without fault, and as many bytes as it counts
+abbrev pub IsWholeNext : List ℕ → Type 0
+IsWholeNext bytes = (n : ℕ) × (size_counted bytes ≡ Ok n) × (n ≤ length bytes)
+
+-- The message with how many bytes it has, or none; or the first fault. Memory runs out for a whole message alone.
+abbrev pub StandsNext : Result (Option (Message × ℕ)) ReadFault → List ℕ → Type 0
+StandsNext (Ok None) bytes = next_at bytes ≡ Ok None
+StandsNext (Ok (Some x)) bytes = (next_at bytes ≡ Ok (Some (x.0, after (whole bytes) x.1))) × (x.1 ≤ length bytes) × IsOrderly x.0
+StandsNext (Err (faults.Broken fault)) bytes = next_at bytes ≡ Err fault
+StandsNext (Err faults.Memory) bytes = IsWholeNext bytes
+
 -- whether a message is whole, by a header that is, or the fault of that header
 abbrev pub IsCounted : Result Bool Fault → List ℕ → Type 0
-IsCounted (Ok true) bytes = next_at bytes ≡ whole_next bytes
+IsCounted (Ok true) bytes = (next_at bytes ≡ whole_next bytes) × IsWholeNext bytes
 IsCounted (Ok false) bytes = next_at bytes ≡ Ok None
 IsCounted (Err e) bytes = next_at bytes ≡ Err e

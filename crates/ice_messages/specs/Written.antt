@@ -38,8 +38,8 @@ IsOrderly Close = Unit {0}
 abbrev pub told : ℕ → ℕ
 told n = min n (2 ^ 64 - 1)
 
--- the bytes of the message, or that they are more than a message may have
+-- The bytes of the message, or that they are more than a message may have; memory runs out for what a message may have.
 abbrev pub Writes : Result (List ℕ) WriteFault → Message → Type 0
 Writes (Ok bytes) m = (bytes ≡ message_bytes m) × (length bytes ≤ LARGEST)
 Writes (Err (TooLong n)) m = (LARGEST < length (message_bytes m)) × (n ≡ told (length (message_bytes m)))
-Writes (Err Memory) m = Unit {0}
+Writes (Err Memory) m = length (message_bytes m) ≤ LARGEST
