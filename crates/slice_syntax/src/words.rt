@@ -111,7 +111,9 @@ fn names(alloc: Global, cursor: &mut Cursor) -> Result<(List<Name>, u32), Stop>
 }
 
 /// A built-in type with or without `*`, or a scoped name with or without `*`.
-#[tactic(auto, unfolding(crate::specs::Rules::type_word, crate::specs::Rules::plain_type, crate::specs::Rules::object_type))]
+#[tactic(auto,
+// its own rule, and those by whose first token it decides
+unfolding(crate::specs::Rules::type_word, crate::specs::Rules::plain_type, crate::specs::Rules::object_type))]
 pub(crate) fn type_word(alloc: Global, cursor: &mut Cursor) -> Result<TypeWord, Stop>
     ensures { Takes (λ x. x) result cursor.new (read type_word cursor.old) }
 {
@@ -174,7 +176,11 @@ fn keyword_code(kind: TokenKind) -> u8
 }
 
 /// `[ "-" | "+" ] number | text | "true" | "false" | scoped`
-#[tactic(auto, unfolding(crate::specs::Rules::value, crate::specs::Rules::signed_number, crate::specs::Rules::number, crate::specs::Rules::text, crate::specs::Rules::truth))]
+#[tactic(auto,
+// its own rule, and those by whose first token it decides: numbers
+unfolding(crate::specs::Rules::value, crate::specs::Rules::signed_number, crate::specs::Rules::number,
+// a text, true and false
+crate::specs::Rules::text, crate::specs::Rules::truth))]
 pub(crate) fn value(alloc: Global, cursor: &mut Cursor) -> Result<Constant, Stop>
     ensures { Takes (λ x. x) result cursor.new (read value cursor.old) }
 {
