@@ -9,6 +9,8 @@ mod laws;
 mod server;
 mod stop;
 mod stream;
+#[cfg(test)]
+mod tests;
 mod verdict;
 
 pub use judging::audit;
