@@ -9,8 +9,6 @@ mod laws;
 mod server;
 mod stop;
 mod stream;
-#[cfg(test)]
-mod tests;
 mod verdict;
 
 pub use judging::audit;

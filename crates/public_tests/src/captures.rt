@@ -1,4 +1,4 @@
-use crate::{Line, Seen, Side, Verdict, Why, audit};
+use ice_audit::{Line, Seen, Side, Verdict, Why, audit};
 use ice_prims::Kind;
 use std::process::Abort;
 use std::test::Fail;
