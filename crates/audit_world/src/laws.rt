@@ -1,7 +1,8 @@
 //! What all worlds that show a capture have in common. Their objects may give any reply.
 
 ghost use Rattle.call_world.specs.Service.{free_rules};
-ghost use Rattle.audit_world.specs.Laws.{AtMostOnce, OnceAnswered, NeverRefused, NeverClosed, CanShow, EitherOpen, AnswersInOrder};
+ghost use Rattle.audit_world.specs.Laws.{AtMostOnce, OnceAnswered, NeverRefused, NeverClosed, CanShow, EitherOpen};
+ghost use Rattle.audit_world.specs.Laws.{AnswersInOrder};
 
 use crate::capture::Capture;
 
