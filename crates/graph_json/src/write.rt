@@ -1,6 +1,6 @@
 //! The canonical notation of a value.
 
-ghost use Rattle.std.specs.Prelude.{◌≡◌, ◌<◌, ◌↔◌, IfOk, IsTrue, if◌then◌else◌, map, option_map, slice_get};
+ghost use Rattle.std.specs.Prelude.{◌≡◌, IfOk, if◌then◌else◌, map, option_map, slice_get};
 ghost use Rattle.serde_json.specs.Data.{no_members, null, number, string, unsigned};
 ghost use Rattle.serde_json.specs.View.{view as json_view, items_view, members_view};
 ghost use Rattle.ice_types.specs.declared.kind.TypeRef.TheVariants as kinds;
@@ -17,6 +17,7 @@ use ice_types::{DictDecl, Entry, MOST_DEPTH, Member, Proxy, Schema, TypeRef};
 use proxy_text::print_text;
 use serde_json::{Map, Value as Json};
 use std::alloc::{AllocError, Global};
+use value_checks::is_byte_type;
 
 /// The canonical notation of a value of the type: dictionaries in rising order of their keys. Null
 /// stands in the place of a part that is not of its type. Want of memory is the only refusal.
@@ -123,13 +124,6 @@ fn write_bytes(
         }
         None => Ok(Json::Null),
     }
-}
-
-/// Whether bytes are of the type, which nests at most so deep.
-fn is_byte_type(levels: u32, kind: TypeRef) -> bool
-    ensures { IsTrue result ↔ ((0 < levels) × (kind ≡ kinds.Byte)) }
-{
-    levels > 0 && kind == TypeRef::Byte
 }
 
 /// The bytes one after the other, each as `byte_json` has it.

@@ -9,3 +9,6 @@ pub mod Runs
 mod Orderly
 mod Nexts
 mod Running
+pub mod Settled
+pub mod Near
+pub mod Faults

@@ -7,7 +7,7 @@ ghost use Rattle.ice_ports.specs.declared.ports.TheConstants.{MOST_OF_A_READ};
 ghost use Rattle.slice_lexer.specs.declared.lexer.TheConstants.{MOST_BYTES};
 ghost use Rattle.slice_meaning.specs.declared.limits.TheConstants.{MOST_FILES};
 ghost use Rattle.instance_reading.specs.declared.arena.TheConstants.{MOST_INSTANCES};
-ghost use Rattle.graph_json.specs.declared.text.TheConstants.{MOST_TEXT, MOST_LISTED};
+ghost use Rattle.graph_json.specs.declared.text.TheConstants.{MOST_TEXT};
 ghost use Rattle.ice_relay.specs.declared.comparing.TheConstants.{MOST_COMPARED};
 ghost use Rattle.ice_relay.specs.declared.drilling.TheConstants.{MOST_NODES};
 ghost use Rattle.message_dump.specs.declared.dump.TheConstants.{MOST_MESSAGES};
@@ -21,7 +21,7 @@ pub fn limits_numbered()
     ensures types { (MOST_DEPTH ≡ 100) × (MOST_SMALLEST ≡ 1048576) × (MOST_BASES ≡ 1000) × (MOST_NUMBER ≡ 2147483647) }
     ensures read { MOST_OF_A_READ ≡ 4096 }
     ensures files { (MOST_BYTES ≡ 1000000) × (MOST_FILES ≡ 100) }
-    ensures instances { (MOST_INSTANCES ≡ 100000) × (MOST_LISTED ≡ 100000) }
+    ensures instances { MOST_INSTANCES ≡ 100000 }
     ensures text { MOST_TEXT ≡ 16777216 }
     ensures compared { MOST_COMPARED ≡ 2147483647 }
     ensures nodes { MOST_NODES ≡ 50000 }

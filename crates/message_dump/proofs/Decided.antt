@@ -14,7 +14,7 @@ use Rattle.message_dump.specs.Dumps.{Tells, EndsInput, IsDump}
 use Rattle.message_dump.specs.Sources.{Waits, TellsSome, TellsAll, IsTold}
 use Rattle.message_dump.specs.Steps.{IsSound, Advances, untold, IsFaultHere, Stops, ComesTo}
 use Rattle.message_dump.proofs.Tellings.{tells_more}
-use Rattle.message_dump.proofs.Faults.{no_fault, fault_stands, waits_short}
+use Rattle.ice_messages.proofs.Faults.{no_fault, fault_stands, waits_short}
 
 pub none_is_none : next_at [] ≡ Ok None
 none_is_none = refl

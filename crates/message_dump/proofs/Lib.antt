@@ -1,6 +1,3 @@
-pub mod Settled
-pub mod Near
-pub mod Faults
 pub mod Taking
 pub mod Tellings
 pub mod Advancing

@@ -14,7 +14,7 @@ use Rattle.ice_messages.proofs.Runs.{next_spelled}
 use Rattle.message_dump.specs.declared.dump.TheConstants.{MOST_MESSAGES}
 use Rattle.message_dump.specs.Lines.{message_line}
 use Rattle.message_dump.specs.Dumps.{Tells, EndsInput, IsDump, fault_at, moved}
-use Rattle.message_dump.proofs.Faults.{Next, failed, none_next, no_fault, same_fault}
+use Rattle.ice_messages.proofs.Faults.{Next, failed, none_next, no_fault, same_fault}
 use Rattle.message_dump.proofs.Decided.{some_left}
 
 -- ---- one way alone

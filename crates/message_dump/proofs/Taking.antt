@@ -15,7 +15,7 @@ use Rattle.ice_messages.proofs.Runs.{next_spelled}
 use Rattle.message_dump.specs.declared.dump.TheConstants.{MOST_MESSAGES}
 use Rattle.message_dump.specs.declared.telling.Telling.{Telling}
 use Rattle.message_dump.specs.Steps.{IsSound, TakesNext}
-use Rattle.message_dump.proofs.Faults.{fault_stands}
+use Rattle.ice_messages.proofs.Faults.{fault_stands}
 
 -- the bytes of a message that was handed out
 pub record Given (old new : Held) (m : Message) : Type 0 where

@@ -5,6 +5,8 @@
 #[cfg(test)]
 mod calls;
 #[cfg(test)]
+mod captures;
+#[cfg(test)]
 mod dumps;
 #[cfg(test)]
 mod exceptions;

@@ -22,5 +22,5 @@ mod zeros;
 pub use first::{first_ill_instance, first_ill_typed};
 pub use instances::is_user_exception;
 pub use laws::zeros_have_types;
-pub use values::fits;
+pub use values::{fits, is_byte_type};
 pub use zeros::zero;

@@ -170,8 +170,8 @@ fn is_bytes(schema: &Schema, levels: u32, kind: TypeRef, bytes: &[u8]) -> bool
     is_size(bytes.len()) && (bytes.is_empty() || is_byte_type(levels, decl.element))
 }
 
-/// Whether bytes are of the type, which nests at most so deep.
-fn is_byte_type(levels: u32, kind: TypeRef) -> bool
+/// Whether bytes are of the type, where so many levels are left. It takes no memory.
+pub fn is_byte_type(levels: u32, kind: TypeRef) -> bool
     ensures { IsTrue result ↔ ((0 < levels) × (kind ≡ kinds.Byte)) }
 {
     levels > 0 && kind == TypeRef::Byte

@@ -13,8 +13,8 @@ use Rattle.ice_messages.specs.declared.message.TheConstants.{HEADER_BYTES}
 use Rattle.ice_messages.specs.Messages.{header, body_by, message_at}
 use Rattle.ice_messages.specs.Streams.{good_header, started, counted, next_at, IsFront}
 use Rattle.ice_messages.proofs.Streams.{whole_header, next_front}
-use Rattle.message_dump.proofs.Settled.{Verdict, at, header_settled}
-use Rattle.message_dump.proofs.Near.{Within, header_within, body_within, filled_place, claim_place}
+use Rattle.ice_messages.proofs.Settled.{Verdict, at, header_settled}
+use Rattle.ice_messages.proofs.Near.{Within, header_within, body_within, filled_place, claim_place}
 
 abbrev pub Next : Type 0
 Next = Result (Option (Message × Rest)) Fault

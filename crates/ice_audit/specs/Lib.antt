@@ -1,0 +1,9 @@
+pub mod Pieces
+pub mod Captured
+pub mod Traces
+pub mod Lines
+pub mod Posing
+pub mod Stops
+pub mod Readings
+pub mod Captures
+pub mod Verdicts

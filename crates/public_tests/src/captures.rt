@@ -1,0 +1,114 @@
+use ice_audit::{Line, Seen, Side, Verdict, Why, audit};
+use ice_prims::Kind;
+use std::process::Abort;
+use std::test::Fail;
+
+/// A request with the id 1.
+const REQUEST: &[u8] =
+    b"IceP\x01\0\x01\0\0\0\x2b\0\0\0\x01\0\0\0\x05hello\0\0\x08ice_ping\x01\0\x06\0\0\0\x01\x01";
+
+const BATCH: &[u8] =
+    b"IceP\x01\0\x01\0\x01\0\x27\0\0\0\x01\0\0\0\x05hello\0\0\x04ping\0\0\x06\0\0\0\x01\x01";
+
+const VALIDATE: &[u8] = b"IceP\x01\0\x01\0\x03\0\x0e\0\0\0";
+
+/// What a server sends for the request, with how often that was dispatched.
+const TOLD: &[(&[u8], Seen)] = &[
+    (VALIDATE, Seen::Either),
+    // a reply, and one that there is no such object
+    (
+        b"IceP\x01\0\x01\0\x03\0\x0e\0\0\0IceP\x01\0\x01\0\x02\0\x19\0\0\0\x01\0\0\0\0\x06\0\0\0\x01\x01",
+        Seen::Once,
+    ),
+    (
+        b"IceP\x01\0\x01\0\x03\0\x0e\0\0\0IceP\x01\0\x01\0\x02\0\x1d\0\0\0\x01\0\0\0\x02\x05hello\0\0\x01o",
+        Seen::Never,
+    ),
+    // a close message
+    (
+        b"IceP\x01\0\x01\0\x03\0\x0e\0\0\0IceP\x01\0\x01\0\x04\0\x0e\0\0\0",
+        Seen::Never,
+    ),
+];
+
+/// What both ends send, with what is wrong of which end, and where.
+const FAULTS: &[(&[u8], &[u8], Side, u64, Why)] = &[
+    (
+        b"IceQ",
+        b"IceQ",
+        Side::Client,
+        3,
+        Why::Bytes(Kind::BadMagic),
+    ),
+    (b"I", b"IceQ", Side::Server, 3, Why::Bytes(Kind::BadMagic)),
+    (b"I", b"", Side::Client, 0, Why::Bytes(Kind::NotValidated)),
+    (b"", REQUEST, Side::Server, 0, Why::Bytes(Kind::Unexpected)),
+    (
+        b"IceP\x01\0\x01\0\x04\0\x0e\0\0\0IceP\x01\0\x01\0\x04\0\x0e\0\0\0",
+        VALIDATE,
+        Side::Client,
+        14,
+        Why::AfterClose,
+    ),
+    // a reply with the id 2
+    (
+        REQUEST,
+        b"IceP\x01\0\x01\0\x03\0\x0e\0\0\0IceP\x01\0\x01\0\x02\0\x19\0\0\0\x02\0\0\0\0\x06\0\0\0\x01\x01",
+        Side::Server,
+        28,
+        Why::Bytes(Kind::UnknownId),
+    ),
+];
+
+/// The one line of a capture.
+fn see_line(
+    rt: &(impl AllocGlobal + Abort),
+    client: &[u8],
+    server: &[u8],
+    line: Line,
+) -> Result<(), Fail> {
+    let Ok(Verdict::Yes(lines)) = audit(rt.alloc(), client, server) else {
+        return Err(Fail::from("no such answer"));
+    };
+    assert_eq!(rt; lines.len(), 1);
+    assert_eq!(rt; lines.get(0), Some(&line));
+    Ok(())
+}
+
+/// What is wrong with a capture.
+fn see_fault(
+    rt: &(impl AllocGlobal + Abort),
+    client: &[u8],
+    server: &[u8],
+    wanted: (Side, u64, Why),
+) -> Result<(), Fail> {
+    let Ok(Verdict::No { side, place, why }) = audit(rt.alloc(), client, server) else {
+        return Err(Fail::from("no such answer"));
+    };
+    assert_eq!(rt; (side, place, why), wanted);
+    Ok(())
+}
+
+#[test]
+fn captures_by_their_bytes(rt: HostRuntime) -> Result<(), Fail> {
+    for (server, seen) in TOLD {
+        let line = Line {
+            id: 1,
+            calls: 1,
+            batch: false,
+            seen: *seen,
+        };
+        see_line(&rt, REQUEST, server, line)?;
+    }
+    let batch = Line {
+        id: 0,
+        calls: 1,
+        batch: true,
+        seen: Seen::Either,
+    };
+    see_line(&rt, BATCH, VALIDATE, batch)?;
+    for (client, server, side, place, why) in FAULTS {
+        see_fault(&rt, client, server, (*side, *place, *why))?;
+    }
+    Ok(())
+}
