@@ -15,3 +15,7 @@ mod Running
 pub mod Settled
 pub mod Near
 pub mod Faults
+mod Breaking
+mod Lacking
+mod Headers
+mod FirstFaults
