@@ -1,16 +1,13 @@
 -- Reading answers a fault exactly where a part has the defect, for each way of joining parts.
-use Rattle.std.proofs.Common.{◌≡◌, ℕ, ℤ, pos, negsuc, zero, suc, ◌+◌, ◌≤◌, ◌<◌, ◌^◌, Bool, true, false, ◌||◌, cond, ltb, leb, List, [], ◌∷◌, ◌++◌, length, drop, Result, Ok, Err, refl, sym, ap, subst, ◌∙◌, inl, inr, arith}
-use Rattle.std.specs.Str.{IsUtf8, is_utf8}
-use Rattle.std.specs.Int.{w32, from_le_bytes}
-use Rattle.std.proofs.lemmas.Bool.{ltb-true, ltb-false, le-ltb, lt-ltb, leb-true, leb-false, le-leb}
-use Rattle.std.proofs.lemmas.Str.{IsUtf8-from_is_utf8, is_utf8-from_IsUtf8}
+use Rattle.std.proofs.Common.{◌≡◌, ℕ, ℤ, pos, negsuc, zero, suc, ◌+◌, Bool, true, false, cond, ltb, List, [], ◌∷◌, ◌++◌, length, Result, Ok, Err, refl, sym, ap, subst, ◌∙◌, inl, inr}
+use Rattle.std.proofs.lemmas.Bool.{ltb-true, ltb-false, le-ltb, lt-ltb}
 use Rattle.ice_prims.specs.declared.fault.Fault.{Fault}
 use Rattle.ice_prims.specs.declared.fault.Kind.{Kind}
-use Rattle.ice_prims.specs.declared.fault.Kind.TheVariants.{Short, TooLarge, BadSize, BadText, LeftOver}
-use Rattle.ice_prims.specs.Rest.{Rest, fault, ◌>>=◌, Took, IsBytes, bytes_at}
-use Rattle.ice_prims.proofs.Parts.{chosen as choice, Took-fits, bytes_found, bytes_only}
+use Rattle.ice_prims.specs.declared.fault.Kind.TheVariants.{Short, TooLarge, BadSize, LeftOver}
+use Rattle.ice_prims.specs.Rest.{Rest, fault, ◌>>=◌, IsBytes, bytes_at}
+use Rattle.ice_prims.proofs.Parts.{chosen as choice, Took-fits}
 use Rattle.ice_encoding.specs.declared.limits.TheConstants.{LARGEST}
-use Rattle.ice_encoding.specs.Parts.{Part, IsLawful, read_times, times, tested}
+use Rattle.ice_encoding.specs.Parts.{Part, IsLawful, read_times, tested}
 use Rattle.ice_encoding.specs.Bounds.{claimed, ended, filled}
 use Rattle.ice_messages.specs.Defects.{Defect, At, Lacks, Unfit, Or, Then, Times, InBound, ClaimBreaks}
 

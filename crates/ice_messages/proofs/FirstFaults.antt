@@ -1,10 +1,10 @@
 -- What stands next has a fault exactly where the message that begins there has the defect.
-use Rattle.std.proofs.Common.{◌≡◌, ◌≢◌, ℕ, ℤ, pos, zero, suc, ◌+◌, ◌-◌, ◌≤◌, ◌<◌, ◌⊎◌, Bool, true, false, eqb, ltb, leb, List, [], ◌∷◌, ◌++◌, length, take, drop, Option, None, Some, Result, Ok, Err, refl, sym, ap, subst, ◌∙◌, inl, inr, append_assoc, append-nil, arith}
-use Rattle.std.proofs.lemmas.Bool.{cases_lt, leb-true, leb-false, le-ltb, eqb-true, eqb-false}
+use Rattle.std.proofs.Common.{◌≡◌, ℕ, ℤ, pos, suc, ◌+◌, ◌-◌, ◌≤◌, ◌<◌, ◌⊎◌, Bool, true, false, eqb, leb, List, [], ◌∷◌, ◌++◌, length, take, drop, Option, None, Some, Result, Ok, refl, sym, ap, subst, ◌∙◌, inl, inr, append_assoc, arith}
+use Rattle.std.proofs.lemmas.Bool.{cases_lt, leb-true, leb-false, eqb-true, eqb-false}
 use Rattle.std.proofs.lemmas.List.{length-append, length-drop, length-take-le, take_at, take-append-drop}
 use Rattle.ice_prims.specs.declared.fault.Fault.{Fault}
 use Rattle.ice_prims.specs.declared.fault.Kind.TheVariants.{BadMagic, BadVersion, BadMessage, Compressed, BadStatus}
-use Rattle.ice_prims.specs.Rest.{Rest, ◌>>=◌, IsBytes, whole, after}
+use Rattle.ice_prims.specs.Rest.{Rest, ◌>>=◌, IsBytes}
 use Rattle.ice_prims.proofs.Parts.{IsBytes-front, IsBytes-rest}
 use Rattle.ice_encoding.specs.declared.limits.TheConstants.{LARGEST}
 use Rattle.ice_encoding.specs.Bounds.{claimed, filled}
@@ -12,14 +12,13 @@ use Rattle.ice_encoding.proofs.Bounded.{claimed_ok, claimed_is}
 use Rattle.ice_messages.specs.declared.message.Message.{Message}
 use Rattle.ice_messages.specs.declared.message.TheConstants.{HEADER_BYTES}
 use Rattle.ice_messages.specs.Messages.{header, body_by, SpellsMessage}
-use Rattle.ice_messages.specs.Streams.{IsFront, good_header, started, counted, next_at}
-use Rattle.ice_messages.specs.Defects.{At, ClaimBreaks, InBound}
+use Rattle.ice_messages.specs.Streams.{IsFront, good_header, counted, next_at}
 use Rattle.ice_messages.specs.Breaks.{BodyBreaks, magic_bytes, version_bytes, Differs, MessageBreaks, bad_magic, bad_protocol, bad_encoding, bad_type, is_compressed, bad_compression, bad_size, bad_body}
 use Rattle.ice_messages.proofs.Settled.{at}
 use Rattle.ice_messages.proofs.Whole.{body_by_lawful, header_lawful, header_long}
 use Rattle.ice_messages.proofs.Streams.{built, good_passes, passes_header, front_next, next_message}
 use Rattle.ice_messages.proofs.Faults.{only_first, next_counted, next_body}
-use Rattle.ice_messages.proofs.Breaking.{failed, same_err, no_err, then_err, claim_broken, claim_breaks, bound_broken, bound_breaks}
+use Rattle.ice_messages.proofs.Breaking.{failed, same_err, then_err, claim_broken, claim_breaks, bound_broken, bound_breaks}
 use Rattle.ice_messages.proofs.Lacking.{body_agrees}
 use Rattle.ice_messages.proofs.Headers.{header_magic, header_protocol, header_encoding, header_type, header_compressed, header_compression}
 
@@ -195,24 +194,24 @@ answered_defect bytes e fits h = by_outcome (at_magic bytes (agreed magic_bytes 
         let long = header_long head (type, z) spells in
         let counts : next_at (head ++ rest) ≡ (claimed 10 LARGEST HEADER_BYTES z >>= counted (head ++ rest)) = next_counted head long type z (reads head type z spells) rest in
         then_err (claimed 10 LARGEST HEADER_BYTES z) (counted (head ++ rest)) e (sym counts ∙ ap next_at (sym parts) ∙ h)
-          (λ bad. bad_size type z head rest parts spells (claim_broken 10 LARGEST HEADER_BYTES z e bad))
-          (λ n n_is later. claimed_ok 10 LARGEST HEADER_BYTES z n n_is λ same most left least.
-          elim (cases_lt (length bytes) n) [
-            | inl few ↦
-                let front : IsFront bytes = inr (head, rest, type, n, parts, subst (λ (x : ℤ). header.Spells head (type, x)) same spells, least, most, few) in
-                no_front e None (sym (front_next bytes front) ∙ h)
-            | inr there ↦
-                let total : length bytes ≡ HEADER_BYTES + length rest = omega (arith, ap length parts, length-append head rest, long) in
-                let inside = take (n - HEADER_BYTES) rest in
-                let inside_long : length inside ≡ n - HEADER_BYTES = length-take-le (n - HEADER_BYTES) rest (omega (arith, total, there)) in
-                let next = next_body head long type z (reads head type z spells) rest n n_is (omega (arith, there, ap length parts)) in
-                let bad : filled (body_by type).read (at 14 inside) ≡ failed e = only_first (filled (body_by type).read (at 14 inside)) _ _ e (sym next ∙ ap next_at (sym parts) ∙ h) in
-                let all : head ++ rest ≡ head ++ (inside ++ drop (n - HEADER_BYTES) rest) = ap (λ (z : List ℕ). head ++ z) (sym (take-append-drop (n - HEADER_BYTES) rest)) in
-                let behind : IsBytes rest = IsBytes-rest head rest (subst IsBytes parts fits) in
-                let within : IsBytes inside = IsBytes-front inside (drop (n - HEADER_BYTES) rest) (subst IsBytes (sym (take-append-drop (n - HEADER_BYTES) rest)) behind) in
-                bad_body type n head inside (drop (n - HEADER_BYTES) rest) (parts ∙ all) (subst (λ (x : ℤ). header.Spells head (type, x)) same spells) least most (omega (arith, inside_long, least))
-                (bound_broken (body_by type) (body_by_lawful type) (BodyBreaks type) (body_agrees type) (at 14 inside) e within bad)
-          ])
+        (λ bad. bad_size type z head rest parts spells (claim_broken 10 LARGEST HEADER_BYTES z e bad))
+        (λ n n_is later. claimed_ok 10 LARGEST HEADER_BYTES z n n_is λ same most left least.
+        elim (cases_lt (length bytes) n) [
+          | inl few ↦
+              let front : IsFront bytes = inr (head, rest, type, n, parts, subst (λ (x : ℤ). header.Spells head (type, x)) same spells, least, most, few) in
+              no_front e None (sym (front_next bytes front) ∙ h)
+          | inr there ↦
+              let total : length bytes ≡ HEADER_BYTES + length rest = omega (arith, ap length parts, length-append head rest, long) in
+              let inside = take (n - HEADER_BYTES) rest in
+              let inside_long : length inside ≡ n - HEADER_BYTES = length-take-le (n - HEADER_BYTES) rest (omega (arith, total, there)) in
+              let next = next_body head long type z (reads head type z spells) rest n n_is (omega (arith, there, ap length parts)) in
+              let bad : filled (body_by type).read (at 14 inside) ≡ failed e = only_first (filled (body_by type).read (at 14 inside)) _ _ e (sym next ∙ ap next_at (sym parts) ∙ h) in
+              let all : head ++ rest ≡ head ++ (inside ++ drop (n - HEADER_BYTES) rest) = ap (λ (z : List ℕ). head ++ z) (sym (take-append-drop (n - HEADER_BYTES) rest)) in
+              let behind : IsBytes rest = IsBytes-rest head rest (subst IsBytes parts fits) in
+              let within : IsBytes inside = IsBytes-front inside (drop (n - HEADER_BYTES) rest) (subst IsBytes (sym (take-append-drop (n - HEADER_BYTES) rest)) behind) in
+              bad_body type n head inside (drop (n - HEADER_BYTES) rest) (parts ∙ all) (subst (λ (x : ℤ). header.Spells head (type, x)) same spells) least most (omega (arith, inside_long, least))
+              (bound_broken (body_by type) (body_by_lawful type) (BodyBreaks type) (body_agrees type) (at 14 inside) e within bad)
+        ])
 
 -- ---- one defect, and no front or message with it
 

@@ -1,17 +1,15 @@
 -- A header is read with the fault of its first byte that may not stand there.
-use Rattle.std.proofs.Common.{◌≡◌, ◌≢◌, ℕ, ℤ, zero, suc, ◌+◌, ◌≤◌, ◌<◌, Bool, true, false, cond, leb, List, [], ◌∷◌, ◌++◌, length, drop, Result, Ok, Err, refl, sym, ap, subst, ◌∙◌, arith}
+use Rattle.std.proofs.Common.{◌≡◌, ◌≢◌, ℕ, ◌+◌, ◌≤◌, ◌<◌, Bool, true, false, leb, List, [], ◌∷◌, ◌++◌, length, Ok, refl, sym, ap, ◌∙◌, arith}
 use Rattle.std.specs.Str.{bytes_eq}
 use Rattle.std.proofs.lemmas.Bool.{lt-leb, le-leb}
-use Rattle.std.proofs.lemmas.List.{length-append, length-drop}
+use Rattle.std.proofs.lemmas.List.{length-append}
 use Rattle.std.proofs.lemmas.Slice.Eq.{bytes_eq-Decides}
-use Rattle.ice_prims.specs.declared.fault.Fault.{Fault}
 use Rattle.ice_prims.specs.declared.fault.Kind.{Kind}
 use Rattle.ice_prims.specs.declared.fault.Kind.TheVariants.{BadMagic, BadVersion, BadMessage, Compressed, BadStatus}
-use Rattle.ice_prims.specs.Rest.{Rest, fault, ◌>>=◌, Took, whole}
 use Rattle.ice_prims.proofs.Parts.{bytes_only}
-use Rattle.ice_encoding.specs.Parts.{Part, byte, int, exactly, both}
-use Rattle.ice_encoding.proofs.Joined.{byte_lawful, exactly_lawful}
-use Rattle.ice_messages.specs.Messages.{header, magic, versions, message_type, compression}
+use Rattle.ice_encoding.specs.Parts.{byte, exactly}
+use Rattle.ice_encoding.proofs.Joined.{exactly_lawful}
+use Rattle.ice_messages.specs.Messages.{header, magic, versions, message_type}
 use Rattle.ice_messages.specs.Breaks.{magic_bytes, version_bytes}
 use Rattle.ice_messages.proofs.Settled.{at}
 use Rattle.ice_messages.proofs.Breaking.{failed}

@@ -1,31 +1,28 @@
 -- Reading answers a fault exactly where a part of a message has the defect.
-use Rattle.std.proofs.Common.{◌≡◌, ◌≢◌, ℕ, ℤ, pos, negsuc, zero, suc, ◌+◌, ◌≤◌, ◌<◌, ◌^◌, ◌⊎◌, Bool, true, false, ◌||◌, cond, ltb, leb, List, [], ◌∷◌, ◌++◌, length, drop, Option, None, Some, Result, Ok, Err, refl, sym, ap, subst, ◌∙◌, inl, inr, arith}
+use Rattle.std.proofs.Common.{◌≡◌, ℕ, zero, suc, ◌+◌, ◌<◌, ◌^◌, ◌⊎◌, Bool, true, false, ◌||◌, cond, ltb, leb, List, [], ◌∷◌, ◌++◌, length, drop, Option, None, Some, Result, Ok, Err, refl, sym, ap, subst, ◌∙◌, inl, inr, arith}
 use Rattle.std.specs.Prelude.{slice_index, IsSome}
-use Rattle.std.specs.Str.{IsUtf8, is_utf8}
+use Rattle.std.specs.Str.{is_utf8}
 use Rattle.std.specs.Int.{w32, from_le_bytes, cast_signed}
 use Rattle.std.proofs.lemmas.Bool.{ltb-true, ltb-false, le-ltb, lt-ltb, leb-true, leb-false, le-leb, lt-leb}
-use Rattle.std.proofs.lemmas.List.{length-append}
 use Rattle.std.proofs.lemmas.Str.{IsUtf8-from_is_utf8, is_utf8-from_IsUtf8}
 use Rattle.ice_prims.specs.declared.fault.Fault.{Fault}
-use Rattle.ice_prims.specs.declared.fault.Kind.TheVariants.{BadSize, BadStatus, BadText, BadFacet, BadMode, EqualKey}
-use Rattle.ice_prims.specs.Rest.{Rest, fault, ◌>>=◌, Took, IsBytes, bytes_at}
+use Rattle.ice_prims.specs.declared.fault.Kind.TheVariants.{BadSize, BadText, EqualKey}
+use Rattle.ice_prims.specs.Rest.{Rest, fault, ◌>>=◌, IsBytes, bytes_at}
 use Rattle.ice_prims.specs.Number.{byte_at, signed_at, size_at, text_at, checked_size, long_form_at}
-use Rattle.ice_prims.proofs.Parts.{chosen as choice, Took-fits, IsBytes-front, bytes_found, bytes_only}
-use Rattle.ice_prims.proofs.Numbers.{byte_took}
-use Rattle.ice_encoding.specs.declared.limits.TheConstants.{LARGEST, SMALLEST}
-use Rattle.ice_encoding.specs.Parts.{Part, IsLawful, byte, int, size, text, both, tested, times}
+use Rattle.ice_prims.proofs.Parts.{chosen as choice, Took-fits, bytes_found, bytes_only}
+use Rattle.ice_encoding.specs.declared.limits.TheConstants.{SMALLEST}
+use Rattle.ice_encoding.specs.Parts.{byte, int, size, text, both, times}
 use Rattle.ice_encoding.specs.Bounds.{claimed}
-use Rattle.ice_encoding.specs.Identity.{identity, facet, facet_of}
+use Rattle.ice_encoding.specs.Identity.{identity, facet}
 use Rattle.ice_encoding.proofs.Bounded.{claimed_ok}
-use Rattle.ice_encoding.proofs.Joined.{byte_lawful, int_lawful, size_lawful, text_lawful, both_lawful, tested_lawful}
+use Rattle.ice_encoding.proofs.Joined.{byte_lawful, int_lawful, size_lawful, text_lawful, tested_lawful}
 use Rattle.ice_encoding.proofs.Named.{identity_lawful, facet_lawful}
-use Rattle.ice_messages.specs.Context.{Entry, context, entries, entries_at, value_of, with_entry, new_name}
-use Rattle.ice_messages.specs.Calls.{mode, encapsulation, encapsulation_at, call, missing, missed, answer_by, answer}
-use Rattle.ice_messages.specs.declared.message.Answer.{Answer}
-use Rattle.ice_messages.specs.declared.message.Answer.TheVariants.{Done, Raised, Missing, Unknown}
-use Rattle.ice_messages.specs.declared.message.Message.TheVariants.{Request, Batch, Reply, Validate, Close}
+use Rattle.ice_messages.specs.Context.{Entry, context, entries_at, value_of, with_entry, new_name}
+use Rattle.ice_messages.specs.Calls.{mode, encapsulation, encapsulation_at, call, missed, answer_by, answer}
+use Rattle.ice_messages.specs.declared.message.Answer.TheVariants.{Done, Raised}
+use Rattle.ice_messages.specs.declared.message.Message.TheVariants.{Batch, Validate, Close}
 use Rattle.ice_messages.specs.Messages.{is_count, count_of, calls, body_by}
-use Rattle.ice_messages.specs.Defects.{Defect, At, Never, Lacks, Unfit, Or, Then, Times, IsOffSize, LongBreaks, SizeBreaks, LettersBreak, TextBreaks, ClaimBreaks}
+use Rattle.ice_messages.specs.Defects.{Defect, At, Never, Lacks, Then, Times, IsOffSize, LongBreaks, SizeBreaks, LettersBreak, TextBreaks}
 use Rattle.ice_messages.specs.Breaks.{IdentityBreaks, facet_count, FacetBreaks, ModeBreaks, EntriesBreak, ContextBreaks, EncapsulationBreaks, CallBreaks, status, MissedBreaks, AnswerByBreaks, AnswerBreaks, count, BodyBreaks}
 use Rattle.ice_messages.proofs.Called.{mode_lawful, context_lawful, call_lawful}
 use Rattle.ice_messages.proofs.Breaking.{failed, same_err, no_err, then_err, Agrees, then_agrees, made_agrees, both_agrees, tested_agrees, times_agrees, bytes_lack, lack_bytes, lacks_agrees, claim_broken, claim_breaks}
@@ -219,9 +216,9 @@ encapsulation_broken r e fits h = then_err (signed_at w32 r) (λ claim. claimed 
     (λ claim claim_is later.
     let f = int_lawful.found r claim fits claim_is in
     then_err (claimed r.place (length r.bytes) SMALLEST claim.0) (λ n. bytes_at n r) e later
-      (λ bad. inr (claim.0, f.0, claim.1.bytes, f.1.parts, f.2, claim_broken r.place (length r.bytes) SMALLEST claim.0 e bad))
-      (λ n n_is last. claimed_ok r.place (length r.bytes) SMALLEST claim.0 n n_is λ same large there small.
-      let k = bytes_lack n r e last in absurd (omega (arith, k.0, there))))
+    (λ bad. inr (claim.0, f.0, claim.1.bytes, f.1.parts, f.2, claim_broken r.place (length r.bytes) SMALLEST claim.0 e bad))
+    (λ n n_is last. claimed_ok r.place (length r.bytes) SMALLEST claim.0 n n_is λ same large there small.
+    let k = bytes_lack n r e last in absurd (omega (arith, k.0, there))))
 
 encapsulation_breaks : (r : Rest) (e : Fault) → EncapsulationBreaks r.place r.bytes e → encapsulation_at r ≡ failed e
 encapsulation_breaks r e (inl h) = rw (int_agrees.breaks r e h) refl

@@ -19,3 +19,4 @@ mod Breaking
 mod Lacking
 mod Headers
 mod FirstFaults
+mod Known
