@@ -1,0 +1,5 @@
+pub mod Adding
+pub mod Readers
+pub mod Messages
+pub mod Reading
+pub mod Writing
