@@ -24,7 +24,7 @@ context_lawful = chosen_lawful _ _ _ size_lawful entries_lawful (λ n a b es fir
 
 -- ---- an encapsulation
 
-begins : (a x b y : List ℕ) → a ++ x ≡ b ++ y → length a ≤ length b → (c : List ℕ) × (b ≡ a ++ c)
+pub begins : (a x b y : List ℕ) → a ++ x ≡ b ++ y → length a ≤ length b → (c : List ℕ) × (b ≡ a ++ c)
 begins a x b y e le =
     let front : take (length a) b ≡ a = sym (take-append-le (length a) b y le) ∙ ap (take (length a)) (sym e) ∙ take_at a x (length a) refl in
     (drop (length a) b, sym (take-append-drop (length a) b) ∙ ap (λ (c : List ℕ). c ++ drop (length a) b) front)

@@ -7,6 +7,9 @@ mod Whole
 pub mod Streams
 pub mod Runs
 mod Orderly
+pub mod Writable
+mod Puts
+mod Cuts
 mod Nexts
 mod Running
 pub mod Settled

@@ -7,3 +7,4 @@ pub mod Seen
 pub mod Written
 pub mod Framing
 pub mod Next
+pub mod Ends

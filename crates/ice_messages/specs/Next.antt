@@ -1,5 +1,5 @@
 -- What the calls answer that look at what stands next.
-use Rattle.std.specs.Prelude.{ℕ, ◌≡◌, ◌≤◌, Bool, true, false, List, length, Option, None, Some, Result, Ok, Err}
+use Rattle.std.specs.Prelude.{ℕ, ◌≡◌, ◌≤◌, ◌+◌, Bool, true, false, List, length, Option, None, Some, Result, Ok, Err}
 use Rattle.ice_prims.specs.declared.fault.Fault.{Fault}
 use Rattle.ice_prims.specs.declared.fault.ReadFault.{ReadFault}
 use Rattle.ice_prims.specs.Rest.{Rest, after, whole, ◌>>=◌}
@@ -23,6 +23,22 @@ size_counted bytes = header.read (whole bytes) >>= λ head. claimed 10 LARGEST H
 -- a header without fault, and as many bytes as it counts
 abbrev pub IsWholeNext : List ℕ → Type 0
 IsWholeNext bytes = (n : ℕ) × (size_counted bytes ≡ Ok n) × (n ≤ length bytes)
+
+-- memory ran out for a whole message alone, and not for one with a fault in its header
+abbrev pub IsWholeForMemory : {X : Type 0} → Result X ReadFault → List ℕ → Type 0
+IsWholeForMemory (Ok x) bytes = Unit {0}
+IsWholeForMemory (Err (faults.Broken fault)) bytes = Unit {0}
+IsWholeForMemory (Err faults.Memory) bytes = IsWholeNext bytes
+
+-- the size that a header counts from here on, where so many bytes are there
+abbrev pub size_at_header : Rest → Result ℕ Fault
+size_at_header r = header.read r >>= λ head. claimed (r.place + 10) (length r.bytes) HEADER_BYTES head.0.1
+
+-- the same of what is left: its header and the size that it counts have no fault
+abbrev pub IsCountedForMemory : {X : Type 0} → Result X ReadFault → Rest → Type 0
+IsCountedForMemory (Ok x) r = Unit {0}
+IsCountedForMemory (Err (faults.Broken fault)) r = Unit {0}
+IsCountedForMemory (Err faults.Memory) r = (n : ℕ) × (size_at_header r ≡ Ok n)
 
 -- The message with how many bytes it has, or none; or the first fault. Memory runs out for a whole message alone.
 abbrev pub StandsNext : Result (Option (Message × ℕ)) ReadFault → List ℕ → Type 0

@@ -8,6 +8,10 @@ ghost use Rattle.ice_messages.specs.declared.message.Message.{Message};
 ghost use Rattle.ice_messages.specs.Messages.{message_at, message_bytes, SpellsMessage, IsMessage};
 ghost use Rattle.ice_messages.specs.Streams.{Stream, IsStream, IsFront, next_at};
 ghost use Rattle.ice_messages.specs.Framing.{Held, Ran};
+ghost use Rattle.ice_messages.specs.declared.message.Call.{Call};
+ghost use Rattle.ice_messages.specs.declared.message.Answer.{Answer};
+ghost use Rattle.ice_messages.specs.Written.{IsAnswer, IsCall, IsOrderly};
+ghost use Rattle.ice_messages.specs.Written.{IsWritable, IsWritableAnswer, IsWritableCall};
 
 /// What is read is spelled by the bytes that were taken, and what is spelled is read, whatever follows it.
 pub fn messages_exact()
@@ -30,6 +34,19 @@ pub fn messages_written()
         → SpellsMessage (message_bytes m) m }
     ensures shortest { (bytes : List ℕ) (m : Message) → IsBytes bytes → SpellsMessage bytes m
         → length (message_bytes m) ≤ length bytes }
+{}
+
+/// A message as one is read may be written, and so may its calls and its answer.
+pub fn orderly_written()
+    ensures message { (m : Message) → IsOrderly m → IsWritable m }
+    ensures call { (c : Call) → IsCall c → IsWritableCall c }
+    ensures answer { (a : Answer) → IsAnswer a → IsWritableAnswer a }
+{}
+
+/// A message that is cut is a front, wherever it is cut.
+pub fn cut_message()
+    ensures { (bytes more : List ℕ) (m : Message) → SpellsMessage (bytes ++ more) m → 1 ≤ length more
+        → IsFront bytes }
 {}
 
 /// Bytes are messages, one after the other, and then a front or a fault: in one way, and in one alone.

@@ -1,29 +1,54 @@
 //! How many bytes a message has. A number that 64 bits cannot hold is told as the greatest that they can.
 
-ghost use Rattle.std.specs.Prelude.{◌≡◌, ◌+◌, ◌-◌, ◌^◌, ◌≤◌, ◌<◌, ℕ, List, length, min, drop};
+ghost use Rattle.std.specs.Prelude.{◌≡◌, ◌+◌, ◌-◌, ◌^◌, ◌≤◌, ◌<◌, ℕ, ℤ, List, length, min, drop};
 ghost use Rattle.std.specs.List.{flat_map};
 ghost use Rattle.ice_prims.specs.Bytes.{size_bytes, text_bytes};
 ghost use Rattle.ice_encoding.specs.Parts.{both, text};
 ghost use Rattle.ice_encoding.specs.Identity as names;
 ghost use Rattle.ice_messages.specs.Calls as form;
 ghost use Rattle.ice_messages.specs.Messages.{message_bytes};
-ghost use Rattle.ice_messages.specs.Written.{told, IsAnswer, IsOrderly};
+ghost use Rattle.ice_messages.specs.declared.message.Message.TheVariants.{Request, Batch, Reply};
+ghost use Rattle.ice_messages.specs.Written.{told, IsWritableAnswer, IsWritable};
 
 use crate::message::{Answer, Call, HEADER_BYTES, Message};
 use ice_types::{Identity, Name};
 
+/// How many bytes an id or a count has.
+const INT_BYTES: u64 = 4;
+
 /// How many bytes the message has.
 pub fn message_length(message: &Message) -> u64
-    requires { IsOrderly message.now }
+    requires { IsWritable message.now }
     ensures { result ≡ told (length (message_bytes message.now)) }
 {
-    let body = match message {
-        Message::Request { call, .. } => call_length(call).saturating_add(4),
-        Message::Batch { calls } => calls_length(calls.as_slice()).saturating_add(4),
-        Message::Reply { answer, .. } => answer_length(answer).saturating_add(4),
-        Message::Validate | Message::Close => 0,
-    };
-    body.saturating_add(HEADER_BYTES as u64)
+    match message {
+        Message::Request { call, .. } => request_length(call),
+        Message::Batch { calls } => batch_length(calls.as_slice()),
+        Message::Reply { answer, .. } => reply_length(answer),
+        Message::Validate | Message::Close => HEADER_BYTES as u64,
+    }
+}
+
+/// How many bytes a request of the call has, whatever its id.
+pub fn request_length(call: &Call) -> u64
+    ensures { (id : ℤ) → result ≡ told (length (message_bytes (Request id call.now))) }
+{
+    call_length(call).saturating_add(HEADER_BYTES as u64 + INT_BYTES)
+}
+
+/// How many bytes a batch of the calls has.
+pub fn batch_length(calls: &[Call]) -> u64
+    ensures { result ≡ told (length (message_bytes (Batch calls.now))) }
+{
+    calls_length(calls).saturating_add(HEADER_BYTES as u64 + INT_BYTES)
+}
+
+/// How many bytes a reply with the answer has, whatever its id.
+pub fn reply_length(answer: &Answer) -> u64
+    requires { IsWritableAnswer answer.now }
+    ensures { (id : ℤ) → result ≡ told (length (message_bytes (Reply id answer.now))) }
+{
+    answer_length(answer).saturating_add(HEADER_BYTES as u64 + INT_BYTES)
 }
 
 fn calls_length(calls: &[Call]) -> u64
@@ -61,7 +86,7 @@ fn entries_length(entries: &[(Name, Name)]) -> u64
 }
 
 fn answer_length(answer: &Answer) -> u64
-    requires { IsAnswer answer.now }
+    requires { IsWritableAnswer answer.now }
     ensures { result ≡ told (length (form.answer.put answer.now)) }
 {
     answered_length(answer).saturating_add(1)
@@ -69,7 +94,7 @@ fn answer_length(answer: &Answer) -> u64
 
 /// How many bytes follow the status.
 fn answered_length(answer: &Answer) -> u64
-    requires { IsAnswer answer.now }
+    requires { IsWritableAnswer answer.now }
     ensures { result ≡ told (length ((form.answer_by (form.status_of answer.now)).put answer.now)) }
 {
     match answer {

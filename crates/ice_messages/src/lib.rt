@@ -10,6 +10,7 @@
 //! - A body is a whole encapsulation, from its size on, whatever its version and content.
 #![tactic(auto)]
 
+mod ends;
 mod fault;
 mod frames;
 mod laws;
@@ -21,12 +22,14 @@ mod read_context;
 mod reading;
 mod writing;
 
+pub use ends::{MOST_MESSAGES, client_fault, is_clients, is_servers, server_fault};
 pub use fault::{FeedFault, WriteFault};
 pub use frames::Frames;
 pub use laws::{
-    first_messages, fronts_wait, messages_apart, messages_exact, messages_written, one_stream,
-    pieces_read,
+    cut_message, first_messages, fronts_wait, messages_apart, messages_exact, messages_written,
+    one_stream, orderly_written, pieces_read,
 };
+pub use lengths::{batch_length, message_length, reply_length, request_length};
 pub use message::{Answer, Call, Message};
 pub use reading::read_message;
-pub use writing::write_message;
+pub use writing::{write_batch, write_message, write_reply, write_request};

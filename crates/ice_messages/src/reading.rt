@@ -9,7 +9,8 @@ ghost use Rattle.ice_messages.specs.Calls.{call};
 ghost use Rattle.ice_messages.specs.Messages.{header, magic, versions, message_type, compression, body_by, calls};
 ghost use Rattle.ice_messages.specs.Messages.{message_at, whole_message_at};
 ghost use Rattle.ice_messages.specs.Answers.{ReadsPart, Sees, Fills};
-ghost use Rattle.ice_messages.specs.Written.{IsOrderly};
+ghost use Rattle.ice_messages.specs.Next.{IsCountedForMemory, IsWholeForMemory};
+ghost use Rattle.ice_messages.specs.Written.{IsOrderly, IsWritable};
 
 use crate::message::{Call, HEADER_BYTES, Message};
 use crate::read_call::{take_answer, take_call};
@@ -19,17 +20,21 @@ use ice_types::List;
 use std::alloc::Global;
 
 /// The message that the bytes are, or their first fault. A size above the number of bytes is `Short`, and bytes behind
-/// the message are `LeftOver`.
+/// the message are `LeftOver`. Out of memory comes only where a header without fault counts no more bytes than are
+/// there.
 pub fn read_message(alloc: Global, bytes: &[u8]) -> Result<Message, ReadFault>
     ensures message { GivesUnlessMemory (λ m. m) result (whole_message_at (whole bytes.now)) }
+    ensures memory { IsWholeForMemory result bytes.now }
     ensures orderly { IfOk result IsOrderly }
+    ensures writable { IfOk result IsWritable }
 {
     whole_message(alloc, bytes)
 }
 
 /// The message that all of the bytes are.
 fn whole_message(alloc: Global, bytes: &[u8]) -> Result<Message, ReadFault>
-    ensures { GivesUnlessMemory (λ m. m) result (whole_message_at (whole bytes.now)) }
+    ensures message { GivesUnlessMemory (λ m. m) result (whole_message_at (whole bytes.now)) }
+    ensures memory { IsWholeForMemory result bytes.now }
 {
     let mut cursor = Cursor::new(bytes);
     let message = take_message(alloc, &mut cursor)?;
@@ -39,7 +44,8 @@ fn whole_message(alloc: Global, bytes: &[u8]) -> Result<Message, ReadFault>
 
 /// The message that begins here, whatever follows it.
 pub fn take_message(alloc: Global, cursor: &mut Cursor<'_>) -> Result<Message, ReadFault>
-    ensures { ReadsPart result cursor.new (message_at cursor.old) }
+    ensures message { ReadsPart result cursor.new (message_at cursor.old) }
+    ensures memory { IsCountedForMemory result cursor.old }
 {
     let there = cursor.left();
     let size_place = cursor.fork();

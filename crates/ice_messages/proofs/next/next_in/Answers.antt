@@ -13,4 +13,4 @@ returns-in_err-take_header c =
     rw (p.1, p.2) (few_bad c.args.bytes.now c.if-bytes-lt-HEADER_BYTES.true c.in_err-take_header.field-0.0 read)
 
 pub returns : goal.returns
-returns c = rw c.place.ensures (next_is c.args.bytes.now c.in_ok-message.message c.take_message.new.cursor (λ i. omega (arith, c.type_inv.bytes i)) (subst (λ (b : Bool). IsCounted (Ok b) c.args.bytes.now) c.if-not-branch.false c.in_ok-is_counted.ensures).0 (sym (ap message_at c.new-cursor.ensures) ∙ c.in_ok-message.ensures))
+returns c = rw c.place.ensures (next_is c.args.bytes.now c.in_ok-message.message c.take_message.new.cursor (λ i. omega (arith, c.type_inv.bytes i)) (subst (λ (b : Bool). IsCounted (Ok b) c.args.bytes.now) c.if-not-branch.false c.in_ok-is_counted.ensures).0 (sym (ap message_at c.new-cursor.ensures) ∙ c.in_ok-message.ensures.message))
