@@ -11,8 +11,9 @@ use Rattle.ice_messages.specs.declared.message.Message.{Message}
 use Rattle.ice_messages.specs.declared.message.Message.TheVariants.{Reply}
 use Rattle.ice_messages.specs.Messages.{SpellsMessage}
 use Rattle.ice_messages.specs.Streams.{Stream}
-use Rattle.ice_client.specs.declared.ends.TheConstants.{MOST_MESSAGES, HEADER_BYTES}
-use Rattle.ice_client.specs.Ends.{amiss, awaited_fault, id_fault, client_fault}
+use Rattle.ice_messages.specs.declared.ends.TheConstants.{MOST_MESSAGES}
+use Rattle.ice_messages.specs.declared.message.TheConstants.{HEADER_BYTES}
+use Rattle.ice_messages.specs.Ends.{amiss, awaited_fault, id_fault, client_fault}
 
 -- ---- streams
 

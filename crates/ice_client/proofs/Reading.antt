@@ -1,5 +1,5 @@
 -- From what was heard to the row of an attempt.
-use Rattle.std.proofs.Common.{◌≡◌, ℕ, ℤ, pos, suc, ◌+◌, ◌<◌, ◌≤◌, ◌||◌, ◌&&◌, Bool, true, false, inl, inr, List, [], ◌∷◌, ◌++◌, length, Option, None, Some, Ok, refl, sym, ap, subst, ◌∙◌, append_assoc, append-nil, arith, if◌then◌else◌}
+use Rattle.std.proofs.Common.{◌≡◌, ℕ, ℤ, pos, suc, ◌+◌, ◌<◌, ◌≤◌, ◌||◌, ◌&&◌, Bool, true, false, inl, inr, List, [], ◌∷◌, ◌++◌, length, Option, None, Some, IsSome, Ok, refl, sym, ap, subst, ◌∙◌, append_assoc, append-nil, arith, if◌then◌else◌}
 use Rattle.std.proofs.lemmas.List.{length-append}
 use Rattle.ice_prims.specs.declared.fault.Fault.{Fault}
 use Rattle.ice_ports.specs.declared.talk.Talk.{Talk}
@@ -13,13 +13,14 @@ use Rattle.ice_messages.specs.Framing.{Held}
 use Rattle.retry_core.specs.declared.attempt.Attempt.TheVariants as tries
 use Rattle.retry_core.specs.declared.client_table.ClientEvent.TheVariants as events
 use Rattle.retry_core.specs.declared.client_table.ClientState.TheVariants.{AwaitingValidate, AwaitingReply}
-use Rattle.ice_client.specs.declared.ends.TheConstants.{MOST_MESSAGES}
+use Rattle.retry_core.specs.ClientTable.{client_row}
+use Rattle.ice_messages.specs.declared.ends.TheConstants.{MOST_MESSAGES}
 use Rattle.ice_client.specs.declared.hearing.Heard.{Heard}
 use Rattle.ice_client.specs.declared.hearing.Heard.TheVariants as heards
 use Rattle.ice_client.specs.declared.outcome.End.{End}
 use Rattle.ice_client.specs.declared.outcome.Outcome.TheVariants as outcomes
 use Rattle.ice_client.specs.declared.outgoing.Outgoing.{Outgoing}
-use Rattle.ice_client.specs.Ends.{client_fault}
+use Rattle.ice_messages.specs.Ends.{client_fault}
 use Rattle.ice_client.specs.Hearing.{IsGoing, Hears, heard_part, is_ended, is_failed}
 use Rattle.ice_client.specs.Rows.{AreValidates, Begins, Reads, is_no_object, is_stale}
 use Rattle.ice_client.specs.Steps.{broke, replied, taken_end, met_end, end_of, EndsBy, Greets, Awaits}
@@ -95,6 +96,24 @@ module _ (o : Outgoing) (cached : Bool) (u : Talk) (ms : List Message) (rest : L
       subst (λ (x : End). EndsBy o cached AwaitingReply x u) (some_is is) (tries.Broke, refl, (fault, inl (Validate ∷ ms, rest, reads, h), refl))
   decided E new heards.Ended end h ends fails is = subst (λ (x : End). EndsBy o cached AwaitingReply x u) (some_is is) (tries.Lost, refl, (ms, rest, reads, h, inr (refl, ends)))
   decided E new heards.Failed end h ends fails is = subst (λ (x : End). EndsBy o cached AwaitingReply x u) (some_is is) (tries.Lost, refl, (ms, rest, reads, h, inl (refl, fails)))
+
+-- it can come
+met_comes : (fault : Option Fault) (cached : Bool) (m : Message) (end : End) → met_end fault cached m ≡ Some end → (replies : Bool) (size : ℕ) → IsSome (client_row replies size AwaitingReply end.event)
+met_comes (Some fault) cached m end is replies size = subst (λ (x : End). IsSome (client_row replies size AwaitingReply x.event)) (some_is is) refl
+met_comes None cached (Request id call) end is replies size = absurd (none_is is)
+met_comes None cached (Batch calls) end is replies size = absurd (none_is is)
+met_comes None cached (Reply id answer) end is replies size = subst (λ (x : End). IsSome (client_row replies size AwaitingReply x.event)) (some_is is) (answered (is_no_object answer)) where
+  answered : (b : Bool) → IsSome (client_row replies size AwaitingReply (if b then events.Refused2 cached else events.ReplyRead))
+  answered true = refl
+  answered false = refl
+met_comes None cached Validate end is replies size = absurd (none_is is)
+met_comes None cached Close end is replies size = subst (λ (x : End). IsSome (client_row replies size AwaitingReply x.event)) (some_is is) refl
+
+ends_come : (n : ℕ) (cached : Bool) (h : Heard) (end : End) → end_of (Some (pos 1)) n cached h ≡ Some end → (replies : Bool) (size : ℕ) → IsSome (client_row replies size AwaitingReply end.event)
+ends_come n cached (heards.Message m) end is replies size = met_comes (client_fault (Some (pos 1)) n m) cached m end is replies size
+ends_come n cached (heards.Broken fault) end is replies size = subst (λ (x : End). IsSome (client_row replies size AwaitingReply x.event)) (some_is is) refl
+ends_come n cached heards.Ended end is replies size = subst (λ (x : End). IsSome (client_row replies size AwaitingReply x.event)) (some_is is) refl
+ends_come n cached heards.Failed end is replies size = subst (λ (x : End). IsSome (client_row replies size AwaitingReply x.event)) (some_is is) refl
 
 -- ---- what was heard is a validate
 
@@ -175,6 +194,7 @@ module _ (E : Type 0) (a b c : Option Talk) (old now new : Held) (before : ℕ) 
     refl,
     (
       refl,
+      ends_come before cached h end is,
       λ o s taken replies unended unfailed greeted.
           decided o cached (and_then s waited) w.messages (now.bytes ++ got) (all_read o s taken replies greeted) E new h end hears (rw unended refl) (rw unfailed refl)
           (subst (λ (n : ℕ). end_of (Some (pos 1)) n cached h ≡ Some end) (omega (arith, w.count)) is),

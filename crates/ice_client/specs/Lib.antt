@@ -1,7 +1,7 @@
-pub mod Ends
 pub mod Hearing
 pub mod Writing
 pub mod Rows
 pub mod Steps
 pub mod Asking
 pub mod Attempted
+pub mod ClientDid

@@ -9,11 +9,11 @@ use Rattle.ice_messages.specs.declared.message.Message.TheVariants.{Reply, Valid
 use Rattle.ice_messages.specs.Streams.{Stream, StreamEnds}
 use Rattle.retry_core.specs.declared.attempt.Attempt.{Attempt}
 use Rattle.retry_core.specs.declared.attempt.Attempt.TheVariants as tries
-use Rattle.ice_client.specs.declared.ends.TheConstants.{MOST_MESSAGES}
+use Rattle.ice_messages.specs.declared.ends.TheConstants.{MOST_MESSAGES}
 use Rattle.ice_client.specs.declared.outcome.Outcome.{Outcome}
 use Rattle.ice_client.specs.declared.outcome.Outcome.TheVariants as outcomes
 use Rattle.ice_client.specs.declared.outgoing.Outgoing.{Outgoing}
-use Rattle.ice_client.specs.Ends.{client_fault}
+use Rattle.ice_messages.specs.Ends.{client_fault}
 
 -- ---- what was read
 

@@ -1,5 +1,5 @@
 -- What a client makes of what it hears.
-use Rattle.std.specs.Prelude.{◌≡◌, ℕ, ℤ, pos, ◌+◌, ◌<◌, Bool, true, false, List, [], ◌∷◌, length, Option, None, Some, Result, Ok, Err, if◌then◌else◌}
+use Rattle.std.specs.Prelude.{◌≡◌, ℕ, ℤ, pos, ◌+◌, ◌<◌, Bool, true, false, List, [], ◌∷◌, length, Option, None, Some, IsSome, Result, Ok, Err, if◌then◌else◌}
 use Rattle.ice_prims.specs.declared.fault.Fault.{Fault}
 use Rattle.ice_ports.specs.declared.talk.Talk.{Talk}
 use Rattle.ice_ports.specs.Talks.{and_then, gives}
@@ -20,7 +20,7 @@ use Rattle.ice_client.specs.declared.hearing.Heard.TheVariants as heards
 use Rattle.ice_client.specs.declared.outcome.Outcome.TheVariants as outcomes
 use Rattle.ice_client.specs.declared.outcome.End.{End}
 use Rattle.ice_client.specs.declared.outgoing.Outgoing.{Outgoing}
-use Rattle.ice_client.specs.Ends.{client_fault}
+use Rattle.ice_messages.specs.Ends.{client_fault}
 use Rattle.ice_client.specs.Hearing.{IsGoing}
 use Rattle.ice_client.specs.Rows.{is_no_object, Row}
 
@@ -66,6 +66,7 @@ Greets cached new t (Err e) = t.taken ≡ []
 -- the reply, behind a talk in which the message was taken whole
 abbrev pub Awaits : {E : Type 0} → Bool → Held → Talk → Result End E → Type 0
 Awaits cached old t (Ok end) = (t.taken ≡ [])
+    × ((replies : Bool) (size : ℕ) → IsSome (client_row replies size AwaitingReply end.event))
     × ((o : Outgoing) (s : Talk) → s.taken ≡ o.bytes → o.replies ≡ true → s.ended ≡ false → s.failed ≡ false → Stream s.given (Validate ∷ []) old.bytes
     → EndsBy o cached AwaitingReply end (and_then s t))
 Awaits cached old t (Err e) = t.taken ≡ []

@@ -1,6 +1,6 @@
 //! One attempt.
 
-ghost use Rattle.std.specs.Prelude.{◌≡◌, ◌<◌, ℕ, length, IsSome, Some, true};
+ghost use Rattle.std.specs.Prelude.{◌≡◌, ◌<◌, ℕ, length, Option, IsSome, Some, true};
 ghost use Rattle.ice_ports.specs.Failures.{count_after};
 ghost use Rattle.ice_ports.specs.Nets.{has_failed};
 ghost use Rattle.ice_ports.specs.Talks.{adds};
@@ -96,7 +96,8 @@ fn converse<L: Link>(
 fn attempt_at<N: Net>(
     alloc: Global,
     net: &mut N,
-    place: (&str, u16),
+    host: &str,
+    port: u16,
     outgoing: &Outgoing,
     cached: bool,
     client: &mut Client,
@@ -104,12 +105,11 @@ fn attempt_at<N: Net>(
     requires state { client.old.state ≡ states.Connecting }
     requires made { IsFor client.old outgoing.now }
     ensures told { (talk : Option Talk)
-        × (N.told net.new ≡ attempted (Some (place.0.now, place.1)) talk (N.told net.old))
+        × (N.told net.new ≡ attempted (Some (host.now, port)) talk (N.told net.old))
         × (N.failures net.new ≡ count_after (N.failures net.old) (is_failure talk))
         × Attempts outgoing.now cached talk client.old client.new result }
     ensures kept { N.listen_failures net.new ≡ N.listen_failures net.old }
 {
-    let (host, port) = place;
     match net.connect(host, port) {
         Err(Failed) => Ok(over(client, End {
             event: ClientEvent::ConnectFailed,
@@ -148,7 +148,7 @@ pub fn attempt_once<N: Net>(
     ensures kept { N.listen_failures net.new ≡ N.listen_failures net.old }
 {
     match tcp_of(proxy, number) {
-        Some(place) => attempt_at(alloc, net, place, outgoing, cached, client),
+        Some((host, port)) => attempt_at(alloc, net, host, port, outgoing, cached, client),
         None => unreachable!(),
     }
 }

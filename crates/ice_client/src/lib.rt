@@ -2,14 +2,12 @@
 #![tactic(auto)]
 
 mod attempting;
-mod ends;
 mod hearing;
 mod outcome;
 mod outgoing;
 mod phases;
 
 pub use attempting::attempt_once;
-pub use ends::client_fault;
 pub use hearing::{Heard, hear};
 pub use outcome::{End, Invoked, Once, Outcome};
 pub use outgoing::Outgoing;

@@ -10,10 +10,9 @@ ghost use Rattle.ice_client.specs.Steps as steps;
 ghost use Rattle.ice_client.specs.Steps.{Greets, Awaits};
 ghost use Rattle.ice_client.specs.Writing.{writes_part};
 
-use crate::ends::client_fault;
 use crate::hearing::{Heard, hear};
 use crate::outcome::{End, Outcome};
-use ice_messages::{Answer, Frames, Message};
+use ice_messages::{Answer, Frames, Message, client_fault};
 use ice_ports::{Failed, Link, write_link};
 use retry_core::ClientEvent;
 use std::alloc::AllocError;
