@@ -1,7 +1,7 @@
 -- Attempts, with a connection and without one, and what the net tells of them.
-use Rattle.std.proofs.Common.{◌≡◌, ℕ, ◌<◌, Bool, true, false, List, [], ◌∷◌, length, Option, None, Some, Result, Ok, Err, refl, sym, ap, subst, ◌∙◌}
+use Rattle.std.proofs.Common.{◌≡◌, ℕ, Bool, false, List, [], ◌∷◌, Option, None, Some, Result, Ok, Err, refl, ap, ◌∙◌}
 use Rattle.ice_ports.specs.declared.talk.Talk.{Talk}
-use Rattle.ice_ports.specs.Talks.{gives, and_then, adds, silent}
+use Rattle.ice_ports.specs.Talks.{adds}
 use Rattle.ice_ports.specs.Failures.{count_after}
 use Rattle.ice_ports.specs.Nets.{ToldNet, told_after, connected, came_back, one_talk, IsNew, has_failed}
 use Rattle.ice_messages.specs.Framing.{Held}
@@ -9,16 +9,15 @@ use Rattle.retry_core.specs.declared.attempt.Attempt.TheVariants as tries
 use Rattle.retry_core.specs.declared.client_table.ClientEvent.TheVariants as events
 use Rattle.retry_core.specs.declared.client_table.ClientState.{ClientState}
 use Rattle.retry_core.specs.declared.client_table.ClientState.TheVariants as states
-use Rattle.retry_core.specs.declared.client_table.ClientNext.TheVariants as nexts
-use Rattle.retry_core.specs.Client.{Invoking, MayCome, next_of, action_of, row_of}
+use Rattle.retry_core.specs.Client.{Invoking, MayCome}
 use Rattle.ice_client.specs.declared.outcome.Outcome.TheVariants as outcomes
 use Rattle.ice_client.specs.declared.outcome.End.{End}
 use Rattle.ice_client.specs.declared.outcome.Once.{Once}
 use Rattle.ice_client.specs.declared.outgoing.Outgoing.{Outgoing}
 use Rattle.ice_client.specs.Steps.{Greets}
-use Rattle.ice_client.specs.Asking.{IsFor, Ends, Converses, Asks, Attempts}
+use Rattle.ice_client.specs.Asking.{IsFor, Ends, Converses, Attempts}
 use Rattle.ice_client.specs.Attempted.{attempted}
-use Rattle.ice_client.proofs.Rowed.{at_state, over, row_over, end_comes, unsent, moved, moved_for}
+use Rattle.ice_client.proofs.Rowed.{at_state, over, row_over, end_comes, unsent, moved}
 
 -- ---- one that is connected
 

@@ -5,3 +5,5 @@ pub mod Reading
 pub mod Writing
 pub mod Rowed
 pub mod Conversing
+pub mod Delivering
+pub mod Preparing

@@ -1,7 +1,6 @@
 -- What a reader of messages answers, in the words of streams.
-use Rattle.std.proofs.Common.{◌≡◌, ℕ, zero, suc, ◌∷◌, ◌+◌, ◌<◌, ◌≤◌, List, [], ◌++◌, length, Option, None, Some, Result, Ok, Err, false, refl, sym, ap, subst, ◌∙◌, arith, inl, inr}
+use Rattle.std.proofs.Common.{◌≡◌, ℕ, zero, suc, ◌∷◌, ◌<◌, List, [], ◌++◌, length, Option, None, Some, Result, Ok, Err, false, sym, ap, subst, ◌∙◌, arith, inl, inr}
 use Rattle.std.specs.Prelude.{is_err}
-use Rattle.std.proofs.lemmas.List.{length-append}
 use Rattle.ice_prims.specs.declared.fault.Fault.{Fault}
 use Rattle.ice_prims.specs.declared.fault.ReadFault.TheVariants as read_faults
 use Rattle.ice_prims.specs.Rest.{IsBytes}

@@ -1,5 +1,5 @@
 -- From what was heard to the row of an attempt.
-use Rattle.std.proofs.Common.{◌≡◌, ℕ, ℤ, pos, suc, ◌+◌, ◌<◌, ◌≤◌, ◌||◌, ◌&&◌, Bool, true, false, inl, inr, List, [], ◌∷◌, ◌++◌, length, Option, None, Some, IsSome, Ok, refl, sym, ap, subst, ◌∙◌, append_assoc, append-nil, arith, if◌then◌else◌}
+use Rattle.std.proofs.Common.{◌≡◌, ℕ, ℤ, pos, ◌+◌, ◌<◌, ◌≤◌, ◌&&◌, Bool, true, false, inl, inr, List, [], ◌∷◌, ◌++◌, length, Option, None, Some, IsSome, Ok, refl, ap, subst, ◌∙◌, append_assoc, append-nil, arith, if◌then◌else◌}
 use Rattle.std.proofs.lemmas.List.{length-append}
 use Rattle.ice_prims.specs.declared.fault.Fault.{Fault}
 use Rattle.ice_ports.specs.declared.talk.Talk.{Talk}
@@ -12,7 +12,7 @@ use Rattle.ice_messages.specs.Streams.{Stream}
 use Rattle.ice_messages.specs.Framing.{Held}
 use Rattle.retry_core.specs.declared.attempt.Attempt.TheVariants as tries
 use Rattle.retry_core.specs.declared.client_table.ClientEvent.TheVariants as events
-use Rattle.retry_core.specs.declared.client_table.ClientState.TheVariants.{AwaitingValidate, AwaitingReply}
+use Rattle.retry_core.specs.declared.client_table.ClientState.TheVariants.{AwaitingReply}
 use Rattle.retry_core.specs.ClientTable.{client_row}
 use Rattle.ice_messages.specs.declared.ends.TheConstants.{MOST_MESSAGES}
 use Rattle.ice_client.specs.declared.hearing.Heard.{Heard}
@@ -22,8 +22,8 @@ use Rattle.ice_client.specs.declared.outcome.Outcome.TheVariants as outcomes
 use Rattle.ice_client.specs.declared.outgoing.Outgoing.{Outgoing}
 use Rattle.ice_messages.specs.Ends.{client_fault}
 use Rattle.ice_client.specs.Hearing.{IsGoing, Hears, heard_part, is_ended, is_failed}
-use Rattle.ice_client.specs.Rows.{AreValidates, Begins, Reads, is_no_object, is_stale}
-use Rattle.ice_client.specs.Steps.{broke, replied, taken_end, met_end, end_of, EndsBy, Greets, Awaits}
+use Rattle.ice_client.specs.Rows.{AreValidates, Begins, Reads, is_no_object}
+use Rattle.ice_client.specs.Steps.{broke, met_end, end_of, EndsBy, Greets, Awaits}
 use Rattle.ice_client.proofs.Adding.{adds_then}
 use Rattle.ice_client.proofs.Messages.{stream_join, stream_more, stream_grows, unfaulted, reply_id}
 
@@ -182,7 +182,7 @@ module _ (E : Type 0) (a b c : Option Talk) (old now new : Held) (before : ℕ) 
     (refl, w.validates),
     omega (arith, w.count, w.few),
     stream_join (Validate ∷ []) w.messages s.given old.bytes (w.got ++ got) (now.bytes ++ got) greeted
-    (subst (λ (z : List ℕ). Stream z w.messages (now.bytes ++ got)) (append_assoc old.bytes w.got got) (stream_grows w.messages (old.bytes ++ w.got) now.bytes got w.read)),
+        (subst (λ (z : List ℕ). Stream z w.messages (now.bytes ++ got)) (append_assoc old.bytes w.got got) (stream_grows w.messages (old.bytes ++ w.got) now.bytes got w.read)),
   )
 
   pub waits_over : (end : End) → end_of (Some (pos 1)) before cached h ≡ Some end

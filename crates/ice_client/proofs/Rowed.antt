@@ -1,6 +1,6 @@
 -- From the phases of an attempt to the whole of it.
-use Rattle.std.proofs.Common.{◌≡◌, ℕ, ◌+◌, ◌<◌, ◌≤◌, ◌||◌, Bool, true, false, inl, inr, List, [], ◌∷◌, ◌++◌, length, take, drop, take-append-drop, take_all, Option, None, Some, Result, Ok, Err, IsSome, refl, sym, ap, subst, ◌∙◌, append_assoc, append-nil, arith, zero-add, if◌then◌else◌}
-use Rattle.std.specs.Prelude.{nat_lt, ◌==◌}
+use Rattle.std.proofs.Common.{◌≡◌, ℕ, ◌+◌, ◌<◌, ◌≤◌, ◌||◌, Bool, true, false, inl, inr, List, [], ◌∷◌, ◌++◌, length, take, drop, take-append-drop, take_all, Option, Some, Ok, Err, IsSome, refl, sym, ap, subst, ◌∙◌, append_assoc, append-nil, arith, zero-add}
+use Rattle.std.specs.Prelude.{nat_lt}
 use Rattle.std.proofs.lemmas.Bool.{eq-eqb, lt-ltb, le-ltb, cases_lt}
 use Rattle.std.proofs.lemmas.List.{length-take-le}
 use Rattle.ice_ports.specs.Failures.{count_after}
@@ -29,7 +29,7 @@ use Rattle.ice_client.specs.declared.outcome.End.{End}
 use Rattle.ice_client.specs.declared.outcome.Once.{Once}
 use Rattle.ice_client.specs.declared.outgoing.Outgoing.{Outgoing}
 use Rattle.ice_client.specs.Rows.{Begins, Row, IsOrderly}
-use Rattle.ice_client.specs.Steps.{EndsBy, Awaits, Greets}
+use Rattle.ice_client.specs.Steps.{EndsBy, Awaits}
 use Rattle.ice_client.specs.Asking.{IsFor, Ends, IsOver, Converses, Asks}
 use Rattle.ice_client.specs.Writing.{writes_part}
 use Rattle.ice_client.proofs.Adding.{or_twice}
@@ -175,7 +175,7 @@ awaited_ends : (E : Type 0) (o : Outgoing) (cached : Bool) (old : Held) (given :
 awaited_ends E o cached old given n t end same asks greeted h =
     subst (EndsBy o cached states.AwaitingReply end) (twice (gives given) (writes_part o.bytes n) t)
     (h.2 o (and_then (gives given) (writes_part o.bytes n)) (take_all n o.bytes (omega (arith, same))) asks refl (le-ltb n (length o.bytes) (omega (arith, same)))
-        (subst (λ (z : List ℕ). Stream z (Validate ∷ []) old.bytes) (sym (append-nil given)) greeted))
+    (subst (λ (z : List ℕ). Stream z (Validate ∷ []) old.bytes) (sym (append-nil given)) greeted))
 
 module _ (E : Type 0) (o : Outgoing) (cached : Bool) (old : Held) (n : ℕ) (i j : Invoking) (made : IsFor i o) (is : i.state ≡ states.Sending 0) (new : j ≡ next_of i (row_of i (events.Taken n))) where
   pub asks_cut : (k : Invoking) (once : Once) → n < length o.bytes → Ends j k (record { event = events.Lost; outcome = outcomes.NetFailed }) once → Asks {E = E} o cached old (writes_part o.bytes n) i k (Ok once)
@@ -183,7 +183,7 @@ module _ (E : Type 0) (o : Outgoing) (cached : Bool) (old : Held) (n : ℕ) (i j
       let there = cut_state i j o n made is less new in
       let on = moved_for i j o (states.Sending (0 + n)) there made in
       let row = row_over j k o cached (states.Sending (0 + n)) (record { event = events.Lost; outcome = outcomes.NetFailed }) once (and_then (gives s.given) (writes_part o.bytes n)) on.0 on.1
-          (cut_ends o cached s.given old.bytes n less greeted) told in
+      (cut_ends o cached s.given old.bytes n less greeted) told in
       subst (λ (z : Talk). Converses {E = E} o cached (and_then z (writes_part o.bytes n)) i k (Ok once)) (sym silent) (
         row.0,
         row.1,

@@ -1,11 +1,7 @@
 -- What a net tells of attempts.
-use Rattle.std.specs.Prelude.{ℕ, suc, Bool, true, false, List, [], ◌∷◌, Option, None, Some}
-use Rattle.ice_types.specs.declared.proxy.Endpoint.{Endpoint}
+use Rattle.std.specs.Prelude.{ℕ, Bool, true, false, List, [], ◌∷◌, Option, None, Some}
 use Rattle.ice_ports.specs.declared.talk.Talk.{Talk}
-use Rattle.ice_ports.specs.Failures.{count_after}
 use Rattle.ice_ports.specs.Nets.{ToldNet, told_after, connected, came_back}
-use Rattle.ice_proxy.specs.Usable.{tcp_at}
-use Rattle.retry_core.specs.declared.attempt.Attempt.{Attempt}
 
 -- after an attempt at this place, with its talk, or without a connection
 abbrev pub attempted : Option (List ℕ × ℕ) → Option Talk → Option ToldNet → Option ToldNet

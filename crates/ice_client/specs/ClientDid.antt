@@ -1,6 +1,6 @@
 -- What a client did to have a message answered or sent: its attempts, each with its talk, and the outcome.
 -- (Ice manual, "Automatic Retries".)
-use Rattle.std.specs.Prelude.{ℕ, ℤ, pos, negsuc, zero, suc, ◌≡◌, ◌≤◌, ◌<◌, ◌+◌, ◌↔◌, Bool, true, false, List, [], ◌∷◌, ◌++◌, length, map, Option, None, Some, Result, Ok, Err, IsTrue}
+use Rattle.std.specs.Prelude.{ℕ, suc, ◌≡◌, ◌≤◌, ◌<◌, ◌+◌, ◌↔◌, Bool, true, false, List, [], ◌∷◌, ◌++◌, length, map, Option, None, Some, Result, Ok, Err}
 use Rattle.ice_types.specs.declared.proxy.Endpoint.{Endpoint}
 use Rattle.ice_encoding.specs.declared.limits.TheConstants.{LARGEST}
 use Rattle.ice_encoding.specs.Parts.{Each}
@@ -9,50 +9,21 @@ use Rattle.ice_ports.specs.Failures.{count_after}
 use Rattle.ice_ports.specs.Nets.{ToldNet}
 use Rattle.ice_messages.specs.declared.fault.WriteFault.{WriteFault}
 use Rattle.ice_messages.specs.declared.fault.WriteFault.TheVariants.{TooLong, Memory}
-use Rattle.ice_messages.specs.declared.message.Call.{Call}
 use Rattle.ice_messages.specs.declared.message.Message.{Message}
-use Rattle.ice_messages.specs.declared.message.Message.TheVariants.{Request, Batch, Reply, Validate, Close}
-use Rattle.ice_messages.specs.Messages.{SpellsMessage, message_bytes}
+use Rattle.ice_messages.specs.Messages.{message_bytes}
 use Rattle.ice_messages.specs.Written.{told}
 use Rattle.ice_proxy.specs.Usable.{tcp_at}
 use Rattle.retry_core.specs.declared.attempt.Attempt.{Attempt}
+use Rattle.retry_core.specs.declared.client_table.ClientAction.{ClientAction}
+use Rattle.retry_core.specs.declared.client_table.ClientAction.TheVariants as actions
 use Rattle.retry_core.specs.Retries.{may_follow}
 use Rattle.ice_client.specs.declared.outcome.Invoked.{Invoked}
 use Rattle.ice_client.specs.declared.outcome.Outcome.{Outcome}
 use Rattle.ice_client.specs.declared.outcome.Outcome.TheVariants as outcomes
 use Rattle.ice_client.specs.declared.outgoing.Outgoing.{Outgoing}
 use Rattle.ice_client.specs.Attempted.{attempted, is_failure}
+use Rattle.ice_client.specs.Sending.{IsOf}
 use Rattle.ice_client.specs.Asking.{HasRow}
-
--- ---- the message
-
--- a request with an id other than 0 asks for a reply
-abbrev pub asks_reply : Message → Bool
-asks_reply (Request (pos zero) call) = false
-asks_reply (Request (pos (suc n)) call) = true
-asks_reply (Request (negsuc n) call) = true
-asks_reply (Batch calls) = false
-asks_reply (Reply id answer) = false
-asks_reply Validate = false
-asks_reply Close = false
-
--- nonmutating or idempotent
-abbrev pub IsRepeatable : Call → Type 0
-IsRepeatable call = 0 < call.mode
-
--- each call of the message may be dispatched again
-abbrev pub IsIdempotent : Message → Type 0
-IsIdempotent (Request id call) = IsRepeatable call
-IsIdempotent (Batch calls) = Each IsRepeatable calls
-IsIdempotent (Reply id answer) = Unit {0}
-IsIdempotent Validate = Unit {0}
-IsIdempotent Close = Unit {0}
-
--- what is sent of the message
-pub record IsOf (o : Outgoing) (m : Message) : Type 0 where
-  pub spelled : SpellsMessage o.bytes m
-  pub replies : o.replies ≡ asks_reply m
-  pub idempotent : IsTrue o.idempotent ↔ IsIdempotent m
 
 -- ---- attempts
 
@@ -138,3 +109,11 @@ Invokes m endpoints retries tried (Ok r) =
     (r.attempts ≡ attempts_of tried) × ClientDid m retries tried (had r.outcome) × IsPlaced endpoints tried r.outcome × Each is_uncached tried × (length (message_bytes m) ≤ LARGEST)
 Invokes m endpoints retries tried (Err (TooLong n)) = (tried ≡ []) × (LARGEST < length (message_bytes m)) × (n ≡ told (length (message_bytes m)))
 Invokes m endpoints retries tried (Err Memory) = length (message_bytes m) ≤ LARGEST
+
+-- the client connects next
+abbrev pub goes_again : ClientAction → Bool
+goes_again actions.Connect = true
+goes_again actions.AwaitValidate = false
+goes_again actions.Send = false
+goes_again actions.AwaitReply = false
+goes_again (actions.Finish attempt) = false

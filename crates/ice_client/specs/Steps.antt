@@ -1,5 +1,5 @@
 -- What a client makes of what it hears.
-use Rattle.std.specs.Prelude.{◌≡◌, ℕ, ℤ, pos, ◌+◌, ◌<◌, Bool, true, false, List, [], ◌∷◌, length, Option, None, Some, IsSome, Result, Ok, Err, if◌then◌else◌}
+use Rattle.std.specs.Prelude.{◌≡◌, ℕ, ℤ, ◌<◌, Bool, true, false, [], ◌∷◌, length, Option, None, Some, IsSome, Result, Ok, Err, if◌then◌else◌}
 use Rattle.ice_prims.specs.declared.fault.Fault.{Fault}
 use Rattle.ice_ports.specs.declared.talk.Talk.{Talk}
 use Rattle.ice_ports.specs.Talks.{and_then, gives}
@@ -9,7 +9,6 @@ use Rattle.ice_messages.specs.declared.message.Message.TheVariants.{Request, Bat
 use Rattle.ice_messages.specs.Streams.{Stream}
 use Rattle.ice_messages.specs.Framing.{Held}
 use Rattle.retry_core.specs.declared.attempt.Attempt.{Attempt}
-use Rattle.retry_core.specs.declared.client_table.ClientEvent.{ClientEvent}
 use Rattle.retry_core.specs.declared.client_table.ClientEvent.TheVariants as events
 use Rattle.retry_core.specs.declared.client_table.ClientState.{ClientState}
 use Rattle.retry_core.specs.declared.client_table.ClientState.TheVariants.{AwaitingValidate, AwaitingReply}

@@ -53,10 +53,13 @@ fn ask<L: Link>(
     let taken = write_bytes(link, outgoing.bytes.as_slice());
     let action = client.step(ClientEvent::Taken(taken as u64));
     if taken < outgoing.bytes.len() {
-        return Ok(over(client, End {
-            event: ClientEvent::Lost,
-            outcome: Outcome::NetFailed,
-        }));
+        return Ok(over(
+            client,
+            End {
+                event: ClientEvent::Lost,
+                outcome: Outcome::NetFailed,
+            },
+        ));
     }
     if !outgoing.replies {
         return Ok(Once {
@@ -111,10 +114,13 @@ fn attempt_at<N: Net>(
     ensures kept { N.listen_failures net.new ≡ N.listen_failures net.old }
 {
     match net.connect(host, port) {
-        Err(Failed) => Ok(over(client, End {
-            event: ClientEvent::ConnectFailed,
-            outcome: Outcome::NetFailed,
-        })),
+        Err(Failed) => Ok(over(
+            client,
+            End {
+                event: ClientEvent::ConnectFailed,
+                outcome: Outcome::NetFailed,
+            },
+        )),
         Ok(mut link) => {
             client.step(ClientEvent::Connected);
             let once = converse(alloc, &mut link, outgoing, cached, client);

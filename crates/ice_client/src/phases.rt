@@ -12,13 +12,11 @@ ghost use Rattle.ice_client.specs.Writing.{writes_part};
 
 use crate::hearing::{Heard, hear};
 use crate::outcome::{End, Outcome};
+use crate::outgoing::REQUEST_ID;
 use ice_messages::{Answer, Frames, Message, client_fault};
 use ice_ports::{Failed, Link, write_link};
 use retry_core::ClientEvent;
 use std::alloc::AllocError;
-
-/// The id of each request that asks for a reply: a connection has one.
-pub const REQUEST_ID: i32 = 1;
 
 /// Whether the answer says that there is no such object.
 fn is_no_object(answer: &Answer) -> bool
@@ -74,7 +72,11 @@ fn end_of(heard: Heard, asked: Option<i32>, before: u32, cached: bool) -> Option
 }
 
 /// Reads the first message: None where the server is ready. Writes nothing.
-pub fn greet<L: Link>(link: &mut L, frames: &mut Frames, cached: bool) -> Result<Option<End>, AllocError>
+pub fn greet<L: Link>(
+    link: &mut L,
+    frames: &mut Frames,
+    cached: bool,
+) -> Result<Option<End>, AllocError>
     requires fresh { frames.old.bytes ≡ [] }
     requires going { IsGoing frames.old }
     ensures talk { (t : Talk) × (L.talk link.new ≡ adds (L.talk link.old) t)
@@ -105,7 +107,11 @@ pub fn write_bytes<L: Link>(link: &mut L, bytes: &[u8]) -> usize
 }
 
 /// Reads up to the reply, or whatever else ends the attempt. Writes nothing.
-pub fn await_reply<L: Link>(link: &mut L, frames: &mut Frames, cached: bool) -> Result<End, AllocError>
+pub fn await_reply<L: Link>(
+    link: &mut L,
+    frames: &mut Frames,
+    cached: bool,
+) -> Result<End, AllocError>
     requires { IsGoing frames.old }
     ensures talk { (t : Talk) × (L.talk link.new ≡ adds (L.talk link.old) t)
         × (L.Source.failures link.new ≡ count_after (L.Source.failures link.old) t.failed)

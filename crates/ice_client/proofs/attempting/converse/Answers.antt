@@ -1,14 +1,14 @@
-use Rattle.std.proofs.Common.{◌≡◌, ◌∙◌, ◌||◌, ℕ, Option, Ok, sym, ap, subst}
+use Rattle.std.proofs.Common.{◌∙◌, ◌||◌, ℕ, Option, Ok, sym, ap, subst}
 use Rattle.std.proofs.lemmas.Result.{err_from_is_err_and}
 use Rattle.std.specs.declared.alloc.AllocError.{AllocError}
 use Rattle.ice_ports.specs.Failures.{count_after}
-use Rattle.ice_ports.specs.Talks.{adds, and_then, gives}
+use Rattle.ice_ports.specs.Talks.{and_then}
 use Rattle.ice_ports.specs.declared.talk.Talk.{Talk}
 use Rattle.retry_core.specs.declared.client_table.ClientState.TheVariants as states
 use Rattle.ice_client.specs.declared.outcome.End.{End}
 use Rattle.ice_client.specs.Steps.{Greets}
 use Rattle.ice_client.proofs.Adding.{adds_then}
-use Rattle.ice_client.proofs.Rowed.{count_reads, greeted_state, moved_for, unsent}
+use Rattle.ice_client.proofs.Rowed.{count_reads, greeted_state, unsent}
 use Rattle.ice_client.proofs.Conversing.{greeted_comes, greeted_over, converses_moved}
 use Rattle.ice_client.proofs.attempting.converse.Goals as goal
 
@@ -40,7 +40,7 @@ returns-in-Some g c =
         t.1,
         count_reads (g.L.Source.failures c.greet.new.link) (g.L.Sink.failures c.greet.new.link) t.0.failed (t.2 ∙ ap (λ (k : ℕ). count_after k t.0.failed) c.requires.reads) (c.in_ok-end.ensures.writes ∙ c.requires.writes),
         greeted_over AllocError c.args.outgoing.now c.args.cached c.greet.new.frames t.0 c.args.client.now c.requires.made c.requires.state c.over.new.client c.in-Some.end c.over.result
-        (subst (λ (e : Option End). Greets {E = AllocError} c.args.cached c.greet.new.frames t.0 (Ok e)) c.in-Some.is t.3) c.over.ensures,
+            (subst (λ (e : Option End). Greets {E = AllocError} c.args.cached c.greet.new.frames t.0 (Ok e)) c.in-Some.is t.3) c.over.ensures,
       );
     }
 

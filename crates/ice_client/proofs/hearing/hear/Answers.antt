@@ -1,4 +1,4 @@
-use Rattle.std.proofs.Common.{rules, ◌≡◌, ◌<◌, ◌++◌, ◌∙◌, List, ℕ, length, take, Option, Ok, Err, sym, ap, subst, append_assoc, arith}
+use Rattle.std.proofs.Common.{rules, ◌<◌, ◌++◌, ◌∙◌, List, ℕ, length, take, Option, Ok, sym, ap, subst, append_assoc, arith}
 use Rattle.std.proofs.lemmas.List.{length-append}
 use Rattle.std.proofs.lemmas.Result.{err_from_is_err_and}
 use Rattle.ice_messages.specs.Framing.{Held, NextOf}
@@ -13,14 +13,14 @@ pub returns-in-Ok-Some-clause-heard : goal.returns-in-Ok-Some-clause-heard
 returns-in-Ok-Some-clause-heard g c =
     let before = c.loop-message.invariant.heard in
     let h = handed c.loop-message.frames c.next.new.self c.in-Ok-Some.message c.loop-message.invariant.going
-        (subst (λ (o : Option Message). NextOf c.loop-message.frames c.next.new.self (Ok o)) c.in-Ok-Some.field-0-is c.in-Ok-Some.ensures) in
+    (subst (λ (o : Option Message). NextOf c.loop-message.frames c.next.new.self (Ok o)) c.in-Ok-Some.field-0-is c.in-Ok-Some.ensures) in
     (before.0, before.1, (h.0, sym before.2 ∙ h.1, h.2, h.3))
 
 pub returns-in-Ok-eq0-clause-heard : goal.returns-in-Ok-eq0-clause-heard
 returns-in-Ok-eq0-clause-heard g c =
     let before = c.loop-message.invariant.heard in
     let w = waits c.loop-message.frames c.next.new.self c.loop-message.invariant.going
-        (subst (λ (o : Option Message). NextOf c.loop-message.frames c.next.new.self (Ok o)) c.in-Ok-None.field-0-is c.in-Ok-None.ensures) in
+    (subst (λ (o : Option Message). NextOf c.loop-message.frames c.next.new.self (Ok o)) c.in-Ok-None.field-0-is c.in-Ok-None.ensures) in
     let some : 0 < length c.read_link.new.into = search rules in (
       before.0,
       ended_more Failed (g.L.Link.talk c.args.link.now) (g.L.Link.talk c.loop-message.link) (g.L.Link.talk c.read_link.new.link) before.0 c.read_link.new.into c.in-Ok-eq0.field-0 c.in-Ok-eq0.field-0-test some before.1 c.in-Ok-eq0.ensures.talk,
@@ -31,7 +31,7 @@ pub returns-in-Err-clause-heard : goal.returns-in-Err-clause-heard
 returns-in-Err-clause-heard g c =
     let before = c.loop-message.invariant.heard in
     let w = waits c.loop-message.frames c.next.new.self c.loop-message.invariant.going
-        (subst (λ (o : Option Message). NextOf c.loop-message.frames c.next.new.self (Ok o)) c.in-Ok-None.field-0-is c.in-Ok-None.ensures) in (
+    (subst (λ (o : Option Message). NextOf c.loop-message.frames c.next.new.self (Ok o)) c.in-Ok-None.field-0-is c.in-Ok-None.ensures) in (
       before.0,
       failed_more Failed (g.L.Link.talk c.args.link.now) (g.L.Link.talk c.loop-message.link) (g.L.Link.talk c.read_link.new.link) before.0 c.read_link.new.into c.in-Err.field-0 before.1 c.in-Err.ensures.talk,
       subst IsFront before.2 w.0,
@@ -46,7 +46,7 @@ returns-in_err-take_piece-clause-heard g c =
 pub loop-message-smaller : goal.loop-message-smaller
 loop-message-smaller g c =
     let w = waits c.loop-message.frames c.next.new.self c.loop-message.invariant.going
-        (subst (λ (o : Option Message). NextOf c.loop-message.frames c.next.new.self (Ok o)) c.in-Ok-None.field-0-is c.in-Ok-None.ensures) in
+    (subst (λ (o : Option Message). NextOf c.loop-message.frames c.next.new.self (Ok o)) c.in-Ok-None.field-0-is c.in-Ok-None.ensures) in
     let piece = take c.in-Ok.count c.read_link.new.into in
     omega (arith, w.1, ap (λ (z : Held). length z.bytes) w.2, ap length c.in_ok-take_piece.ensures.0, length-append c.next.new.self.bytes piece, c.in-Ok.ensures.bound.1, c.in-Ok.count-test)
 
@@ -54,7 +54,7 @@ pub loop-message-preserved : goal.loop-message-preserved
 loop-message-preserved g c =
     let before = c.loop-message.invariant.heard in
     let w = waits c.loop-message.frames c.next.new.self c.loop-message.invariant.going
-        (subst (λ (o : Option Message). NextOf c.loop-message.frames c.next.new.self (Ok o)) c.in-Ok-None.field-0-is c.in-Ok-None.ensures) in
+    (subst (λ (o : Option Message). NextOf c.loop-message.frames c.next.new.self (Ok o)) c.in-Ok-None.field-0-is c.in-Ok-None.ensures) in
     let piece = take c.in-Ok.count c.read_link.new.into in
     record {
       heard = (

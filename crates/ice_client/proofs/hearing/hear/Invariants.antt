@@ -1,4 +1,4 @@
-use Rattle.std.proofs.Common.{◌≡◌, ℕ, ◌+◌, ◌-◌, List, [], ◌++◌, length, false}
+use Rattle.std.proofs.Common.{◌≡◌, ℕ, ◌+◌, ◌-◌, List, ◌++◌, length}
 use Rattle.ice_ports.specs.Talks.{adds, gives}
 use Rattle.ice_ports.specs.declared.ports.TheConstants.{MOST_OF_A_READ}
 use Rattle.ice_encoding.specs.declared.limits.TheConstants.{LARGEST}

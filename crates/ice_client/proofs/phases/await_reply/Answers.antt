@@ -1,4 +1,4 @@
-use Rattle.std.proofs.Common.{◌≡◌, ◌++◌, ◌∙◌, ℕ, [], Ok, refl, sym, ap, append-nil, arith}
+use Rattle.std.proofs.Common.{◌++◌, ◌∙◌, ℕ, [], Ok, refl, sym, ap, append-nil, arith}
 use Rattle.std.proofs.lemmas.Result.{err_from_is_err_and}
 use Rattle.std.specs.declared.alloc.AllocError.{AllocError}
 use Rattle.ice_ports.specs.Failures.{count_after}
@@ -41,7 +41,7 @@ returns-in-Some-clause-talk g c =
     let heard = c.in_ok-heard.ensures.heard in
     let w = c.loop-heard.invariant.waited in
     let last = waits_over AllocError (g.L.Link.talk c.args.link.now) (g.L.Link.talk c.loop-heard.link) (g.L.Link.talk c.hear.new.link) c.args.frames.now c.loop-heard.frames c.hear.new.frames c.loop-heard.before w heard.0 c.in_ok-heard.heard c.args.cached
-        heard.1 heard.2 c.in-Some.end (sym c.end_of.ensures ∙ c.in-Some.is) in (
+    heard.1 heard.2 c.in-Some.end (sym c.end_of.ensures ∙ c.in-Some.is) in (
       last.0,
       last.1,
       c.in_ok-heard.ensures.reads ∙ ap (λ (n : ℕ). count_after n (is_failed {E = AllocError} (Ok c.in_ok-heard.heard))) c.loop-heard.invariant.reads ∙ ap (count_after (g.L.Source.failures c.args.link.now)) (sym last.2),
@@ -52,14 +52,14 @@ pub loop-heard-smaller : goal.loop-heard-smaller
 loop-heard-smaller g c =
     let heard = c.in_ok-heard.ensures.heard in
     let on = waits_on AllocError (g.L.Link.talk c.args.link.now) (g.L.Link.talk c.loop-heard.link) (g.L.Link.talk c.hear.new.link) c.args.frames.now c.loop-heard.frames c.hear.new.frames c.loop-heard.before c.loop-heard.invariant.waited heard.0
-        c.in_ok-heard.heard c.args.cached heard.1 heard.2 (sym c.end_of.ensures ∙ c.in_default.is) in
+    c.in_ok-heard.heard c.args.cached heard.1 heard.2 (sym c.end_of.ensures ∙ c.in_default.is) in
     omega (arith, on.1)
 
 pub loop-heard-preserved : goal.loop-heard-preserved
 loop-heard-preserved g c =
     let heard = c.in_ok-heard.ensures.heard in
     let on = waits_on AllocError (g.L.Link.talk c.args.link.now) (g.L.Link.talk c.loop-heard.link) (g.L.Link.talk c.hear.new.link) c.args.frames.now c.loop-heard.frames c.hear.new.frames c.loop-heard.before c.loop-heard.invariant.waited heard.0
-        c.in_ok-heard.heard c.args.cached heard.1 heard.2 (sym c.end_of.ensures ∙ c.in_default.is) in
+    c.in_ok-heard.heard c.args.cached heard.1 heard.2 (sym c.end_of.ensures ∙ c.in_default.is) in
     record {
       waited = on.0;
       reads = c.in_ok-heard.ensures.reads ∙ ap (count_after (g.L.Source.failures c.loop-heard.link)) on.2 ∙ c.loop-heard.invariant.reads;

@@ -1,4 +1,4 @@
-use Rattle.std.proofs.Common.{◌≡◌, ◌+◌, ◌-◌}
+use Rattle.std.proofs.Common.{◌≡◌, ◌-◌}
 use Rattle.ice_messages.specs.declared.ends.TheConstants.{MOST_MESSAGES}
 use Rattle.ice_client.proofs.Reading.{Waited}
 use Rattle.ice_client.proofs.phases.await_reply.Given as goal

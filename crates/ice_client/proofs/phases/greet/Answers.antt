@@ -15,5 +15,5 @@ returns-clause-talk g c =
       heard.1,
       c.in_ok-heard.ensures.reads,
       subst (λ (e : Option End). Greets {E = AllocError} c.args.cached new t (Ok e)) (sym c.end_of.ensures)
-      (greets AllocError c.args.cached heard.0 new c.in_ok-heard.heard (subst (λ (z : List ℕ). Hears {E = AllocError} (z ++ heard.0) new (Ok c.in_ok-heard.heard)) c.requires.fresh heard.2)),
+          (greets AllocError c.args.cached heard.0 new c.in_ok-heard.heard (subst (λ (z : List ℕ). Hears {E = AllocError} (z ++ heard.0) new (Ok c.in_ok-heard.heard)) c.requires.fresh heard.2)),
     )
