@@ -3,16 +3,18 @@
 //! | line | what happens |
 //! |---|---|
 //! | `call LENGTH RETRIES` | a call begins whose request has so many bytes; calls are numbered from 0 |
-//! | `call LENGTH RETRIES idempotent` | one that may be dispatched again |
+//! | `call LENGTH RETRIES oneway` | one that asks for no reply |
+//! | `call LENGTH RETRIES batch CALLS` | so many calls in one message, which asks for no reply |
+//! | `call .. idempotent` | one that may be dispatched again |
 //! | `connect CALL` | a connection is there; connections are numbered from 0 |
 //! | `connect CALL cached` | one to a place that came from a cache |
 //! | `fail CALL` | no connection is there |
 //! | `validate CONNECTION` | the server writes the validate message |
 //! | `hand CONNECTION BYTES` | the connection takes so many bytes from the client |
 //! | `arrive CONNECTION BYTES` | so many of these reach the server |
-//! | `dispatch CONNECTION` | the server dispatches the request |
-//! | `refuse CONNECTION` | the server has no such object |
-//! | `answer CONNECTION` | the server writes the reply |
+//! | `dispatch CONNECTION` | the server reads the message and dispatches its first call |
+//! | `refuse CONNECTION` | the server reads the message and has no such object |
+//! | `answer CONNECTION` | the call has its answer: the server dispatches the next of the message, or writes the reply |
 //! | `close CONNECTION` | the server closes the connection |
 //! | `read CONNECTION` | the client reads the next message |
 //! | `lose CONNECTION` | the client loses the connection |
@@ -21,13 +23,23 @@
 use std::str::SplitWhitespace;
 use thiserror::Error;
 
+/// What a call is like.
+#[derive(Clone, Copy, Debug)]
+pub struct Form {
+    pub is_idempotent: bool,
+    /// It asks for a reply.
+    pub replies: bool,
+    /// How many calls its message has.
+    pub calls: u32,
+}
+
 /// What happens next in the world.
 #[derive(Clone, Copy, Debug)]
 pub enum Event {
     Call {
         length: u64,
         retries: u32,
-        is_idempotent: bool,
+        form: Form,
     },
     Connect {
         call: usize,
@@ -56,6 +68,8 @@ pub enum LineFault {
     NoNumber,
     #[error("a number of bytes or of retries is due")]
     NoAmount,
+    #[error("a number of calls is due, 1 to 1,000")]
+    NoCount,
     #[error("a call has 1 to 1,048,576 bytes and at most 10 retries")]
     OutOfRange,
     #[error("the line goes on after its event")]
@@ -66,6 +80,9 @@ pub enum LineFault {
 const MOST_BYTES: u64 = 1_048_576;
 
 const MOST_RETRIES: u64 = 10;
+
+/// The most calls of one message.
+const MOST_CALLS: u32 = 1_000;
 
 /// The event of a line, or None where the line is blank or begins with `#`.
 pub fn event_of(line: &str) -> Result<Option<Event>, LineFault> {
@@ -110,8 +127,37 @@ fn call_of(words: &mut SplitWhitespace<'_>) -> Result<Event, LineFault> {
     Ok(Event::Call {
         length,
         retries: retries as u32,
-        is_idempotent: is_marked(words, "idempotent")?,
+        form: form_of(words)?,
     })
+}
+
+/// What a call is like, by the marks behind its numbers.
+fn form_of(words: &mut SplitWhitespace<'_>) -> Result<Form, LineFault> {
+    let mut form = Form {
+        is_idempotent: false,
+        replies: true,
+        calls: 1,
+    };
+    while let Some(mark) = words.next() {
+        match mark {
+            "idempotent" => form.is_idempotent = true,
+            "oneway" => form.replies = false,
+            "batch" => {
+                form.replies = false;
+                form.calls = count(words.next())?;
+            }
+            _ => return Err(LineFault::LeftOver),
+        }
+    }
+    Ok(form)
+}
+
+/// A number of calls.
+fn count(word: Option<&str>) -> Result<u32, LineFault> {
+    match word.map(str::parse) {
+        Some(Ok(calls)) if 0 < calls && calls <= MOST_CALLS => Ok(calls),
+        _ => Err(LineFault::NoCount),
+    }
 }
 
 /// The number of a call or of a connection.

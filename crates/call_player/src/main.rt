@@ -44,7 +44,7 @@ fn main(rt: HostRuntime) -> io::Result<ExitCode> {
         }
     }
     for (number, call) in world.calls().iter().enumerate() {
-        let kind = if call.is_idempotent {
+        let kind = if call.form.is_idempotent {
             "idempotent"
         } else {
             "not idempotent"

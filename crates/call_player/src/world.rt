@@ -2,11 +2,11 @@
 
 ghost use Rattle.std.specs.Prelude.{◌≡◌, OnErr};
 
-use crate::event::Event;
+use crate::event::{Event, Form};
 use crate::refusal::Refusal;
 use crate::told::Told;
 use ice_types::List;
-use retry_core::{Client, ClientAction, ClientEvent, Server, ServerEvent};
+use retry_core::{Client, ClientAction, ClientEvent, Server, ServerAction, ServerEvent};
 use std::alloc::Global;
 use std::marker::Model;
 
@@ -24,8 +24,8 @@ pub enum Message {
 pub struct Call {
     pub client: Client,
     pub length: u64,
-    pub is_idempotent: bool,
-    /// How often it was dispatched.
+    pub form: Form,
+    /// How often calls of its message were dispatched.
     pub dispatches: u64,
     /// The connection that its client is at.
     pub connection: Option<usize>,
@@ -40,7 +40,9 @@ pub struct Connection {
     pub server: Server,
     pub handed: u64,
     pub arrived: u64,
-    /// What the server answers, once the request had its turn.
+    /// The message had its turn.
+    pub had_turn: bool,
+    /// The reply that the server sends then, where one is asked.
     pub reply: Option<Message>,
     pub sent: List<Message>,
     /// How many of these the client has read.
@@ -98,8 +100,8 @@ impl World {
             Event::Call {
                 length,
                 retries,
-                is_idempotent,
-            } => self.begin(alloc, length, retries, is_idempotent),
+                form,
+            } => self.begin(alloc, length, retries, form),
             Event::Connect { call, is_cached } => self.connect(alloc, call, is_cached),
             Event::Fail(call) => self.tell(call, ClientEvent::ConnectFailed),
             Event::Hand(connection, bytes) => self.hand(connection, bytes),
@@ -123,15 +125,15 @@ impl World {
         alloc: Global,
         length: u64,
         retries: u32,
-        is_idempotent: bool,
+        form: Form,
     ) -> Result<Told, Refusal>
         ensures { OnErr result (self.new ≡ self.old) }
     {
         let call = self.calls.len();
         self.calls.push(Call {
-            client: Client::new(alloc, is_idempotent, length, retries)?,
+            client: Client::new(alloc, form.is_idempotent, form.replies, length, retries)?,
             length,
-            is_idempotent,
+            form,
             dispatches: 0,
             connection: None,
         })?;
@@ -154,6 +156,7 @@ impl World {
             server: Server::new(),
             handed: 0,
             arrived: 0,
+            had_turn: false,
             reply: None,
             sent: List::new(alloc),
             read: 0,
@@ -269,18 +272,19 @@ impl World {
         Ok(told)
     }
 
-    /// The server reads the request, which has arrived whole, and will answer it so. Returns its call.
+    /// The server reads the message, which has arrived whole, and will answer it so, where it asks for a reply.
+    /// Returns its call.
     fn take_turn(&mut self, number: usize, reply: Message) -> Result<usize, Refusal>
         ensures { OnErr result (self.new ≡ self.old) }
     {
         let Some(connection) = self.connections.get_mut(number) else {
             return Err(Refusal::NoConnection(number));
         };
-        let length = match self.calls.get(connection.call) {
-            Some(call) => call.length,
+        let (length, form) = match self.calls.get(connection.call) {
+            Some(call) => (call.length, call.form),
             None => return Err(Refusal::NoCall(connection.call)),
         };
-        if connection.reply.is_some() {
+        if connection.had_turn {
             return Err(Refusal::HadItsTurn(number));
         }
         if connection.arrived < length {
@@ -289,11 +293,16 @@ impl World {
                 arrived: connection.arrived,
             });
         }
-        if !connection.server.accepts(ServerEvent::Request) {
+        let event = ServerEvent::Request {
+            calls: form.calls,
+            reply: form.replies,
+        };
+        if !connection.server.accepts(event) {
             return Err(Refusal::NotToServer(number));
         }
-        connection.server.step(ServerEvent::Request);
-        connection.reply = Some(reply);
+        connection.server.step(event);
+        connection.had_turn = true;
+        connection.reply = if form.replies { Some(reply) } else { None };
         Ok(connection.call)
     }
 
@@ -301,13 +310,17 @@ impl World {
         ensures { OnErr result (self.new ≡ self.old) }
     {
         let call = self.take_turn(number, Message::Reply)?;
-        if let Some(it) = self.calls.get_mut(call) {
-            it.dispatches = it.dispatches.saturating_add(1);
-        }
+        self.count_dispatch(call);
         Ok(Told::Dispatched {
             call,
             connection: number,
         })
+    }
+
+    fn count_dispatch(&mut self, call: usize) {
+        if let Some(it) = self.calls.get_mut(call) {
+            it.dispatches = it.dispatches.saturating_add(1);
+        }
     }
 
     fn refuse(&mut self, number: usize) -> Result<Told, Refusal>
@@ -334,6 +347,10 @@ impl World {
             connection.sent.push(message)?;
         }
         let action = connection.server.step(event);
+        let call = connection.call;
+        if action == ServerAction::Dispatch {
+            self.count_dispatch(call);
+        }
         Ok(Told::Server {
             connection: number,
             action,

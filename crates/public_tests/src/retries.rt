@@ -1,4 +1,4 @@
-use Attempt::{Closed, Lost, NotConnected, NotWhole, Replied, Stale};
+use Attempt::{Closed, Lost, NotConnected, NotWhole, Replied, Sent, Stale};
 use ClientAction::{AwaitReply, AwaitValidate, Connect, Finish, Send};
 use ClientEvent::{CloseRead, ConnectFailed, Connected, Refused2, ReplyRead, Taken, Validated};
 use retry_core::{Attempt, Client, ClientAction, ClientEvent, Server, ServerAction, ServerEvent};
@@ -111,7 +111,7 @@ const CALLS: &[(bool, u32, Steps, &[Attempt])] = &[
 #[test]
 fn clients(rt: HostRuntime) -> Result<(), Fail> {
     for &(idempotent, retries, steps, attempts) in CALLS {
-        let mut client = Client::new(rt.alloc(), idempotent, 38, retries)?;
+        let mut client = Client::new(rt.alloc(), idempotent, true, 38, retries)?;
         for &(event, action) in steps {
             assert!(rt; client.accepts(event), "{event:?} of {steps:?}");
             assert_eq!(rt; client.step(event), action, "at {event:?} of {steps:?}");
@@ -121,23 +121,69 @@ fn clients(rt: HostRuntime) -> Result<(), Fail> {
     Ok(())
 }
 
+/// A call that asks for no reply, of 36 bytes: 35 of them are taken, and then all.
+#[test]
+fn oneways(rt: HostRuntime) -> Result<(), Fail> {
+    let steps = [
+        (Connected, AwaitValidate),
+        (Validated, Send),
+        (Taken(35), Send),
+        (ClientEvent::Lost, Connect),
+        (Connected, AwaitValidate),
+        (Validated, Send),
+        (Taken(36), Finish(Sent)),
+    ];
+    let mut client = Client::new(rt.alloc(), false, false, 36, 1)?;
+    for (event, action) in steps {
+        assert!(rt; client.accepts(event), "{event:?}");
+        assert_eq!(rt; client.step(event), action, "at {event:?}");
+    }
+    assert_eq!(rt; client.into_attempts().as_slice(), &[NotWhole, Sent]);
+    Ok(())
+}
+
+/// One call that asks for a reply, as it is read.
+const REQUEST: ServerEvent = ServerEvent::Request {
+    calls: 1,
+    reply: true,
+};
+
+/// No call, and two, that ask for none.
+const BATCH_OF_NONE: ServerEvent = ServerEvent::Request {
+    calls: 0,
+    reply: false,
+};
+
+const BATCH_OF_TWO: ServerEvent = ServerEvent::Request {
+    calls: 2,
+    reply: false,
+};
+
 /// Connections, each up to where the server leaves: what comes, and what the server does then.
 const CONNECTIONS: &[&[(ServerEvent, ServerAction)]] = &[
     &[
         (ServerEvent::Opened, ServerAction::SendValidate),
-        (ServerEvent::Request, ServerAction::Dispatch),
+        (REQUEST, ServerAction::Dispatch),
         (ServerEvent::Answered, ServerAction::SendReply),
         (ServerEvent::Heartbeat, ServerAction::Read),
         (ServerEvent::EnoughRead, ServerAction::SendClose),
     ],
     &[
         (ServerEvent::Opened, ServerAction::SendValidate),
-        (ServerEvent::Request, ServerAction::Dispatch),
+        (REQUEST, ServerAction::Dispatch),
         (ServerEvent::Lost, ServerAction::Leave),
     ],
     &[
         (ServerEvent::Opened, ServerAction::SendValidate),
         (ServerEvent::CloseRead, ServerAction::Leave),
+    ],
+    &[
+        (ServerEvent::Opened, ServerAction::SendValidate),
+        (BATCH_OF_NONE, ServerAction::Read),
+        (BATCH_OF_TWO, ServerAction::Dispatch),
+        (ServerEvent::Answered, ServerAction::Dispatch),
+        (ServerEvent::Answered, ServerAction::Read),
+        (ServerEvent::EnoughRead, ServerAction::SendClose),
     ],
 ];
 
@@ -149,19 +195,19 @@ fn servers(rt: HostRuntime) -> Result<(), Fail> {
             assert!(rt; server.accepts(event), "{event:?} of {steps:?}");
             assert_eq!(rt; server.step(event), action, "at {event:?} of {steps:?}");
         }
-        assert!(rt; !server.accepts(ServerEvent::Lost) && !server.accepts(ServerEvent::Request));
+        assert!(rt; !server.accepts(ServerEvent::Lost) && !server.accepts(REQUEST));
     }
     Ok(())
 }
 
 #[test]
 fn what_cannot_come(rt: HostRuntime) -> Result<(), Fail> {
-    let mut client = Client::new(rt.alloc(), false, 38, 0)?;
+    let mut client = Client::new(rt.alloc(), false, true, 38, 0)?;
     assert!(rt; !client.accepts(ReplyRead) && !client.accepts(ClientEvent::Lost));
     client.step(Connected);
     client.step(Validated);
     assert!(rt; client.accepts(Taken(38)) && !client.accepts(Taken(39)));
     assert!(rt; !client.accepts(ReplyRead) && !client.accepts(Taken(u64::MAX)));
-    assert!(rt; !Server::new().accepts(ServerEvent::Request));
+    assert!(rt; !Server::new().accepts(REQUEST));
     Ok(())
 }

@@ -6,13 +6,13 @@ use Rattle.retry_core.specs.declared.attempt.Attempt.{Attempt}
 use Rattle.retry_core.specs.declared.attempt.Attempt.TheVariants as ends
 use Rattle.retry_core.specs.declared.client_table.ClientEvent.{ClientEvent}
 use Rattle.retry_core.specs.declared.client_table.ClientEvent.TheVariants.{Connected, ConnectFailed, Validated, Taken, Lost, CloseRead, Refused2, ReplyRead, Broken}
-use Rattle.retry_core.specs.declared.client_table.ClientAction.TheVariants.{Send, AwaitReply}
+use Rattle.retry_core.specs.declared.client_table.ClientAction.TheVariants.{Send}
 use Rattle.retry_core.specs.declared.client_table.ClientState.{ClientState}
 use Rattle.retry_core.specs.declared.client_table.ClientState.TheVariants.{Connecting, AwaitingValidate, Sending, AwaitingReply, Finished}
 use Rattle.retry_core.specs.declared.client_table.ClientNext.{ClientNext}
 use Rattle.retry_core.specs.declared.client_table.ClientNext.TheVariants.{Goes, Ends}
 use Rattle.retry_core.specs.Retries.{may_follow}
-use Rattle.retry_core.specs.ClientTable.{client_row}
+use Rattle.retry_core.specs.ClientTable.{client_row, whole_row}
 use Rattle.retry_core.specs.Client.{Invoking, began, row_of, goes_on, next_of, running}
 use Rattle.retry_core.specs.ClientRuns.{ClientRun, IsFollowed, ClientsKeepToTheirRetries}
 use Rattle.retry_core.proofs.Lists.{get_cases, get_within}
@@ -27,37 +27,42 @@ either_way : (b : Bool) (x y : Option ClientNext) → IsLive x → IsLive y → 
 either_way true x y p q = p
 either_way false x y p q = q
 
-live : (size : ℕ) (s : ClientState) (e : ClientEvent) → IsLive (client_row size s e)
+whole_live : (replies : Bool) → IsLive (Some (whole_row replies))
 unfolding IsLive
-live size Connecting Connected = refl
-live size AwaitingValidate Validated = refl
-live size (Sending taken) Validated = refl
-live size (Sending taken) (Taken n) =
-    either_way (nat_lt (taken + n) size) (Some (Goes (Sending (taken + n)) Send)) (if taken + n == size then Some (Goes AwaitingReply AwaitReply) else None) refl
-    (either_way (taken + n == size) (Some (Goes AwaitingReply AwaitReply)) None refl tt)
-live size AwaitingReply Validated = refl
-live size s e = tt
+whole_live true = refl
+whole_live false = tt
+
+live : (replies : Bool) (size : ℕ) (s : ClientState) (e : ClientEvent) → IsLive (client_row replies size s e)
+unfolding IsLive
+live replies size Connecting Connected = refl
+live replies size AwaitingValidate Validated = refl
+live replies size (Sending taken) Validated = refl
+live replies size (Sending taken) (Taken n) =
+    either_way (nat_lt (taken + n) size) (Some (Goes (Sending (taken + n)) Send)) (if taken + n == size then Some (whole_row replies) else None) refl
+    (either_way (taken + n == size) (Some (whole_row replies)) None (whole_live replies) tt)
+live replies size AwaitingReply Validated = refl
+live replies size s e = tt
 
 no_row : false ≡ true → ⊥
 no_row h = cc
 
-finished_none : (size : ℕ) (e : ClientEvent) → IsSome (client_row size Finished e) → ⊥
-finished_none size Connected h = no_row h
-finished_none size ConnectFailed h = no_row h
-finished_none size Validated h = no_row h
-finished_none size (Taken n) h = no_row h
-finished_none size Lost h = no_row h
-finished_none size CloseRead h = no_row h
-finished_none size (Refused2 cached) h = no_row h
-finished_none size ReplyRead h = no_row h
-finished_none size Broken h = no_row h
+finished_none : (replies : Bool) (size : ℕ) (e : ClientEvent) → IsSome (client_row replies size Finished e) → ⊥
+finished_none replies size Connected h = no_row h
+finished_none replies size ConnectFailed h = no_row h
+finished_none replies size Validated h = no_row h
+finished_none replies size (Taken n) h = no_row h
+finished_none replies size Lost h = no_row h
+finished_none replies size CloseRead h = no_row h
+finished_none replies size (Refused2 cached) h = no_row h
+finished_none replies size ReplyRead h = no_row h
+finished_none replies size Broken h = no_row h
 
-pub running_from : (size : ℕ) (s : ClientState) (e : ClientEvent) → IsSome (client_row size s e) → running s ≡ 1
-running_from size Connecting e h = refl
-running_from size AwaitingValidate e h = refl
-running_from size (Sending n) e h = refl
-running_from size AwaitingReply e h = refl
-running_from size Finished e h = absurd (finished_none size e h)
+pub running_from : (replies : Bool) (size : ℕ) (s : ClientState) (e : ClientEvent) → IsSome (client_row replies size s e) → running s ≡ 1
+running_from replies size Connecting e h = refl
+running_from replies size AwaitingValidate e h = refl
+running_from replies size (Sending n) e h = refl
+running_from replies size AwaitingReply e h = refl
+running_from replies size Finished e h = absurd (finished_none replies size e h)
 
 -- what holds while and after it runs, with the retries that are left
 record IsOrderly (retries : ℕ) (i : Invoking) : Type 0 where
@@ -134,11 +139,11 @@ run_orderly : (retries : ℕ) (i : Invoking) (es : List ClientEvent) (j : Invoki
 run_orderly retries i [] j o e = subst (IsOrderly retries) e o
 run_orderly retries i (x ∷ es) j o (some, rest) =
     run_orderly retries (next_of i (row_of i x)) es j
-    (orderly_next retries i (row_of i x) some (live i.length i.state x) (running_from i.length i.state x some) o) rest
+    (orderly_next retries i (row_of i x) some (live i.replies i.length i.state x) (running_from i.replies i.length i.state x some) o) rest
 
 pub keeps_lem : ClientsKeepToTheirRetries
-keeps_lem idempotent size retries es i run =
-    let o = run_orderly retries (began idempotent size retries) es i (record {
+keeps_lem idempotent replies size retries es i run =
+    let o = run_orderly retries (began idempotent replies size retries) es i (record {
       followed = λ n a h k. absurd (let z : None ≡ Some a = h in cc);
       counted = λ r. omega arith;
       at_most = omega arith;

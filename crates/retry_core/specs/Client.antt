@@ -1,4 +1,4 @@
--- One invocation as its client sees it, and what an event makes of it. (Ice manual, "Automatic Retries".)
+-- One message as its client sees it, and what an event makes of it. (Ice manual, "Automatic Retries".)
 use Rattle.std.specs.Prelude.{ℕ, ◌-◌, Bool, List, [], ◌∷◌, ◌++◌, Option, None, Some, if◌then◌else◌, nat_lt, ◌&&◌, IsSome}
 use Rattle.retry_core.specs.declared.attempt.Attempt.{Attempt}
 use Rattle.retry_core.specs.declared.client_table.ClientEvent.{ClientEvent}
@@ -11,11 +11,13 @@ use Rattle.retry_core.specs.declared.client_table.ClientNext.TheVariants.{Goes, 
 use Rattle.retry_core.specs.Retries.{may_follow}
 use Rattle.retry_core.specs.ClientTable.{client_row}
 
--- what contracts see of a `Client`: idempotent or not, the request's length, the retries left, the state, the
--- attempts that have ended
+-- what contracts see of a `Client`: idempotent or not, whether it asks for a reply, the message's length, the
+-- retries left, the state, the attempts that have ended
 pub record Invoking : Type 0 where
   pub idempotent : Bool
-  -- of the request, in bytes
+  -- it asks for a reply
+  pub replies : Bool
+  -- of the message, in bytes
   pub length : ℕ
   -- that are left
   pub retries : ℕ
@@ -24,9 +26,10 @@ pub record Invoking : Type 0 where
   pub attempts : List Attempt
 
 -- the start
-abbrev pub began : Bool → ℕ → ℕ → Invoking
-began idempotent length retries = record {
+abbrev pub began : Bool → Bool → ℕ → ℕ → Invoking
+began idempotent replies length retries = record {
   idempotent = idempotent;
+  replies = replies;
   length = length;
   retries = retries;
   state = Connecting;
@@ -35,7 +38,7 @@ began idempotent length retries = record {
 
 -- the row of an event
 abbrev pub row_of : Invoking → ClientEvent → Option ClientNext
-row_of i event = client_row i.length i.state event
+row_of i event = client_row i.replies i.length i.state event
 
 -- the event can come
 abbrev pub MayCome : Invoking → ClientEvent → Type 0
@@ -65,7 +68,7 @@ action_of i None = Connect
 action_of i (Some (Goes state action)) = action
 action_of i (Some (Ends attempt)) = if goes_on i attempt then Connect else Finish attempt
 
--- how many attempts are under way: one, until the invocation is over
+-- how many attempts are under way: one, until the client is done
 abbrev pub running : ClientState → ℕ
 running Connecting = 1
 running AwaitingValidate = 1

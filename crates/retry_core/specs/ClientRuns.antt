@@ -16,13 +16,13 @@ ClientRun i (event ∷ events) j = MayCome i event × ClientRun (next_of i (row_
 abbrev pub IsFollowed : Invoking → ℕ → Type 0
 IsFollowed i n = n + 1 < length i.attempts + running i.state
 
--- an invocation that began with so many retries keeps to them
+-- a client that began with so many retries keeps to them
 pub record KeepsTo (retries : ℕ) (i : Invoking) : Type 0 where
   -- the one under way counts
   pub at_most : length i.attempts + running i.state ≤ retries + 1
   -- each that was followed is one that may be
   pub followed : (n : ℕ) (a : Attempt) → slice_get i.attempts n ≡ Some a → IsFollowed i n → may_follow i.idempotent a ≡ true
-  -- one that was lost after it was sent whole is followed only where the invocation is idempotent
+  -- one that was lost after it was sent whole is followed only where the message is idempotent
   pub lost : (n : ℕ) → slice_get i.attempts n ≡ Some Lost → IsFollowed i n → i.idempotent ≡ true
   -- one that may be followed is the last only with no retry left
   pub given_up :
@@ -32,5 +32,5 @@ pub record KeepsTo (retries : ℕ) (i : Invoking) : Type 0 where
 -- so it is whatever came
 abbrev pub ClientsKeepToTheirRetries : Type 0
 ClientsKeepToTheirRetries =
-    (idempotent : Bool) (size retries : ℕ) (events : List ClientEvent) (i : Invoking)
-    → ClientRun (began idempotent size retries) events i → KeepsTo retries i
+    (idempotent replies : Bool) (size retries : ℕ) (events : List ClientEvent) (i : Invoking)
+    → ClientRun (began idempotent replies size retries) events i → KeepsTo retries i

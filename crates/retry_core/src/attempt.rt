@@ -3,14 +3,17 @@
 ghost use Rattle.std.specs.Prelude.{◌≡◌};
 ghost use Rattle.retry_core.specs.Retries.{may_follow};
 
-/// How one attempt of an invocation ended.
+/// How one attempt at a message ended.
 #[derive(Clone, Copy, Debug, PartialEq, Eq)]
 pub enum Attempt {
     /// No connection was had.
     NotConnected,
 
-    /// The connection was lost before it took the whole request.
+    /// The connection was lost before it took the whole message.
     NotWhole,
+
+    /// The connection took the whole message, which asks for no reply.
+    Sent,
 
     /// The connection was lost after it took the whole request and before a reply was read.
     Lost,
@@ -30,14 +33,14 @@ pub enum Attempt {
 
 impl Attempt {
     /// Whether the rules allow another attempt after this one, if a retry is left. After `Lost` the request
-    /// may have been dispatched, so only an idempotent invocation goes on. (Ice manual, "Automatic Retries".)
+    /// may have been dispatched, so only an idempotent message goes on. (Ice manual, "Automatic Retries".)
     pub fn may_be_followed(self, idempotent: bool) -> bool
         ensures { result ≡ may_follow idempotent self }
     {
         match self {
             Attempt::NotConnected | Attempt::NotWhole | Attempt::Closed | Attempt::Stale => true,
             Attempt::Lost => idempotent,
-            Attempt::Broke | Attempt::Replied => false,
+            Attempt::Sent | Attempt::Broke | Attempt::Replied => false,
         }
     }
 }

@@ -1,4 +1,4 @@
-//! The client's end of one invocation.
+//! The client's end of one message.
 
 ghost use Rattle.std.specs.Prelude.{◌≡◌, IfOk, IsTrue, Some, ◌↔◌};
 ghost use Rattle.retry_core.specs.Client.{began, running, ended, row_of, MayCome, next_of, action_of};
@@ -8,11 +8,12 @@ use crate::client_table::{ClientAction, ClientEvent, ClientNext, ClientState, ne
 use std::alloc::{AllocError, Global};
 use std::marker::Model;
 
-/// The client's end of one invocation: told what came, it answers what to do next, and lists how each
+/// The client's end of one message, a call or several that ask for no reply: told what came, it answers what to do next, and lists how each
 /// attempt ended. (Ice manual, "Automatic Retries".)
 #[derive(Debug, Drop)]
 pub struct Client {
     idempotent: bool,
+    replies: bool,
     length: u64,
     retries: u32,
     state: ClientState,
@@ -27,6 +28,7 @@ impl Model for Client {
 
     ghost view = { λ c. record {
       idempotent = c.idempotent;
+      replies = c.replies;
       length = c.length;
       retries = c.retries;
       state = c.state;
@@ -37,19 +39,21 @@ impl Model for Client {
 }
 
 impl Client {
-    /// The client of an invocation whose request has `length` bytes, which may be tried again `retries` times.
-    /// Its first action is `ClientAction::Connect`. Takes room for every attempt: one byte for each.
+    /// The client of a message of `length` bytes, which asks for a reply or not and may be tried again `retries`
+    /// times. Its first action is `ClientAction::Connect`. Takes room for every attempt: one byte for each.
     pub fn new(
         alloc: Global,
         idempotent: bool,
+        replies: bool,
         length: u64,
         retries: u32,
     ) -> Result<Client, AllocError>
-        ensures { IfOk result (λ c. c ≡ began idempotent length retries) }
+        ensures { IfOk result (λ c. c ≡ began idempotent replies length retries) }
     {
         let attempts = Vec::with_capacity(alloc, retries as usize + 1)?;
         Ok(Client {
             idempotent,
+            replies,
             length,
             retries,
             state: ClientState::Connecting,
@@ -61,7 +65,7 @@ impl Client {
     pub fn accepts(&self, event: ClientEvent) -> bool
         ensures { IsTrue result ↔ MayCome self.now event }
     {
-        next(self.state, self.length, event).is_some()
+        next(self.state, self.replies, self.length, event).is_some()
     }
 
     /// What to do next, now that this has come. Takes no memory.
@@ -70,7 +74,7 @@ impl Client {
         ensures state { self.new ≡ next_of self.old (row_of self.old event) }
         ensures action { result ≡ action_of self.old (row_of self.old event) }
     {
-        match next(self.state, self.length, event) {
+        match next(self.state, self.replies, self.length, event) {
             Some(ClientNext::Goes(state, action)) => {
                 self.state = state;
                 action
@@ -102,5 +106,12 @@ impl Client {
         ensures { result.now ≡ self.now.attempts }
     {
         self.attempts.as_slice()
+    }
+
+    /// How each attempt ended, in order, but for one that is under way. Takes no memory.
+    pub fn into_attempts(self) -> Vec<Attempt>
+        ensures { result.items ≡ self.attempts }
+    {
+        self.attempts
     }
 }

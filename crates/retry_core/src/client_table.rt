@@ -1,7 +1,7 @@
 //! The table of a client: where a state and an event lead.
 
 ghost use Rattle.std.specs.Prelude.{◌≡◌, ◌+◌};
-ghost use Rattle.retry_core.specs.ClientTable.{client_row, taken_row};
+ghost use Rattle.retry_core.specs.ClientTable.{client_row, taken_row, whole_row};
 
 use crate::attempt::Attempt;
 
@@ -17,7 +17,7 @@ pub enum ClientEvent {
     /// A validate connection message was read.
     Validated,
 
-    /// The connection took so many bytes more of the request.
+    /// The connection took so many bytes more of the message.
     Taken(u64),
 
     /// A read or a write failed, or the peer's stream ended.
@@ -45,13 +45,13 @@ pub enum ClientAction {
     /// Read, until the validate connection message has come.
     AwaitValidate,
 
-    /// Write what is left of the request.
+    /// Write what is left of the message.
     Send,
 
     /// Read, until the reply has come.
     AwaitReply,
 
-    /// The invocation is over, with this last attempt.
+    /// No attempt follows this last one.
     Finish(Attempt),
 }
 
@@ -60,7 +60,7 @@ pub enum ClientAction {
 pub enum ClientState {
     Connecting,
     AwaitingValidate,
-    /// So many bytes of the request were taken.
+    /// So many bytes of the message were taken.
     Sending(u64),
     AwaitingReply,
     Finished,
@@ -73,9 +73,15 @@ pub enum ClientNext {
     Ends(Attempt),
 }
 
-/// The row of the table, for a request of `length` bytes; None where the event cannot come.
-pub fn next(state: ClientState, length: u64, event: ClientEvent) -> Option<ClientNext>
-    ensures { result ≡ client_row length state event }
+/// The row of the table, for a message of `length` bytes that asks for a reply or not; None where the event
+/// cannot come.
+pub fn next(
+    state: ClientState,
+    replies: bool,
+    length: u64,
+    event: ClientEvent,
+) -> Option<ClientNext>
+    ensures { result ≡ client_row replies length state event }
 {
     use ClientAction::{AwaitReply, AwaitValidate, Send};
     use ClientEvent::{
@@ -89,7 +95,7 @@ pub fn next(state: ClientState, length: u64, event: ClientEvent) -> Option<Clien
         (AwaitingValidate, Validated) => Some(Goes(Sending(0), Send)),
         (AwaitingValidate | Sending(_), Lost) => Some(Ends(Attempt::NotWhole)),
         (Sending(taken), Validated) => Some(Goes(Sending(taken), Send)),
-        (Sending(taken), Taken(more)) => after_taking(taken, more, length),
+        (Sending(taken), Taken(more)) => after_taking(taken, more, replies, length),
         (AwaitingReply, Validated) => Some(Goes(AwaitingReply, AwaitReply)),
         (AwaitingReply, Lost) => Some(Ends(Attempt::Lost)),
         (AwaitingReply, Refused2 { cached: true }) => Some(Ends(Attempt::Stale)),
@@ -100,16 +106,27 @@ pub fn next(state: ClientState, length: u64, event: ClientEvent) -> Option<Clien
     }
 }
 
-/// The row of a request of `length` bytes of which `more` bytes were taken beside those taken before.
-fn after_taking(taken: u64, more: u64, length: u64) -> Option<ClientNext>
-    ensures { result ≡ taken_row length (taken + more) }
+/// The row of a message of `length` bytes of which `more` bytes were taken beside those taken before.
+fn after_taking(taken: u64, more: u64, replies: bool, length: u64) -> Option<ClientNext>
+    ensures { result ≡ taken_row replies length (taken + more) }
 {
     let all = taken.checked_add(more)?;
     if all < length {
         Some(ClientNext::Goes(ClientState::Sending(all), ClientAction::Send))
     } else if all == length {
-        Some(ClientNext::Goes(ClientState::AwaitingReply, ClientAction::AwaitReply))
+        Some(when_whole(replies))
     } else {
         None
+    }
+}
+
+/// Where it leads that a message was taken whole: its reply is read, where it asks for one.
+fn when_whole(replies: bool) -> ClientNext
+    ensures { result ≡ whole_row replies }
+{
+    if replies {
+        ClientNext::Goes(ClientState::AwaitingReply, ClientAction::AwaitReply)
+    } else {
+        ClientNext::Ends(Attempt::Sent)
     }
 }

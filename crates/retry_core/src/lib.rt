@@ -1,17 +1,21 @@
 //! Both ends of a call, each as a machine that is told what came and answers what to do next. They read
 //! and write nothing themselves.
 //!
-//! - `Client` is one invocation: its attempts, one connection each, and when another may follow.
+//! - `Client` is one message, a call that asks for a reply or calls that ask for none: its attempts, one
+//!   connection each, and when another may follow.
 //! - `Server` is one connection: what it dispatches, replies and closes.
 //!
-//! An invocation that is not idempotent is never tried again where its request was sent whole and lost, so
-//! the server may have dispatched it. (Ice manual, "Automatic Retries".)
+//! A message that is not idempotent is never tried again where it was sent whole and lost, so the server may
+//! have dispatched it. (Ice manual, "Automatic Retries".)
 //!
 //! Forms, and why they are so:
 //!
 //! - `Taken(n)` past the length cannot come: it has no row, and so has none one that would pass 64 bits.
 //! - `Client::attempts` answers a slice and not a `List`: a `List` that is pushed to may want memory, and `step`
-//!   takes none. Contracts see a list either way. `Client::new` takes one byte for each attempt.
+//!   takes none. Contracts see a list either way. `Client::new` takes one byte for each attempt, and
+//!   `into_attempts` gives them away.
+//! - `ServerEvent::Request` tells how many calls the message has: a request has one, a batch any number. The
+//!   server answers `Dispatch` for one after the other, and the reply is sent behind the last.
 //! - `accepts` stands beside `step` on both ends, so that a caller that cannot know can ask.
 #![tactic(auto)]
 

@@ -1,7 +1,7 @@
 //! The server's end of one connection.
 
 ghost use Rattle.std.specs.Prelude.{◌≡◌, Some, IsTrue, ◌↔◌};
-ghost use Rattle.retry_core.specs.Server.{server_row};
+ghost use Rattle.retry_core.specs.Server.{server_row, request_row, answered_row};
 
 use std::marker::Model;
 
@@ -11,10 +11,10 @@ pub enum ServerEvent {
     /// The connection is there.
     Opened,
 
-    /// A request was read.
-    Request,
+    /// A request or a batch was read, with so many calls; whether it asks for a reply.
+    Request { calls: u32, reply: bool },
 
-    /// The request that was dispatched has its reply.
+    /// The call that was dispatched has its answer.
     Answered,
 
     /// A validate connection message was read, which a client may send as a heartbeat.
@@ -39,7 +39,7 @@ pub enum ServerAction {
     /// Write a validate connection message, then read.
     SendValidate,
 
-    /// Dispatch the request.
+    /// Dispatch the next call of what was read.
     Dispatch,
 
     /// Write the reply, then read.
@@ -60,7 +60,8 @@ pub enum ServerAction {
 pub enum ServerState {
     New,
     Reading,
-    Dispatched,
+    /// A call is dispatched; so many others of its message are left, which asks for a reply or not.
+    Dispatched { left: u32, reply: bool },
     Left,
 }
 
@@ -68,23 +69,56 @@ pub enum ServerState {
 fn next(state: ServerState, event: ServerEvent) -> Option<(ServerAction, ServerState)>
     ensures { result ≡ server_row state event }
 {
-    use ServerAction::{Dispatch, Leave, Read, SendClose, SendReply, SendValidate};
+    use ServerAction::{Leave, Read, SendClose, SendValidate};
     use ServerEvent::{Answered, Broken, CloseRead, EnoughRead, Heartbeat, Lost, Opened, Request};
     use ServerState::{Dispatched, Left, New, Reading};
     match (state, event) {
         (New, Opened) => Some((SendValidate, Reading)),
-        (Reading, Request) => Some((Dispatch, Dispatched)),
-        (Dispatched, Answered) => Some((SendReply, Reading)),
+        (Reading, Request { calls, reply }) => Some(after_reading(calls, reply)),
+        (Dispatched { left, reply }, Answered) => Some(after_answer(left, reply)),
         (Reading, Heartbeat) => Some((Read, Reading)),
         (Reading, EnoughRead) => Some((SendClose, Left)),
         (Reading, CloseRead | Broken) => Some((Leave, Left)),
-        (New | Reading | Dispatched, Lost) => Some((Leave, Left)),
+        (New | Reading | Dispatched { .. }, Lost) => Some((Leave, Left)),
         _ => None,
     }
 }
 
+/// A message with so many calls was read: the first is dispatched, where there is one.
+fn after_reading(calls: u32, reply: bool) -> (ServerAction, ServerState)
+    ensures { result ≡ request_row calls reply }
+{
+    if calls == 0 {
+        (ServerAction::Read, ServerState::Reading)
+    } else {
+        let left = calls - 1;
+        (
+            ServerAction::Dispatch,
+            ServerState::Dispatched { left, reply },
+        )
+    }
+}
+
+/// A call has its answer, and so many others of its message are left: the next one is dispatched, or the
+/// message has its reply, where it asks for one.
+fn after_answer(left: u32, reply: bool) -> (ServerAction, ServerState)
+    ensures { result ≡ answered_row left reply }
+{
+    if left > 0 {
+        let left = left - 1;
+        (
+            ServerAction::Dispatch,
+            ServerState::Dispatched { left, reply },
+        )
+    } else if reply {
+        (ServerAction::SendReply, ServerState::Reading)
+    } else {
+        (ServerAction::Read, ServerState::Reading)
+    }
+}
+
 /// The server's end of one connection: told what came, it answers what to do next. It reads on only after
-/// the reply of what it dispatched. (Ice manual, "The Ice Protocol", "Protocol State Diagrams".)
+/// the answers of all that it dispatched, and the reply. (Ice manual, "The Ice Protocol", "Protocol State Diagrams".)
 #[derive(Debug, Drop)]
 pub struct Server {
     state: ServerState,

@@ -1,0 +1,8 @@
+pub mod Hearing
+pub mod Writing
+pub mod Rows
+pub mod Steps
+pub mod Asking
+pub mod Attempted
+pub mod Sending
+pub mod ClientDid
