@@ -17,6 +17,7 @@ use Rattle.ice_audit.specs.declared.verdict.Seen.{Seen}
 use Rattle.ice_audit.specs.declared.verdict.Seen.TheVariants.{Once, Never, Either}
 use Rattle.ice_audit.specs.declared.verdict.Line.{Line}
 use Rattle.ice_audit.specs.declared.verdict.Side.{Side}
+use Rattle.ice_audit.specs.declared.verdict.Side.TheVariants.{Client, Server}
 use Rattle.ice_audit.specs.declared.verdict.Why.{Why}
 use Rattle.ice_audit.specs.declared.verdict.Why.TheVariants.{Bytes}
 use Rattle.ice_audit.specs.declared.verdict.Verdict.{Verdict}
@@ -122,7 +123,8 @@ trace_seated client server w t n within =
     let same : length items ≡ length (seat_ids t.asked) = sym (twoways_length items) ∙ (ap (λ (l : List Bool). length l) (ids_twoways t.asked 0) ∙ flags_length (seat_ids t.asked)) in
     let number : length (w.connections 0).asked ≡ length items = t.trace.fits.asked.number in
     let none : Seat = record { invocation = 0; twoway = false; ends = 0 } in
-    (get_or (w.connections 0).asked n none, slice_get-get_or (w.connections 0).asked n none (omega (arith, within, same, number)))
+    let here : 0 + n ≡ n = omega arith in
+    (get_or (w.connections 0).asked n none, ap (slice_get (w.connections 0).asked) here ∙ slice_get-get_or (w.connections 0).asked n none (omega (arith, within, same, number)))
 
 told_once : (client server : List ℕ) (ls ks : List Line) → IsTold client server ls → IsTold client server ks → ls ≡ ks
 told_once client server ls ks p q =
@@ -135,13 +137,10 @@ told_once client server ls ks p q =
 
 -- ---- the first cause
 
-abbrev stop_of : Option Stop → Option Stop → Type 0
-stop_of a b = a ≡ b
-
-no_stop : {s : Stop} → stop_of None (Some s) → ⊥
+no_stop : {s : Stop} → ◌≡◌ {A = Option Stop} None (Some s) → ⊥
 no_stop e = cc
 
-same_stop : {s t : Stop} → stop_of (Some s) (Some t) → s ≡ t
+same_stop : {s t : Stop} → ◌≡◌ {A = Option Stop} (Some s) (Some t) → s ≡ t
 same_stop e = cc
 
 module _ (client server : List ℕ) where
@@ -159,10 +158,7 @@ module _ (client server : List ℕ) where
       let same = read_one server ps qs end other r s in
       sym e ∙ ((λ i. server_stop 0 Fresh (due (seat_ids (both.0 i))) (same.0 i) (same.1 i)) ∙ f)
 
-  abbrev no_at : Side → ℕ → Why → Verdict
-  no_at side place why = No side place why
-
-  one_stop : (a b : Side) (n m : ℕ) (v w : Why) → Stops client server a n v → Stops client server b m w → no_at a n v ≡ no_at b m w
+  one_stop : (a b : Side) (n m : ℕ) (v w : Why) → Stops client server a n v → Stops client server b m w → No a n v ≡ No b m w
   one_stop a b n m v w (client_long h) (client_long k) = refl
   one_stop a b n m v w (client_long h) (server_long k l) = absurd (omega (arith, h, k))
   one_stop a b n m v w (client_long h) (client_wrong k ps end stop r e) = absurd (omega (arith, h, k.0))
@@ -177,7 +173,7 @@ module _ (client server : List ℕ) where
   one_stop a b n m v w (client_wrong h xs end stop r e) (server_long k l) = absurd (omega (arith, l, h.1))
   one_stop a b n m v w (client_wrong h xs end stop r e) (client_wrong k ps other next_ s f) =
       let same = same_stop (client_one xs ps end other (Some stop) (Some next_) r e s f) in
-      λ i. No _ (same i).place (same i).why
+      λ i. No Client (same i).place (same i).why
   one_stop a b n m v w (client_wrong h xs end stop r e) (server_wrong k ps qs other next_ s f t g) = absurd (no_stop (sym (client_one xs ps end None (Some stop) None r e s f)))
   one_stop a b n m v w (client_wrong h xs end stop r e) (no_validate k ps s f t some) = absurd (no_stop (sym (client_one xs ps end None (Some stop) None r e s f)))
   one_stop a b n m v w (server_wrong h xs ys end stop r e s f) (client_long k) = absurd (omega (arith, k, h.0))
@@ -185,7 +181,7 @@ module _ (client server : List ℕ) where
   one_stop a b n m v w (server_wrong h xs ys end stop r e s f) (client_wrong k ps other next_ t g) = absurd (no_stop (client_one xs ps None other None (Some next_) r e t g))
   one_stop a b n m v w (server_wrong h xs ys end stop r e s f) (server_wrong k ps qs other next_ t g u l) =
       let same = same_stop (server_one xs ps ys qs end other (Some stop) (Some next_) r s f t u l) in
-      λ i. No _ (same i).place (same i).why
+      λ i. No Server (same i).place (same i).why
   one_stop a b n m v w (server_wrong h xs ys end stop r e s f) (no_validate k ps t g u some) = absurd (no_stop (sym (server_one xs ps ys [] end None (Some stop) None r s f t u refl)))
   one_stop a b n m v w (no_validate h xs r e s some) (client_long k) = absurd (omega (arith, k, h.0))
   one_stop a b n m v w (no_validate h xs r e s some) (server_long k l) = absurd (omega (arith, l, h.1))
