@@ -1,9 +1,9 @@
 //! The program: makes the real outside, and does what the words ask for.
 #![tactic(auto)]
 
+use ice_audit::MOST_BYTES;
 use ice_node::{Outcome, node, report};
 use ice_ports::{FolderShelf, StdSink, StdSource};
-use ice_audit::MOST_BYTES;
 use std::alloc::AllocError;
 use std::io::ErrorKind;
 use std::process::ExitCode;
