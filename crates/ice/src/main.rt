@@ -1,16 +1,16 @@
 //! The program: makes the real outside, and does what the words ask for.
 #![tactic(auto)]
 
+use ice_audit::MOST_BYTES;
 use ice_node::{Outcome, node, report};
 use ice_ports::{FolderShelf, StdSink, StdSource};
-use slice_lexer::MOST_BYTES;
 use std::alloc::AllocError;
 use std::io::ErrorKind;
 use std::process::ExitCode;
 use std::{env, io};
 
-/// One byte more than a Slice text may have: a file that has so many is refused, and no more of it
-/// is read.
+/// One byte more than each end of a capture may have sent, which is more than a Slice text may have: a file that has
+/// so many is refused, and no more of it is read.
 const MOST_OF_A_FILE: u64 = MOST_BYTES as u64 + 1;
 
 /// The words after the program's name. Words that are not UTF-8 are none of the listed forms, and

@@ -6,3 +6,4 @@ pub mod Reading
 pub mod Decided
 pub mod Faults
 pub mod Answering
+pub mod OneVerdict

@@ -47,3 +47,7 @@ pub record IsTold (client server : List ℕ) (lines : List Line) : Type 0 where
 abbrev pub Judges : List ℕ → List ℕ → Verdict → Type 0
 Judges client server (Yes lines) = IsTold client server lines
 Judges client server (No side place why) = Stops client server side place why × ¬ (AreShort client server × Good client server)
+
+-- a capture has one verdict
+abbrev pub VerdictsApart : Type 0
+VerdictsApart = (client server : List ℕ) (a b : Verdict) → Judges client server a → Judges client server b → a ≡ b

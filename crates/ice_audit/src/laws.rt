@@ -1,7 +1,8 @@
-//! What a good capture tells, over every run of the world of calls that shows it.
+//! What a good capture tells, over every run of the world of calls that shows it; and that a capture has one verdict.
 
 ghost use Rattle.ice_audit.specs.Traces.{GoodHasTrace, EachIsTold, NoneTwice};
 ghost use Rattle.ice_audit.specs.Captures.{CaptureHasTrace, CaptureIsTold, CaptureNoneTwice, LinesAreTold};
+ghost use Rattle.ice_audit.specs.Verdicts.{VerdictsApart};
 
 /// A good capture has a run.
 pub fn good_has_trace()
@@ -37,4 +38,9 @@ pub fn capture_none_twice()
 /// The lines that are drawn of a good capture tell what is so over every run that shows it.
 pub fn lines_are_told()
     ensures { LinesAreTold }
+{}
+
+/// A capture has one verdict.
+pub fn verdicts_apart()
+    ensures { VerdictsApart }
 {}

@@ -14,6 +14,6 @@ mod verdict;
 pub use judging::audit;
 pub use laws::{
     capture_has_trace, capture_is_told, capture_none_twice, each_is_told, good_has_trace,
-    lines_are_told, none_twice,
+    lines_are_told, none_twice, verdicts_apart,
 };
 pub use verdict::{Line, MOST_BYTES, Seen, Side, Verdict, Why};

@@ -11,11 +11,12 @@ ghost use Rattle.graph_json.specs.declared.text.TheConstants.{MOST_TEXT};
 ghost use Rattle.ice_relay.specs.declared.comparing.TheConstants.{MOST_COMPARED};
 ghost use Rattle.ice_relay.specs.declared.drilling.TheConstants.{MOST_NODES};
 ghost use Rattle.message_dump.specs.declared.dump.TheConstants.{MOST_MESSAGES};
+ghost use Rattle.ice_audit.specs.declared.verdict.TheConstants.{MOST_BYTES as MOST_CAPTURED};
 ghost use Rattle.node_commands.specs.declared.words.TheConstants.{MOST_OF_A_WORD};
 
 /// The limits that the definitions name, each by its number: of encapsulations and messages, types, reads, Slice
-/// files, instances, JSON texts, compared values, drilled nodes, messages of one input, and words. (The listed
-/// forms of the command line have seven words at most.)
+/// files, instances, JSON texts, compared values, drilled nodes, messages of one input, each end of a capture, and
+/// words. (The listed forms of the command line have seven words at most.)
 pub fn limits_numbered()
     ensures encapsulation { (SMALLEST ≡ 6) × (LARGEST ≡ 1048576) }
     ensures types { (MOST_DEPTH ≡ 100) × (MOST_SMALLEST ≡ 1048576) × (MOST_BASES ≡ 1000) × (MOST_NUMBER ≡ 2147483647) }
@@ -26,5 +27,6 @@ pub fn limits_numbered()
     ensures compared { MOST_COMPARED ≡ 2147483647 }
     ensures nodes { MOST_NODES ≡ 50000 }
     ensures messages { MOST_MESSAGES ≡ 1000000 }
+    ensures captures { MOST_CAPTURED ≡ 16777216 }
     ensures word { MOST_OF_A_WORD ≡ 8192 }
 {}

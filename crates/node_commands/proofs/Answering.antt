@@ -1,14 +1,12 @@
 -- What the program did, from what its parts did.
 use Rattle.std.proofs.Common.{◌≡◌, ℕ, true, false, List, [], Option, Some, refl, inl, inr}
-use Rattle.node_commands.specs.declared.words.Task.{Task}
-use Rattle.node_commands.specs.Words.{Word, Command, values}
+use Rattle.node_commands.specs.Words.{Command}
 use Rattle.node_commands.specs.Outside.{Files, Failures}
 use Rattle.node_commands.specs.Answers.{Answer, done, different, usage, no_such_name, slice_refused, input_refused, json_refused, too_long, needs_sliced, text_refused, read_failed, write_failed, no_memory, refused_after, read_failed_after, no_memory_after}
 use Rattle.node_commands.specs.Decided.{Decides}
-use Rattle.node_commands.specs.Causes.{Causes}
+use Rattle.node_commands.specs.Causes.{Causes, IsToBeWritten}
 use Rattle.node_commands.proofs.Telling.{to_be_written}
-use Rattle.node_commands.proofs.Denying.{no_is_to_be_written}
-use Rattle.node_commands.specs.Effects.{TakesTask, TakesInput, Takes, Outputs}
+use Rattle.node_commands.specs.Effects.{TakesInput, Takes, Outputs}
 use Rattle.node_commands.specs.declared.found.Found.{Found}
 use Rattle.node_commands.specs.declared.found.Found.TheVariants as founds
 use Rattle.node_commands.specs.declared.outcome.Outcome.{Outcome}
@@ -24,13 +22,15 @@ printed asked files input left before after bytes outcome decided shelf source t
 printed asked files input left before after bytes outcome decided shelf source taken (inr p) = rw p.0 ((to_be_written asked files input bytes decided, (shelf, source, p.1)), taken)
 
 -- what was found was written, or a write of it failed
-module _ (task : Task) (files : Option Files) (file word : Word) (input left : Option (List ℕ)) (before after : Failures) where
-  pub found_printed : (found : Found) (outcome : Outcome) → Decides (Some (values task file word)) files input (found_answer found) → after.shelf ≡ before.shelf → after.source ≡ before.source → TakesTask task input left → PrintsFor (found_outcome found) before.sink after.sink outcome
-      → Causes (Some (values task file word)) files input before after (answer_of outcome (found_bytes found)) × Takes (Some (values task file word)) input left (answer_of outcome (found_bytes found))
-  found_printed (founds.Bytes bytes) outcome decided shelf source taken prints = printed (Some (values task file word)) files input left before after bytes.items outcome decided shelf source taken prints
-  found_printed (founds.Verdict true) outcome decided shelf source taken prints = printed (Some (values task file word)) files input left before after (verdict_line true) outcome decided shelf source taken prints
+module _ (command : Command) (files : Option Files) (input left : Option (List ℕ)) (before after : Failures) (denied : (bytes : List ℕ) → Decides (Some command) files input (different bytes) → IsToBeWritten (Some command) files input bytes) where
+  pub found_printed : (found : Found) (outcome : Outcome) → Decides (Some command) files input (found_answer found) → after.shelf ≡ before.shelf → after.source ≡ before.source → TakesInput (Some command) input left → PrintsFor (found_outcome found) before.sink after.sink outcome
+      → Causes (Some command) files input before after (answer_of outcome (found_bytes found)) × Takes (Some command) input left (answer_of outcome (found_bytes found))
+  found_printed (founds.Bytes bytes) outcome decided shelf source taken prints = printed (Some command) files input left before after bytes.items outcome decided shelf source taken prints
+  found_printed (founds.Denial bytes) outcome decided shelf source taken (inl p) = rw p.0 ((decided, (shelf, source, p.1)), taken)
+  found_printed (founds.Denial bytes) outcome decided shelf source taken (inr p) = rw p.0 ((denied bytes.items decided, (shelf, source, p.1)), taken)
+  found_printed (founds.Verdict true) outcome decided shelf source taken prints = printed (Some command) files input left before after (verdict_line true) outcome decided shelf source taken prints
   found_printed (founds.Verdict false) outcome decided shelf source taken (inl p) = rw p.0 ((decided, (shelf, source, p.1)), taken)
-  found_printed (founds.Verdict false) outcome decided shelf source taken (inr p) = rw p.0 ((no_is_to_be_written task files input file word (verdict_line false) decided, (shelf, source, p.1)), taken)
+  found_printed (founds.Verdict false) outcome decided shelf source taken (inr p) = rw p.0 ((denied (verdict_line false) decided, (shelf, source, p.1)), taken)
 
 -- a command that takes nothing of the input does so whatever the answer
 pub takes_nothing : (asked : Option Command) (old : Option (List ℕ)) → TakesInput asked old old → (answer : Answer) → Takes asked old old answer

@@ -6,3 +6,4 @@ pub mod Telling
 pub mod OneAnswer
 pub mod Denying
 pub mod Finding
+pub mod Auditing

@@ -22,12 +22,15 @@ use Rattle.ice_relay.specs.Telling.{CanBeRelayed, IsTooLong}
 use Rattle.node_commands.specs.declared.words.Task.{Task}
 use Rattle.node_commands.specs.declared.words.Task.TheVariants as tasks
 use Rattle.slice_meaning.proofs.Loads.{one_meaning, one_break, never_both}
-use Rattle.node_commands.specs.Words.{Word, Command, values, check, proxy, drill, messages, help, version, Asks}
+use Rattle.node_commands.specs.Words.{Word, Command, values, check, proxy, audit, drill, messages, help, version, Asks}
 use Rattle.node_commands.specs.Outside.{Files, Failures, Outside}
 use Rattle.node_commands.specs.Answers.{Answer, done, different, usage, no_such_name, slice_refused, input_refused, json_refused, too_long, needs_sliced, text_refused, read_failed, write_failed, no_memory, refused_after, read_failed_after, no_memory_after, status}
-use Rattle.node_commands.specs.Decided.{WithSchema, WithType, WithGraph, WithText, WithFormat, WithinLimit, Encapsulates, WithTwo, IsVerdict, WithinBoth, Compares, Does, DoesTask, Checks, Drills, Decides, Decided}
+use Rattle.node_commands.specs.Decided.{WithSchema, WithType, WithGraph, WithText, WithFormat, WithinLimit, Encapsulates, WithTwo, IsVerdict, WithinBoth, Compares, Does, DoesTask, Checks, WithFile, judged, Audits, Drills, Decides, Decided}
 use Rattle.node_commands.specs.Causes.{Causes}
 use Rattle.node_commands.specs.Statuses.{Answered, IsFailure, EndsWithStatus}
+use Rattle.std.proofs.lemmas.Option.{same_Some}
+use Rattle.ice_ports.specs.Files.{file_named}
+use Rattle.ice_audit.proofs.OneVerdict.{one_verdict}
 use Rattle.node_commands.proofs.CommandForms.{asks_apart}
 use Rattle.node_commands.proofs.Telling.{dumps_one}
 
@@ -159,6 +162,26 @@ tasks_apart task files input file word a b = schema_apart files file a b _ _ (λ
 checks_apart : (files : Files) (file : Word) (a b : Answer) → Checks (Some files) file a → Checks (Some files) file b → a ≡ b
 checks_apart files file a b = schema_apart files file a b _ _ (λ t x y. x ∙ sym y)
 
+-- a file has one content
+module _ (files : Files) (name : Word) where
+  one_content : (a b : List ℕ) → file_named files name ≡ Some a → file_named files name ≡ Some b → a ≡ b
+  one_content a b p q = same_Some a b (sym p ∙ q)
+
+  no_content : (a : List ℕ) → file_named files name ≡ None → file_named files name ≡ Some a → ⊥
+  no_content a p q = never (sym p ∙ q)
+    where
+      never : None ≡ Some a → ⊥
+      never e = cc
+
+  file_apart : (a b : Answer) (Next Other : List ℕ → Type 0) → ((bytes : List ℕ) → Next bytes → Other bytes → a ≡ b) → WithFile (Some files) name a Next → WithFile (Some files) name b Other → a ≡ b
+  file_apart a b Next Other one (inl p) (inl q) = p.1 ∙ sym q.1
+  file_apart a b Next Other one (inl p) (inr q) = absurd (no_content q.0 p.0 q.1)
+  file_apart a b Next Other one (inr p) (inl q) = absurd (no_content p.0 q.0 p.1)
+  file_apart a b Next Other one (inr p) (inr q) = one q.0 (subst Next (one_content p.0 q.0 p.1 q.1) p.2) q.2
+
+audits_apart : (files : Files) (client server : Word) (a b : Answer) → Audits (Some files) client server a → Audits (Some files) client server b → a ≡ b
+audits_apart files client server a b = file_apart files client a b _ _ (λ asked. file_apart files server a b _ _ (λ sent p q. p.2 ∙ ap judged (one_verdict asked sent p.0 q.0 p.1 q.1) ∙ sym q.2))
+
 -- the first encapsulation that is too long has one length, and then the graph cannot be relayed
 module _ (t : Tables) (shape : Shape) (g : Graph) where
   one_length : (n m : ℕ) → IsTooLong t shape g n → IsTooLong t shape g m → n ≡ m
@@ -181,6 +204,7 @@ decides_apart : (asked : Option Command) (files : Files) (input : List ℕ) (a b
 decides_apart (Some (values task file word)) files input a b p q = tasks_apart task files input file word a b p q
 decides_apart (Some (check file)) files input a b p q = checks_apart files file a b p q
 decides_apart (Some (proxy text)) files input a b p q = p ∙ sym q
+decides_apart (Some (audit client server)) files input a b p q = audits_apart files client server a b p q
 decides_apart (Some (drill start count)) files input a b p q = drills_apart start count a b p q
 decides_apart (Some messages) files input a b p q = dumps_one input a b p q
 decides_apart (Some help) files input a b p q = p ∙ sym q

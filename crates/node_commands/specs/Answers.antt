@@ -16,7 +16,7 @@ pub data Answer : Type 0 where
   different : List ℕ → Answer
   -- the words are none of the listed forms
   usage : Answer
-  -- the word names no type
+  -- the word names no type, or no file
   no_such_name : Word → Answer
   -- the Slice file, or one that it includes, has this fault
   slice_refused : LoadBreak → Answer

@@ -26,13 +26,18 @@ use Rattle.hex.specs.Hex.{encode_lower}
 use Rattle.proxy_text.specs.Grammar.{proxy_text}
 use Rattle.proxy_text.specs.Printed.{printed_proxy}
 use Rattle.message_dump.specs.Dumps.{IsDump}
+use Rattle.ice_audit.specs.declared.verdict.Verdict.{Verdict}
+use Rattle.ice_audit.specs.declared.verdict.Verdict.TheVariants.{Yes, No}
+use Rattle.ice_audit.specs.Verdicts.{Judges}
+use Rattle.ice_ports.specs.Files.{file_named}
 use Rattle.slice_meaning.specs.Printed.{LoadBreak}
 use Rattle.slice_meaning.specs.Loading.{Loads, LoadBreaks}
 use Rattle.node_commands.specs.declared.help.TheConstants.{HELP, VERSION}
-use Rattle.node_commands.specs.Words.{Word, Command, values, check, proxy, drill, messages, help, version, Asks}
+use Rattle.node_commands.specs.Words.{Word, Command, values, check, proxy, audit, drill, messages, help, version, Asks}
 use Rattle.node_commands.specs.declared.words.Task.{Task}
 use Rattle.node_commands.specs.declared.words.Task.TheVariants as tasks
 use Rattle.node_commands.specs.TypeWords.{IsTypeWord}
+use Rattle.node_commands.specs.Audits.{verdict_text}
 use Rattle.node_commands.specs.Outside.{Files}
 use Rattle.node_commands.specs.Answers.{Answer, done, different, usage, no_such_name, slice_refused, input_refused, json_refused, too_long, needs_sliced, text_refused, refused_after}
 
@@ -128,6 +133,20 @@ abbrev pub WithinBoth : Tables → TypeRef → Graph → Graph → Answer → Ty
 WithinBoth t kind g h answer = (CanBeCompared t kind g h × IsVerdict g h answer)
     ⊎ ((n : ℕ) × IsFirstLong t kind g h n × (answer ≡ too_long n))
 
+-- a file of this name has these bytes, where the shelf tells its files
+abbrev pub HasFile : Option Files → Word → List ℕ → Type 0
+HasFile files name bytes = IfSome files (λ known. file_named known name ≡ Some bytes)
+
+-- no file has this name
+abbrev pub HasNoFile : Option Files → Word → Type 0
+HasNoFile files name = IfSome files (λ known. file_named known name ≡ None)
+
+-- the word names no file, or one, from whose bytes it goes on
+abbrev pub WithFile : Option Files → Word → Answer → (List ℕ → Type 0) → Type 0
+WithFile files name answer Next =
+    (HasNoFile files name × (answer ≡ no_such_name name))
+    ⊎ ((bytes : List ℕ) × HasFile files name bytes × Next bytes)
+
 -- ---- the commands
 
 -- `relay`: the canonical encapsulation of the graph, in the format
@@ -185,6 +204,18 @@ abbrev pub read_text : Result Proxy ℕ → Answer
 read_text (Ok p) = done (proxy_lines p)
 read_text (Err place) = text_refused place
 
+-- a capture that is good has lines, and of any other the answer is no
+abbrev pub judged : Verdict → Answer
+judged (Yes lines) = done (verdict_text (Yes lines))
+judged (No side place why) = different (verdict_text (No side place why))
+
+-- `audit CLIENT SERVER`: what the bytes of both ends of a connection tell of its calls
+abbrev pub Audits : Option Files → Word → Word → Answer → Type 0
+Audits files client server answer =
+    WithFile files client answer (λ asked.
+    WithFile files server answer (λ sent.
+    (verdict : Verdict) × Judges asked sent verdict × (answer ≡ judged verdict)))
+
 -- `drill`: the line on the graph that is drawn, or the length of its first encapsulation that is above the limit
 abbrev pub Drills : (start count : ℕ) → Answer → Type 0
 Drills start count answer =
@@ -205,6 +236,7 @@ abbrev pub Decides : Option Command → Option Files → Option (List ℕ) → A
 Decides (Some (values task file word)) files input answer = DoesTask task files input file word answer
 Decides (Some (check file)) files input answer = Checks files file answer
 Decides (Some (proxy text)) files input answer = answer ≡ read_text (proxy_text text)
+Decides (Some (audit client server)) files input answer = Audits files client server answer
 Decides (Some (drill start count)) files input answer = Drills start count answer
 Decides (Some messages) files input answer = TellsMessages input answer
 Decides (Some help) files input answer = answer ≡ done HELP.now

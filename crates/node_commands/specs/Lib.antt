@@ -2,6 +2,7 @@ pub mod Words
 pub mod TypeWords
 pub mod Outside
 pub mod Answers
+pub mod Audits
 pub mod Decided
 pub mod Causes
 pub mod Effects

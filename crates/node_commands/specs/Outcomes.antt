@@ -16,6 +16,8 @@ use Rattle.proxy_text.specs.declared.fault.TextFault.{TextFault}
 use Rattle.proxy_text.specs.declared.fault.TextFault.TheVariants as text_faults
 use Rattle.message_dump.specs.declared.dump.Dump.{Dump}
 use Rattle.message_dump.specs.declared.dump.Dump.TheVariants as dumps
+use Rattle.ice_audit.specs.declared.verdict.Verdict.{Verdict}
+use Rattle.ice_audit.specs.Verdicts.{Judges}
 use Rattle.slice_check.specs.declared.fault.LoadFault.{LoadFault}
 use Rattle.slice_check.specs.declared.fault.LoadFault.TheVariants as load_faults
 use Rattle.node_commands.specs.declared.outcome.Outcome.{Outcome}
@@ -26,7 +28,7 @@ use Rattle.node_commands.specs.declared.words.Task.{Task}
 use Rattle.node_commands.specs.Words.{Word, Command}
 use Rattle.node_commands.specs.Outside.{Files, Failures, NoneFailed}
 use Rattle.node_commands.specs.Answers.{Answer, done, different, usage, no_such_name, slice_refused, input_refused, json_refused, too_long, needs_sliced, text_refused, read_failed, write_failed, no_memory, refused_after, read_failed_after, no_memory_after}
-use Rattle.node_commands.specs.Decided.{IsSchema, IsFault, IsNamed, WithType, Does, Decides}
+use Rattle.node_commands.specs.Decided.{IsSchema, IsFault, IsNamed, HasFile, HasNoFile, WithType, Does, Decides, judged}
 use Rattle.node_commands.specs.Causes.{Causes}
 use Rattle.node_commands.specs.Effects.{TakesInput, Takes}
 
@@ -115,16 +117,18 @@ abbrev pub verdict : Bool → Outcome
 verdict true = outcomes.Done
 verdict false = outcomes.Different
 
--- ---- what was found for a task with values
+-- ---- what was found
 
 -- the bytes that are to be written
 abbrev pub found_bytes : Found → List ℕ
 found_bytes (founds.Bytes bytes) = bytes.items
+found_bytes (founds.Denial bytes) = bytes.items
 found_bytes (founds.Verdict same) = verdict_line same
 
 -- what it comes to once they are written
 abbrev pub found_outcome : Found → Outcome
 found_outcome (founds.Bytes bytes) = outcomes.Done
+found_outcome (founds.Denial bytes) = outcomes.Different
 found_outcome (founds.Verdict same) = verdict same
 
 -- the answer of what was found
@@ -158,6 +162,22 @@ abbrev pub FindsSchema : Option Files → Word → (before after : ℕ) → Resu
 FindsSchema files file before after (Ok t) = IsSchema files file t × (after ≡ before)
 FindsSchema files file before after (Err outcome) =
     GivesNoSchema files file before after (answer_of outcome [])
+
+-- why a name gave no bytes, with the shelf's count before and after
+abbrev pub GivesNoFile : Option Files → Word → (before after : ℕ) → Answer → Type 0
+GivesNoFile files name before after answer =
+    (HasNoFile files name × (answer ≡ no_such_name name) × (after ≡ before))
+    ⊎ ((answer ≡ read_failed) × (after ≡ one_more before))
+    ⊎ ((answer ≡ no_memory) × (after ≡ before))
+
+-- the bytes of the file of this name, or why there are none
+abbrev pub FindsFile : Option Files → Word → (before after : ℕ) → Result (List ℕ) Outcome → Type 0
+FindsFile files name before after (Ok bytes) = HasFile files name bytes × (after ≡ before)
+FindsFile files name before after (Err outcome) = GivesNoFile files name before after (answer_of outcome [])
+
+-- what is to be written of a capture
+abbrev pub FindsVerdict : (client server : List ℕ) → Found → Type 0
+FindsVerdict client server found = (verdict : Verdict) × Judges client server verdict × (found_answer found ≡ judged verdict)
 
 -- the type that the word names, or that there is none
 abbrev pub FindsType : Tables → Word → Result TypeRef Outcome → Type 0

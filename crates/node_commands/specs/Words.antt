@@ -22,6 +22,8 @@ pub data Command : Type 0 where
   check : Word → Command
   -- the text of a proxy
   proxy : Word → Command
+  -- the files of what the client sent on a connection, and of what the server sent
+  audit : Word → Word → Command
   -- the number that the graph is drawn from, and how many nodes it has
   drill : ℕ → ℕ → Command
   messages : Command
@@ -54,6 +56,7 @@ Form words (values task file kind) =
     (words ≡ task_words task ++ file ∷ kind ∷ []) × IsWord file × IsWord kind × IsNoOption task file
 Form words (check file) = (words ≡ codes "check" ∷ file ∷ []) × IsWord file
 Form words (proxy text) = (words ≡ codes "proxy" ∷ text ∷ []) × IsWord text
+Form words (audit client server) = (words ≡ codes "audit" ∷ client ∷ server ∷ []) × IsWord client × IsWord server
 Form words (drill start count) = (words ≡ codes "drill" ∷ decimal start ∷ decimal count ∷ [])
     × (start ≤ MOST_OF_A_START) × (0 < count) × (count ≤ MOST_NODES)
 Form words messages = words ≡ codes "messages" ∷ []
@@ -79,6 +82,7 @@ abbrev pub asked_of : Option Written → Option Command
 asked_of (Some (written.Values task file kind)) = Some (values task file.now kind.now)
 asked_of (Some (written.Check file)) = Some (check file.now)
 asked_of (Some (written.Proxy text)) = Some (proxy text.now)
+asked_of (Some (written.Audit client server)) = Some (audit client.now server.now)
 asked_of (Some (written.Drill start count)) = Some (drill start count)
 asked_of (Some written.Messages) = Some messages
 asked_of (Some written.Help) = Some help

@@ -7,6 +7,7 @@ ghost use Rattle.node_commands.specs.Causes.{Causes};
 ghost use Rattle.node_commands.specs.Effects.{Takes, Outputs};
 ghost use Rattle.node_commands.specs.Outcomes.{answer_of};
 
+use crate::audit::audit;
 use crate::checking::check;
 use crate::drill::drill;
 use crate::help::{HELP, VERSION};
@@ -49,6 +50,10 @@ pub fn run<'a, H: Shelf, S: Source, K: Sink>(
         },
         Some(Command::Proxy { text }) => match proxy(alloc, text) {
             Ok(lines) => print(lines.as_slice(), sink),
+            Err(outcome) => outcome,
+        },
+        Some(Command::Audit { client, server }) => match audit(alloc, client, server, shelf) {
+            Ok(found) => print_found(found, sink),
             Err(outcome) => outcome,
         },
         Some(Command::Drill { start, count }) => match drill(alloc, start, count) {

@@ -26,6 +26,13 @@ usage: ice COMMAND
   messages         reads messages of protocol 1.0, one after the other, from standard input, and
                    writes a line for each as soon as it is there, as
                    request 1 \"hello\" \"\" \"ice_ping\" 1 0 6
+  audit CLIENT SERVER
+                   reads what both ends of one connection sent, and writes how often each of its
+                   calls was dispatched, over every run of the protocol that shows these bytes, a
+                   line for each request and each batch that is not empty, and then yes; or, where
+                   something is wrong, what and where, as
+                   request 1 0 or 1
+                   no server 28: UnknownId
   drill START COUNT
                    draws a graph of COUNT instances of class N { int v; N left; N right; }, 1 to
                    50000, from the number START, 0 to 2147483647, both in decimal digits without
@@ -39,18 +46,25 @@ FILE is the path of a Slice file. Included files are paths too, from the folder 
 TYPE is bool, byte, short, int, long, string, Object, Object*, a type id of FILE, as
 ::M::Q, or an interface's type id followed by *. A word has at most 8,192 bytes, in UTF-8.
 
+CLIENT and SERVER are paths of files: a capture, which is all bytes that the client sent on one TCP
+connection, from its beginning on, and all that the server sent on it. A recorder that stands
+between both ends writes them, and so does Wireshark: follow the TCP stream, show the data of one
+direction as raw, save it, and then so with the other direction.
+
 An encapsulation is a value's bytes with their size and version before them, of encoding 1.1: 6 to
-1,048,576 bytes, and nothing after it. At most one byte behind what it claims is read. check, proxy
-and drill read nothing from standard input.
+1,048,576 bytes, and nothing after it. At most one byte behind what it claims is read. check, proxy,
+audit and drill read nothing from standard input.
 
 A command ends with one of these, and writes its line to standard error. The earlier step decides:
-the words, FILE and what it includes, TYPE, the input, the output.
+the words, FILE and what it includes, TYPE, the input, the output; of audit the words, CLIENT,
+SERVER, the output.
 
   2  ice: usage                  the words are none of these commands, or one is not UTF-8 or too
                                  long
   3  ice: FILE:PLACE: KIND       a Slice file is refused: its name, the fault's first byte, counted
                                  from 0, and its kind
-  2  ice: no such name TYPE      no type of FILE has this name
+  2  ice: no such name WORD      no type of FILE has the name TYPE; of audit, no file is at the path
+                                 CLIENT or SERVER
   4  ice: input refused at PLACE: KIND
                                  the input is not one encapsulation of a value of TYPE, or of same
                                  not two, or a message is none: the first byte of the part with the
@@ -70,7 +84,7 @@ the words, FILE and what it includes, TYPE, the input, the output.
   5  ice: read failed            a file or standard input could not be read
   6  ice: write failed           standard output could not be written
   9  ice: no memory
-  1  (no line)                   of same: different
+  1  (no line)                   of same: different; of audit: no
   0  (no line)                   done
 
 After 2 to 5 and 9 nothing was written to standard output, and after 6 the first part of the answer;
@@ -119,6 +133,31 @@ is how many bytes the arguments have, or of a reply all that follows its status;
 success, 1 a user exception, 2 to 4 no such object, facet or operation, 5 to 7 an unknown local
 exception, user exception or other exception. There are at most 1,000,000 messages, of at most
 1,048,576 bytes each.
+
+A capture is told as one of these for each request and each batch that is not empty, in order:
+
+    request ID N
+    batch COUNT N
+
+N says how often the call was dispatched, or each of the COUNT calls of the batch: 1 once, 0 never,
+0 or 1 where the bytes do not tell. A request with the ID 0 asks for no reply. A message whose end
+lacks at the end of a file is left out. Or the one line is
+
+    no client PLACE: KIND
+    no server PLACE: KIND
+
+with the first byte of the first part of that file that is wrong, counted from 0, and its kind. What
+is wrong with CLIENT comes first, but for NotValidated.
+
+KIND of a capture is one of those of an input that a message may have, or one of these:
+
+  TooLong       the file has more than 16,777,216 bytes
+  Unexpected    this end sends no such message
+  AfterClose    a message follows the close message of its end
+  NotValidated  the first message of the server is no validate message; of the client: it has sent
+                something, and the server no message
+  UnknownId     a reply is not to the next request that asks for one: replies out of order, which a
+                server with several threads may send, are refused so
 
 KIND of a Slice file is one of these:
 

@@ -27,7 +27,7 @@ pub enum Outcome<'a> {
     Different,
     /// The words are none of the listed forms.
     Usage,
-    /// The word names no type.
+    /// The word names no type, or no file.
     NoSuchName(&'a str),
     /// The Slice file, or one that it includes, has this fault: the file by its name on the shelf,
     /// the place of the fault in its text, and the name of its kind.

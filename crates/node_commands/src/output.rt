@@ -5,6 +5,7 @@ ghost use Rattle.node_commands.specs.Answers.{status};
 ghost use Rattle.node_commands.specs.Effects.{Outputs, GetsLine};
 ghost use Rattle.node_commands.specs.Outcomes.{Prints, PrintsFor, answer_of, found_bytes, found_outcome, verdict};
 ghost use Rattle.node_commands.specs.Outcomes.{verdict_line};
+ghost use Rattle.node_commands.specs.declared.outcome.Outcome.TheVariants as outcomes;
 
 use crate::found::Found;
 use crate::outcome::Outcome;
@@ -22,6 +23,18 @@ pub fn print<K: Sink>(bytes: &[u8], sink: &mut K) -> Outcome<'static>
     }
 }
 
+/// Writes the whole of an answer that says no, for which the outcome is `Different`. A sink that fails has taken a
+/// prefix of it, and is not asked again.
+fn print_denial<K: Sink>(bytes: &[u8], sink: &mut K) -> Outcome<'static>
+    ensures outcome { PrintsFor outcomes.Different (K.failures sink.old) (K.failures sink.new) result }
+    ensures output { Outputs (K.taken sink.old) (K.taken sink.new) (answer_of result bytes.now) }
+{
+    match print(bytes, sink) {
+        Outcome::Done => Outcome::Different,
+        _ => Outcome::WriteFailed,
+    }
+}
+
 /// Writes the word for whether two values are the same, and where they are not the outcome is
 /// `Different`. A sink that fails has taken a prefix of it, and is not asked again.
 fn print_verdict<K: Sink>(same: bool, sink: &mut K) -> Outcome<'static>
@@ -31,19 +44,17 @@ fn print_verdict<K: Sink>(same: bool, sink: &mut K) -> Outcome<'static>
     if same {
         return print("same\n".as_bytes(), sink);
     }
-    match print("different\n".as_bytes(), sink) {
-        Outcome::Done => Outcome::Different,
-        _ => Outcome::WriteFailed,
-    }
+    print_denial("different\n".as_bytes(), sink)
 }
 
-/// Writes what was found: bytes, or the word for whether two values are the same.
+/// Writes what was found: bytes, bytes that say no, or the word for whether two values are the same.
 pub fn print_found<K: Sink>(found: Found, sink: &mut K) -> Outcome<'static>
     ensures outcome { PrintsFor (found_outcome found) (K.failures sink.old) (K.failures sink.new) result }
     ensures output { Outputs (K.taken sink.old) (K.taken sink.new) (answer_of result (found_bytes found)) }
 {
     match found {
         Found::Bytes(bytes) => print(bytes.as_slice(), sink),
+        Found::Denial(bytes) => print_denial(bytes.as_slice(), sink),
         Found::Verdict(same) => print_verdict(same, sink),
     }
 }

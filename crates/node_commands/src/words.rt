@@ -7,7 +7,7 @@ use class_slices::Format;
 use ice_relay::MOST_NODES;
 use itoa::Buffer;
 
-/// The most bytes of a word that is the file, the type or the text of a listed form.
+/// The most bytes of a word that is a file, the type or the text of a listed form.
 pub const MOST_OF_A_WORD: usize = 8192;
 
 /// The greatest number that a drill starts from.
@@ -45,6 +45,11 @@ pub enum Command<'a> {
     /// To print the proxy that the text stands for, and its bytes.
     Proxy {
         text: &'a str,
+    },
+    /// To tell how often each call of a connection was dispatched, by the files of what the client and the server sent.
+    Audit {
+        client: &'a str,
+        server: &'a str,
     },
     /// To relay a graph of so many nodes that is drawn from the number.
     Drill {
@@ -106,6 +111,7 @@ fn of_three_words<'a>(command: &'a str, one: &'a str, two: &'a str) -> Option<Co
 {
     match command {
         "drill" => drill_of(one, two),
+        "audit" => audit_of(one, two),
         _ => task_of_three(command, one, two),
     }
 }
@@ -117,6 +123,16 @@ fn drill_of<'a>(start: &str, count: &str) -> Option<Command<'a>>
     let start = number_of(start, 0, MOST_OF_A_START)?;
     let count = number_of(count, 1, MOST_NODES)?;
     Some(Command::Drill { start, count })
+}
+
+/// The audit of what the files have that the client and the server sent.
+fn audit_of<'a>(client: &'a str, server: &'a str) -> Option<Command<'a>>
+    ensures { Asks (codes "audit" ∷ client.now ∷ server.now ∷ []) (asked_of result) }
+{
+    if client.len() > MOST_OF_A_WORD || server.len() > MOST_OF_A_WORD {
+        return None;
+    }
+    Some(Command::Audit { client, server })
 }
 
 /// The number from the least to the most that the word spells in decimal digits, without a sign or a leading zero;
@@ -134,7 +150,8 @@ fn number_of(word: &str, least: u32, most: u32) -> Option<u32>
 
 /// Of a task of one word.
 fn task_of_three<'a>(word: &'a str, file: &'a str, kind: &'a str) -> Option<Command<'a>>
-    requires { word.now ≢ codes "drill" }
+    requires drill { word.now ≢ codes "drill" }
+    requires audit { word.now ≢ codes "audit" }
     ensures { Asks (word.now ∷ file.now ∷ kind.now ∷ []) (asked_of result) }
 {
     if file.len() > MOST_OF_A_WORD || kind.len() > MOST_OF_A_WORD {

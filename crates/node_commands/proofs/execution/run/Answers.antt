@@ -1,9 +1,10 @@
-use Rattle.std.proofs.Common.{[], Some, string_bytes, refl}
-use Rattle.node_commands.specs.Words.{values, check, proxy, drill, messages, help}
+use Rattle.std.proofs.Common.{[], Some, string_bytes, refl, inr}
+use Rattle.node_commands.specs.Words.{values, check, proxy, audit, drill, messages, help}
 use Rattle.node_commands.specs.declared.help.TheConstants.{HELP}
 use Rattle.node_commands.specs.Outside.{counts}
 use Rattle.node_commands.specs.Outcomes.{answer_of, found_bytes}
 use Rattle.node_commands.proofs.Answering.{printed, found_printed, outputs_nothing, takes_nothing}
+use Rattle.node_commands.proofs.Denying.{no_is_to_be_written}
 use Rattle.node_commands.proofs.Keeping.{keeps_itself}
 use Rattle.node_commands.proofs.execution.run.Goals as goal
 
@@ -13,9 +14,10 @@ returns-in-Ok g c =
     let task = c.in-Some-Values.task in
     let file = c.in-Some-Values.file.now in
     let word = c.in-Some-Values.kind.now in
-    let came = found_printed task (g.H.Shelf.files c.args.shelf.now) file word (g.S.Source.left c.args.source.now) (g.S.Source.left c.found_of.new.source)
+    let came = found_printed (values task file word) (g.H.Shelf.files c.args.shelf.now) (g.S.Source.left c.args.source.now) (g.S.Source.left c.found_of.new.source)
     (counts (g.H.Shelf.failures c.args.shelf.now) (g.S.Source.failures c.args.source.now) (g.K.Sink.failures c.args.sink.now))
     (counts (g.H.Shelf.failures c.found_of.new.shelf) (g.S.Source.failures c.found_of.new.source) (g.K.Sink.failures c.print_found.new.sink))
+    (no_is_to_be_written task (g.H.Shelf.files c.args.shelf.now) (g.S.Source.left c.args.source.now) file word)
     c.in-Ok.found c.print_found.result found.0 found.1.0 found.1.1 c.in-Ok.ensures.taken c.print_found.ensures.outcome in
     (found_bytes c.in-Ok.found, Some (values task file word), (rw c.in-Some-Values.field-0-is at c.in-Some-Values.ensures), came.0, came.1, c.print_found.ensures.output)
 
@@ -39,6 +41,26 @@ returns-in-Err-check g c =
     let input = g.S.Source.left c.args.source.now in
     let found = c.in-Err-check.ensures input (g.S.Source.failures c.args.source.now) (g.K.Sink.failures c.args.sink.now) in
     ([], Some (check c.in-Some-Check.file.now), (rw c.in-Some-Check.field-0-is at c.in-Some-Check.ensures), found, takes_nothing (Some (check c.in-Some-Check.file.now)) input (keeps_itself input) (answer_of c.in-Err-check.outcome []), outputs_nothing (g.K.Sink.taken c.args.sink.now) c.in-Err-check.outcome)
+
+pub returns-in-Ok-audit : goal.returns-in-Ok-audit
+returns-in-Ok-audit g c =
+    let files = g.H.Shelf.files c.args.shelf.now in
+    let input = g.S.Source.left c.args.source.now in
+    let found = c.in-Ok-audit.ensures input (g.S.Source.failures c.args.source.now) (g.K.Sink.failures c.args.sink.now) in
+    let command = audit c.in-Some-Audit.client.now c.in-Some-Audit.server.now in
+    let came = found_printed command files input input
+    (counts (g.H.Shelf.failures c.args.shelf.now) (g.S.Source.failures c.args.source.now) (g.K.Sink.failures c.args.sink.now))
+    (counts (g.H.Shelf.failures c.audit.new.shelf) (g.S.Source.failures c.args.source.now) (g.K.Sink.failures c.print_found-in-Ok-audit.new.sink))
+    (λ bytes denied. inr denied)
+    c.in-Ok-audit.found c.print_found-in-Ok-audit.result found.0 found.1.0 found.1.1 (keeps_itself input) c.print_found-in-Ok-audit.ensures.outcome in
+    (found_bytes c.in-Ok-audit.found, Some command, (rw c.in-Some-Audit.field-0-is at c.in-Some-Audit.ensures), came.0, came.1, c.print_found-in-Ok-audit.ensures.output)
+
+pub returns-in-Err-audit : goal.returns-in-Err-audit
+returns-in-Err-audit g c =
+    let input = g.S.Source.left c.args.source.now in
+    let asked = Some (audit c.in-Some-Audit.client.now c.in-Some-Audit.server.now) in
+    let found = c.in-Err-audit.ensures input (g.S.Source.failures c.args.source.now) (g.K.Sink.failures c.args.sink.now) in
+    ([], asked, (rw c.in-Some-Audit.field-0-is at c.in-Some-Audit.ensures), found, takes_nothing asked input (keeps_itself input) (answer_of c.in-Err-audit.outcome []), outputs_nothing (g.K.Sink.taken c.args.sink.now) c.in-Err-audit.outcome)
 
 pub returns-in-Some-Help : goal.returns-in-Some-Help
 returns-in-Some-Help g c =
