@@ -14,6 +14,7 @@ pub mod Renumbered
 pub mod Sameness
 pub mod Upto
 pub mod Once
+pub mod FirstUse
 pub mod Narrowed
 pub mod WrittenValues
 pub mod WrittenMembers
