@@ -1,6 +1,6 @@
 -- One table has the names that are used by first use.
 use Rattle.std.proofs.Common.{ℕ, suc, ◌<◌, ◌≡◌, ◌⊎◌, Bool, true, false, List, [], ◌∷◌, length, map, refl, sym, ap, ◌∙◌, subst, arith, inl, inr}
-use Rattle.std.proofs.lemmas.Bool.{cases_lt, cases_eq, ltb-true, ltb-false}
+use Rattle.std.proofs.lemmas.Bool.{cases_eq, ltb-true, ltb-false}
 use Rattle.ice_graphs.specs.Visiting.{place, is_listed}
 use Rattle.ice_graphs.specs.Same.{AreListed}
 use Rattle.ice_graphs.specs.Canonical.{each_once}
