@@ -20,7 +20,8 @@ ghost use Rattle.graph_laws.specs.FirstUse.{IsByFirstUse};
 /// To be the same but for the names of instances goes both ways, and on from graph to graph; and each graph of
 /// a type is so to itself.
 pub fn graphs_the_same()
-    ensures itself { (t : Tables) (shape : Shape) (g : Graph) → OfType t shape g → length g.instances ≤ most → Same g g }
+    ensures itself { (t : Tables) (shape : Shape) (g : Graph)
+        → OfType t shape g → length g.instances ≤ most → Same g g }
     ensures back { (g h : Graph) → Same g h → Same h g }
     ensures onward { (g h k : Graph) → Same g h → Same h k → Same g k }
 {}
