@@ -10,6 +10,7 @@ use Rattle.ice_types.specs.declared.declarations.Shape.{Shape}
 use Rattle.ice_types.specs.Fits.{names_of}
 use Rattle.ice_types.specs.Tables.{Tables}
 use Rattle.ice_types.specs.Rules.{IsSchema}
+use Rattle.ice_prims.specs.Rest.{IsBytes}
 use Rattle.ice_encoding.specs.Port.{size_of}
 use Rattle.ice_encoding.specs.Typed.{Refers}
 use Rattle.ice_graphs.specs.Classes.{class_named, base_of, own_members}
@@ -65,7 +66,7 @@ module _ (t : Tables) (rules : IsSchema t) (Refer : Refers) (sizes : (declared n
   -- a slice of its type
   abbrev IsSlice : Slice → Type 0
   IsSlice (known class content) = IsKnown t Refer class content
-  IsSlice (unknown id bytes optionals table) = AreReferred Refer table
+  IsSlice (unknown id bytes optionals table) = AreReferred Refer table × IsBytes bytes
 
   abbrev IsFine : Slice → Type 0
   IsFine s = IsSlice s × SliceNotable s
@@ -93,10 +94,10 @@ module _ (t : Tables) (rules : IsSchema t) (Refer : Refers) (sizes : (declared n
         refl,
         string (encode_lower bytes),
         refl,
-        (encode_lower bytes, refl, decode_of-encode_lower bytes h.1),
+        (encode_lower bytes, refl, decode_of-encode_lower bytes h.0.1),
         names,
         refl,
-        list_canon (λ n. size_of (Some n) < 2 ^ 31) NotesName name_noted (λ n small. (small, refl)) table (names_small table h.0),
+        list_canon (λ n. size_of (Some n) < 2 ^ 31) NotesName name_noted (λ n small. (small, refl)) table (names_small table h.0.0),
       )
 
   base_slices : (base : Option ℕ) (ss : List Slice) → AreBases t Refer base ss → AllAre IsSlice ss
@@ -107,8 +108,8 @@ module _ (t : Tables) (rules : IsSchema t) (Refer : Refers) (sizes : (declared n
 
   are_slices : (ss : List Slice) → IsInstance t Refer ss → AllAre IsSlice ss
   are_slices [] h = absurd h
-  are_slices (unknown id bytes optionals table ∷ []) h = (h.2, tt)
-  are_slices (unknown id bytes optionals table ∷ s ∷ ss) h = (h.0.2, are_slices (s ∷ ss) h.1)
+  are_slices (unknown id bytes optionals table ∷ []) h = ((h.2, h.3), tt)
+  are_slices (unknown id bytes optionals table ∷ s ∷ ss) h = ((h.0.2, h.0.3), are_slices (s ∷ ss) h.1)
   are_slices (known class content ∷ ss) h = (h.0, base_slices (base_of t class) ss h.1)
 
   notable_slices : (ss : List Slice) → InstanceNotable ss → AllAre SliceNotable ss

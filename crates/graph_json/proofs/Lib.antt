@@ -27,4 +27,8 @@ pub mod ContentNoted
 pub mod ContentWalking
 pub mod ContentCanon
 pub mod ContentTyped
+pub mod ShortTexts
+pub mod ShortValues
+pub mod ReadNotable
+pub mod Dumped
 mod ValueSamples

@@ -32,7 +32,7 @@ pub noted_same : (t : Tables) (shape : Shape) (d : Data) (g h : Graph) → IsSch
 noted_same t shape d g h rules (k, k_is, k_typed, p) (l, l_is, l_typed, q) =
     same_both k g h p (subst (λ (x : Graph). Same x h) (sym (listed_once t shape d k l rules k_is l_is)) q)
 
-form_count : (g : Graph) → length (form g).instances ≡ length (order g)
+pub form_count : (g : Graph) → length (form g).instances ≡ length (order g)
 unfolding form
 form_count g = length-map (order g) (λ n. map (renamed_slice (place (order g))) (slices_of g.instances n))
 

@@ -68,7 +68,7 @@ module _ (t : Tables) where
 
 -- ---- how many are listed
 
-noted_len : {A : Type 0} (One : Noting A) (ds : Items) (xs : List A) → NotesEach One ds xs → length xs ≡ items_len ds
+pub noted_len : {A : Type 0} (One : Noting A) (ds : Items) (xs : List A) → NotesEach One ds xs → length xs ≡ items_len ds
 noted_len One no_items xs h = ap length h
 noted_len One (item d ds) xs h = ap length h.2 ∙ ap suc (noted_len One ds h.1 h.4)
 
@@ -78,7 +78,7 @@ listed_few t shape d g h few =
     let many = noted_len (NotesInstance t) h.4.0 g.instances h.4.2 in
     elim (cases_lt most_instances (items_len h.4.0)) [ inl lt ↦ absurd (few (h.4.0, is, lt)) | inr le ↦ omega (arith, le, many) ]
 
-few_enough : (n : ℕ) → n ≤ most_instances → n ≤ most
+pub few_enough : (n : ℕ) → n ≤ most_instances → n ≤ most
 unfolding most_instances most
 few_enough n le = omega (arith, le)
 

@@ -1,7 +1,6 @@
 -- Which graphs can be noted.
 use Rattle.std.specs.Prelude.{ℕ, ◌<◌, List, [], ◌∷◌, length}
 use Rattle.ice_types.specs.Tables.{Tables}
-use Rattle.ice_prims.specs.Rest.{IsBytes}
 use Rattle.ice_encoding.specs.Typed.{by_size}
 use Rattle.ice_graphs.specs.Graph.{Slice, known, unknown, Graph}
 use Rattle.ice_graphs.specs.Instances.{slices_of}
@@ -9,10 +8,10 @@ use Rattle.ice_graphs.specs.Typed.{AreReferred, IsKnown}
 use Rattle.ice_graphs.specs.Visiting.{place, order}
 use Rattle.graph_json.specs.Contents.{ContentIsShort}
 
--- the texts of proxies are short enough, and what is kept is bytes
+-- the texts of proxies are short enough
 abbrev pub SliceNotable : Slice → Type 0
 SliceNotable (known class content) = ContentIsShort content
-SliceNotable (unknown id bytes optionals table) = IsBytes bytes
+SliceNotable (unknown id bytes optionals table) = Unit {0}
 
 -- so in each slice of an instance
 abbrev pub InstanceNotable : List Slice → Type 0

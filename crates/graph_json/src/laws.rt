@@ -1,20 +1,25 @@
 //! What the definitions promise of each other, one law a function.
 
-ghost use Rattle.std.specs.Prelude.{◌≡◌, ◌≤◌, Some, length};
+ghost use Rattle.std.specs.Prelude.{◌≡◌, ◌≤◌, ℕ, List, Some, length};
 ghost use Rattle.serde_json.specs.Data.{Data};
 ghost use Rattle.ice_types.specs.declared.declarations.Shape.{Shape};
 ghost use Rattle.ice_types.specs.Tables.{Tables};
 ghost use Rattle.ice_types.specs.Rules.{IsSchema};
+ghost use Rattle.ice_prims.specs.Rest.{IsBytes};
 ghost use Rattle.ice_encoding.specs.Typed.{by_size};
+ghost use Rattle.ice_graphs.specs.Canonical.{Format, graph_bytes};
+ghost use Rattle.ice_graphs.specs.Flags.{Reach};
 ghost use Rattle.ice_graphs.specs.Graph.{Graph};
-ghost use Rattle.ice_graphs.specs.Instances.{most_instances};
+ghost use Rattle.ice_graphs.specs.Instances.{most_instances, SpellsNumbered};
 ghost use Rattle.ice_graphs.specs.Same.{form, Same};
 ghost use Rattle.ice_graphs.specs.Typed.{AreMembers, OfType};
 ghost use Rattle.ice_graphs.specs.Visiting.{most, order};
+ghost use Rattle.graph_json.specs.declared.text.TheConstants.{MOST_TEXT};
 ghost use Rattle.graph_json.specs.Contents.{HasOwnNames};
 ghost use Rattle.graph_json.specs.Notation.{NotesListed, NotesGraph};
 ghost use Rattle.graph_json.specs.Reading.{listed_graph};
 ghost use Rattle.graph_json.specs.Canonical.{canonical_noted};
+ghost use Rattle.graph_json.specs.Texts.{IsJson, Lists};
 ghost use Rattle.graph_json.specs.Typed.{HaveValues, IsNotable};
 
 /// The graph that is read from JSON is listed by it.
@@ -36,8 +41,7 @@ pub fn listed_apart()
 {}
 
 /// The canonical notation of a graph of a type notes it, where the shape's members have names and tags of their own,
-/// the texts of proxies are not too long, what is kept is bytes, and there are no more instances than a graph may
-/// have.
+/// the texts of proxies are not too long, and there are no more instances than a graph may have.
 pub fn graphs_noted()
     ensures { (t : Tables) (shape : Shape) (g : Graph)
         → IsSchema t → HasOwnNames shape → OfType t shape g → IsNotable g → length g.instances ≤ most
@@ -49,6 +53,22 @@ pub fn canonical_read()
     ensures { (t : Tables) (shape : Shape) (g : Graph)
         → IsSchema t → HasOwnNames shape → OfType t shape g → IsNotable g → length g.instances ≤ most
         → listed_graph t shape (canonical_noted t shape g) ≡ Some (form g) }
+{}
+
+/// Of a graph that was read from bytes the canonical notation notes it, whatever it holds. A text of that, where it is
+/// short enough, lists the graph's form; and whatever such a text lists has the canonical bytes of the graph, in each
+/// format.
+pub fn dumped_graphs()
+    ensures noted { (t : Tables) (reach : Reach) (shape : Shape) (bytes : List ℕ) (g : Graph)
+        → IsSchema t → HasOwnNames shape → IsBytes bytes → SpellsNumbered t reach shape bytes g
+        → NotesGraph t shape (canonical_noted t shape g) g }
+    ensures listed { (t : Tables) (reach : Reach) (shape : Shape) (bytes text : List ℕ) (g : Graph)
+        → IsSchema t → HasOwnNames shape → IsBytes bytes → SpellsNumbered t reach shape bytes g
+        → IsJson text (canonical_noted t shape g) → length text ≤ MOST_TEXT → Lists t shape text (form g) }
+    ensures encoded { (t : Tables) (reach : Reach) (shape : Shape) (format : Format) (bytes text : List ℕ) (g k : Graph)
+        → IsSchema t → HasOwnNames shape → IsBytes bytes → SpellsNumbered t reach shape bytes g
+        → IsJson text (canonical_noted t shape g) → Lists t shape text k
+        → graph_bytes t shape format k ≡ graph_bytes t shape format g }
 {}
 
 /// JSON notes the graph that is read from it, where that is of the type. What JSON notes is the same as that one.

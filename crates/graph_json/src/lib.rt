@@ -33,8 +33,8 @@
 //! - The names in a text are compared with the number of instances before a `Graph` is made, since a graph holds
 //!   no name out of range, even between two calls. To tell the names of the roots they stand for a moment as
 //!   those of a slice.
-//! - That what is kept is bytes is asked where a graph is to be noted, since its type asks nothing of what is
-//!   kept, and hex digits stand for bytes alone.
+//! - Of a graph of a type it is asked that the texts of its proxies are short, where it is to be noted. Of one that
+//!   was read from bytes nothing is asked (`dumped_graphs`): what an encapsulation spells has short texts.
 #![tactic(auto)]
 
 mod content_read;
@@ -54,8 +54,8 @@ pub use content_read::content_of;
 pub use content_write::content_json;
 pub use fault::{JsonFault, JsonKind};
 pub use laws::{
-    canonical_read, graphs_noted, graphs_read, listed_apart, listed_found, listed_only,
-    listed_typed, notations_apart, notations_equal, noted_graphs_typed,
+    canonical_read, dumped_graphs, graphs_noted, graphs_read, listed_apart, listed_found,
+    listed_only, listed_typed, notations_apart, notations_equal, noted_graphs_typed,
 };
 pub use leaves::name_of;
 pub use read::value_of;

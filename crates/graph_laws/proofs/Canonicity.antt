@@ -105,10 +105,10 @@ same_from_bytes t named shape reach format g h g-in h-in g-typed h-typed g-can h
     same_from_form g h g-in h-in (λ i. record { roots = same.0 i; instances = instances_are i })
 
 -- within the limits, no other graph is read from the canonical encapsulation, whatever is read
-pub read_is_same : (t : Tables) → AreNamed t → (reach : Reach) (shape : Shape) (format : Format) (g h : Graph) → Reached g → OfType t shape g → EachAsked t all_slices format g → length (order g) ≤ most_instances
-    → SpellsNumbered t reach shape (graph_bytes t shape format g) h → Same h g
+pub read_is_form : (t : Tables) → AreNamed t → (reach : Reach) (shape : Shape) (format : Format) (g h : Graph) → Reached g → OfType t shape g → EachAsked t all_slices format g → length (order g) ≤ most_instances
+    → SpellsNumbered t reach shape (graph_bytes t shape format g) h → h ≡ form g
 unfolding SpellsGraph
-read_is_same t named reach shape format g h reached typed asked few (content, is, short, (end, spelled, instances_are, fit)) =
+read_is_form t named reach shape format g h reached typed asked few (content, is, short, (end, spelled, instances_are, fit)) =
     let c = canonical_graph t shape format g in
     let fewer : length (form g).instances ≤ most_instances = omega (arith, form_fewer g, few) in
     let one = form_spelled t named shape all_slices format most_instances most_instances g reached typed asked fewer fewer (omega (arith, longer t shape format g, short)) in
@@ -117,11 +117,16 @@ read_is_same t named reach shape format g h reached typed asked few (content, is
     let same = spelled_once t all_slices shape most_instances most_instances c (form g).roots h.roots one.0 end one.1 two in
     let all_instances : (form g).instances ≡ h.instances = sym one.2 ∙ ap (λ (s : Spelled). s.instances) same.1 ∙ instances_are in
     let form_is : form g ≡ h = λ i. record { roots = same.0 i; instances = all_instances i } in
-    subst (λ (x : Graph). Same x g) form_is (form-same-graph g reached)
+    sym form_is
+
+pub read_is_same : (t : Tables) → AreNamed t → (reach : Reach) (shape : Shape) (format : Format) (g h : Graph) → Reached g → OfType t shape g → EachAsked t all_slices format g → length (order g) ≤ most_instances
+    → SpellsNumbered t reach shape (graph_bytes t shape format g) h → Same h g
+read_is_same t named reach shape format g h reached typed asked few held =
+    subst (λ (x : Graph). Same x g) (sym (read_is_form t named reach shape format g h reached typed asked few held)) (form-same-graph g reached)
 
 module _ (t : Tables) (named : AreNamed t) (shape : Shape) (reach : Reach) (format : Format) where
   -- within the limits, the canonical encapsulation spells the form
-  numbered_spelled : (g : Graph) → Reached g → OfType t shape g → EachAsked t reach format g → length (order g) ≤ most_instances → length (graph_bytes t shape format g) ≤ LARGEST → SpellsNumbered t reach shape (graph_bytes t shape format g) (form g)
+  pub numbered_spelled : (g : Graph) → Reached g → OfType t shape g → EachAsked t reach format g → length (order g) ≤ most_instances → length (graph_bytes t shape format g) ≤ LARGEST → SpellsNumbered t reach shape (graph_bytes t shape format g) (form g)
   unfolding SpellsGraph
   numbered_spelled g reached typed asked few small =
       let c = canonical_graph t shape format g in

@@ -20,7 +20,11 @@ use Rattle.ice_graphs.specs.Graph.{Slice, known, unknown, Graph}
 use Rattle.ice_graphs.specs.Names.{names_of, instance_names}
 use Rattle.ice_graphs.specs.Instances.{slices_of}
 use Rattle.ice_graphs.specs.Typed.{AreReferred, AreOptions, AreMembers, IsKnown, AreBases, IsUnknown, IsInstance, RefersIn, OfType}
-use Rattle.ice_graphs.specs.Canonical.{is_there, id_of, table_of}
+use Rattle.ice_graphs.specs.Slices.{unknown_bytes}
+use Rattle.ice_graphs.specs.Canonical.{is_there, id_of, table_of, sized_bytes}
+use Rattle.ice_prims.specs.Rest.{IsBytes}
+use Rattle.graph_laws.proofs.PutBytes.{kept_bytes}
+use Rattle.graph_laws.proofs.WrittenBytes.{sized_fit}
 use Rattle.graph_arena.specs.Arena.{AreBelow}
 use Rattle.graph_arena.proofs.Agreeing.{below-left, below-right}
 use Rattle.graph_laws.proofs.Once.{once-below}
@@ -150,11 +154,16 @@ module _ (t u : Tables) (both : Both t u) (ks js : List (List Slice)) (closed : 
   referred_there (n ∷ ns) h = (moves_there None None (Some n) refl h.0, referred_there ns h.1)
 
   -- a slice that is kept as it is written
-  unknown_there : (a : ℕ) (content : Members) (id : List ℕ) → class_named t id ≡ Some a → class_named u id ≡ None → AreBelow (length ks) (names_of content) → IsUnknown u Other id (table_of (known a content))
-  unknown_there a content id named hidden below =
-      (hidden, (both.reader.type_ids id (rows.Class a) (id_named t id a named)).1, referred (table_of (known a content)) (once-below (length ks) [] (names_of content) below))
+  unknown_there : (a : ℕ) (content : Members) (id bytes : List ℕ) (o : Bool) → class_named t id ≡ Some a → class_named u id ≡ None → unknown_bytes o bytes ≡ sized_bytes t (known a content) → IsKnown t Refer a content → AreBelow (length ks) (names_of content)
+      → IsUnknown u Other id bytes (table_of (known a content))
+  unknown_there a content id bytes o named hidden written is_known below = (
+    hidden,
+    (both.reader.type_ids id (rows.Class a) (id_named t id a named)).1,
+    referred (table_of (known a content)) (once-below (length ks) [] (names_of content) below),
+    kept_bytes o bytes (subst IsBytes (sym written) (sized_fit t Refer a content is_known)),
+  )
 
-  before : (id bytes : List ℕ) (o : Bool) (table : List ℕ) (rs : List Slice) → IsUnknown u Other id table → (rs ≡ []) ⊎ IsInstance u Other rs → IsInstance u Other (unknown id bytes o table ∷ rs)
+  before : (id bytes : List ℕ) (o : Bool) (table : List ℕ) (rs : List Slice) → IsUnknown u Other id bytes table → (rs ≡ []) ⊎ IsInstance u Other rs → IsInstance u Other (unknown id bytes o table ∷ rs)
   before id bytes o table rs k (inl e) = subst (λ (l : List Slice). IsInstance u Other (unknown id bytes o table ∷ l)) (sym e) k
   before id bytes o table [] k (inr h) = absurd h
   before id bytes o table (r ∷ rs) k (inr h) = (k, h)
@@ -183,24 +192,24 @@ module _ (t u : Tables) (both : Both t u) (ks js : List (List Slice)) (closed : 
   follow_there (Some a) (known b content ∷ ss) rs (same, is_known, bases) below (r, others, split, inr (x, r_is, named, hidden, written), rest) =
       let more = follow_there (base_of t a) ss others bases (below-right (length ks) (names_of content) (instance_names ss) below) rest in
       inr (subst (IsInstance u Other) (sym split) (subst (λ (s : Slice). IsInstance u Other (s ∷ others)) (sym r_is)
-      (before (id_of t (known b content)) x (is_there content.optional) (table_of (known b content)) others (unknown_there b content (id_of t (known b content)) named hidden (below-left (length ks) (names_of content) (instance_names ss) below)) more)))
+      (before (id_of t (known b content)) x (is_there content.optional) (table_of (known b content)) others (unknown_there b content (id_of t (known b content)) x (is_there content.optional) named hidden written (subst (λ (k : ℕ). IsKnown t Refer k content) (sym same) is_known) (below-left (length ks) (names_of content) (instance_names ss) below)) more)))
 
   instance_there : (ss rs : List Slice) → IsInstance t Refer ss → AreBelow (length ks) (instance_names ss) → AllClosed t u ss rs → IsInstance u Other rs
   instance_there [] rs h below all = absurd h
   instance_there (unknown id bytes o table ∷ []) rs h below (r, others, split, is, rest) =
       subst (IsInstance u Other) (sym split) (subst (λ (s : Slice). IsInstance u Other (s ∷ others)) (sym is.0)
-      (before id bytes o table others (is.1, h.1, referred_there table h.2) (inl rest)))
+      (before id bytes o table others (is.1, h.1, referred_there table h.2, h.3) (inl rest)))
   instance_there (unknown id bytes o table ∷ s ∷ ss) rs h below (r, others, split, is, rest) =
       let more = instance_there (s ∷ ss) others h.1 (below-right (length ks) table (instance_names (s ∷ ss)) below) rest in
       subst (IsInstance u Other) (sym split) (subst (λ (s : Slice). IsInstance u Other (s ∷ others)) (sym is.0)
-      (before id bytes o table others (is.1, h.0.1, referred_there table h.0.2) (inr more)))
+      (before id bytes o table others (is.1, h.0.1, referred_there table h.0.2, h.0.3) (inr more)))
   instance_there (known a content ∷ ss) rs h below (r, others, split, inl (c, r_is, tied), rest) =
       subst (IsInstance u Other) (sym split) (subst (λ (s : Slice). IsInstance u Other (s ∷ others)) (sym r_is)
       (known_there a c content tied h.0, bases_there (base_of t a) (base_of u c) (tied_base t u both a c tied) ss others h.1 rest))
   instance_there (known a content ∷ ss) rs h below (r, others, split, inr (x, r_is, named, hidden, written), rest) =
       let more = follow_there (base_of t a) ss others h.1 (below-right (length ks) (names_of content) (instance_names ss) below) rest in
       subst (IsInstance u Other) (sym split) (subst (λ (s : Slice). IsInstance u Other (s ∷ others)) (sym r_is)
-      (before (id_of t (known a content)) x (is_there content.optional) (table_of (known a content)) others (unknown_there a content (id_of t (known a content)) named hidden (below-left (length ks) (names_of content) (instance_names ss) below)) more))
+      (before (id_of t (known a content)) x (is_there content.optional) (table_of (known a content)) others (unknown_there a content (id_of t (known a content)) x (is_there content.optional) named hidden written h.0 (below-left (length ks) (names_of content) (instance_names ss) below)) more))
 
 -- the graph that is closed is of its type
 pub closed_typed : (t u : Tables) (both : Both t u) (shape other : Shape) → SameShape t u shape other → (k h : Graph) → h.roots ≡ k.roots → EachClosed t u k.instances h.instances

@@ -57,9 +57,9 @@ module _ (t : Tables) (f : ℕ → ℕ) (ns : List ℕ) (Refer Other : Refers) (
 
   pub instance-typed : (ss : List Slice) → AreListed ns (instance_names ss) → IsInstance t Refer ss → IsInstance t Other (map (renamed_slice f) ss)
   instance-typed [] listed h = absurd h
-  instance-typed (unknown id bytes optionals table ∷ []) listed h = (h.0, h.1, referred-renamed table (AreListed-left ns table [] listed) h.2)
+  instance-typed (unknown id bytes optionals table ∷ []) listed h = (h.0, h.1, referred-renamed table (AreListed-left ns table [] listed) h.2, h.3)
   instance-typed (unknown id bytes optionals table ∷ s ∷ ss) listed h =
-      ((h.0.0, h.0.1, referred-renamed table (AreListed-left ns table (instance_names (s ∷ ss)) listed) h.0.2), instance-typed (s ∷ ss) (AreListed-right ns table (instance_names (s ∷ ss)) listed) h.1)
+      ((h.0.0, h.0.1, referred-renamed table (AreListed-left ns table (instance_names (s ∷ ss)) listed) h.0.2, h.0.3), instance-typed (s ∷ ss) (AreListed-right ns table (instance_names (s ∷ ss)) listed) h.1)
   instance-typed (known class content ∷ ss) listed h =
       (known-renamed class content (AreListed-left ns (names_of content) (instance_names ss) listed) h.0, bases-renamed (base_of t class) ss (AreListed-right ns (names_of content) (instance_names ss) listed) h.1)
 

@@ -146,7 +146,7 @@ module _ (t : Tables) (k : Graph) where
         }
 
     abbrev pub inline_rules : Rules Pen Spelled
-    inline_rules = record { Good = Good; exact = exact_good; joined = joined_good; mapped = mapped_good; behind = behind_good }
+    inline_rules = record { Good = Good; exact = λ bytes R fits h. exact_good bytes R h; joined = joined_good; mapped = mapped_good; behind = λ number spelled fits w ns R good. behind_good number spelled w ns R good }
 
     -- references are known, each to a class that fits
     pub noted_good : (w : Piece Pen) (ns : List ℕ) (R : Relation Spelled) (ms : List (Reference (Unit {0}))) → AllFit t k.instances ms → Good w ns R → Good w ns (λ b from to. (end : Spelled) × R b from end × (to ≡ with_met ms end))

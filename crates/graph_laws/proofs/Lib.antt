@@ -1,4 +1,5 @@
 pub mod Carried
+pub mod PutBytes
 pub mod Texts
 pub mod Bases
 pub mod ExceptionRows
@@ -14,9 +15,11 @@ pub mod Renumbered
 pub mod Sameness
 pub mod Upto
 pub mod Once
+pub mod FirstUse
 pub mod Narrowed
 pub mod WrittenValues
 pub mod WrittenMembers
+pub mod WrittenBytes
 pub mod TypeIds
 pub mod Weaker
 pub mod Named

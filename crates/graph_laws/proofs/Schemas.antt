@@ -14,7 +14,7 @@ use Rattle.ice_graphs.specs.Graph.{Slice, known, unknown, Graph}
 use Rattle.ice_graphs.specs.Flags.{Reach, all_slices, known_classes}
 use Rattle.ice_graphs.specs.Instances.{slices_of, most_instances, SpellsNumbered}
 use Rattle.ice_graphs.specs.Visiting.{most, order}
-use Rattle.ice_graphs.specs.Same.{Same, Spells}
+use Rattle.ice_graphs.specs.Same.{Same, Spells, form}
 use Rattle.ice_graphs.specs.Typed.{OfType}
 use Rattle.ice_graphs.specs.Canonical.{Format, compact, graph_bytes, id_in, IsWritable}
 use Rattle.graph_laws.proofs.Sound.{numbered_typed}
@@ -24,7 +24,7 @@ use Rattle.graph_laws.proofs.Named.{are_named, id_of_row}
 use Rattle.graph_laws.proofs.Formed.{Reached}
 use Rattle.graph_laws.proofs.Reached.{reached-small, reached-few}
 use Rattle.graph_laws.proofs.OnlyKnown.{read_compact}
-use Rattle.graph_laws.proofs.Canonicity.{same_bytes, same_from_bytes, read_is_same, graph_spelled}
+use Rattle.graph_laws.proofs.Canonicity.{same_bytes, same_from_bytes, read_is_form, read_is_same, numbered_spelled, graph_spelled}
 
 -- ---- type ids of a schema are UTF-8
 
@@ -63,6 +63,23 @@ pub canonical_read : (t : Tables) (reach : Reach) (shape : Shape) (format : Form
     → SpellsNumbered t reach shape (graph_bytes t shape format g) h → Same h g
 canonical_read t reach shape format g h rules typed can few =
     read_is_same t (are_named t rules) reach shape format g h (reached-few t shape g typed (few-enough (length (order g)) few)) typed (λ n lt. (can n lt, utf8_texts t rules (slices_of g.instances n))) few
+
+-- the form, name by name
+
+pub form_spelled : (t : Tables) (shape : Shape) (format : Format) (g : Graph) → IsSchema t → OfType t shape g → IsWritable format g
+    → length (order g) ≤ most_instances → length (graph_bytes t shape format g) ≤ LARGEST → SpellsNumbered t all_slices shape (graph_bytes t shape format g) (form g)
+form_spelled t shape format g rules typed can few =
+    numbered_spelled t (are_named t rules) shape all_slices format g (reached-few t shape g typed (few-enough (length (order g)) few)) typed (λ n lt. (can n lt, utf8_texts t rules (slices_of g.instances n))) few
+
+pub known_form_spelled : (t : Tables) (shape : Shape) (format : Format) (g : Graph) → IsSchema t → OfType t shape g → IsWritable compact g
+    → length (order g) ≤ most_instances → length (graph_bytes t shape format g) ≤ LARGEST → SpellsNumbered t known_classes shape (graph_bytes t shape format g) (form g)
+known_form_spelled t shape format g rules typed can few =
+    numbered_spelled t (are_named t rules) shape known_classes format g (reached-few t shape g typed (few-enough (length (order g)) few)) typed (λ n lt. (can n lt, utf8_texts t rules (slices_of g.instances n))) few
+
+pub form_read : (t : Tables) (reach : Reach) (shape : Shape) (format : Format) (g h : Graph) → IsSchema t → OfType t shape g → IsWritable format g → length (order g) ≤ most_instances
+    → SpellsNumbered t reach shape (graph_bytes t shape format g) h → h ≡ form g
+form_read t reach shape format g h rules typed can few =
+    read_is_form t (are_named t rules) reach shape format g h (reached-few t shape g typed (few-enough (length (order g)) few)) typed (λ n lt. (can n lt, utf8_texts t rules (slices_of g.instances n))) few
 
 -- ---- what was read and is written again
 

@@ -43,7 +43,7 @@ module _ (t : Tables) (is : List (List Slice)) (table : List ℕ) where
   abbrev table_rules : Rules (Unit {0}) Uses
   table_rules = record {
     Good = GoodIn;
-    exact = λ bytes R h p us lt placed. (us, h us, placed);
+    exact = λ bytes R fits h p us lt placed. (us, h us, placed);
     joined = λ w w' a b R R' one two p us lt placed.
         let x = w p in
         let y = w' x.1 in
@@ -52,7 +52,7 @@ module _ (t : Tables) (is : List (List Slice)) (table : List ℕ) where
         let g = two x.1 f.0 (omega (arith, lt, long)) f.2 in
         (g.0, (x.0, y.0, f.0, refl, f.1, g.1), g.2);
     mapped = λ w ns R R' f good p us lt placed. let g = good p us lt placed in (g.0, f (w p).0 us g.0 g.1, g.2);
-    behind = λ number spelled w ns R good p us lt placed.
+    behind = λ number spelled fits w ns R good p us lt placed.
         let x = w p in
         let small : length x.0 < 2 ^ 31 = omega (arith, lt, length-append (number.put (length x.0)) x.0) in
         let g = good p us small placed in

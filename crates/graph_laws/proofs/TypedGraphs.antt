@@ -18,10 +18,11 @@ use Rattle.ice_graphs.specs.Names.{renamed_members}
 use Rattle.ice_graphs.specs.References.{State, Reference, met_at, SpellsEntry, in_table, entry_in, resolved, AreWithin, SpellsEntries, SpellsTable, SpellsInline, with_met, with_ended, replaced, beginning, opening}
 use Rattle.ice_graphs.specs.Flags.{IdForm, no_id, as_text, as_index, as_number, Flags, Reach, Before, first, only_unknown, derived}
 use Rattle.ice_graphs.specs.TypeIds.{SpellsId, class_in, is_base, same_bool, ends_well, before_base, before_next}
-use Rattle.ice_graphs.specs.Slices.{SpellsBody, SpellsSlices, SpellsInstance}
+use Rattle.ice_graphs.specs.Slices.{unknown_bytes, SpellsBody, SpellsSlices, SpellsInstance}
 use Rattle.ice_graphs.specs.Slices.{Behind as Others}
 use Rattle.ice_graphs.specs.Instances.{instances, slices_of, class_of, class_fits, AllFit}
 use Rattle.ice_graphs.specs.Typed.{AreReferred, AreMembers, IsKnown, AreBases, IsUnknown, IsInstance, RefersIn}
+use Rattle.graph_laws.proofs.PutBytes.{kept_bytes}
 use Rattle.graph_laws.proofs.Texts.{AllUtf8}
 use Rattle.graph_laws.proofs.Ranged.{AreBelow}
 use Rattle.graph_laws.proofs.Bases.{IsRow, row_named, base_is_row}
@@ -183,7 +184,7 @@ module _ (t : Tables) (rules : IsSchema t) (reach : Reach) (is : List (List Slic
     -- what a body is
     abbrev pub BodyIs : List ℕ → Option ℕ → Slice → Type 0
     BodyIs id (Some class) s = (content : Members) × (s ≡ known class content) × AreMembers u Refer (own_members u class) content
-    BodyIs id None s = (bytes : List ℕ) × (optionals : Bool) × (table : List ℕ) × (s ≡ unknown id bytes optionals table) × AreBelow limit table
+    BodyIs id None s = (bytes : List ℕ) × (optionals : Bool) × (table : List ℕ) × (s ≡ unknown id bytes optionals table) × AreBelow limit table × IsBytes bytes
 
     -- what the slices are, by what stands before them
     abbrev pub Come : Before → List Slice → Type 0
@@ -200,7 +201,7 @@ module _ (t : Tables) (rules : IsSchema t) (reach : Reach) (is : List (List Slic
     referred [] below = tt
     referred (n ∷ ns) below = ((below.0, refl), referred ns below.1)
 
-    unknown_comes : (id bytes : List ℕ) (optionals : Bool) (table : List ℕ) (others : List Slice) → IsUnknown u Refer id table → After None others → IsInstance u Refer (unknown id bytes optionals table ∷ others)
+    unknown_comes : (id bytes : List ℕ) (optionals : Bool) (table : List ℕ) (others : List Slice) → IsUnknown u Refer id bytes table → After None others → IsInstance u Refer (unknown id bytes optionals table ∷ others)
     unknown_comes id bytes optionals table [] k (inl e) = k
     unknown_comes id bytes optionals table [] k (inr h) = absurd h
     unknown_comes id bytes optionals table (s ∷ ss) k (inl e) = absurd cc
@@ -215,10 +216,10 @@ module _ (t : Tables) (rules : IsSchema t) (reach : Reach) (is : List (List Slic
 
     pub one_comes : (ahead : Before) (id : List ℕ) (class : Option ℕ) (slice : Slice) (others : List Slice) → (class ≡ None → class_named u id ≡ None) → ((c : ℕ) → class ≡ Some c → IsRow u.classes c) → IsUtf8 id → is_base ahead class ≡ true → BodyIs id class slice
         → After class others → Come ahead (slice ∷ others)
-    one_comes first id None slice others lacks row utf8 based (bytes, optionals, table, s_is, below) after =
-        subst (λ (s : Slice). Come first (s ∷ others)) (sym s_is) (unknown_comes id bytes optionals table others (lacks refl, utf8, referred table below) after)
-    one_comes only_unknown id None slice others lacks row utf8 based (bytes, optionals, table, s_is, below) after =
-        subst (λ (s : Slice). Come only_unknown (s ∷ others)) (sym s_is) (unknown_comes id bytes optionals table others (lacks refl, utf8, referred table below) after)
+    one_comes first id None slice others lacks row utf8 based (bytes, optionals, table, s_is, below, kept) after =
+        subst (λ (s : Slice). Come first (s ∷ others)) (sym s_is) (unknown_comes id bytes optionals table others (lacks refl, utf8, referred table below, kept) after)
+    one_comes only_unknown id None slice others lacks row utf8 based (bytes, optionals, table, s_is, below, kept) after =
+        subst (λ (s : Slice). Come only_unknown (s ∷ others)) (sym s_is) (unknown_comes id bytes optionals table others (lacks refl, utf8, referred table below, kept) after)
     one_comes (derived sized base) id None slice others lacks row utf8 based body after = absurd cc
     one_comes ahead id (Some class) slice others lacks row utf8 based (content, s_is, h) after =
         let d = row class refl in
@@ -271,9 +272,9 @@ module _ (t : Tables) (rules : IsSchema t) (reach : Reach) (is : List (List Slic
         let content : Members = renamed_members (entry_in table) raw in
         let typed = sized_typed table f.has_table (below_at table tb.below) f.has_optional shape body raw uses inner (alike.placed f.has_table f.has_optional shape body raw [] uses members) tb.placed in
         (tb.step, (content, s_is, alike.members shape content typed))
-    body_typed u alike f id true None bytes s from to fits (content, a, b, mid, parts, (is_unknown, still), (table, s_is, h)) fine =
+    body_typed u alike f id true None bytes s from to fits (content, a, b, mid, parts, ((front, cut, size), still), (table, s_is, h)) fine =
         let tb = table_typed f.has_table [] b table mid to (rest_fits bytes a b parts fits) h fine in
-        (joined_step from mid to (stays from mid still) tb.step, (content, f.has_optional, table, s_is, tb.below))
+        (joined_step from mid to (stays from mid still) tb.step, (content, f.has_optional, table, s_is, tb.below, kept_bytes f.has_optional content (rest_fits a front (unknown_bytes f.has_optional content) cut (front_fits bytes a b parts fits))))
     body_typed u alike f id false (Some class) bytes s from to fits (content, s_is, h) fine =
         let shape : Shape = own_members u class in
         let m = slice_typed port t rules state_steps Refer refers f.has_optional shape bytes content from to fits (alike.inline f.has_optional shape bytes content from to h) fine in

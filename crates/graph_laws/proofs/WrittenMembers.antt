@@ -12,6 +12,7 @@ use Rattle.ice_types.specs.declared.schema.TheConstants.{MOST_DEPTH}
 use Rattle.ice_types.specs.declared.optional_format.TheConstants.{FORMAT_FSIZE}
 use Rattle.ice_types.specs.Tables.{Tables}
 use Rattle.ice_types.specs.Formats.{optional_format, of_parts, is_fixed}
+use Rattle.ice_prims.specs.Rest.{IsBytes}
 use Rattle.ice_encoding.specs.Parts.{size}
 use Rattle.ice_encoding.specs.Skipping.{count}
 use Rattle.ice_encoding.specs.Tags.{tag}
@@ -28,6 +29,7 @@ use Rattle.ice_graphs.specs.Names.{names, names_each, names_present, names_of}
 use Rattle.ice_graphs.specs.Typed.{AreOptions, AreMembers}
 use Rattle.ice_graphs.specs.Members.{framing, written_option, written_options, marked_options, written_slice_members, written_content}
 use Rattle.ice_graphs.specs.Canonical.{is_there}
+use Rattle.graph_laws.proofs.PutBytes.{none_bytes, more_bytes, size_put, count_put, tag_put}
 use Rattle.graph_laws.proofs.WrittenValues.{Relation, Chain, Rules, ReferGood, value_good, each_good, size_spelled, count_spelled}
 
 -- ---- formats are numbers up to 7
@@ -65,8 +67,8 @@ module _ {P R S : Type 0} (rules : Rules P S) (t : Tables) (port : Port R S) (re
   framed_good : (p : Prefix) (w : Piece P) (ns : List ℕ) (Spells : Speller S Tree) (v : Tree) → Good w ns (λ b from to. Spells b v from to) → Good (framing p w) ns (λ b from to. Framed p Spells b v from to)
   framed_good no_length w ns Spells v h = h
   framed_good own_size w ns Spells v h = h
-  framed_good as_size w ns Spells v h = rules.behind size size_spelled w ns (λ b from to. Spells b v from to) h
-  framed_good as_int w ns Spells v h = rules.behind count count_spelled w ns (λ b from to. Spells b v from to) h
+  framed_good as_size w ns Spells v h = rules.behind size size_spelled size_put w ns (λ b from to. Spells b v from to) h
+  framed_good as_int w ns Spells v h = rules.behind count count_spelled count_put w ns (λ b from to. Spells b v from to) h
 
   -- a tag, and what stands under it
   abbrev UnderTag : ℕ → ℕ → Option TypeRef → Tree → Relation S
@@ -79,12 +81,12 @@ module _ {P R S : Type 0} (rules : Rules P S) (t : Tables) (port : Port R S) (re
       let Value : Speller S Tree = SpellsValue port t MOST_DEPTH kind in
       let value = framed_good p (written refer v) (names v) Value v (value_good rules t port refer Refer good MOST_DEPTH kind v h) in
       rules.joined (exactly (tag.put (number, format))) (framing p (written refer v)) [] (names v) (λ b from to. tag.Spells b (number, format) × (to ≡ from)) (λ b from to. Tagged port t (Some kind) format b (Some v) from to)
-      (rules.exact (tag.put (number, format)) (λ b from to. tag.Spells b (number, format) × (to ≡ from)) (λ s. (tag_lawful.put (number, format) (tag_is (number, format) lt (formats_few t kind)), refl)))
+      (rules.exact (tag.put (number, format)) (λ b from to. tag.Spells b (number, format) × (to ≡ from)) (tag_put number format (formats_few t kind)) (λ s. (tag_lawful.put (number, format) (tag_is (number, format) lt (formats_few t kind)), refl)))
       (rules.mapped (framing p (written refer v)) (names v) (λ b from to. Framed p Value b v from to) (λ b from to. Tagged port t (Some kind) format b (Some v) from to) (λ b from to z. (eq-eqb format format refl, (v, refl, z))) value)
 
-  module _ (marked : Bool) (end : List ℕ) (ends : SpellsEnd marked end) (members : List Member) where
+  module _ (marked : Bool) (end : List ℕ) (fits : IsBytes end) (ends : SpellsEnd marked end) (members : List Member) where
     options_good : (last : Option ℕ) (os : Present) → AreOptions t Refer members last os → Good (written_options refer t members end os) (names_present os) (λ b from to. (n : ℕ) × Options port t marked members n last b os from to)
-    options_good last [] h = rules.exact end (λ b from to. (n : ℕ) × Options port t marked members n last b [] from to) (λ s. (0, (ends, refl, refl)))
+    options_good last [] h = rules.exact end (λ b from to. (n : ℕ) × Options port t marked members n last b [] from to) fits (λ s. (0, (ends, refl, refl)))
     options_good last (o ∷ os) (le, lt, kind, is, typed, more) =
         let format : ℕ = optional_format t kind in
         let One : Relation S = UnderTag o.0 format (Some kind) o.1 in
@@ -102,8 +104,8 @@ module _ {P R S : Type 0} (rules : Rules P S) (t : Tables) (port : Port R S) (re
   required_good shape c h = each_good rules t port refer (HasType t Refer MOST_DEPTH) (SpellsValue port t MOST_DEPTH) (value_good rules t port refer Refer good MOST_DEPTH) (required_kinds shape) c.required h.required
 
   flagged_good : (members : List Member) (os : Present) → AreOptions t Refer members None os → Good (marked_options refer t members os) (names_present os) (λ b from to. IfFlagged port t (is_there os) (AllOptions port t true members) b os from to)
-  flagged_good members [] h = rules.exact [] (λ b from to. IfFlagged port t false (AllOptions port t true members) b [] from to) (λ s. (refl, refl, refl))
-  flagged_good members (o ∷ os) h = options_good true (255 ∷ []) refl members None (o ∷ os) h
+  flagged_good members [] h = rules.exact [] (λ b from to. IfFlagged port t false (AllOptions port t true members) b [] from to) none_bytes (λ s. (refl, refl, refl))
+  flagged_good members (o ∷ os) h = options_good true (255 ∷ []) (more_bytes 255 [] (omega arith) none_bytes) refl members None (o ∷ os) h
 
   -- the members of a slice
   pub members_good : (shape : Shape) (c : Members) → AreMembers t Refer shape c → Good (written_slice_members refer t shape c) (names_of c) (λ b from to. SpellsSliceMembers port t (is_there c.optional) shape b c from to)
@@ -121,4 +123,4 @@ module _ {P R S : Type 0} (rules : Rules P S) (t : Tables) (port : Port R S) (re
       let Two : Relation S = λ b from to. AllOptions port t false shape.optional b c.optional from to in
       rules.mapped (written_content refer t shape c) (names_of c) (Chain One Two) (λ b from to. SpellsContent port t shape b c from to)
       (λ b from to z. (c.required, z.0, z.1, z.2, z.3, z.4, (c.optional, refl, z.5)))
-      (rules.joined (written_each refer c.required) (written_options refer t shape.optional [] c.optional) (names_each c.required) (names_present c.optional) One Two (required_good shape c h) (options_good false [] refl shape.optional None c.optional h.optional))
+      (rules.joined (written_each refer c.required) (written_options refer t shape.optional [] c.optional) (names_each c.required) (names_present c.optional) One Two (required_good shape c h) (options_good false [] none_bytes refl shape.optional None c.optional h.optional))

@@ -141,7 +141,7 @@ module _ (t : Tables) (found : AreNamed t) (reach : Reach) (k : Graph) (visit : 
   open_may only_unknown free opt tabled last form ok = with_id (has_id form) true ok refl
   open_may (derived sized base) free opt tabled last form ok = absurd free
 
-  unknown_step : is_all reach ≡ true → (ahead : Before) → IsOpen ahead → (id bytes : List ℕ) (optionals : Bool) (table : List ℕ) (ss : List Slice) → IsUnknown t (RefersIn t k.instances) id table → AreBelow limit table
+  unknown_step : is_all reach ≡ true → (ahead : Before) → IsOpen ahead → (id bytes : List ℕ) (optionals : Bool) (table : List ℕ) (ss : List Slice) → IsUnknown t (RefersIn t k.instances) id bytes table → AreBelow limit table
       → Ends (written_slices t refer ss) (instance_names ss) (Later (is_end t refer ss) only_unknown ss)
       → Ends (written_slices t refer (unknown id bytes optionals table ∷ ss)) (instance_names (unknown id bytes optionals table ∷ ss)) (Slices ahead (unknown id bytes optionals table ∷ ss))
   unknown_step all ahead free id bytes optionals table ss lacks below rest =

@@ -192,7 +192,7 @@ module _ (t : Tables) (found : AreNamed (of_exceptions t)) (reach : Reach) (k : 
   not_empty (suc n) ahead ss bytes from to (f, a, b, mid, parts, flags, rest) e =
       let one : length a ≡ 1 = ap length flags.0.1 in omega (arith, ap length parts, length-append a b, ap length e, one)
 
-  unknown_step : is_all reach ≡ true → (ahead : Before) → IsOpen ahead → (id bytes : List ℕ) (optionals : Bool) (table : List ℕ) (ss : List Slice) → IsUnknown u (RefersIn t k.instances) id table → AreBelow limit table
+  unknown_step : is_all reach ≡ true → (ahead : Before) → IsOpen ahead → (id bytes : List ℕ) (optionals : Bool) (table : List ℕ) (ss : List Slice) → IsUnknown u (RefersIn t k.instances) id bytes table → AreBelow limit table
       → Ends (user_exception_slices t refer ss) (instance_names ss) (Later only_unknown (not (is_there ss)) None ss)
       → Ends (user_exception_slices t refer (unknown id bytes optionals table ∷ ss)) (instance_names (unknown id bytes optionals table ∷ ss)) (Slices ahead (unknown id bytes optionals table ∷ ss))
   unknown_step all ahead free id bytes optionals table ss lacks below rest =

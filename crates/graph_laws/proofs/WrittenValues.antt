@@ -5,6 +5,7 @@ use Rattle.std.proofs.lemmas.Int.{fits_signed_from_abs}
 use Rattle.ice_types.specs.declared.kind.TypeRef.{TypeRef}
 use Rattle.ice_types.specs.declared.kind.TypeRef.TheVariants as kinds
 use Rattle.ice_types.specs.Tables.{Tables}
+use Rattle.ice_prims.specs.Rest.{IsBytes}
 use Rattle.ice_prims.specs.Number.{SpellsBool, SpellsByte, SpellsSigned, SpellsSize, SpellsText}
 use Rattle.ice_prims.specs.Bytes.{bool_bytes, signed_bytes, size_bytes, text_bytes}
 use Rattle.ice_prims.proofs.Spelled.{bool_exact, short_exact, int_exact, long_exact, size_exact, text_exact}
@@ -25,6 +26,7 @@ use Rattle.ice_encoding.proofs.Inserting.{join, join_none, join_join, insert_las
 use Rattle.ice_encoding.proofs.Written.{Follows, nothing_before}
 use Rattle.ice_graphs.specs.Names.{listed_name, names, names_each, names_pairs}
 use Rattle.ice_graphs.specs.Members.{with_length}
+use Rattle.graph_laws.proofs.PutBytes.{none_bytes, more_bytes, signed_put, bool_put, size_put, text_put, proxy_put}
 
 pub size_spelled : (n : ℕ) → n < 2 ^ 31 → SpellsSize (size_bytes n) n
 size_spelled n lt = size_exact.put n lt
@@ -47,10 +49,10 @@ Behind number R bytes from to = (front body : List ℕ) × (bytes ≡ front ++ b
 -- pieces that write what spells something and name these instances, and how they are joined
 pub record Rules (P S : Type 0) : Type 1 where
   pub Good : Piece P → List ℕ → Relation S → Type 0
-  pub exact : (bytes : List ℕ) (R : Relation S) → ((s : S) → R bytes s s) → Good (exactly bytes) [] R
+  pub exact : (bytes : List ℕ) (R : Relation S) → IsBytes bytes → ((s : S) → R bytes s s) → Good (exactly bytes) [] R
   pub joined : (w w' : Piece P) (a b : List ℕ) (R R' : Relation S) → Good w a R → Good w' b R' → Good (w >> w') (a ++ b) (Chain R R')
   pub mapped : (w : Piece P) (ns : List ℕ) (R R' : Relation S) → ((bytes : List ℕ) (from to : S) → R bytes from to → R' bytes from to) → Good w ns R → Good w ns R'
-  pub behind : (number : Part ℕ) → ((n : ℕ) → n < 2 ^ 31 → number.Spells (number.put n) n) → (w : Piece P) (ns : List ℕ) (R : Relation S) → Good w ns R → Good (with_length number w) ns (Behind number R)
+  pub behind : (number : Part ℕ) → ((n : ℕ) → n < 2 ^ 31 → number.Spells (number.put n) n) → ((n : ℕ) → IsBytes (number.put n)) → (w : Piece P) (ns : List ℕ) (R : Relation S) → Good w ns R → Good (with_length number w) ns (Behind number R)
 
 -- ---- keys name nothing
 
@@ -93,8 +95,8 @@ module _ {P R S : Type 0} (rules : Rules P S) (t : Tables) (port : Port R S) (re
   Spelled levels kind v bytes from to = SpellsValue port t levels kind bytes v from to
 
   -- something that changes no state, under a constructor
-  exactly_good : {A : Type 0} (make : A → Tree) (Spells : List ℕ → A → Type 0) (x : A) (bytes : List ℕ) → Spells bytes x → Good (exactly bytes) [] (λ b from to. Made make (Plain Spells) b (make x) from to)
-  exactly_good make Spells x bytes h = rules.exact bytes (λ b from to. Made make (Plain Spells) b (make x) from to) (λ s. (x, refl, (h, refl)))
+  exactly_good : {A : Type 0} (make : A → Tree) (Spells : List ℕ → A → Type 0) (x : A) (bytes : List ℕ) → IsBytes bytes → Spells bytes x → Good (exactly bytes) [] (λ b from to. Made make (Plain Spells) b (make x) from to)
+  exactly_good make Spells x bytes fits h = rules.exact bytes (λ b from to. Made make (Plain Spells) b (make x) from to) fits (λ s. (x, refl, (h, refl)))
 
   -- a size, and then so many
   counted_good : (n : ℕ) (w : Piece P) (ns : List ℕ) (Inner : Relation S) → n < 2 ^ 31 → Good w ns Inner → Good (exactly (size_bytes n) >> w) ns (λ b from to. (front body : List ℕ) × (b ≡ front ++ body) × SpellsSize front n × Inner body from to)
@@ -102,11 +104,11 @@ module _ {P R S : Type 0} (rules : Rules P S) (t : Tables) (port : Port R S) (re
       let Size : Relation S = λ b from to. SpellsSize b n × (to ≡ from) in
       rules.mapped (exactly (size_bytes n) >> w) ns (Chain Size Inner) (λ b from to. (front body : List ℕ) × (b ≡ front ++ body) × SpellsSize front n × Inner body from to)
       (λ b from to z. (z.0, z.1, z.3, z.4.0, subst (λ (s : S). Inner z.1 s to) z.4.1 z.5))
-      (rules.joined (exactly (size_bytes n)) w [] ns Size Inner (rules.exact (size_bytes n) Size (λ s. (size_spelled n lt, refl))) good)
+      (rules.joined (exactly (size_bytes n)) w [] ns Size Inner (rules.exact (size_bytes n) Size (size_put n) (λ s. (size_spelled n lt, refl))) good)
 
   all_good : (One : Tree → Type 0) (kind : TypeRef) (Spells : TypeRef → Speller S Tree) → ((v : Tree) → One v → Good (written refer v) (names v) (λ b from to. Spells kind b v from to))
       → (vs : Trees) → AllOf One vs → Good (written_each refer vs) (names_each vs) (λ b from to. Each Spells (replicate (tree_count vs) kind) b vs from to)
-  all_good One kind Spells one none h = rules.exact [] (λ b from to. Each Spells [] b none from to) (λ s. (refl, refl, refl))
+  all_good One kind Spells one none h = rules.exact [] (λ b from to. Each Spells [] b none from to) none_bytes (λ s. (refl, refl, refl))
   all_good One kind Spells one (tree v vs) h =
       rules.mapped (written refer v >> written_each refer vs) (names v ++ names_each vs) (Chain (λ b from to. Spells kind b v from to) (λ b from to. Each Spells (replicate (tree_count vs) kind) b vs from to)) (λ b from to. Each Spells (kind ∷ replicate (tree_count vs) kind) b (tree v vs) from to)
       (λ b from to z. (v, vs, z.0, z.1, z.2, refl, z.3, z.4, z.5))
@@ -115,7 +117,7 @@ module _ {P R S : Type 0} (rules : Rules P S) (t : Tables) (port : Port R S) (re
   pub each_good : (One : TypeRef → Tree → Type 0) (Spells : TypeRef → Speller S Tree) → ((kind : TypeRef) (v : Tree) → One kind v → Good (written refer v) (names v) (λ b from to. Spells kind b v from to))
       → (ks : List TypeRef) (vs : Trees) → EachOf One ks vs → Good (written_each refer vs) (names_each vs) (λ b from to. Each Spells ks b vs from to)
   each_good One Spells one [] vs h =
-      subst (λ (ws : Trees). Good (written_each refer ws) (names_each ws) (λ b from to. Each Spells [] b ws from to)) (sym h) (rules.exact [] (λ b from to. Each Spells [] b none from to) (λ s. (refl, refl, refl)))
+      subst (λ (ws : Trees). Good (written_each refer ws) (names_each ws) (λ b from to. Each Spells [] b ws from to)) (sym h) (rules.exact [] (λ b from to. Each Spells [] b none from to) none_bytes (λ s. (refl, refl, refl)))
   each_good One Spells one (kind ∷ ks) vs (v, others, is, h, more) =
       subst (λ (ws : Trees). Good (written_each refer ws) (names_each ws) (λ b from to. Each Spells (kind ∷ ks) b ws from to)) (sym is)
       (rules.mapped (written refer v >> written_each refer others) (names v ++ names_each others) (Chain (λ b from to. Spells kind b v from to) (λ b from to. Each Spells ks b others from to)) (λ b from to. Each Spells (kind ∷ ks) b (tree v others) from to)
@@ -125,7 +127,7 @@ module _ {P R S : Type 0} (rules : Rules P S) (t : Tables) (port : Port R S) (re
   pairs_good : (Key Held : Tree → Type 0) (SpellsKey SpellsHeld : Speller S Tree) → ((v : Tree) → Key v → Good (written refer v) [] (λ b from to. SpellsKey b v from to)) → ((v : Tree) → Held v → Good (written refer v) (names v) (λ b from to. SpellsHeld b v from to))
       → (ready rest : Entries) → Follows ready rest → IsRising rest → PairsOf Key Held rest → Good (written_pairs refer rest) (names_pairs rest) (λ b from to. Pairs SpellsKey SpellsHeld (entry_count rest) ready b (join ready rest) from to)
   pairs_good Key Held SpellsKey SpellsHeld key held ready no_entry follows rising h =
-      rules.exact [] (λ b from to. Pairs SpellsKey SpellsHeld 0 ready b (join ready no_entry) from to) (λ s. (refl, join_none ready, refl))
+      rules.exact [] (λ b from to. Pairs SpellsKey SpellsHeld 0 ready b (join ready no_entry) from to) none_bytes (λ s. (refl, join_none ready, refl))
   pairs_good Key Held SpellsKey SpellsHeld key held ready (entry k v rest) follows rising h =
       let placed : Entries = join ready (entry k v no_entry) in
       let put : insert k v ready ≡ placed = insert_last k v ready follows in
@@ -155,17 +157,17 @@ module _ {P R S : Type 0} (rules : Rules P S) (t : Tables) (port : Port R S) (re
 
   pub value_good : (Refer : Refers) → ReferGood Refer → (levels : ℕ) (kind : TypeRef) (v : Tree) → HasType t Refer levels kind v → Good (written refer v) (names v) (Spelled levels kind v)
   value_good Refer good zero kind v h = absurd h
-  value_good Refer good (suc levels) kinds.Bool v (x, is) = as_it_is (suc levels) kinds.Bool v (boolean x) is (exactly_good boolean SpellsBool x (bool_bytes x) (bool_exact.put x tt))
-  value_good Refer good (suc levels) kinds.Byte v (x, lt, is) = as_it_is (suc levels) kinds.Byte v (byte x) is (exactly_good byte SpellsByte x (x ∷ []) (lt, refl))
-  value_good Refer good (suc levels) kinds.Short v (x, fits, is) = as_it_is (suc levels) kinds.Short v (short x) is (exactly_good short (SpellsSigned w16) x (signed_bytes w16 x) (short_exact.put x fits))
-  value_good Refer good (suc levels) kinds.Int v (x, fits, is) = as_it_is (suc levels) kinds.Int v (int x) is (exactly_good int (SpellsSigned w32) x (signed_bytes w32 x) (int_exact.put x fits))
-  value_good Refer good (suc levels) kinds.Long v (x, fits, is) = as_it_is (suc levels) kinds.Long v (long x) is (exactly_good long (SpellsSigned w64) x (signed_bytes w64 x) (long_exact.put x fits))
-  value_good Refer good (suc levels) kinds.Text v (x, utf8, lt, is) = as_it_is (suc levels) kinds.Text v (text x) is (exactly_good text SpellsText x (text_bytes x) (text_exact.put x (utf8, lt)))
+  value_good Refer good (suc levels) kinds.Bool v (x, is) = as_it_is (suc levels) kinds.Bool v (boolean x) is (exactly_good boolean SpellsBool x (bool_bytes x) (bool_put x) (bool_exact.put x tt))
+  value_good Refer good (suc levels) kinds.Byte v (x, lt, is) = as_it_is (suc levels) kinds.Byte v (byte x) is (exactly_good byte SpellsByte x (x ∷ []) (more_bytes x [] lt none_bytes) (lt, refl))
+  value_good Refer good (suc levels) kinds.Short v (x, fits, is) = as_it_is (suc levels) kinds.Short v (short x) is (exactly_good short (SpellsSigned w16) x (signed_bytes w16 x) (signed_put w16 x) (short_exact.put x fits))
+  value_good Refer good (suc levels) kinds.Int v (x, fits, is) = as_it_is (suc levels) kinds.Int v (int x) is (exactly_good int (SpellsSigned w32) x (signed_bytes w32 x) (signed_put w32 x) (int_exact.put x fits))
+  value_good Refer good (suc levels) kinds.Long v (x, fits, is) = as_it_is (suc levels) kinds.Long v (long x) is (exactly_good long (SpellsSigned w64) x (signed_bytes w64 x) (signed_put w64 x) (long_exact.put x fits))
+  value_good Refer good (suc levels) kinds.Text v (x, utf8, lt, is) = as_it_is (suc levels) kinds.Text v (text x) is (exactly_good text SpellsText x (text_bytes x) (text_put x utf8) (text_exact.put x (utf8, lt)))
   value_good Refer good (suc levels) (kinds.Enum at) v (e, row, n, has, lt, is) =
       as_it_is (suc levels) (kinds.Enum at) v (enumerator n) is
       (rules.mapped (exactly (size_bytes n)) [] (λ b from to. Made enumerator (Plain (SpellsEnumerator e.entries)) b (enumerator n) from to) (Spelled (suc levels) (kinds.Enum at) (enumerator n)) (λ b from to z. (e, row, z))
-      (exactly_good enumerator (SpellsEnumerator e.entries) n (size_bytes n) (size_exact.put n lt, has)))
-  value_good Refer good (suc levels) (kinds.Proxy at) v (p, there, is) = as_it_is (suc levels) (kinds.Proxy at) v (proxy p) is (exactly_good proxy parts.proxy.Spells p (parts.proxy.put p) (proxy_lawful.put p there))
+      (exactly_good enumerator (SpellsEnumerator e.entries) n (size_bytes n) (size_put n) (size_exact.put n lt, has)))
+  value_good Refer good (suc levels) (kinds.Proxy at) v (p, there, is) = as_it_is (suc levels) (kinds.Proxy at) v (proxy p) is (exactly_good proxy parts.proxy.Spells p (parts.proxy.put p) (proxy_put p there) (proxy_lawful.put p there))
   value_good Refer good (suc levels) (kinds.Class declared) v (n, refers, is) =
       as_it_is (suc levels) (kinds.Class declared) v (reference n) is
       (rules.mapped (refer n) (listed_name n) (λ b from to. port.Spells declared b n from to) (Spelled (suc levels) (kinds.Class declared) (reference n)) (λ b from to z. (n, refl, z)) (good declared n refers))

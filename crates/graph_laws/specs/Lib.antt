@@ -3,3 +3,4 @@ pub mod Seeing
 pub mod Readable
 pub mod Relaying
 pub mod Sample
+pub mod FirstUse

@@ -6,13 +6,25 @@ ghost use Rattle.ice_types.specs.Tables.{Tables};
 ghost use Rattle.ice_types.specs.Rules.{IsSchema};
 ghost use Rattle.ice_prims.specs.Rest.{IsBytes};
 ghost use Rattle.ice_encoding.specs.declared.limits.TheConstants.{LARGEST};
-ghost use Rattle.ice_graphs.specs.Graph.{Graph};
+ghost use Rattle.ice_graphs.specs.OptionalMembers.{Members};
+ghost use Rattle.ice_graphs.specs.Graph.{Graph, known};
+ghost use Rattle.ice_graphs.specs.Names.{names_of};
 ghost use Rattle.ice_graphs.specs.Flags.{Reach, all_slices, known_classes};
 ghost use Rattle.ice_graphs.specs.Instances.{most_instances, SpellsNumbered};
 ghost use Rattle.ice_graphs.specs.Visiting.{most, order};
-ghost use Rattle.ice_graphs.specs.Same.{Same, Spells};
+ghost use Rattle.ice_graphs.specs.Same.{Same, Spells, form};
 ghost use Rattle.ice_graphs.specs.Typed.{OfType};
-ghost use Rattle.ice_graphs.specs.Canonical.{Format, compact, graph_bytes, IsWritable};
+ghost use Rattle.ice_graphs.specs.Canonical.{Format, compact, graph_bytes, table_of, IsWritable};
+ghost use Rattle.graph_laws.specs.FirstUse.{IsByFirstUse};
+
+/// To be the same but for the names of instances goes both ways, and on from graph to graph; and each graph of
+/// a type is so to itself.
+pub fn graphs_the_same()
+    ensures itself { (t : Tables) (shape : Shape) (g : Graph)
+        → OfType t shape g → length g.instances ≤ most → Same g g }
+    ensures back { (g h : Graph) → Same g h → Same h g }
+    ensures onward { (g h k : Graph) → Same g h → Same h k → Same g k }
+{}
 
 /// Two graphs that the same bytes spell are the same but for the names of their instances.
 pub fn spelled_same()
@@ -52,6 +64,29 @@ pub fn graphs_canonical()
     ensures only { (t : Tables) (reach : Reach) (shape : Shape) (format : Format) (g h : Graph)
         → IsSchema t → OfType t shape g → IsWritable format g → length (order g) ≤ most_instances
         → SpellsNumbered t reach shape (graph_bytes t shape format g) h → Same h g }
+{}
+
+/// Within the limits, the canonical encapsulation of a graph of a type is that of its form, the graph of the reached
+/// instances, each named by its first visit: it spells the form, name by name, and whoever reads it reads the form.
+pub fn forms_spelled()
+    ensures all { (t : Tables) (shape : Shape) (format : Format) (g : Graph)
+        → IsSchema t → OfType t shape g → IsWritable format g
+        → length (order g) ≤ most_instances → length (graph_bytes t shape format g) ≤ LARGEST
+        → SpellsNumbered t all_slices shape (graph_bytes t shape format g) (form g) }
+    ensures known { (t : Tables) (shape : Shape) (format : Format) (g : Graph)
+        → IsSchema t → OfType t shape g → IsWritable compact g
+        → length (order g) ≤ most_instances → length (graph_bytes t shape format g) ≤ LARGEST
+        → SpellsNumbered t known_classes shape (graph_bytes t shape format g) (form g) }
+    ensures only { (t : Tables) (reach : Reach) (shape : Shape) (format : Format) (g h : Graph)
+        → IsSchema t → OfType t shape g → IsWritable format g → length (order g) ≤ most_instances
+        → SpellsNumbered t reach shape (graph_bytes t shape format g) h → h ≡ form g }
+{}
+
+/// The table that is written behind a slice has the names in its members by first use, and no other table has
+/// them so.
+pub fn tables_by_first_use()
+    ensures { (class : ℕ) (content : Members) (table : List ℕ)
+        → IsByFirstUse (names_of content) table ↔ (table ≡ table_of (known class content)) }
 {}
 
 /// What was read, and is written in a format in which it can be, is the same graph: the bytes spell it, and

@@ -28,7 +28,8 @@ mod relaying_laws;
 mod typing_laws;
 
 pub use canonicity_laws::{
-    equal_graphs, graphs_canonical, graphs_relayed, relaying_again, spelled_same,
+    equal_graphs, forms_spelled, graphs_canonical, graphs_relayed, graphs_the_same, relaying_again,
+    spelled_same, tables_by_first_use,
 };
 pub use exception_laws::{exceptions_typed, exceptions_written, written_exceptions_apart};
 pub use relaying_laws::{

@@ -4,6 +4,7 @@ pub mod Sizes
 pub mod References
 pub mod Slices
 pub mod Graphs
+pub mod Ports
 pub mod Exceptions
 pub mod Reopening
 pub mod Agreeing

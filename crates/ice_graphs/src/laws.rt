@@ -3,19 +3,42 @@
 ghost use Rattle.std.specs.Prelude.{◌≡◌, ℕ, Bool, List, Ok};
 ghost use Rattle.ice_types.specs.Tables.{Tables};
 ghost use Rattle.ice_types.specs.declared.declarations.Shape.{Shape};
+ghost use Rattle.ice_types.specs.declared.kind.TypeRef.{TypeRef};
 ghost use Rattle.ice_prims.specs.Rest.{IsBytes, whole};
-ghost use Rattle.ice_encoding.specs.Port.{IsLawful};
+ghost use Rattle.ice_encoding.specs.Port.{IsLawful, by_number};
 ghost use Rattle.ice_graphs.specs.Graph.{Slice, Graph};
 ghost use Rattle.ice_graphs.specs.Flags.{Reach};
 ghost use Rattle.ice_graphs.specs.Slices.{unknown_bytes};
 ghost use Rattle.ice_graphs.specs.Instances.{references, SpellsNumbered, numbered_at};
 ghost use Rattle.ice_graphs.specs.Exceptions.{UserException, SpellsException, exception_at};
+ghost use Rattle.ice_graphs.specs.Ports.{AreApart, AreRead};
+ghost use Rattle.ice_graphs.specs.References.{in_table};
 ghost use Rattle.ice_graphs.specs.Reopening.{Reopens, reopened};
 
 /// Where a reference stands, what is read is spelled by the bytes that were taken, and what is spelled
 /// is read: with all instances that begin in it.
 pub fn references_lawful()
     ensures { (t : Tables) (reach : Reach) → IsLawful (references t reach) }
+{}
+
+/// In the members of a slice with a size, whether it has a table or not, the same of places in the table.
+pub fn places_lawful()
+    ensures { (tabled : Bool) → IsLawful (in_table tabled) }
+{}
+
+/// No spelling of a reference begins another, however references stand: as numbers, as places in a table, or with the
+/// instances that begin in them.
+pub fn references_apart()
+    ensures numbers { AreApart by_number }
+    ensures places { (tabled : Bool) → AreApart (in_table tabled) }
+    ensures inline { (t : Tables) (reach : Reach) → AreApart (references t reach) }
+{}
+
+/// However references stand in it, a value is read exactly where it is spelled, whatever follows it.
+pub fn values_with_references()
+    ensures numbers { (t : Tables) (kind : TypeRef) → AreRead by_number t kind }
+    ensures places { (t : Tables) (tabled : Bool) (kind : TypeRef) → AreRead (in_table tabled) t kind }
+    ensures inline { (t : Tables) (reach : Reach) (kind : TypeRef) → AreRead (references t reach) t kind }
 {}
 
 /// A graph is read from an input exactly where the whole input is an encapsulation of it; so every

@@ -40,7 +40,7 @@ mod optional_laws;
 
 pub use laws::{
     exceptions_apart, exceptions_found, exceptions_only, graphs_apart, graphs_found, graphs_only,
-    references_lawful, slices_reopened,
+    places_lawful, references_apart, references_lawful, slices_reopened, values_with_references,
 };
 pub use optional_laws::{
     contents_apart, contents_found, contents_only, slices_apart, slices_found, slices_only,

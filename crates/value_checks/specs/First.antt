@@ -22,12 +22,12 @@ module _ (u : Tables) (Refer : Refers) where
   -- a slice of a class that the tables lack
   abbrev pub IsUnknownSlice : Slice → Type 0
   IsUnknownSlice (known class content) = ⊥
-  IsUnknownSlice (unknown id bytes optionals table) = IsUnknown u Refer id table
+  IsUnknownSlice (unknown id bytes optionals table) = IsUnknown u Refer id bytes table
 
   -- unknown slices, and then a known class with all its bases, or none
   abbrev pub AreSlices : List Slice → Type 0
   AreSlices [] = Unit {0}
-  AreSlices (unknown id bytes optionals table ∷ ss) = IsUnknown u Refer id table × AreSlices ss
+  AreSlices (unknown id bytes optionals table ∷ ss) = IsUnknown u Refer id bytes table × AreSlices ss
   AreSlices (known class content ∷ ss) = IsKnown u Refer class content × AreBases u Refer (base_of u class) ss
 
 module _ (t : Tables) (g : Graph) where

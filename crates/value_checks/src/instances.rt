@@ -3,6 +3,7 @@
 
 ghost use Rattle.std.specs.Prelude.{◌≡◌, ◌<◌, ◌↔◌, IsTrue, IfSome, None, length, slice_get};
 ghost use Rattle.std.specs.Str.{IsUtf8};
+ghost use Rattle.ice_prims.specs.Rest.{IsBytes};
 ghost use Rattle.ice_graphs.specs.Classes as classes;
 ghost use Rattle.ice_graphs.specs.Exceptions.{of_exceptions};
 ghost use Rattle.ice_graphs.specs.Typed.{AreBases, AreReferred, IsInstance, IsKnown, RefersIn};
@@ -73,16 +74,23 @@ fn are_slices(schema: &Schema, rows: Rows, graph: &Graph, slices: &[Slice]) -> b
     true
 }
 
-/// Whether it is kept of a class that the schema lacks, with a table of names that may stand where any
-/// class may.
+/// Whether it is kept of a class that the schema lacks, as bytes, with a table of names that may stand where
+/// any class may.
 fn is_unknown(schema: &Schema, rows: Rows, graph: &Graph, slice: &Slice) -> bool
     ensures { IsTrue result ↔ IsUnknownSlice (rows_of rows schema.now) (RefersIn schema.now graph.now.instances)
         (view_slice slice.now) }
 {
     match slice {
         Slice::Known { .. } => false,
-        Slice::Unknown { id, table, .. } => {
-            is_unknown_id(schema, rows, id) && are_referred(schema, graph, table.as_slice())
+        Slice::Unknown {
+            id,
+            bytes,
+            table,
+            ..
+        } => {
+            is_unknown_id(schema, rows, id)
+                && are_referred(schema, graph, table.as_slice())
+                && are_bytes(bytes.as_slice())
         }
     }
 }
@@ -95,6 +103,14 @@ fn is_unknown_id(schema: &Schema, rows: Rows, id: &Name) -> bool
         Rows::Classes => schema.class(id.as_str()).is_none(),
         Rows::Exceptions => schema.exception(id.as_str()).is_none(),
     }
+}
+
+/// Each of them is one.
+fn are_bytes(bytes: &[u8]) -> bool
+    ensures { IsTrue result ↔ IsBytes bytes.now }
+{
+    let _ = bytes;
+    true
 }
 
 /// Whether each name may stand where any class may.
