@@ -1,13 +1,12 @@
-//! Encapsulations: what is left of one that is read, and the size of one that is written.
+//! Encapsulations: the bytes that are left of one that is read, and the size of one that is written.
 //! (Ice manual, "Basic Data Encoding", "Encapsulations".)
 
 ghost use Rattle.std.specs.Prelude.{◌≡◌, ◌++◌, ◌≤◌, [], drop, vec_len, IfOk};
 ghost use Rattle.std.specs.Int.{w32, to_le_bytes};
 ghost use Rattle.ice_prims.specs.Rest.{IsBytes};
-ghost use Rattle.instance_reading.specs.Slices.{EndsSlice};
 ghost use Rattle.class_slices.specs.Enclosing.{Closes, unsized};
 
-use ice_prims::{Cursor, Fault, Kind, put_byte, put_int};
+use ice_prims::{Cursor, put_byte, put_int};
 use std::alloc::{AllocError, Global};
 
 /// That each byte that is left is a number below 256. Nothing moves.
@@ -30,16 +29,6 @@ fn left_bytes<'a>(cursor: &Cursor<'a>) -> &'a [u8]
 {
     let mut ahead = cursor.fork();
     ahead.take_bytes(ahead.left()).unwrap_or(&[])
-}
-
-/// The end of a bound: the fault is at the first byte that is left.
-pub fn end(cursor: &Cursor<'_>) -> Result<(), Fault>
-    ensures { EndsSlice result cursor.now }
-{
-    if cursor.left() > 0 {
-        return Err(cursor.fault(Kind::LeftOver));
-    }
-    Ok(())
 }
 
 /// Begins an encapsulation: the place of its size, and the version 1.1.

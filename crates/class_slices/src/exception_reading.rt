@@ -11,9 +11,9 @@ ghost use Rattle.graph_arena.specs.Seen.{view_content};
 ghost use Rattle.class_slices.specs.Seen.{no_members, view_user_exception};
 ghost use Rattle.instance_reading.specs.Stacked.{view_user_exception as view_read};
 
-use crate::enclosing::{end, left_are_bytes};
+use crate::enclosing::left_are_bytes;
 use crate::user_exception::UserException;
-use encaps_optionals::open_encaps;
+use encaps_optionals::{end, open_encaps};
 use graph_arena::{Graph, Members};
 use ice_prims::{Cursor, ReadFault};
 use ice_types::{List, Schema};

@@ -26,7 +26,7 @@ mod user_exception_fault;
 mod write_fault;
 mod writing;
 
-pub use enclosing::{begin_encaps, end, end_encaps, left_are_bytes};
+pub use enclosing::{begin_encaps, end_encaps, left_are_bytes};
 pub use encode_fault::EncodeFault;
 pub use encoding::encode;
 pub use exception_reading::read_exception;

@@ -9,8 +9,8 @@ ghost use Rattle.ice_graphs.specs.Instances.{graph_at, numbered_at};
 ghost use Rattle.ice_graphs.specs.Typed.{OfType};
 ghost use Rattle.ice_values.specs.Shapes.{shape_seen};
 
-use crate::enclosing::{end, left_are_bytes};
-use encaps_optionals::open_encaps;
+use crate::enclosing::left_are_bytes;
+use encaps_optionals::{end, open_encaps};
 use graph_arena::Graph;
 use ice_prims::{Cursor, ReadFault};
 use ice_types::Schema;

@@ -1,7 +1,8 @@
 -- What the calls answer.
-use Rattle.std.specs.Prelude.{ℕ, ◌≡◌, ◌==◌, Bool, true, false, Option, None, Result, Ok, Err, if◌then◌else◌}
+use Rattle.std.specs.Prelude.{ℕ, ◌≡◌, ◌==◌, Bool, true, false, List, [], ◌∷◌, Option, None, Result, Ok, Err, if◌then◌else◌}
 use Rattle.ice_types.specs.declared.optional_format.TheConstants.{FORMAT_CLASS}
 use Rattle.ice_prims.specs.declared.fault.Fault.{Fault}
+use Rattle.ice_prims.specs.declared.fault.Kind.TheVariants.{LeftOver}
 use Rattle.ice_prims.specs.Rest.{Rest, ◌>>=◌}
 use Rattle.ice_encoding.specs.Tags.{next_tag_at, rising_at}
 use Rattle.ice_encoding.specs.Skipping.{passed_at}
@@ -26,3 +27,8 @@ EndsTags false marked old new = ((last : Option ℕ) → next_tag_at last marked
 -- a value of this format is passed over, a reference is not
 abbrev pub skipped_at : ℕ → Rest → Result (Skipped × Rest) Fault
 skipped_at format r = if format == FORMAT_CLASS then Ok (Reference, r) else passed_at format r >>= λ s. Ok (Passed, s)
+
+-- nothing is left, or the first byte that is left is one too many
+abbrev pub Fills : {X : Type 0} → Result X Fault → Rest → Type 0
+Fills (Ok x) r = r.bytes ≡ []
+Fills (Err e) r = (byte : ℕ) × (bytes : List ℕ) × (r.bytes ≡ byte ∷ bytes) × (e ≡ record { place = r.place; kind = LeftOver })

@@ -1,6 +1,7 @@
-//! Sizes that count what they stand in.
+//! Sizes that count what they stand in, and the bytes that a size has itself.
 
-ghost use Rattle.std.specs.Prelude.{◌≡◌};
+ghost use Rattle.std.specs.Prelude.{◌≡◌, ◌≤◌, length};
+ghost use Rattle.ice_prims.specs.Bytes.{size_bytes};
 ghost use Rattle.ice_encoding.specs.Bounds.{claimed};
 
 use ice_encoding::LARGEST;
@@ -25,4 +26,12 @@ pub fn claimed_size(place: u64, left: usize, smallest: usize, claim: i32) -> Res
     } else {
         Ok(size)
     }
+}
+
+/// How many bytes a size has: one below 255, else five. (Ice manual, "Basic Data Encoding", "Sizes".)
+pub fn size_length(size: usize) -> usize
+    ensures exact { result ≡ length (size_bytes size) }
+    ensures few { result ≤ 5 }
+{
+    if size < 255 { 1 } else { 5 }
 }

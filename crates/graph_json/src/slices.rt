@@ -1,10 +1,9 @@
 //! The slices of an instance from JSON.
 
-ghost use Rattle.std.specs.Prelude.{◌≡◌, IfOk, codes, option_map, slice_get};
+ghost use Rattle.std.specs.Prelude.{◌≡◌, IfOk, codes, option_map};
 ghost use Rattle.hex.specs.Hex.{decode_of};
 ghost use Rattle.serde_json.specs.Find.{as_bool, as_str, get_member};
 ghost use Rattle.serde_json.specs.View.{view as json_view, items_view, members_view};
-ghost use Rattle.ice_graphs.specs.Classes.{class_named, members_in};
 ghost use Rattle.graph_arena.specs.Seen.{view_slice, view_slices};
 ghost use Rattle.graph_json.specs.ReadingValues as values;
 ghost use Rattle.graph_json.specs.Reading as spec;
@@ -14,8 +13,8 @@ use crate::content_read::content_of;
 use crate::leaves::name_of;
 use graph_arena::Slice;
 use hex::FromHexError;
-use ice_types::{Bytes, List, Member, Name, Schema};
-use ice_values::DeclaredMembers;
+use ice_types::{Bytes, List, Name, Schema};
+use ice_values::{DeclaredMembers, SlicedType};
 use serde_json::{Map, Value as Json};
 use std::alloc::{AllocError, Global};
 
@@ -81,7 +80,7 @@ fn known_in(
     let Some(inside) = named(found, "members") else {
         return Ok(None);
     };
-    let own = own_members(schema, class);
+    let own = SlicedType::Class.own_members(schema, class);
     let fields = DeclaredMembers {
         required: own,
         optional: own,
@@ -97,26 +96,7 @@ fn class_in(schema: &Schema, found: &Map<String, Json>) -> Option<u32>
     ensures { result ≡ at_name (codes "class") (spec.class_of schema.now) (members_view found.now.entries) }
 {
     let id = named(found, "class")?.as_str()?;
-    class_named(schema, id)
-}
-
-/// The class of this type id.
-fn class_named(schema: &Schema, id: &str) -> Option<u32>
-    ensures { result ≡ class_named schema.now id.now }
-{
-    // No two classes have one id.
-    schema.rules();
-    schema.class(id)
-}
-
-/// The members of a class itself, without those of its bases; none where there is no such class.
-pub(crate) fn own_members(schema: &Schema, class: u32) -> &[Member]
-    ensures { result.now ≡ members_in (slice_get schema.now.classes class) }
-{
-    match schema.classes().get(class as usize) {
-        Some(decl) => decl.members.as_slice(),
-        None => &[],
-    }
+    SlicedType::Class.row_named(schema, id)
 }
 
 /// An unknown slice, from its bytes, its type id, whether optional members stand in the bytes, and its table.

@@ -12,11 +12,10 @@ ghost use Rattle.graph_json.specs.ValueNotation.{name_noted};
 ghost use Rattle.graph_json.specs.Canonical.{graph_noted, instance_noted, items_noted, slice_noted};
 
 use crate::content_write::content_json;
-use crate::slices::own_members;
 use crate::write::name_json;
 use graph_arena::{Graph, Members, Slice};
 use ice_types::{Bytes, Name, Schema};
-use ice_values::DeclaredMembers;
+use ice_values::{DeclaredMembers, SlicedType};
 use serde_json::{Map, Value as Json, put};
 use std::alloc::{AllocError, Global};
 
@@ -84,7 +83,7 @@ fn known_json(
 ) -> Result<Json, AllocError>
     ensures { IfOk result (λ j. json_view j ≡ slice_noted schema.now (known class (view_content members.now))) }
 {
-    let own = own_members(schema, class);
+    let own = SlicedType::Class.own_members(schema, class);
     let fields = DeclaredMembers {
         required: own,
         optional: own,
@@ -100,10 +99,7 @@ fn known_json(
 fn id_json(alloc: Global, schema: &Schema, class: u32) -> Result<Json, AllocError>
     ensures { IfOk result (λ j. json_view j ≡ string (id_in (slice_get schema.now.classes class))) }
 {
-    match schema.classes().get(class as usize) {
-        Some(decl) => Json::try_from_str(alloc, decl.id.as_str()),
-        None => Json::try_from_str(alloc, ""),
-    }
+    Json::try_from_str(alloc, SlicedType::Class.id_of(schema, class))
 }
 
 /// An unknown slice: its bytes in hexadecimal digits, its type id, and its table.

@@ -2,7 +2,7 @@
 
 ghost use Rattle.std.specs.Prelude.{◌≡◌, ◌+◌, ◌-◌, ◌^◌, ◌≤◌, ◌<◌, ℕ, ℤ, List, length, min, drop};
 ghost use Rattle.std.specs.List.{flat_map};
-ghost use Rattle.ice_prims.specs.Bytes.{size_bytes, text_bytes};
+ghost use Rattle.ice_prims.specs.Bytes.{text_bytes};
 ghost use Rattle.ice_encoding.specs.Parts.{both, text};
 ghost use Rattle.ice_encoding.specs.Identity as names;
 ghost use Rattle.ice_messages.specs.Calls as form;
@@ -11,6 +11,7 @@ ghost use Rattle.ice_messages.specs.declared.message.Message.TheVariants.{Reques
 ghost use Rattle.ice_messages.specs.Written.{told, IsWritableAnswer, IsWritable};
 
 use crate::message::{Answer, Call, HEADER_BYTES, Message};
+use encaps_optionals::size_length;
 use ice_types::{Identity, Name};
 
 /// How many bytes an id or a count has.
@@ -68,7 +69,7 @@ fn call_length(call: &Call) -> u64
         .saturating_add(facet_length(&call.facet))
         .saturating_add(text_length(&call.operation))
         .saturating_add(1)
-        .saturating_add(size_length(call.context.len()))
+        .saturating_add(size_length(call.context.len()) as u64)
         .saturating_add(entries_length(call.context.as_slice()))
         .saturating_add(call.body.len() as u64)
 }
@@ -132,12 +133,5 @@ fn text_length(text: &Name) -> u64
     ensures fits { result < 2 ^ 63 + 6 }
 {
     let length = text.as_str().len();
-    size_length(length) + length as u64
-}
-
-/// How many bytes a size has.
-fn size_length(size: usize) -> u64
-    ensures { (result ≡ length (size_bytes size)) × (result ≤ 5) }
-{
-    if size < 255 { 1 } else { 5 }
+    size_length(length) as u64 + length as u64
 }

@@ -2,7 +2,7 @@
 
 ghost use Rattle.std.specs.Prelude.{◌≡◌, ◌<◌, ℕ, List};
 ghost use Rattle.ice_prims.specs.Number.{text_at};
-ghost use Rattle.ice_encoding.specs.Identity.{identity, facet};
+ghost use Rattle.ice_encoding.specs.Identity.{identity};
 ghost use Rattle.ice_encoding.specs.Bounds.{claimed};
 ghost use Rattle.ice_messages.specs.Calls.{mode, encapsulation, call, answer, answer_by, missing};
 ghost use Rattle.ice_messages.specs.Answers.{ReadsPart};
@@ -10,7 +10,7 @@ ghost use Rattle.ice_prims.specs.Taking.{Takes};
 
 use crate::message::{Answer, Call};
 use crate::read_context::take_context;
-use encaps_optionals::claimed_size;
+use encaps_optionals::{claimed_size, take_facet};
 use ice_encoding::SMALLEST;
 use ice_prims::{Cursor, Fault, Kind, ReadFault};
 use ice_types::{Bytes, Identity, List, Name};
@@ -49,18 +49,6 @@ fn take_identity(alloc: Global, cursor: &mut Cursor<'_>) -> Result<Identity, Rea
     let name = take_text(alloc, cursor)?;
     let category = take_text(alloc, cursor)?;
     Ok(Identity { name, category })
-}
-
-/// A sequence of at most one text. None is the default facet.
-fn take_facet(alloc: Global, cursor: &mut Cursor<'_>) -> Result<Name, ReadFault>
-    ensures { ReadsPart result cursor.new (facet.read cursor.old) }
-{
-    let wrong = cursor.fault(Kind::BadFacet);
-    match cursor.take_size()? {
-        0 => Ok(Name::of(alloc, "")?),
-        1 => take_text(alloc, cursor),
-        _ => Err(ReadFault::Broken(wrong)),
-    }
 }
 
 /// 0 normal, 1 nonmutating, 2 idempotent.

@@ -8,13 +8,13 @@ ghost use Rattle.ice_encoding.specs.Bounds.{filled};
 ghost use Rattle.ice_messages.specs.Calls.{call};
 ghost use Rattle.ice_messages.specs.Messages.{header, magic, versions, message_type, compression, body_by, calls};
 ghost use Rattle.ice_messages.specs.Messages.{message_at, whole_message_at};
-ghost use Rattle.ice_messages.specs.Answers.{ReadsPart, Sees, Fills};
+ghost use Rattle.ice_messages.specs.Answers.{ReadsPart, Sees};
 ghost use Rattle.ice_messages.specs.Next.{IsCountedForMemory, IsWholeForMemory};
 ghost use Rattle.ice_messages.specs.Written.{IsOrderly, IsWritable};
 
 use crate::message::{Call, HEADER_BYTES, Message};
 use crate::read_call::{take_answer, take_call};
-use encaps_optionals::claimed_size;
+use encaps_optionals::{claimed_size, end};
 use ice_prims::{Cursor, Fault, Kind, ReadFault};
 use ice_types::List;
 use std::alloc::Global;
@@ -55,17 +55,6 @@ pub fn take_message(alloc: Global, cursor: &mut Cursor<'_>) -> Result<Message, R
     let message = take_body(alloc, kind, &mut bound)?;
     end(&bound)?;
     Ok(message)
-}
-
-/// The end of a bound.
-fn end(cursor: &Cursor<'_>) -> Result<(), Fault>
-    ensures { Fills result cursor.now }
-{
-    if cursor.left() == 0 {
-        Ok(())
-    } else {
-        Err(cursor.fault(Kind::LeftOver))
-    }
 }
 
 /// What follows a header, by the message's type.

@@ -1,5 +1,5 @@
--- Reading endpoints one after the other, as a loop does, and the end of a bound.
-use Rattle.std.proofs.Common.{◌≡◌, ℕ, suc, ◌-◌, ◌+◌, ◌<◌, List, [], ◌∷◌, ◌++◌, length, Result, Ok, Err, refl, sym, ap, ◌∙◌, append_assoc, arith}
+-- Reading endpoints one after the other, as a loop does.
+use Rattle.std.proofs.Common.{◌≡◌, ℕ, suc, ◌-◌, ◌+◌, ◌<◌, List, [], ◌∷◌, ◌++◌, Result, Ok, Err, refl, sym, ap, ◌∙◌, append_assoc, arith}
 use Rattle.ice_prims.specs.declared.fault.Fault.{Fault}
 use Rattle.ice_prims.specs.declared.fault.ReadFault.{ReadFault}
 use Rattle.ice_prims.specs.declared.fault.ReadFault.TheVariants as faults
@@ -33,9 +33,3 @@ module _ {A : Type 0} (one : Rest → Result (A × Rest) Fault) (front : List A)
       let n : count - i ≡ suc (count - (i + 1)) = omega arith in
       let first : with_front front (read_times one (count - i) r) ≡ Err f = rw (n, h) refl in
       sym so_far ∙ first
-
--- ---- the end of a bound
-
-pub some_left : (bytes : List ℕ) → (length bytes ≡ 0 → ⊥) → (byte : ℕ) × (others : List ℕ) × (bytes ≡ byte ∷ others)
-some_left [] h = absurd (h refl)
-some_left (b ∷ bs) h = (b, bs, refl)

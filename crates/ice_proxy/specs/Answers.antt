@@ -1,8 +1,7 @@
 -- What the calls answer.
-use Rattle.std.specs.Prelude.{ℕ, ◌≡◌, List, [], ◌∷◌, Result, Ok, Err}
+use Rattle.std.specs.Prelude.{◌≡◌, Result, Ok, Err}
 use Rattle.ice_prims.specs.declared.fault.Fault.{Fault}
 use Rattle.ice_prims.specs.declared.fault.ReadFault.{ReadFault}
-use Rattle.ice_prims.specs.declared.fault.Kind.TheVariants.{LeftOver}
 use Rattle.ice_prims.specs.Rest.{Rest}
 use Rattle.ice_prims.specs.Taking.{Fails}
 
@@ -19,8 +18,3 @@ Sees (Err e) new read = read ≡ Err e
 -- the part can be read
 abbrev pub IsThere : {A : Type 0} → Result (A × Rest) Fault → Type 0
 IsThere {A} read = (x : A × Rest) × (read ≡ Ok x)
-
--- nothing is left, or the first byte that is left is one too many
-abbrev pub Fills : {X : Type 0} → Result X Fault → Rest → Type 0
-Fills (Ok x) r = r.bytes ≡ []
-Fills (Err e) r = (byte : ℕ) × (bytes : List ℕ) × (r.bytes ≡ byte ∷ bytes) × (e ≡ record { place = r.place; kind = LeftOver })

@@ -4,13 +4,13 @@ ghost use Rattle.std.specs.Prelude.{◌≡◌, Err};
 ghost use Rattle.ice_prims.specs.Number.{text_at};
 ghost use Rattle.ice_prims.specs.Taking.{TakesUnlessMemory};
 ghost use Rattle.ice_encoding.specs.Parts.{made, read_times};
-ghost use Rattle.ice_encoding.specs.Identity.{facet};
 ghost use Rattle.ice_encoding.specs.Endpoint.{endpoint};
 ghost use Rattle.ice_encoding.specs.Proxy as form;
 ghost use Rattle.ice_proxy.specs.Answers.{ReadsPart, Sees, IsThere};
 
 use crate::read_endpoint::take_endpoint;
 use crate::take::{take_text, take_version};
+use encaps_optionals::take_facet;
 use ice_prims::{Cursor, Fault, Kind, ReadFault};
 use ice_types::{Endpoint, Identity, List, Name, Proxy};
 use std::alloc::Global;
@@ -80,18 +80,6 @@ fn take_details(
         endpoints,
         adapter,
     }))
-}
-
-/// A sequence of at most one text. None is the facet of no name.
-fn take_facet(alloc: Global, cursor: &mut Cursor<'_>) -> Result<Name, ReadFault>
-    ensures { ReadsPart result cursor.new (facet.read cursor.old) }
-{
-    let wrong = cursor.fault(Kind::BadFacet);
-    match cursor.take_size()? {
-        0 => Ok(Name::of(alloc, "")?),
-        1 => take_text(alloc, cursor),
-        _ => Err(ReadFault::Broken(wrong)),
-    }
 }
 
 /// 0 twoway, 1 oneway, 2 batch oneway, 3 datagram, 4 batch datagram.

@@ -1,11 +1,12 @@
 //! The bytes of an endpoint. (Ice manual, "Data Encoding for Proxies".)
 
-ghost use Rattle.std.specs.Prelude.{◌≡◌, ◌++◌, ◌<◌, ◌≤◌, ◌^◌, OnOk, OnErr, length};
+ghost use Rattle.std.specs.Prelude.{◌≡◌, ◌++◌, ◌<◌, ◌^◌, OnOk, OnErr, length};
 ghost use Rattle.ice_types.specs.declared.proxy.Endpoint.TheVariants.{Tcp};
-ghost use Rattle.ice_prims.specs.Bytes.{Grows, size_bytes};
+ghost use Rattle.ice_prims.specs.Bytes.{Grows};
 ghost use Rattle.ice_encoding.specs.Bounds.{size_with};
 ghost use Rattle.ice_encoding.specs.Endpoint as form;
 
+use encaps_optionals::size_length;
 use ice_encoding::SIZE_BYTES;
 use ice_prims::{put_bool, put_byte, put_int, put_short, put_str};
 use ice_types::{Endpoint, Name};
@@ -44,14 +45,6 @@ fn size_of(endpoint: &Endpoint) -> usize
         }
         Endpoint::Opaque { bytes, .. } => SIZE_BYTES + 2 + bytes.len(),
     }
-}
-
-/// How many bytes a size has.
-fn size_length(size: usize) -> usize
-    ensures exact { result ≡ length (size_bytes size) }
-    ensures few { result ≤ 5 }
-{
-    if size < 255 { 1 } else { 5 }
 }
 
 /// A version, and what goes by it.

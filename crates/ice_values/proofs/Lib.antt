@@ -1,6 +1,7 @@
 pub mod Frames
 pub mod Costs
 pub mod Keys
+pub mod RowsNamed
 pub mod Levels
 pub mod Plain
 pub mod ByteSequences

@@ -10,6 +10,7 @@ pub mod Numbering
 pub mod Putting
 pub mod Cost
 pub mod Shapes
+pub mod SlicedType
 pub mod Entering
 pub mod Unread
 pub mod Advancing

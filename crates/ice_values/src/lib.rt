@@ -36,6 +36,8 @@
 //!   (`rotate_right`). The values behind a size hold no references, so no instance is written while one waits.
 //! - A value behind a length of more than 2,147,483,647 bytes is answered as out of memory: no length can tell
 //!   it, and no encapsulation has room for it. A fault of its own would be one that no input can bring about.
+//! - Slices of instances are of classes, and those of exceptions of exceptions: what a schema declares of either is
+//!   found by one type (`SlicedType`), so that what reads, writes and checks slices is told of it and does not ask.
 //! - A class hands over its members as both lists (`DeclaredMembers`): required ones are those without a tag,
 //!   optional ones those with one. So nothing is sorted or copied for each slice.
 //! - A tag that no member has writes nothing. So the call asks for no more than sizes and tags, and need not be
@@ -60,6 +62,7 @@ mod prefix;
 mod put_port;
 mod reader;
 mod required;
+mod sliced_type;
 mod sorted;
 mod tagged;
 mod value;
@@ -74,6 +77,7 @@ pub use numbers::Numbers;
 pub use port::{Met, RefPort};
 pub use put_port::PutPort;
 pub use reader::{Paused, ValueReader};
+pub use sliced_type::SlicedType;
 pub use tagged::kind_tagged;
 pub use value::{read_plain_value, read_value, write_plain_value, write_value};
 pub use writer::{ValueWriter, WritePaused};

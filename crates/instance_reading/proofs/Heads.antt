@@ -27,11 +27,12 @@ use Rattle.ice_values.specs.Advancing.{fresh_members}
 use Rattle.ice_values.specs.Shapes.{told_apart}
 use Rattle.ice_values.specs.Unread.{left_of_members}
 use Rattle.ice_values.proofs.Stages.{left-slice, left-bare}
-use Rattle.instance_reading.specs.Seen.{by_flag, own_fields, view_next}
+use Rattle.ice_values.specs.SlicedType.{own_fields, rows_of}
+use Rattle.ice_values.specs.declared.sliced_type.SlicedType.{SlicedType}
+use Rattle.ice_values.specs.declared.sliced_type.SlicedType.TheVariants as sorts
+use Rattle.instance_reading.specs.Seen.{by_flag, view_next}
 use Rattle.instance_reading.specs.Slices.{Front, members_of, bytes_of, slice_with, uses_of, Open, refer_by, left_table, left_next, left_open, left_members, left_compact, behind_tests, OpensKnown, OpensSlice, BeginsSlice}
-use Rattle.instance_reading.specs.Sorts.{rows_of, may_begin, id_by, class_by, ends_by, is_over, behind_base, behind_unknown, behind_slice, port_by, unless_over, slices_by}
-use Rattle.instance_reading.specs.declared.sort.Sort.{Sort}
-use Rattle.instance_reading.specs.declared.sort.Sort.TheVariants as sorts
+use Rattle.instance_reading.specs.Sorts.{may_begin, id_by, class_by, ends_by, is_over, behind_base, behind_unknown, behind_slice, port_by, unless_over, slices_by}
 use Rattle.instance_reading.specs.declared.slice.Before as code
 use Rattle.instance_reading.specs.declared.slice.CompactSlice.{CompactSlice}
 use Rattle.instance_reading.specs.declared.slice.Stage.{Stage}
@@ -48,7 +49,7 @@ module _ (refer : Option ℕ → Reader (State ℕ) (Option ℕ)) (t : Tables) (
   abbrev user_exception_from : Before → Reader (State ℕ) (List Slice)
   user_exception_from = user_exception_slices (port_by refer) (of_exceptions t) all_slices steps
 
-  abbrev others : Sort → Flags → Option ℕ → Reader (State ℕ) (List Slice)
+  abbrev others : SlicedType → Flags → Option ℕ → Reader (State ℕ) (List Slice)
   others sorts.Class f class = next_slices refer t (slices_at refer t all_slices steps) f.is_last (before_next t class f)
   others sorts.Exception f class = behind_user_exception (user_exception_from (before_next (of_exceptions t) class f)) (is_known_last (of_exceptions t) class f) class
 
@@ -74,7 +75,7 @@ module _ (refer : Option ℕ → Reader (State ℕ) (Option ℕ)) (t : Tables) (
   known_exception sized class None = refl
   known_exception sized class (Some base) = refl
 
-  same_others : (sort : Sort) (f : Flags) (class : Option ℕ) → ends_by sort (rows_of sort t) class f ≡ true → others sort f class ≡ left_next refer sort t steps (behind_slice (rows_of sort t) class f)
+  same_others : (sort : SlicedType) (f : Flags) (class : Option ℕ) → ends_by sort (rows_of sort t) class f ≡ true → others sort f class ≡ left_next refer sort t steps (behind_slice (rows_of sort t) class f)
   same_others sorts.Class f None ends = unknown_class f.is_last
   same_others sorts.Class f (Some class) ends = known_class f.has_size f.is_last (base_of t class) ends
   same_others sorts.Exception f None ends = unknown_exception f.is_last
@@ -82,30 +83,30 @@ module _ (refer : Option ℕ → Reader (State ℕ) (Option ℕ)) (t : Tables) (
 
   -- ---- from the tests on
 
-  abbrev pub from_class : Sort → Before → Flags → ℕ → ℕ → List ℕ → Option ℕ → Reader (State ℕ) (List Slice)
+  abbrev pub from_class : SlicedType → Before → Flags → ℕ → ℕ → List ℕ → Option ℕ → Reader (State ℕ) (List Slice)
   from_class sort before f flags_place id_place id class = from_id refer (rows_of sort t) all_slices (others sort f class) (ends_by sort (rows_of sort t) class f) before f flags_place id_place id class
 
-  abbrev pub behind_id : Sort → Before → Flags → ℕ → ℕ → List ℕ × State ℕ × Rest → Result (List Slice × State ℕ × Rest) Fault
+  abbrev pub behind_id : SlicedType → Before → Flags → ℕ → ℕ → List ℕ × State ℕ × Rest → Result (List Slice × State ℕ × Rest) Fault
   behind_id sort before f flags_place id_place x = from_class sort before f flags_place id_place x.0 (class_by sort (rows_of sort t) before x.0) x.1 x.2
 
   -- the flags are read
-  pub flags_read : (sort : Sort) (before : Before) (f : Flags) (s : State ℕ) (r after : Rest) → flags_at (may_begin sort before) r ≡ Ok (f, after)
+  pub flags_read : (sort : SlicedType) (before : Before) (f : Flags) (s : State ℕ) (r after : Rest) → flags_at (may_begin sort before) r ≡ Ok (f, after)
       → slices_by refer sort t (suc steps) before s r ≡ (id_by sort r.place f.id s after >>= behind_id sort before f r.place after.place)
   flags_read sorts.Class before f s r after is = rw is refl
   flags_read sorts.Exception before f s r after is = rw is refl
 
-  pub flags_refused : (sort : Sort) (before : Before) (s : State ℕ) (r : Rest) (e : Fault) → flags_at (may_begin sort before) r ≡ Err e → slices_by refer sort t (suc steps) before s r ≡ Err e
+  pub flags_refused : (sort : SlicedType) (before : Before) (s : State ℕ) (r : Rest) (e : Fault) → flags_at (may_begin sort before) r ≡ Err e → slices_by refer sort t (suc steps) before s r ≡ Err e
   flags_refused sorts.Class before s r e is = rw is refl
   flags_refused sorts.Exception before s r e is = rw is refl
 
   -- the type id is refused
-  pub id_refused : (sort : Sort) (before : Before) (f : Flags) (s : State ℕ) (r mid : Rest) (e : ReadFault) → flags_at (may_begin sort before) r ≡ Ok (f, mid) → Fails e (id_by sort r.place f.id s mid)
+  pub id_refused : (sort : SlicedType) (before : Before) (f : Flags) (s : State ℕ) (r mid : Rest) (e : ReadFault) → flags_at (may_begin sort before) r ≡ Ok (f, mid) → Fails e (id_by sort r.place f.id s mid)
       → Fails e (slices_by refer sort t (suc steps) before s r)
   id_refused sort before f s r mid e flags h =
       fault_along e _ _ (sym (flags_read sort before f s r mid flags)) (fails_then e (id_by sort r.place f.id s mid) (behind_id sort before f r.place mid.place) h)
 
   -- the type id is read
-  pub id_read : (sort : Sort) (before : Before) (f : Flags) (id : List ℕ) (class : Option ℕ) (s s' : State ℕ) (r mid behind : Rest) → flags_at (may_begin sort before) r ≡ Ok (f, mid)
+  pub id_read : (sort : SlicedType) (before : Before) (f : Flags) (id : List ℕ) (class : Option ℕ) (s s' : State ℕ) (r mid behind : Rest) → flags_at (may_begin sort before) r ≡ Ok (f, mid)
       → id_by sort r.place f.id s mid ≡ Ok (id, s', behind) → class_by sort (rows_of sort t) before id ≡ class
       → slices_by refer sort t (suc steps) before s r ≡ from_class sort before f r.place mid.place id class s' behind
   id_read sort before f id class s s' r mid behind flags is_id named =
@@ -113,14 +114,14 @@ module _ (refer : Option ℕ → Reader (State ℕ) (Option ℕ)) (t : Tables) (
       ∙ ap (λ (x : Result (List ℕ × State ℕ × Rest) Fault). x >>= behind_id sort before f r.place mid.place) is_id
       ∙ ap (λ (c : Option ℕ). from_class sort before f r.place mid.place id c s' behind) named
 
-  pub class_refused : (sort : Sort) (before : Before) (f : Flags) (id : List ℕ) (class : Option ℕ) (s s' : State ℕ) (r mid behind : Rest) (e : Fault) → flags_at (may_begin sort before) r ≡ Ok (f, mid)
+  pub class_refused : (sort : SlicedType) (before : Before) (f : Flags) (id : List ℕ) (class : Option ℕ) (s s' : State ℕ) (r mid behind : Rest) (e : Fault) → flags_at (may_begin sort before) r ≡ Ok (f, mid)
       → id_by sort r.place f.id s mid ≡ Ok (id, s', behind) → class_by sort (rows_of sort t) before id ≡ class
       → ((read : Reader (State ℕ) (List Slice)) (now : State ℕ) (left : Rest) → tested (is_base before class) mid.place WrongBase (tested (can_be_read all_slices class f) mid.place UnknownClass
       (tested (ends_by sort (rows_of sort t) class f) r.place BadLast read)) now left ≡ Err e)
       → slices_by refer sort t (suc steps) before s r ≡ Err e
   class_refused sort before f id class s s' r mid behind e flags is_id named fails = id_read sort before f id class s s' r mid behind flags is_id named ∙ fails _ s' behind
 
-  pub tests_passed : (sort : Sort) (before : Before) (f : Flags) (flags_place id_place : ℕ) (id : List ℕ) (class : Option ℕ) (s : State ℕ) (r : Rest) → is_base before class ≡ true → can_be_read all_slices class f ≡ true
+  pub tests_passed : (sort : SlicedType) (before : Before) (f : Flags) (flags_place id_place : ℕ) (id : List ℕ) (class : Option ℕ) (s : State ℕ) (r : Rest) → is_base before class ≡ true → can_be_read all_slices class f ≡ true
       → ends_by sort (rows_of sort t) class f ≡ true → from_class sort before f flags_place id_place id class s r ≡ behind_tests refer sort t steps f class id s r
   tests_passed sort before f flags_place id_place id class s r base readable ends =
       rw (base, readable, ends)
@@ -142,13 +143,13 @@ module _ (refer : Option ℕ → Reader (State ℕ) (Option ℕ)) (t : Tables) (
     entries_are (Ok x) = refl
     entries_are (Err e) = refl
 
-    slice_opened : (sort : Sort) (f : Flags) (class : Option ℕ) (id : List ℕ) (r : Rest) → next ≡ behind_slice (rows_of sort t) class f → body_at refer (rows_of sort t) f id f.has_size class s r ≡ by_entries entries
+    slice_opened : (sort : SlicedType) (f : Flags) (class : Option ℕ) (id : List ℕ) (r : Rest) → next ≡ behind_slice (rows_of sort t) class f → body_at refer (rows_of sort t) f id f.has_size class s r ≡ by_entries entries
         → behind_tests refer sort t steps f class id s r ≡ left_open refer sort t steps opening s after
     slice_opened sort f class id r follows body_is =
         ap (λ (read : Result (Slice × State ℕ × Rest) Fault). read >>= λ x. made (one_more x.0) (left_next refer sort t steps (behind_slice (rows_of sort t) class f)) x.1 x.2) (body_is ∙ entries_are (entries_at refer left s after))
         ∙ ap (λ (n : Option Before). left_table refer opening s after >>= λ x. made (one_more x.0) (left_next refer sort t steps n) x.1 x.2) (sym follows)
 
-  module _ (sort : Sort) (f : Flags) (sized : f.has_size ≡ true) (id : List ℕ) (next : Option Before) (left : ℕ) (s : State ℕ) (r mid after : Rest) where
+  module _ (sort : SlicedType) (f : Flags) (sized : f.has_size ≡ true) (id : List ℕ) (next : Option Before) (left : ℕ) (s : State ℕ) (r mid after : Rest) where
     -- members of a class
     pub members_opened : (class : ℕ) (content : Members) (uses : List (Reference ℕ)) → next ≡ behind_base true (base_of (rows_of sort t) class)
         → prefixed slice_size (slice_members_at (entry_at f.has_table) (rows_of sort t) f.has_optional (own_members (rows_of sort t) class)) [] r ≡ Ok (content, uses, mid)
@@ -169,7 +170,7 @@ module _ (refer : Option ℕ → Reader (State ℕ) (Option ℕ)) (t : Tables) (
 
 -- ---- a slice without a size begins with its members
 
-module _ (inside : Inside (State ℕ)) (sort : Sort) (t : Tables) where
+module _ (inside : Inside (State ℕ)) (sort : SlicedType) (t : Tables) where
   fresh_read : (flagged : Bool) (shape : Shape) (s : State ℕ) (r : Rest)
       → slice_members_at (refer_by inside) t flagged (told_apart shape) s r ≡ left_of_members (inline_at most_instances) t inside shape (fresh_members (by_flag flagged)) s r
   fresh_read true shape s r = left-slice (inline_at most_instances) t inside shape s r
@@ -204,7 +205,7 @@ module _ (inside : Inside (State ℕ)) (sort : Sort) (t : Tables) where
 
 -- ---- a slice from its flags on
 
-module _ (sort : Sort) (t : Tables) (before : Before) (f : Flags) (id : List ℕ) (class : Option ℕ) (s s' : State ℕ) (r mid behind after : Rest) (flags : flags_at (may_begin sort before) r ≡ Ok (f, mid))
+module _ (sort : SlicedType) (t : Tables) (before : Before) (f : Flags) (id : List ℕ) (class : Option ℕ) (s s' : State ℕ) (r mid behind after : Rest) (flags : flags_at (may_begin sort before) r ≡ Ok (f, mid))
     (is_id : id_by sort r.place f.id s mid ≡ Ok (id, s', behind)) (named : class_by sort (rows_of sort t) before id ≡ class) (base : is_base before class ≡ true) (readable : can_be_read all_slices class f ≡ true)
     (ends : ends_by sort (rows_of sort t) class f ≡ true) where
   begun : (refer : Option ℕ → Reader (State ℕ) (Option ℕ)) (steps : ℕ) → slices_by refer sort t (suc steps) before s r ≡ behind_tests refer sort t steps f class id s' behind
@@ -217,7 +218,7 @@ module _ (sort : Sort) (t : Tables) (before : Before) (f : Flags) (id : List ℕ
   begins_from (Err e) h = λ inside steps. fault_along e _ _ (sym (begun (refer_by inside) steps)) (h inside steps s' readable)
 
 -- a known class, with a size or without
-pub opens_known : (sort : Sort) (t : Tables) (f : Flags) (class : ℕ) (id : List ℕ) (result : Result Stage ReadFault) (r after : Rest) → OpensKnown sort t f class result r after
+pub opens_known : (sort : SlicedType) (t : Tables) (f : Flags) (class : ℕ) (id : List ℕ) (result : Result Stage ReadFault) (r after : Rest) → OpensKnown sort t f class result r after
     → OpensSlice sort t f (Some class) id result r after
 opens_known sort t f class id (Ok stage) r after h = λ inside steps s readable. h inside steps id s
 opens_known sort t f class id (Err e) r after h = λ inside steps s readable. h inside steps id s

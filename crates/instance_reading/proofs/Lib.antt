@@ -1,5 +1,4 @@
 pub mod Arenas
-pub mod Naming
 pub mod Places
 pub mod Heads
 pub mod Reopened

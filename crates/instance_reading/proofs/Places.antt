@@ -1,5 +1,5 @@
 -- Members whose references are places in a table: no instance begins in them.
-use Rattle.std.proofs.Common.{ℕ, ◌≡◌, Bool, true, false, List, [], ◌∷◌, Option, Some, None, Result, Ok, Err, refl, sym, ap, subst, ◌∙◌, append-nil, ◌<◌, length, arith}
+use Rattle.std.proofs.Common.{ℕ, ◌≡◌, Bool, true, false, List, [], ◌∷◌, Option, Some, None, Result, Ok, Err, refl, sym, ap, subst, ◌∙◌, append-nil}
 use Rattle.std.specs.Prelude.{nat_lt, if◌then◌else◌}
 use Rattle.ice_types.specs.declared.declarations.Shape.{Shape}
 use Rattle.ice_types.specs.Tables.{Tables}
@@ -14,12 +14,12 @@ use Rattle.ice_encoding.specs.Pausing.{Inside, Met, met, in_place}
 use Rattle.ice_graphs.specs.OptionalMembers.{Members, slice_members_at}
 use Rattle.ice_graphs.specs.References.{State, Reference, entry_at, within, with_met}
 use Rattle.ice_graphs.proofs.Agreeing.{read_same}
+use Rattle.ice_values.specs.SlicedType.{rows_of}
+use Rattle.ice_values.specs.declared.sliced_type.SlicedType.{SlicedType}
+use Rattle.ice_values.specs.declared.sliced_type.SlicedType.TheVariants as sorts
 use Rattle.instance_reading.specs.Seen.{by_flag, entry_met, is_known}
 use Rattle.instance_reading.specs.Slices.{ReadsPlaces, first_outside}
 use Rattle.instance_reading.specs.declared.sized.SizedMembers.{SizedMembers}
-use Rattle.instance_reading.specs.Sorts.{rows_of}
-use Rattle.instance_reading.specs.declared.sort.Sort.{Sort}
-use Rattle.instance_reading.specs.declared.sort.Sort.TheVariants as sorts
 use Rattle.ice_values.specs.declared.fields.Optionals.{Optionals}
 use Rattle.ice_values.specs.Advancing.{members_at, ReadsMembers}
 use Rattle.graph_arena.specs.declared.instance.Members as stored
@@ -55,7 +55,7 @@ pub none_met : (s : State ℕ) → s ≡ with_met [] s
 none_met s = λ i. record { instances = s.instances; ids = s.ids; met = sym (append-nil s.met) i }
 
 -- values are read by the tables of the schema, whatever the rows are
-pub rows_read : {R : Type 0} (refer : Option ℕ → Reader R (Option ℕ)) (sort : Sort) (t : Tables) (flagged : Bool) (shape : Shape)
+pub rows_read : {R : Type 0} (refer : Option ℕ → Reader R (Option ℕ)) (sort : SlicedType) (t : Tables) (flagged : Bool) (shape : Shape)
     → slice_members_at refer (rows_of sort t) flagged shape ≡ slice_members_at refer t flagged shape
 rows_read refer sorts.Class t flagged shape = refl
 rows_read refer sorts.Exception t flagged shape = read_same t refer flagged shape
@@ -64,12 +64,6 @@ rows_read refer sorts.Exception t flagged shape = read_same t refer flagged shap
 pub fault_along : {A : Type 0} (e : ReadFault) (read other : Result A Fault) → read ≡ other → Fails e read → Fails e other
 fault_along faults.Memory read other same h = tt
 fault_along (faults.Broken f) read other same h = sym same ∙ h
-
--- ---- the end of a bound
-
-pub not_empty : (bytes : List ℕ) → 0 < length bytes → (byte : ℕ) × (rest : List ℕ) × (bytes ≡ byte ∷ rest)
-not_empty [] lt = absurd (omega (arith, lt))
-not_empty (b ∷ bs) lt = (b, bs, refl)
 
 -- ---- places within a table
 
@@ -94,6 +88,6 @@ one_outside limit uses next place is = within_by limit uses next ∙ ap (λ (o :
 
 -- ---- the members, by equal flags
 
-pub places_along : (sort : Sort) (t : Tables) (class : ℕ) (result : Result SizedMembers ReadFault) (r after : Rest) (tabled is_tabled flagged is_flagged : Bool) → tabled ≡ is_tabled → flagged ≡ is_flagged
+pub places_along : (sort : SlicedType) (t : Tables) (class : ℕ) (result : Result SizedMembers ReadFault) (r after : Rest) (tabled is_tabled flagged is_flagged : Bool) → tabled ≡ is_tabled → flagged ≡ is_flagged
     → ReadsPlaces sort t class tabled flagged result r after → ReadsPlaces sort t class is_tabled is_flagged result r after
 places_along sort t class result r after tabled is_tabled flagged is_flagged a b h = subst (λ (x : Bool × Bool). ReadsPlaces sort t class x.0 x.1 result r after) (λ i. (a i, b i)) h

@@ -13,8 +13,8 @@ use Rattle.ice_graphs.specs.Instances.{most_instances}
 use Rattle.ice_graphs.specs.References.{State, with_ended}
 use Rattle.ice_graphs.specs.Slices.{slices_at}
 use Rattle.graph_arena.specs.Seen.{view_slices}
+use Rattle.ice_values.specs.declared.sliced_type.SlicedType.TheVariants as sorts
 use Rattle.instance_reading.specs.declared.unfinished.Unfinished.{Unfinished}
-use Rattle.instance_reading.specs.declared.sort.Sort.TheVariants as sorts
 use Rattle.instance_reading.specs.Slices.{refer_by}
 use Rattle.instance_reading.specs.Unfinished.{begun, behind, left_slices}
 use Rattle.instance_reading.specs.Stacked.{refer_within, instance_within, left_instance, left_stack, stack_left}

@@ -24,13 +24,14 @@ use Rattle.graph_arena.specs.declared.instance.Slice.TheVariants.{Known}
 use Rattle.graph_arena.specs.Seen.{view_content, view_slice, view_slices}
 use Rattle.ice_values.specs.declared.members_reader.MembersReader.{MembersReader}
 use Rattle.ice_values.specs.Unread.{left_of_members}
+use Rattle.ice_values.specs.SlicedType.{own_fields, rows_of}
+use Rattle.ice_values.specs.declared.sliced_type.SlicedType.{SlicedType}
+use Rattle.ice_values.specs.declared.sliced_type.SlicedType.TheVariants as sorts
 use Rattle.instance_reading.specs.declared.slice.Before as code
 use Rattle.instance_reading.specs.declared.slice.CompactSlice.{CompactSlice}
-use Rattle.instance_reading.specs.Seen.{own_fields, view_before, view_next}
+use Rattle.instance_reading.specs.Seen.{view_before, view_next}
 use Rattle.instance_reading.specs.Slices.{Open, BeginsSlice, refer_by, opened, slice_with, uses_of, view_body, with_entries, left_table, left_next, left_open, left_members, left_compact, left_stage}
-use Rattle.instance_reading.specs.Sorts.{rows_of, is_over, unless_over, slices_by}
-use Rattle.instance_reading.specs.declared.sort.Sort.{Sort}
-use Rattle.instance_reading.specs.declared.sort.Sort.TheVariants as sorts
+use Rattle.instance_reading.specs.Sorts.{is_over, unless_over, slices_by}
 use Rattle.instance_reading.specs.declared.sized.OpenSlice.{OpenSlice}
 use Rattle.instance_reading.specs.declared.slice.Stage.{Stage}
 use Rattle.instance_reading.specs.declared.slice.Stage.TheVariants as stages
@@ -42,7 +43,7 @@ use Rattle.instance_reading.proofs.Places.{fault_along}
 
 -- ---- a slice begins
 
-module _ (inside : Inside (State ℕ)) (sort : Sort) (t : Tables) where
+module _ (inside : Inside (State ℕ)) (sort : SlicedType) (t : Tables) where
   slice_begins : (steps : ℕ) (before : Before) (stage : Stage) (s s' : State ℕ) (r after : Rest) → (steps ≡ 0 → ⊥) → BeginsSlice sort t before (Ok stage) s r s' after
       → slices_by (refer_by inside) sort t steps before s r ≡ left_stage inside sort t (steps - 1) stage s' after
   slice_begins zero before stage s s' r after some h = absurd (some refl)
@@ -110,7 +111,7 @@ module _ (refer : Option ℕ → Reader (State ℕ) (Option ℕ)) where
 
 -- ---- in an instance
 
-module _ (inside : Inside (State ℕ)) (sort : Sort) (t : Tables) where
+module _ (inside : Inside (State ℕ)) (sort : SlicedType) (t : Tables) where
   abbrev refer : Option ℕ → Reader (State ℕ) (Option ℕ)
   refer = refer_by inside
 
@@ -150,7 +151,7 @@ module _ (inside : Inside (State ℕ)) (sort : Sort) (t : Tables) where
     pub none_may_begin : u.steps ≡ 0 → left_by inside sort t u (stages.Next before) s r ≡ fault r.place Short
     none_may_begin none = begins_now ∙ ap (λ (read : Result (List Slice × State ℕ × Rest) Fault). read >>= λ y. Ok (behind (view_slices u.slices) y.0, y.1, y.2)) (no_steps sort none)
       where
-        no_steps : (sort : Sort) → u.steps ≡ 0 → slices_by refer sort t u.steps (view_before before) s r ≡ fault r.place Short
+        no_steps : (sort : SlicedType) → u.steps ≡ 0 → slices_by refer sort t u.steps (view_before before) s r ≡ fault r.place Short
         no_steps sorts.Class none = rw none refl
         no_steps sorts.Exception none = rw none refl
 
@@ -201,7 +202,7 @@ had_one : (had : List stored.Slice) (slice : stored.Slice) (others : List Slice)
 had_one [] slice others = refl
 had_one (first ∷ had) slice others = ap (λ (slices : List Slice). view_slice first ∷ slices) (had_one had slice others)
 
-module _ (inside : Inside (State ℕ)) (sort : Sort) (t : Tables) (u : Unfinished) where
+module _ (inside : Inside (State ℕ)) (sort : SlicedType) (t : Tables) (u : Unfinished) where
   abbrev behind_had : List Slice × State ℕ × Rest → Result (List Slice × State ℕ × Rest) Fault
   behind_had y = Ok (behind (view_slices u.slices) y.0, y.1, y.2)
 
@@ -229,7 +230,7 @@ module _ (inside : Inside (State ℕ)) (sort : Sort) (t : Tables) (u : Unfinishe
 
 -- ---- the members of a slice without a size
 
-module _ (inside : Inside (State ℕ)) (sort : Sort) (t : Tables) (u : Unfinished) (class : ℕ) (next : Option code.Before) (fields : Shape) (is : fields ≡ own_fields (rows_of sort t) class) where
+module _ (inside : Inside (State ℕ)) (sort : SlicedType) (t : Tables) (u : Unfinished) (class : ℕ) (next : Option code.Before) (fields : Shape) (is : fields ≡ own_fields (rows_of sort t) class) where
   abbrev members_left : MembersReader → Reader (State ℕ) Members
   members_left members = left_of_members (inline_at most_instances) t inside fields members
 
@@ -290,7 +291,7 @@ module _ (inside : Inside (State ℕ)) (sort : Sort) (t : Tables) (u : Unfinishe
 
 -- ---- behind a slice
 
-module _ (inside : Inside (State ℕ)) (sort : Sort) (t : Tables) (u : Unfinished) (had now : List stored.Slice) (one : now ≡ had) (next : Option code.Before) (s : State ℕ) (r : Rest) where
+module _ (inside : Inside (State ℕ)) (sort : SlicedType) (t : Tables) (u : Unfinished) (had now : List stored.Slice) (one : now ≡ had) (next : Option code.Before) (s : State ℕ) (r : Rest) where
   abbrev behind_now : List Slice × State ℕ × Rest → Result (List Slice × State ℕ × Rest) Fault
   behind_now y = Ok (behind (view_slices now) y.0, y.1, y.2)
 

@@ -27,7 +27,7 @@ use Rattle.ice_values.specs.Advancing.{fresh_members}
 use Rattle.ice_values.specs.Shapes.{told_apart}
 use Rattle.ice_values.specs.Unread.{left_of_members}
 use Rattle.ice_values.proofs.Stages.{left-content}
-use Rattle.instance_reading.specs.declared.sort.Sort.TheVariants as sorts
+use Rattle.ice_values.specs.declared.sliced_type.SlicedType.TheVariants as sorts
 use Rattle.instance_reading.specs.Slices.{refer_by}
 use Rattle.instance_reading.specs.Sorts.{port_by}
 use Rattle.instance_reading.specs.Unfinished.{begun, left_slices}

@@ -1,14 +1,10 @@
 -- What reading remembers, without where it lies in memory.
-use Rattle.std.specs.Prelude.{ℕ, Bool, true, false, List, map, Option, None, Some, Result, Ok, refl, slice_get}
-use Rattle.ice_types.specs.declared.declarations.Member.{Member}
-use Rattle.ice_types.specs.declared.declarations.Shape.{Shape}
-use Rattle.ice_types.specs.Tables.{Tables}
+use Rattle.std.specs.Prelude.{ℕ, Bool, true, false, List, map, Option, None, Some, Result, Ok, refl}
 use Rattle.ice_prims.specs.declared.fault.Fault.{Fault}
 use Rattle.ice_prims.specs.Rest.{Rest, ◌>>=◌}
 use Rattle.ice_encoding.specs.Port.{Reader}
 use Rattle.ice_encoding.specs.Pausing.{Met, known}
 use Rattle.std.specs.Coded.{Coded, code_by, coded×, coded_ℕ, coded_list, coded_option}
-use Rattle.ice_graphs.specs.Classes.{members_in}
 use Rattle.ice_graphs.specs.Flags.{first, only_unknown, derived}
 use Rattle.ice_graphs.specs.Flags as flags
 use Rattle.ice_graphs.specs.Graph.{Slice}
@@ -47,13 +43,6 @@ view_before (befores.Derived sized base) = derived sized base
 abbrev pub view_next : Option Before → Option flags.Before
 view_next None = None
 view_next (Some before) = Some (view_before before)
-
--- the members that a class declares itself, as they are handed over to be read
-abbrev pub members_of : Tables → ℕ → List Member
-members_of t class = members_in (slice_get t.classes class)
-
-abbrev pub own_fields : Tables → ℕ → Shape
-own_fields t class = record { required = members_of t class; optional = members_of t class }
 
 -- where the optional members of a slice stand, by its flag
 abbrev pub by_flag : Bool → Optionals

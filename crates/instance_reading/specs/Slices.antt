@@ -3,7 +3,7 @@ use Rattle.std.specs.Prelude.{ℕ, suc, ◌≡◌, ◌+◌, Bool, true, false, L
 use Rattle.std.specs.Borrow.{Bor}
 use Rattle.ice_types.specs.Tables.{Tables}
 use Rattle.ice_prims.specs.declared.fault.Fault.{Fault}
-use Rattle.ice_prims.specs.declared.fault.Kind.TheVariants.{UnknownClass, WrongBase, BadLast, BadTypeId, LeftOver}
+use Rattle.ice_prims.specs.declared.fault.Kind.TheVariants.{UnknownClass, WrongBase, BadLast, BadTypeId}
 use Rattle.ice_prims.specs.declared.fault.ReadFault.{ReadFault}
 use Rattle.ice_prims.specs.declared.fault.ReadFault.TheVariants as faults
 use Rattle.ice_prims.specs.Rest.{Rest, fault, ◌>>=◌}
@@ -27,9 +27,10 @@ use Rattle.ice_graphs.specs.References as refs
 use Rattle.ice_graphs.specs.Slices.{slice_size, by_table, one_more, body_at}
 use Rattle.graph_arena.specs.Seen.{view_content}
 use Rattle.ice_values.specs.Unread.{left_of_members}
-use Rattle.instance_reading.specs.Seen.{own_fields, view_before, view_next, view_references}
-use Rattle.instance_reading.specs.Sorts.{rows_of, may_begin, id_by, ends_by, behind_slice, slices_by, slices_from}
-use Rattle.instance_reading.specs.declared.sort.Sort.{Sort}
+use Rattle.ice_values.specs.SlicedType.{own_fields, rows_of}
+use Rattle.ice_values.specs.declared.sliced_type.SlicedType.{SlicedType}
+use Rattle.instance_reading.specs.Seen.{view_before, view_next, view_references}
+use Rattle.instance_reading.specs.Sorts.{may_begin, id_by, ends_by, behind_slice, slices_by, slices_from}
 use Rattle.instance_reading.specs.declared.sized.SizedMembers.{SizedMembers}
 use Rattle.instance_reading.specs.declared.sized.Body.{Body}
 use Rattle.instance_reading.specs.declared.sized.Body.TheVariants as bodies
@@ -78,7 +79,7 @@ module _ (refer : Option ℕ → Reader (State ℕ) (Option ℕ)) where
   abbrev pub left_table : Open → Reader (State ℕ) graphs.Slice
   left_table o s r = entries_at refer o.left s r >>= with_entries o
 
-  module _ (sort : Sort) (t : Tables) (steps : ℕ) where
+  module _ (sort : SlicedType) (t : Tables) (steps : ℕ) where
     -- the slices that follow
     abbrev pub left_next : Option flags.Before → Reader (State ℕ) (List graphs.Slice)
     left_next None = given []
@@ -96,7 +97,7 @@ module _ (refer : Option ℕ → Reader (State ℕ) (Option ℕ)) where
 abbrev pub refer_by : Inside (State ℕ) → Option ℕ → Reader (State ℕ) (Option ℕ)
 refer_by inside = in_place (inline_at most_instances) inside
 
-module _ (inside : Inside (State ℕ)) (sort : Sort) (t : Tables) where
+module _ (inside : Inside (State ℕ)) (sort : SlicedType) (t : Tables) where
   -- the slice without a size, when the rest of its members is read
   unfoldable pub left_members : CompactSlice → Reader (State ℕ) graphs.Slice
   left_members c = made (known c.class) (left_of_members (inline_at most_instances) t inside (own_fields (rows_of sort t) c.class) c.members)
@@ -120,11 +121,11 @@ stage_work (stages.Compact c) = 1
 -- ---- what calls answer
 
 -- flags that may stand
-abbrev pub SeesFlags : Sort → flags.Before → Result ℕ Fault → Rest → Rest → Type 0
+abbrev pub SeesFlags : SlicedType → flags.Before → Result ℕ Fault → Rest → Rest → Type 0
 SeesFlags sort before (Ok b) r r' = flags_at (may_begin sort before) r ≡ Ok (flags_of b, r')
 SeesFlags sort before (Err e) r r' = flags_at (may_begin sort before) r ≡ Err e
 
-abbrev pub ReadsId : Sort → ℕ → ℕ → Result (Bor (List ℕ)) ReadFault → State ℕ → Rest → State ℕ → Rest → Type 0
+abbrev pub ReadsId : SlicedType → ℕ → ℕ → Result (Bor (List ℕ)) ReadFault → State ℕ → Rest → State ℕ → Rest → Type 0
 ReadsId sort place b (Ok id) s r s' r' = id_by sort place (flags_of b).id s r ≡ Ok (id.now, s', r')
 ReadsId sort place b (Err e) s r s' r' = Fails e (id_by sort place (flags_of b).id s r)
 
@@ -133,7 +134,7 @@ FindsId wrong index ids (Ok id) = (i : ℕ) × (index ≡ suc i) × (slice_get i
 FindsId wrong index ids (Err e) = (e ≡ faults.Broken wrong) × ((s : State ℕ) (r : Rest) → s.ids ≡ ids → id_indexed wrong.place index s r ≡ fault wrong.place BadTypeId)
 
 -- the class passes the tests behind a type id, or the first that fails is the fault
-abbrev pub Tests : {X : Type 0} → Sort → Tables → flags.Before → Flags → ℕ → ℕ → Option ℕ → Result X Fault → Type 0
+abbrev pub Tests : {X : Type 0} → SlicedType → Tables → flags.Before → Flags → ℕ → ℕ → Option ℕ → Result X Fault → Type 0
 Tests sort t before f flags_place id_place class (Ok x) = (is_base before class ≡ true) × (can_be_read all_slices class f ≡ true) × (ends_by sort (rows_of sort t) class f ≡ true)
 Tests sort t before f flags_place id_place class (Err e) = (read : Reader (State ℕ) (List graphs.Slice)) (s : State ℕ) (r : Rest)
     → tested (is_base before class) id_place WrongBase (tested (can_be_read all_slices class f) id_place UnknownClass (tested (ends_by sort (rows_of sort t) class f) flags_place BadLast read)) s r ≡ Err e
@@ -148,17 +149,12 @@ abbrev pub ReadsUses : Bool → Result SizedMembers ReadFault → Result (defs.M
 ReadsUses tabled (Ok x) read r' = (read ≡ Ok (view_content x.members, view_references x.uses.items, r')) × uses_in tabled (view_references x.uses.items)
 ReadsUses tabled (Err e) read r' = Fails e read
 
-abbrev pub ReadsPlaces : Sort → Tables → ℕ → Bool → Bool → Result SizedMembers ReadFault → Rest → Rest → Type 0
+abbrev pub ReadsPlaces : SlicedType → Tables → ℕ → Bool → Bool → Result SizedMembers ReadFault → Rest → Rest → Type 0
 ReadsPlaces sort t class tabled flagged result r r' = let rows = rows_of sort t in
     ReadsUses tabled result (slice_members_at (entry_at tabled) rows flagged (own_members rows class) [] r) r'
 
--- nothing is left, or the first byte that is left is one too many
-abbrev pub EndsSlice : {X : Type 0} → Result X Fault → Rest → Type 0
-EndsSlice (Ok x) r = r.bytes ≡ []
-EndsSlice (Err e) r = (byte : ℕ) × (bytes : List ℕ) × (r.bytes ≡ byte ∷ bytes) × (e ≡ record { place = r.place; kind = LeftOver })
-
 -- the size of a slice, and its members with places as references
-abbrev pub ReadsSized : Sort → Tables → ℕ → Bool → Bool → Result SizedMembers ReadFault → Rest → Rest → Type 0
+abbrev pub ReadsSized : SlicedType → Tables → ℕ → Bool → Bool → Result SizedMembers ReadFault → Rest → Rest → Type 0
 ReadsSized sort t class tabled flagged result r r' = let rows = rows_of sort t in
     ReadsUses tabled result (prefixed slice_size (slice_members_at (entry_at tabled) rows flagged (own_members rows class)) [] r) r'
 
@@ -174,7 +170,7 @@ SeesTable tabled uses (Ok n) r r' = (refer : Option ℕ → Reader (State ℕ) (
 SeesTable tabled uses (Err e) r r' = (refer : Option ℕ → Reader (State ℕ) (Option ℕ)) (s : State ℕ) → table_at refer tabled uses s r ≡ Err e
 
 -- the same behind the type id of a class that passed the tests
-abbrev pub OpensSized : Sort → Tables → Flags → ℕ → Result OpenSlice ReadFault → Rest → Rest → Type 0
+abbrev pub OpensSized : SlicedType → Tables → Flags → ℕ → Result OpenSlice ReadFault → Rest → Rest → Type 0
 OpensSized sort t f class (Ok o) r r' = (refer : Option ℕ → Reader (State ℕ) (Option ℕ)) (steps : ℕ) (id : List ℕ) (s : State ℕ) → f.has_size ≡ true
     → behind_tests refer sort t steps f (Some class) id s r ≡ left_open refer sort t steps (opened o) s r'
 OpensSized sort t f class (Err e) r r' = (refer : Option ℕ → Reader (State ℕ) (Option ℕ)) (steps : ℕ) (id : List ℕ) (s : State ℕ) → f.has_size ≡ true
@@ -182,26 +178,26 @@ OpensSized sort t f class (Err e) r r' = (refer : Option ℕ → Reader (State �
 
 -- the same of a class that is not known
 abbrev pub OpensUnknown : List ℕ → Flags → Result OpenSlice Fault → Rest → Rest → Type 0
-OpensUnknown id f (Ok o) r r' = (refer : Option ℕ → Reader (State ℕ) (Option ℕ)) (sort : Sort) (t : Tables) (steps : ℕ) (s : State ℕ) → f.has_size ≡ true
+OpensUnknown id f (Ok o) r r' = (refer : Option ℕ → Reader (State ℕ) (Option ℕ)) (sort : SlicedType) (t : Tables) (steps : ℕ) (s : State ℕ) → f.has_size ≡ true
     → behind_tests refer sort t steps f None id s r ≡ left_open refer sort t steps (opened o) s r'
-OpensUnknown id f (Err e) r r' = (refer : Option ℕ → Reader (State ℕ) (Option ℕ)) (sort : Sort) (t : Tables) (steps : ℕ) (s : State ℕ) → f.has_size ≡ true
+OpensUnknown id f (Err e) r r' = (refer : Option ℕ → Reader (State ℕ) (Option ℕ)) (sort : SlicedType) (t : Tables) (steps : ℕ) (s : State ℕ) → f.has_size ≡ true
     → behind_tests refer sort t steps f None id s r ≡ Err e
 
 -- the same of a known class, with a size or without
-abbrev pub OpensKnown : Sort → Tables → Flags → ℕ → Result Stage ReadFault → Rest → Rest → Type 0
+abbrev pub OpensKnown : SlicedType → Tables → Flags → ℕ → Result Stage ReadFault → Rest → Rest → Type 0
 OpensKnown sort t f class (Ok stage) r r' = (inside : Inside (State ℕ)) (steps : ℕ) (id : List ℕ) (s : State ℕ)
     → behind_tests (refer_by inside) sort t steps f (Some class) id s r ≡ left_stage inside sort t steps stage s r'
 OpensKnown sort t f class (Err e) r r' = (inside : Inside (State ℕ)) (steps : ℕ) (id : List ℕ) (s : State ℕ) → Fails e (behind_tests (refer_by inside) sort t steps f (Some class) id s r)
 
 -- the same of a class that can be read
-abbrev pub OpensSlice : Sort → Tables → Flags → Option ℕ → List ℕ → Result Stage ReadFault → Rest → Rest → Type 0
+abbrev pub OpensSlice : SlicedType → Tables → Flags → Option ℕ → List ℕ → Result Stage ReadFault → Rest → Rest → Type 0
 OpensSlice sort t f class id (Ok stage) r r' = (inside : Inside (State ℕ)) (steps : ℕ) (s : State ℕ) → can_be_read all_slices class f ≡ true
     → behind_tests (refer_by inside) sort t steps f class id s r ≡ left_stage inside sort t steps stage s r'
 OpensSlice sort t f class id (Err e) r r' = (inside : Inside (State ℕ)) (steps : ℕ) (s : State ℕ) → can_be_read all_slices class f ≡ true
     → Fails e (behind_tests (refer_by inside) sort t steps f class id s r)
 
 -- a slice has begun, up to the entries of its table or, where it has no size, up to its members
-abbrev pub BeginsSlice : Sort → Tables → flags.Before → Result Stage ReadFault → State ℕ → Rest → State ℕ → Rest → Type 0
+abbrev pub BeginsSlice : SlicedType → Tables → flags.Before → Result Stage ReadFault → State ℕ → Rest → State ℕ → Rest → Type 0
 BeginsSlice sort t before (Ok stage) s r s' r' = (inside : Inside (State ℕ)) (steps : ℕ)
     → slices_by (refer_by inside) sort t (suc steps) before s r ≡ left_stage inside sort t steps stage s' r'
 BeginsSlice sort t before (Err e) s r s' r' = (inside : Inside (State ℕ)) (steps : ℕ) → Fails e (slices_by (refer_by inside) sort t (suc steps) before s r)

@@ -12,36 +12,31 @@ use Rattle.ice_graphs.specs.References.{State, seen}
 use Rattle.ice_graphs.specs.TypeIds.{id_at, class_in, ends_well}
 use Rattle.ice_graphs.specs.Slices.{slices_at}
 use Rattle.ice_graphs.specs.Exceptions.{of_exceptions, may_be_raised, may_be_last, user_exception_slices}
-use Rattle.instance_reading.specs.declared.sort.Sort.{Sort}
-use Rattle.instance_reading.specs.declared.sort.Sort.TheVariants as sorts
-
--- the tables in which the rows of the sort are the classes
-abbrev pub rows_of : Sort → Tables → Tables
-rows_of sorts.Class t = t
-rows_of sorts.Exception t = of_exceptions t
+use Rattle.ice_values.specs.declared.sliced_type.SlicedType.{SlicedType}
+use Rattle.ice_values.specs.declared.sliced_type.SlicedType.TheVariants as sorts
 
 -- which flags may stand
-abbrev pub may_begin : Sort → Before → Flags → Bool
+abbrev pub may_begin : SlicedType → Before → Flags → Bool
 may_begin sorts.Class = may_stand
 may_begin sorts.Exception = may_be_raised
 
 -- the type id, which of an exception is always a text and is not counted
-abbrev pub id_by : Sort → ℕ → IdForm → Reader (State ℕ) (List ℕ)
+abbrev pub id_by : SlicedType → ℕ → IdForm → Reader (State ℕ) (List ℕ)
 id_by sorts.Class flags_place form = id_at flags_place form
 id_by sorts.Exception flags_place form = plain text_at
 
 -- what the type id stands for
-abbrev pub class_by : Sort → Tables → Before → List ℕ → Option ℕ
+abbrev pub class_by : SlicedType → Tables → Before → List ℕ → Option ℕ
 class_by sorts.Class t before id = class_in t before id
 class_by sorts.Exception t before id = class_named t id
 
 -- whether the flag of the last slice may stand there, or lack
-abbrev pub ends_by : Sort → Tables → Option ℕ → Flags → Bool
+abbrev pub ends_by : SlicedType → Tables → Option ℕ → Flags → Bool
 ends_by sorts.Class t class f = ends_well t class f
 ends_by sorts.Exception t class f = may_be_last t class f
 
 -- whether nothing has to follow: what is kept of an exception without the flag is the last where nothing is left
-abbrev pub is_over : Sort → Before → List ℕ → Bool
+abbrev pub is_over : SlicedType → Before → List ℕ → Bool
 is_over sorts.Class before bytes = false
 is_over sorts.Exception first bytes = false
 is_over sorts.Exception only_unknown [] = true
@@ -73,7 +68,7 @@ module _ (refer : Option ℕ → Reader (State ℕ) (Option ℕ)) where
   port_by = record { seen = seen; read = refer; Spells = λ declared bytes n from to. ⊥ }
 
   -- where one has to begin
-  abbrev pub slices_by : Sort → Tables → ℕ → Before → Reader (State ℕ) (List Slice)
+  abbrev pub slices_by : SlicedType → Tables → ℕ → Before → Reader (State ℕ) (List Slice)
   slices_by sorts.Class t steps before = slices_at refer t all_slices steps before
   slices_by sorts.Exception t steps before = user_exception_slices port_by (of_exceptions t) all_slices steps before
 
@@ -82,5 +77,5 @@ module _ (refer : Option ℕ → Reader (State ℕ) (Option ℕ)) where
   unless_over false next = next
 
   -- where one begins or nothing has to follow
-  abbrev pub slices_from : Sort → Tables → ℕ → Before → Reader (State ℕ) (List Slice)
+  abbrev pub slices_from : SlicedType → Tables → ℕ → Before → Reader (State ℕ) (List Slice)
   slices_from sort t steps before s r = unless_over (is_over sort before r.bytes) (slices_by sort t steps before) s r

@@ -19,10 +19,10 @@ use Rattle.ice_graphs.specs.Slices.{instance_at}
 use Rattle.graph_arena.specs.declared.instance.Members.{Members}
 use Rattle.graph_arena.specs.declared.instance.Slice.{Slice}
 use Rattle.graph_arena.specs.Seen.{view_content, view_instance, view_slices}
+use Rattle.ice_values.specs.declared.sliced_type.SlicedType.TheVariants as sorts
 use Rattle.instance_reading.specs.declared.unfinished.Unfinished.{Unfinished}
 use Rattle.instance_reading.specs.declared.decoder.Content.{Content}
 use Rattle.instance_reading.specs.declared.exception.UserExceptionContent.{UserExceptionContent}
-use Rattle.instance_reading.specs.declared.sort.Sort.TheVariants as sorts
 use Rattle.instance_reading.specs.Unfinished.{left_slices, room}
 
 -- how references are read where so many more instances may begin in one another

@@ -15,12 +15,12 @@ use Rattle.ice_graphs.specs.References.{State}
 use Rattle.ice_graphs.specs.Instances.{most_instances}
 use Rattle.graph_arena.specs.declared.instance.Slice.{Slice}
 use Rattle.graph_arena.specs.Seen.{view_slices}
+use Rattle.ice_values.specs.declared.sliced_type.SlicedType.{SlicedType}
 use Rattle.instance_reading.specs.declared.slice.Before.TheVariants as befores
 use Rattle.instance_reading.specs.declared.slice.CompactSlice.{CompactSlice}
 use Rattle.instance_reading.specs.declared.slice.Stage.{Stage}
 use Rattle.instance_reading.specs.declared.slice.Stage.TheVariants as stages
 use Rattle.instance_reading.specs.declared.sized.OpenSlice.{OpenSlice}
-use Rattle.instance_reading.specs.declared.sort.Sort.{Sort}
 use Rattle.instance_reading.specs.Slices.{Open, opened, refer_by, left_next, left_stage, stage_work}
 use Rattle.instance_reading.specs.declared.unfinished.Unfinished.{Unfinished}
 use Rattle.instance_reading.specs.declared.unfinished.Advanced.{Advanced}
@@ -30,7 +30,7 @@ use Rattle.instance_reading.specs.declared.unfinished.Advanced.TheVariants as ad
 abbrev pub behind : List graphs.Slice → List graphs.Slice → List graphs.Slice
 behind had others = had ++ others
 
-module _ (inside : Inside (State ℕ)) (sort : Sort) (t : Tables) where
+module _ (inside : Inside (State ℕ)) (sort : SlicedType) (t : Tables) where
   -- all slices, with these that are read, from the next one on
   abbrev pub left_behind : ℕ → List Slice → Option flags.Before → Reader (State ℕ) (List graphs.Slice)
   left_behind steps had next = made (behind (view_slices had)) (left_next (refer_by inside) sort t steps next)
@@ -57,27 +57,27 @@ abbrev pub Pauses : Unfinished → Unfinished → CompactSlice → Type 0
 Pauses old new slice = (left : Box CompactSlice Global) × (new ≡ record { name = old.name; steps = old.steps; slices = old.slices; stage = stages.Compact left }) × (left.value ≡ slice)
 
 -- It is read whole; or an instance begins, and then this is read on; or it is the fault.
-abbrev pub Goes : Inside (State ℕ) → Sort → Tables → Unfinished → Result (Option ℕ) ReadFault → Result (List graphs.Slice × State ℕ × Rest) Fault → State ℕ → Rest → Type 0
+abbrev pub Goes : Inside (State ℕ) → SlicedType → Tables → Unfinished → Result (Option ℕ) ReadFault → Result (List graphs.Slice × State ℕ × Rest) Fault → State ℕ → Rest → Type 0
 Goes inside sort t now (Ok None) read s r = read ≡ Ok (view_slices now.slices, s, r)
 Goes inside sort t now (Ok (Some n)) read s r = read ≡ (inside n s r >>= λ x. left_slices inside sort t now x.0 x.1)
 Goes inside sort t now (Err e) read s r = Fails e read
 
-abbrev pub Advances : Inside (State ℕ) → Sort → Tables → Unfinished → Result Advanced ReadFault → Result (List graphs.Slice × State ℕ × Rest) Fault → State ℕ → Rest → Type 0
+abbrev pub Advances : Inside (State ℕ) → SlicedType → Tables → Unfinished → Result Advanced ReadFault → Result (List graphs.Slice × State ℕ × Rest) Fault → State ℕ → Rest → Type 0
 Advances inside sort t now (Ok advances.On) read s r = read ≡ left_slices inside sort t now s r
 Advances inside sort t now (Ok advances.Done) read s r = read ≡ Ok (view_slices now.slices, s, r)
 Advances inside sort t now (Ok (advances.Begins n)) read s r = read ≡ (inside n s r >>= λ x. left_slices inside sort t now x.0 x.1)
 Advances inside sort t now (Err e) read s r = Fails e read
 
 -- the same whatever is read inside, of all that is left
-abbrev pub ReadsOn : Sort → Tables → Unfinished → Unfinished → Result (Option ℕ) ReadFault → State ℕ → Rest → State ℕ → Rest → Type 0
+abbrev pub ReadsOn : SlicedType → Tables → Unfinished → Unfinished → Result (Option ℕ) ReadFault → State ℕ → Rest → State ℕ → Rest → Type 0
 ReadsOn sort t old now result s r s' r' = (inside : Inside (State ℕ)) → Goes inside sort t now result (left_slices inside sort t old s r) s' r'
 
 -- and of what is left from a stage on
-abbrev pub StepsOn : Sort → Tables → Unfinished → Stage → Unfinished → Result Advanced ReadFault → State ℕ → Rest → State ℕ → Rest → Type 0
+abbrev pub StepsOn : SlicedType → Tables → Unfinished → Stage → Unfinished → Result Advanced ReadFault → State ℕ → Rest → State ℕ → Rest → Type 0
 StepsOn sort t old stage now result s r s' r' = (inside : Inside (State ℕ)) → Advances inside sort t now result (left_by inside sort t old stage s r) s' r'
 
 -- and behind a slice more
-abbrev pub Completes : Sort → Unfinished → Slice → Option flags.Before → Unfinished → Result Advanced ReadFault → Type 0
+abbrev pub Completes : SlicedType → Unfinished → Slice → Option flags.Before → Unfinished → Result Advanced ReadFault → Type 0
 Completes sort old slice next now result = (inside : Inside (State ℕ)) (t : Tables) (s : State ℕ) (r : Rest)
     → Advances inside sort t now result (left_behind inside sort t old.steps (old.slices ++ slice ∷ []) next s r) s r
 

@@ -8,12 +8,12 @@ ghost use Rattle.instance_reading.specs.Stacked.{ReadsUserException, ReadsSlices
 
 use crate::arena::Arena;
 use crate::nesting::read_instance;
-use crate::sized::end;
-use crate::sort::Sort;
 use crate::unfinished::Unfinished;
+use encaps_optionals::end;
 use graph_arena::{Instance, Slice};
 use ice_prims::{Cursor, ReadFault};
 use ice_types::{List, Schema};
+use ice_values::SlicedType;
 use std::alloc::Global;
 
 /// The slices of a user exception, in which a known one names an exception of the schema by its place, and
@@ -64,7 +64,7 @@ fn read_slices<'a>(
 {
     let mut user_exception = Unfinished::new(alloc, 0, cursor);
     loop {
-        match user_exception.go(alloc, Sort::Exception, schema, cursor, arena) {
+        match user_exception.go(alloc, SlicedType::Exception, schema, cursor, arena) {
             Ok(None) => return Ok(user_exception.slices),
             Ok(Some(name)) => {
                 read_instance(alloc, schema, name, cursor, arena)?;

@@ -7,10 +7,9 @@ ghost use Rattle.graph_arena.specs.Seen.{view_instance};
 ghost use Rattle.instance_reading.specs.Seen.{view_reference, view_references};
 
 use crate::arena::Reference;
-use crate::class::base_of;
-use crate::sort::Sort;
 use graph_arena::{Instance, class_of};
 use ice_types::Schema;
+use ice_values::SlicedType;
 
 /// The place of the first reference in the bytes whose class does not fit.
 pub(crate) fn misfit(schema: &Schema, instances: &[Instance], met: &[Reference]) -> Option<u64>
@@ -69,7 +68,7 @@ fn is_a(schema: &Schema, class: u32, base: u32) -> bool
             return false;
         }
         left -= 1;
-        match base_of(Sort::Class, schema, class) {
+        match SlicedType::Class.base_of(schema, class) {
             Some(next) => class = next,
             None => return false,
         }

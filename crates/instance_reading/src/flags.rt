@@ -4,13 +4,13 @@ ghost use Rattle.std.specs.Prelude.{◌≡◌};
 ghost use Rattle.ice_graphs.specs.Exceptions as exceptions;
 ghost use Rattle.ice_graphs.specs.Flags.{flags_of, has_id, is_odd};
 ghost use Rattle.ice_graphs.specs.Flags as spec;
-ghost use Rattle.instance_reading.specs.Seen.{view_before};
+ghost use Rattle.instance_reading.specs.Seen.{by_flag, view_before};
 ghost use Rattle.instance_reading.specs.Slices.{SeesFlags};
 ghost use Rattle.instance_reading.specs.Sorts.{may_begin};
 
 use crate::slice::Before;
-use crate::sort::Sort;
 use ice_prims::{Cursor, Fault, Kind};
+use ice_values::{Optionals, SlicedType};
 
 /// Whether the lowest bit of the flags is set, once those below it are shifted out.
 pub(crate) fn is_odd(flags: u8) -> bool
@@ -20,7 +20,11 @@ pub(crate) fn is_odd(flags: u8) -> bool
 }
 
 /// The flags of a slice that may stand behind this one.
-pub(crate) fn take_flags(sort: Sort, before: Before, cursor: &mut Cursor<'_>) -> Result<u8, Fault>
+pub(crate) fn take_flags(
+    sort: SlicedType,
+    before: Before,
+    cursor: &mut Cursor<'_>,
+) -> Result<u8, Fault>
     ensures { SeesFlags sort (view_before before) result cursor.old cursor.new }
 {
     let wrong = cursor.fault(Kind::BadFlags);
@@ -32,12 +36,12 @@ pub(crate) fn take_flags(sort: Sort, before: Before, cursor: &mut Cursor<'_>) ->
 }
 
 /// Whether a slice with these flags may stand there.
-fn may_begin(sort: Sort, before: Before, flags: u8) -> bool
+fn may_begin(sort: SlicedType, before: Before, flags: u8) -> bool
     ensures { result ≡ may_begin sort (view_before before) (flags_of flags) }
 {
     match sort {
-        Sort::Class => may_stand(before, flags),
-        Sort::Exception => may_be_raised(before, flags),
+        SlicedType::Class => may_stand(before, flags),
+        SlicedType::Exception => may_be_raised(before, flags),
     }
 }
 
@@ -76,4 +80,15 @@ fn has_id(flags: u8) -> bool
     ensures { result ≡ has_id (flags_of flags).id }
 {
     flags % 4 != 0
+}
+
+/// Where the optional members of a slice stand, by its flag.
+pub(crate) fn optionals(flagged: bool) -> Optionals
+    ensures { result ≡ by_flag flagged }
+{
+    if flagged {
+        Optionals::Marked
+    } else {
+        Optionals::Absent
+    }
 }

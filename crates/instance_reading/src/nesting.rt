@@ -7,10 +7,10 @@ ghost use Rattle.instance_reading.specs.Stacked.{steps_left};
 ghost use Rattle.instance_reading.specs.Unfinished.{room};
 
 use crate::arena::Arena;
-use crate::sort::Sort;
 use crate::unfinished::Unfinished;
 use ice_prims::{Cursor, ReadFault};
 use ice_types::{List, Schema};
+use ice_values::SlicedType;
 use std::alloc::Global;
 
 /// Reads the instance of this name, which begins here, whole, with those that begin in it.
@@ -50,7 +50,7 @@ fn read_on<'a>(
     ensures room { OnOk result (room arena.new ≤ room arena.old) }
     ensures less { OnOk result (steps_left stack.new arena.new < steps_left (stack.old ++ top.entry ∷ []) arena.old) }
 {
-    match top.go(alloc, Sort::Class, schema, cursor, arena) {
+    match top.go(alloc, SlicedType::Class, schema, cursor, arena) {
         Err(fault) => Err(fault),
         Ok(None) => {
             arena.end(top.name, top.slices);

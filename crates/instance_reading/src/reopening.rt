@@ -10,11 +10,12 @@ ghost use Rattle.graph_arena.specs.Seen.{view_slice};
 ghost use Rattle.preserved.specs.Unknown.{IsUnknown};
 ghost use Rattle.instance_reading.specs.Reopened.{Resolves, members_reopened, reopened_slice};
 
-use crate::sized::{SizedMembers, end, first_outside, read_places};
-use crate::sort::Sort;
+use crate::sized::{SizedMembers, first_outside, read_places};
+use encaps_optionals::end;
 use graph_arena::{Slice, resolve_members};
 use ice_prims::{Cursor, Fault, Kind, ReadFault, put_byte};
 use ice_types::Schema;
+use ice_values::SlicedType;
 use std::alloc::{AllocError, Global};
 
 /// What stands behind the optional members of a slice, and is not kept.
@@ -86,7 +87,7 @@ fn reopen_members(
     let tabled = is_there(table);
     match read_places(
         alloc,
-        Sort::Class,
+        SlicedType::Class,
         schema,
         class,
         tabled,

@@ -9,22 +9,21 @@ ghost use Rattle.ice_graphs.specs.Classes.{own_members};
 ghost use Rattle.ice_graphs.specs.Classes as classes;
 ghost use Rattle.ice_graphs.specs.Flags.{flags_of};
 ghost use Rattle.ice_values.specs.Advancing.{ReadsMembers};
+ghost use Rattle.ice_values.specs.SlicedType.{rows_of};
 ghost use Rattle.instance_reading.specs.Seen.{view_next, view_references};
-ghost use Rattle.instance_reading.specs.Slices.{EndsSlice, OpensUnknown, OpensSized, ReadsPlaces, ReadsSized};
+ghost use Rattle.instance_reading.specs.Slices.{OpensUnknown, OpensSized, ReadsPlaces, ReadsSized};
 ghost use Rattle.instance_reading.specs.Slices.{SeesTable, first_outside};
-ghost use Rattle.instance_reading.specs.Sorts.{rows_of};
 ghost use Rattle.instance_reading.specs.Sorts as sorts;
 
 use crate::arena::Reference;
-use crate::class::{base_of, optionals, own_fields};
-use crate::flags::is_odd;
+use crate::flags::{is_odd, optionals};
 use crate::slice::Before;
-use crate::sort::Sort;
 use crate::table_port::{InTable, Untabled};
+use encaps_optionals::end;
 use graph_arena::Members;
 use ice_prims::{Cursor, Fault, Kind, ReadFault};
 use ice_types::{List, Schema};
-use ice_values::{RefPort, read_members};
+use ice_values::{RefPort, SlicedType, read_members};
 use preserved::{UnknownPart, skip_slice, slice_bound};
 use std::alloc::Global;
 
@@ -68,7 +67,7 @@ pub(crate) struct OpenSlice<'a> {
 /// A slice of a known class begins behind its type id: its size and members, and the size of its table.
 pub(crate) fn open_sized<'a>(
     alloc: Global,
-    sort: Sort,
+    sort: SlicedType,
     schema: &Schema,
     class: u32,
     flags: u8,
@@ -126,17 +125,22 @@ fn behind_unknown(flags: u8) -> Option<Before>
 }
 
 /// What the next slice follows behind one of a known class, which is the last where that has no base.
-pub(crate) fn behind_base(sort: Sort, schema: &Schema, class: u32, sized: bool) -> Option<Before>
+pub(crate) fn behind_base(
+    sort: SlicedType,
+    schema: &Schema,
+    class: u32,
+    sized: bool,
+) -> Option<Before>
     ensures { view_next result ≡ sorts.behind_base sized (classes.base_of (rows_of sort schema.now) class) }
 {
-    let base = base_of(sort, schema, class)?;
+    let base = sort.base_of(schema, class)?;
     Some(Before::Derived { sized, base })
 }
 
 /// The size of a slice, and its members, with places in its table as references.
 fn read_sized(
     alloc: Global,
-    sort: Sort,
+    sort: SlicedType,
     schema: &Schema,
     class: u32,
     flags: u8,
@@ -158,7 +162,7 @@ fn read_sized(
 /// The members, in the bound that the size gives.
 fn read_in_bound(
     alloc: Global,
-    sort: Sort,
+    sort: SlicedType,
     schema: &Schema,
     class: u32,
     flags: u8,
@@ -182,7 +186,7 @@ fn read_in_bound(
 /// The members of a class, with places in a table as references, where there is a table.
 pub(crate) fn read_places(
     alloc: Global,
-    sort: Sort,
+    sort: SlicedType,
     schema: &Schema,
     class: u32,
     tabled: bool,
@@ -201,7 +205,7 @@ pub(crate) fn read_places(
 /// The members of a slice that has a table.
 fn read_tabled(
     alloc: Global,
-    sort: Sort,
+    sort: SlicedType,
     schema: &Schema,
     class: u32,
     flagged: bool,
@@ -222,7 +226,7 @@ fn read_tabled(
 /// The members of a slice that has none.
 fn read_untabled(
     alloc: Global,
-    sort: Sort,
+    sort: SlicedType,
     schema: &Schema,
     class: u32,
     flagged: bool,
@@ -246,7 +250,7 @@ fn read_untabled(
 /// The members that a class has itself, at a port at which nothing begins.
 fn read_own<P: RefPort>(
     alloc: Global,
-    sort: Sort,
+    sort: SlicedType,
     schema: &Schema,
     class: u32,
     flagged: bool,
@@ -262,21 +266,11 @@ fn read_own<P: RefPort>(
     read_members(
         alloc,
         schema,
-        own_fields(sort, schema, class),
+        sort.own_fields(schema, class),
         optionals(flagged),
         bound,
         port,
     )
-}
-
-/// The end of a bound.
-pub(crate) fn end(cursor: &Cursor<'_>) -> Result<(), Fault>
-    ensures { EndsSlice result cursor.now }
-{
-    if cursor.left() > 0 {
-        return Err(cursor.fault(Kind::LeftOver));
-    }
-    Ok(())
 }
 
 /// How many entries the table of a slice has. Each place that was met in the slice is among them, else

@@ -3,20 +3,19 @@
 
 ghost use Rattle.std.specs.Prelude.{◌≡◌, ◌<◌, ◌^◌, OnOk, Some};
 ghost use Rattle.ice_graphs.specs.Flags.{flags_of};
+ghost use Rattle.ice_values.specs.SlicedType.{rows_of};
+ghost use Rattle.ice_values.specs.declared.sliced_type.SlicedType.TheVariants as sorts;
 ghost use Rattle.instance_reading.specs.Seen.{view_before};
 ghost use Rattle.instance_reading.specs.Slices.{BeginsSlice, FindsId, OpensKnown, OpensSlice, ReadsId, Tests};
 ghost use Rattle.instance_reading.specs.Slices.{stage_work};
-ghost use Rattle.instance_reading.specs.Sorts.{class_by, ends_by, is_over, rows_of};
-ghost use Rattle.instance_reading.specs.declared.sort.Sort.TheVariants as sorts;
+ghost use Rattle.instance_reading.specs.Sorts.{class_by, ends_by, is_over};
 
 use crate::arena::Arena;
-use crate::class::{base_of, class_named, optionals};
-use crate::flags::{is_odd, take_flags};
+use crate::flags::{is_odd, optionals, take_flags};
 use crate::sized::{OpenSlice, behind_base, open_sized, open_unknown};
-use crate::sort::Sort;
 use ice_prims::{Cursor, Fault, Kind, ReadFault};
 use ice_types::Schema;
-use ice_values::MembersReader;
+use ice_values::{MembersReader, SlicedType};
 use std::alloc::Global;
 
 /// What a slice follows.
@@ -72,7 +71,7 @@ fn is_within(count: u32)
 /// size of its table, or nothing where it has no size.
 pub(crate) fn begin_slice<'a>(
     alloc: Global,
-    sort: Sort,
+    sort: SlicedType,
     schema: &Schema,
     before: Before,
     cursor: &mut Cursor<'a>,
@@ -101,7 +100,7 @@ pub(crate) fn begin_slice<'a>(
 /// The same behind the type id, of a class that passed the tests. One that is not known has a size.
 fn open_slice<'a>(
     alloc: Global,
-    sort: Sort,
+    sort: SlicedType,
     schema: &Schema,
     class: Option<u32>,
     id: &'a str,
@@ -122,7 +121,7 @@ fn open_slice<'a>(
 /// The same of a known class.
 fn open_known<'a>(
     alloc: Global,
-    sort: Sort,
+    sort: SlicedType,
     schema: &Schema,
     class: u32,
     flags: u8,
@@ -145,7 +144,7 @@ fn open_known<'a>(
 
 /// The type id of a slice with these flags, which stand at `place`.
 fn take_id<'a>(
-    sort: Sort,
+    sort: SlicedType,
     flags: u8,
     place: u64,
     cursor: &mut Cursor<'a>,
@@ -155,8 +154,8 @@ fn take_id<'a>(
     ensures instances { OnOk result (arena.new.instances ≡ arena.old.instances) }
 {
     match sort {
-        Sort::Class => take_counted_id(flags, place, cursor, arena),
-        Sort::Exception => Ok(cursor.take_str()?),
+        SlicedType::Class => take_counted_id(flags, place, cursor, arena),
+        SlicedType::Exception => Ok(cursor.take_str()?),
     }
 }
 
@@ -204,15 +203,15 @@ fn id_at<'a>(arena: &Arena<'a>, index: u32, unknown: Fault) -> Result<&'a str, R
 
 /// The class of a slice, or the exception: by its type id, or of an instance without one the base that
 /// follows.
-fn class_in(sort: Sort, schema: &Schema, before: Before, id: &str) -> Option<u32>
+fn class_in(sort: SlicedType, schema: &Schema, before: Before, id: &str) -> Option<u32>
     ensures { result ≡ class_by sort (rows_of sort schema.now) (view_before before) id.now }
 {
     match sort {
-        Sort::Exception => class_named(sort, schema, id),
-        Sort::Class => match before {
+        SlicedType::Exception => sort.row_named(schema, id),
+        SlicedType::Class => match before {
             Before::Derived { sized: false, base } => Some(base),
             Before::First | Before::OnlyUnknown | Before::Derived { sized: true, .. } => {
-                class_named(sort, schema, id)
+                sort.row_named(schema, id)
             }
         },
     }
@@ -221,7 +220,7 @@ fn class_in(sort: Sort, schema: &Schema, before: Before, id: &str) -> Option<u32
 /// Whether a slice of the class may stand here: the base of the one before it; a known one, or one with a
 /// size; and of a known one the last or not.
 fn test_class(
-    sort: Sort,
+    sort: SlicedType,
     schema: &Schema,
     before: Before,
     flags: u8,
@@ -255,24 +254,24 @@ fn test_class(
 
 /// Whether a slice of a known class tells rightly that it is the last: of an instance exactly where the class
 /// has no base; of an exception nowhere else, but it need not.
-fn ends_well(sort: Sort, schema: &Schema, class: u32, flags: u8) -> bool
+fn ends_well(sort: SlicedType, schema: &Schema, class: u32, flags: u8) -> bool
     ensures { result ≡ ends_by sort (rows_of sort schema.now) (Some class) (flags_of flags) }
 {
     let is_last = is_odd(flags / 32);
-    let is_base = base_of(sort, schema, class).is_none();
+    let is_base = sort.base_of(schema, class).is_none();
     match sort {
-        Sort::Class => is_last == is_base,
-        Sort::Exception => !is_last || is_base,
+        SlicedType::Class => is_last == is_base,
+        SlicedType::Exception => !is_last || is_base,
     }
 }
 
 /// Whether no slice has to follow: what is kept of an exception is the last where nothing is left behind it.
-pub(crate) fn is_over(sort: Sort, before: Before, cursor: &Cursor<'_>) -> bool
+pub(crate) fn is_over(sort: SlicedType, before: Before, cursor: &Cursor<'_>) -> bool
     ensures { result ≡ is_over sort (view_before before) cursor.now.bytes }
 {
     match sort {
-        Sort::Class => false,
-        Sort::Exception => match before {
+        SlicedType::Class => false,
+        SlicedType::Exception => match before {
             Before::OnlyUnknown => cursor.left() == 0,
             Before::First | Before::Derived { .. } => false,
         },

@@ -10,14 +10,12 @@ ghost use Rattle.instance_reading.specs.Unfinished.{Pauses, ReadsOn, StepsOn, be
 ghost use Rattle.instance_reading.specs.declared.slice.Stage.TheVariants as stages;
 
 use crate::arena::Arena;
-use crate::class::own_fields;
 use crate::sized::{Body, OpenSlice};
 use crate::slice::{Before, CompactSlice, Stage, begin_slice, is_over};
-use crate::sort::Sort;
 use graph_arena::{Slice, resolve_members};
 use ice_prims::{Cursor, Kind, ReadFault};
 use ice_types::{List, Schema};
-use ice_values::{Met, PausedMembers, RefPort};
+use ice_values::{Met, PausedMembers, RefPort, SlicedType};
 use preserved::keep;
 use std::alloc::{AllocError, Global};
 use std::mem;
@@ -59,7 +57,7 @@ impl<'a> Unfinished<'a> {
     pub(crate) fn go(
         &mut self,
         alloc: Global,
-        sort: Sort,
+        sort: SlicedType,
         schema: &Schema,
         cursor: &mut Cursor<'a>,
         arena: &mut Arena<'a>,
@@ -81,7 +79,7 @@ impl<'a> Unfinished<'a> {
     fn step(
         &mut self,
         alloc: Global,
-        sort: Sort,
+        sort: SlicedType,
         schema: &Schema,
         cursor: &mut Cursor<'a>,
         arena: &mut Arena<'a>,
@@ -109,7 +107,7 @@ impl<'a> Unfinished<'a> {
     fn begin(
         &mut self,
         alloc: Global,
-        sort: Sort,
+        sort: SlicedType,
         schema: &Schema,
         before: Before,
         cursor: &mut Cursor<'a>,
@@ -141,7 +139,7 @@ impl<'a> Unfinished<'a> {
     /// Reads an entry of the table, which is not null.
     fn read_entry(
         &mut self,
-        sort: Sort,
+        sort: SlicedType,
         schema: &Schema,
         slice: OpenSlice<'a>,
         cursor: &mut Cursor<'a>,
@@ -187,7 +185,7 @@ impl<'a> Unfinished<'a> {
     fn close(
         &mut self,
         alloc: Global,
-        sort: Sort,
+        sort: SlicedType,
         schema: &Schema,
         slice: OpenSlice<'a>,
         cursor: &Cursor<'_>,
@@ -210,7 +208,7 @@ impl<'a> Unfinished<'a> {
     fn read_compact(
         &mut self,
         alloc: Global,
-        sort: Sort,
+        sort: SlicedType,
         schema: &Schema,
         slice: Box<CompactSlice<'a>>,
         cursor: &mut Cursor<'a>,
@@ -223,7 +221,7 @@ impl<'a> Unfinished<'a> {
         ensures less { LessOnOn result (self.old.steps * 2 ^ 33 + 1) (work_left self.new) }
     {
         let mut slice = Box::into_inner(slice);
-        let fields = own_fields(sort, schema, slice.class);
+        let fields = sort.own_fields(schema, slice.class);
         match slice.members.go(alloc, schema, fields, cursor, arena) {
             Ok(PausedMembers::Done(members)) => {
                 let class = slice.class;
@@ -250,7 +248,7 @@ impl<'a> Unfinished<'a> {
     fn complete(
         &mut self,
         alloc: Global,
-        sort: Sort,
+        sort: SlicedType,
         slice: Slice,
         next: Option<Before>,
     ) -> Result<Advanced, ReadFault>

@@ -15,8 +15,8 @@ use Rattle.ice_graphs.specs.Canonical.{table_of, sized_bytes}
 use Rattle.graph_arena.specs.Arena.{AreBelow}
 use Rattle.ice_values.specs.Putting.{InsideWritten}
 use Rattle.ice_values.specs.WritingMembers.{WritesPiece}
-use Rattle.instance_writing.specs.declared.sort.Sort.{Sort}
-use Rattle.instance_writing.specs.Sorts.{rows_of}
+use Rattle.ice_values.specs.declared.sliced_type.SlicedType.{SlicedType}
+use Rattle.ice_values.specs.SlicedType.{rows_of}
 use Rattle.instance_writing.specs.Tabling.{Listed, no_names, place_put, HasPlaces}
 use Rattle.instance_writing.proofs.Placed.{slice-listed}
 use Rattle.instance_writing.proofs.Steps.{members-same}
@@ -25,7 +25,7 @@ use Rattle.instance_writing.proofs.Steps.{members-same}
 abbrev pub nothing_inside : InsideWritten Listed
 nothing_inside n s = ([], s)
 
-module _ (sort : Sort) (t : Tables) (count class : ℕ) (own : List Member) (c : Members) (table table' : Listed) (out out' : List ℕ)
+module _ (sort : SlicedType) (t : Tables) (count class : ℕ) (own : List Member) (c : Members) (table table' : Listed) (out out' : List ℕ)
     (is : own ≡ members_in (slice_get (rows_of sort t).classes class)) (empty : table ≡ no_names count) (nothing : out ≡ []) (below : AreBelow count (names_of c)) (plain : HasPlaces (own_members (rows_of sort t) class).optional c) where
   all-written : written_slice_members (written_in_place place_put nothing_inside) t (shape_of own) c table ≡ (sized_bytes (rows_of sort t) (known class c), record { count = count; names = table_of (known class c) })
   all-written = ap (λ (ms : List Member). written_slice_members (written_in_place place_put nothing_inside) t (shape_of ms) c table) is

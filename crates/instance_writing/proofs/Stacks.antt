@@ -21,9 +21,9 @@ use Rattle.ice_values.specs.Putting.{InsideWritten, Written, onto}
 use Rattle.ice_values.proofs.WritingSteps.{options-of-tagged, all-left, stands-grown, grows-longer}
 use Rattle.ice_values.specs.declared.ending.Ending.TheVariants.{Bound}
 use Rattle.ice_values.specs.WritingMembers.{Remaining, all_of, members_left, RemainingFits}
+use Rattle.ice_values.specs.declared.sliced_type.SlicedType.TheVariants.{Class, Exception}
 use Rattle.instance_writing.specs.declared.open_slice.OpenSlice.{OpenSlice}
 use Rattle.instance_writing.specs.declared.open_slice.OpenSlice.TheVariants as opens
-use Rattle.instance_writing.specs.declared.sort.Sort.TheVariants.{Class, Exception}
 use Rattle.instance_writing.specs.declared.unfinished.Unfinished.{Unfinished}
 use Rattle.instance_writing.specs.Pens.{put_counted, begun_put, beginning_put}
 use Rattle.instance_writing.specs.Opened.{refer_to, is_first, open_left, OpenFits}

@@ -28,15 +28,16 @@ use Rattle.ice_values.specs.declared.ending.Ending.TheVariants.{Marked}
 use Rattle.ice_values.specs.WritingMembers.{Remaining, remaining, all_of, members_left}
 use Rattle.ice_values.specs.Putting.{InsideWritten, Written, onto}
 use Rattle.ice_values.proofs.Levels.{onto-then, onto-nothing}
+use Rattle.ice_values.specs.declared.sliced_type.SlicedType.{SlicedType}
+use Rattle.ice_values.specs.declared.sliced_type.SlicedType.TheVariants.{Class, Exception}
+use Rattle.ice_values.specs.SlicedType.{rows_of}
 use Rattle.instance_writing.specs.declared.open_slice.OpenSlice.{OpenSlice}
 use Rattle.instance_writing.specs.declared.open_slice.OpenSlice.TheVariants.{Nothing, Found, Lent}
 use Rattle.instance_writing.specs.declared.open_slice.OpenSlice.TheVariants as opens
-use Rattle.instance_writing.specs.declared.sort.Sort.{Sort}
-use Rattle.instance_writing.specs.declared.sort.Sort.TheVariants.{Class, Exception}
 use Rattle.instance_writing.specs.declared.unfinished.Unfinished.{Unfinished}
 use Rattle.instance_writing.specs.Pens.{put_counted}
 use Rattle.instance_writing.specs.Opened.{refer_to, entries_in, is_first, HasEntries, IsTabled, open_left, OpenFits}
-use Rattle.instance_writing.specs.Sorts.{rows_of, slice_head, plain_head}
+use Rattle.instance_writing.specs.Sorts.{slice_head, plain_head}
 use Rattle.instance_writing.specs.Remains.{slice_front, table_size, one_slice, others_left, instance_left, Fits, BeginsNext}
 use Rattle.instance_writing.specs.Writable.{SlicesCanBeWritten}
 use Rattle.instance_writing.proofs.Placed.{below-both}
@@ -120,7 +121,7 @@ names-same : (u t : Tables) (refer : Option ℕ → Piece Pen) (ns : List ℕ) �
 names-same u t refer [] = refl
 names-same u t refer (n ∷ ns) = ap (λ (p : Piece Pen). refer (Some n) >> p) (names-same u t refer ns)
 
-pub members-same : {S : Type 0} (sort : Sort) (t : Tables) (refer : Option ℕ → Piece S) (shape : Shape) (c : Members) → written_slice_members refer (rows_of sort t) shape c ≡ written_slice_members refer t shape c
+pub members-same : {S : Type 0} (sort : SlicedType) (t : Tables) (refer : Option ℕ → Piece S) (shape : Shape) (c : Members) → written_slice_members refer (rows_of sort t) shape c ≡ written_slice_members refer t shape c
 members-same {S} Class t refer shape c = refl
 members-same {S} Exception t refer shape c = written_same t refer shape c
 
@@ -134,7 +135,7 @@ exactly-then : (a b : List ℕ) (w : Written Pen) → onto (exactly (a ++ b)) w 
 exactly-then a b w = onto-then (exactly a) (exactly b) w
 
 -- in sliced format, up to the entries of its table
-slice-fronted : (sort : Sort) (t : Tables) (refer : Option ℕ → Piece Pen) (s : Slice) (first last : Bool) (w : Written Pen)
+slice-fronted : (sort : SlicedType) (t : Tables) (refer : Option ℕ → Piece Pen) (s : Slice) (first last : Bool) (w : Written Pen)
     → onto (one_slice sort t refer sliced first last s) w ≡ onto (written_names t refer (table_of s)) (onto (slice_front sort t last s) w)
 slice-fronted sort t refer s first last w =
     let u = rows_of sort t in
@@ -158,7 +159,7 @@ has-fits count (Found next names) entries out h below = (subst (AreBelow count) 
 has-fits count (Lent names) entries out h below = subst (AreBelow count) (sym h) below
 has-fits count (opens.Members m) entries out h below = absurd h
 
-pub slice-begun : (sort : Sort) (t : Tables) (inside : InsideWritten Pen) (s : Slice) (first last : Bool) (o : OpenSlice) (w w' : Written Pen) → HasEntries (table_of s) o → w' ≡ onto (slice_front sort t last s) w
+pub slice-begun : (sort : SlicedType) (t : Tables) (inside : InsideWritten Pen) (s : Slice) (first last : Bool) (o : OpenSlice) (w w' : Written Pen) → HasEntries (table_of s) o → w' ≡ onto (slice_front sort t last s) w
     → onto (one_slice sort t (refer_to inside) sliced first last s) w ≡ open_left t inside o w'
 slice-begun sort t inside s first last o w w' has wrote =
     slice-fronted sort t (refer_to inside) s first last w ∙ ap (onto (written_names t (refer_to inside) (table_of s))) (sym wrote) ∙ sym (has-left t inside o (table_of s) w' has)
@@ -179,7 +180,7 @@ table-below limit (unknown id bytes optionals table) h = h
 pub slice-fits : (count : ℕ) (s : Slice) (o : OpenSlice) (out : List ℕ) → HasEntries (table_of s) o → AreBelow count (slice_names s) → OpenFits count o out
 slice-fits count s o out has below = has-fits count o (table_of s) out has (table-below count s below)
 
-pub sliced-begun : (sort : Sort) (t : Tables) (inside : InsideWritten Pen) (s : Slice) (f : Format) (first last : Bool) (result : Result OpenSlice AllocError) (w w' : Written Pen) → f ≡ sliced → IfOk result (HasEntries (table_of s)) → OnOk result (w' ≡ onto (slice_front sort t last s) w)
+pub sliced-begun : (sort : SlicedType) (t : Tables) (inside : InsideWritten Pen) (s : Slice) (f : Format) (first last : Bool) (result : Result OpenSlice AllocError) (w w' : Written Pen) → f ≡ sliced → IfOk result (HasEntries (table_of s)) → OnOk result (w' ≡ onto (slice_front sort t last s) w)
     → IfOk result (λ o. onto (one_slice sort t (refer_to inside) f first last s) w ≡ open_left t inside o w')
 sliced-begun sort t inside s f first last (Ok o) w w' is has wrote = ap (λ (form : Format). onto (one_slice sort t (refer_to inside) form first last s) w) is ∙ slice-begun sort t inside s first last o w w' has wrote
 sliced-begun sort t inside s f first last (Err e) w w' is has wrote = tt
@@ -192,7 +193,7 @@ sliced-fits count s (Err e) out has below = tt
 pub onto-is : (piece : Piece Pen) (p p' : Pen) (out out' : List ℕ) → (out' ≡ out ++ (piece p).0) × (p' ≡ (piece p).1) → (p', out') ≡ onto piece (p, out)
 onto-is piece p p' out out' h = ap (λ (l : List ℕ). (p', l)) h.0 ∙ ap (λ (q : Pen). (q, out ++ (piece p).0)) h.1
 
-pub plain-begun : (sort : Sort) (t : Tables) (inside : InsideWritten Pen) (s : Slice) (f : Format) (first last : Bool) (result : Result OpenSlice AllocError) (w w' : Written Pen) → f ≡ compact → w' ≡ onto (plain_head sort t first last s) w
+pub plain-begun : (sort : SlicedType) (t : Tables) (inside : InsideWritten Pen) (s : Slice) (f : Format) (first last : Bool) (result : Result OpenSlice AllocError) (w w' : Written Pen) → f ≡ compact → w' ≡ onto (plain_head sort t first last s) w
     → IfOk result (λ o. open_left t inside o w' ≡ onto (members_bytes (rows_of sort t) (refer_to inside) s) w') → IfOk result (λ o. onto (one_slice sort t (refer_to inside) f first last s) w ≡ open_left t inside o w')
 plain-begun sort t inside s f first last (Ok o) w w' is wrote opened =
     ap (λ (form : Format). onto (one_slice sort t (refer_to inside) form first last s) w) is
@@ -200,7 +201,7 @@ plain-begun sort t inside s f first last (Ok o) w w' is wrote opened =
     ∙ ap (onto (members_bytes (rows_of sort t) (refer_to inside) s)) (sym wrote) ∙ sym opened
 plain-begun sort t inside s f first last (Err e) w w' is wrote opened = tt
 
-pub members-open : (sort : Sort) (t : Tables) (inside : InsideWritten Pen) (at : ℕ) (c : Members) (own : List Member) (r : Remaining) (w : Written Pen) → own ≡ members_in (slice_get (rows_of sort t).classes at) → r ≡ all_of Marked c
+pub members-open : (sort : SlicedType) (t : Tables) (inside : InsideWritten Pen) (at : ℕ) (c : Members) (own : List Member) (r : Remaining) (w : Written Pen) → own ≡ members_in (slice_get (rows_of sort t).classes at) → r ≡ all_of Marked c
     → members_left put_counted inside t own r w ≡ onto (members_bytes (rows_of sort t) (refer_to inside) (known at c)) w
 members-open sort t inside at c own r w is fresh =
     ap (λ (x : Remaining). members_left put_counted inside t own x w) fresh ∙ all-left put_counted inside t own Marked c w
@@ -217,7 +218,7 @@ last-same t refer [] = refl
 last-same t refer (s ∷ ss) = refl
 
 -- the first of those that have not begun, and those behind it
-pub next-slice : (sort : Sort) (t : Tables) (refer : Option ℕ → Piece Pen) (f : Format) (first : Bool) (s : Slice) (ss : List Slice) (w : Written Pen)
+pub next-slice : (sort : SlicedType) (t : Tables) (refer : Option ℕ → Piece Pen) (f : Format) (first : Bool) (s : Slice) (ss : List Slice) (w : Written Pen)
     → onto (others_left sort t refer f first (s ∷ ss)) w ≡ onto (others_left sort t refer f false ss) (onto (one_slice sort t refer f first (is_end t refer ss) s) w)
 next-slice Class t refer sliced first s ss w = in-turn (slice_head Class t (is_there (table_of s)) true (is_end t refer ss) s) (sized_body t refer s) (written_slices t refer ss) w
 next-slice Class t refer compact true s ss w = in-turn (plain_head Class t true (is_end t refer ss) s) (members_bytes t refer s) (written_bases t refer ss) w
@@ -237,7 +238,7 @@ pub first-below : (count : ℕ) (s : Slice) (ss all : List Slice) → AreBelow c
 first-below count s ss all h is = below-both count (slice_names s) (instance_names ss) (subst (λ (l : List Slice). AreBelow count (instance_names l)) is h)
 
 -- the next one has begun
-pub begun-next : (sort : Sort) (t : Tables) (f : Format) (inside : InsideWritten Pen) (first said last : Bool) (s : Slice) (ss all : List Slice) (o : OpenSlice) (w w' : Written Pen) → said ≡ first → all ≡ s ∷ ss → last ≡ is_end t (refer_to inside) ss → is_first o ≡ false
+pub begun-next : (sort : SlicedType) (t : Tables) (f : Format) (inside : InsideWritten Pen) (first said last : Bool) (s : Slice) (ss all : List Slice) (o : OpenSlice) (w w' : Written Pen) → said ≡ first → all ≡ s ∷ ss → last ≡ is_end t (refer_to inside) ss → is_first o ≡ false
     → onto (one_slice sort t (refer_to inside) f said last s) w ≡ open_left t inside o w'
     → onto (others_left sort t (refer_to inside) f first all) w ≡ onto (others_left sort t (refer_to inside) f (is_first o) ss) (open_left t inside o w')
 begun-next sort t f inside first said last s ss all o w w' same is end begun wrote =
@@ -250,13 +251,13 @@ begun-next sort t f inside first said last s ss all o w w' same is end begun wro
     ∙ ap (λ (b : Bool). onto (others_left sort t refer f b ss) (open_left t inside o w')) (sym begun)
 
 -- one is written whole
-pub slice-done : (sort : Sort) (t : Tables) (f : Format) (inside : InsideWritten Pen) (u : Unfinished) (o : OpenSlice) (w w' : Written Pen) → open_left t inside u.current w ≡ w' → is_first o ≡ is_first u.current
+pub slice-done : (sort : SlicedType) (t : Tables) (f : Format) (inside : InsideWritten Pen) (u : Unfinished) (o : OpenSlice) (w w' : Written Pen) → open_left t inside u.current w ≡ w' → is_first o ≡ is_first u.current
     → instance_left sort t f inside u w ≡ onto (others_left sort t (refer_to inside) f (is_first o) (view_slices u.slices.now)) w'
 slice-done sort t f inside u o w w' done first =
     ap (onto (others_left sort t (refer_to inside) f (is_first u.current) (view_slices u.slices.now))) done
     ∙ ap (λ (b : Bool). onto (others_left sort t (refer_to inside) f b (view_slices u.slices.now)) w') (sym first)
 
-module _ (sort : Sort) (t : Tables) (f : Format) (inside : InsideWritten Pen) (old new : Unfinished) (w w' : Written Pen) where
+module _ (sort : SlicedType) (t : Tables) (f : Format) (inside : InsideWritten Pen) (old new : Unfinished) (w w' : Written Pen) where
   pub next-ended : (b : Bool) → b ≡ false → BeginsNext sort t f inside (Ok b) old new w w' → onto (others_left sort t (refer_to inside) f (is_first old.current) (view_slices old.slices.now)) w ≡ w'
   next-ended true is h = absurd (false≢true (sym is))
   next-ended false is h = h

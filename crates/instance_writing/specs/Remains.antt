@@ -16,10 +16,11 @@ use Rattle.ice_graphs.specs.UserExceptionWritten.{user_exception_as}
 use Rattle.graph_arena.specs.Arena.{AreBelow}
 use Rattle.graph_arena.specs.Seen.{view_slices}
 use Rattle.ice_values.specs.Putting.{InsideWritten, Written, onto}
-use Rattle.instance_writing.specs.declared.sort.Sort.{Sort}
-use Rattle.instance_writing.specs.declared.sort.Sort.TheVariants.{Class, Exception}
+use Rattle.ice_values.specs.declared.sliced_type.SlicedType.{SlicedType}
+use Rattle.ice_values.specs.declared.sliced_type.SlicedType.TheVariants.{Class, Exception}
+use Rattle.ice_values.specs.SlicedType.{rows_of}
 use Rattle.instance_writing.specs.declared.unfinished.Unfinished.{Unfinished}
-use Rattle.instance_writing.specs.Sorts.{rows_of, slice_head, plain_head}
+use Rattle.instance_writing.specs.Sorts.{slice_head, plain_head}
 use Rattle.instance_writing.specs.Writable.{SlicesCanBeWritten}
 use Rattle.instance_writing.specs.Opened.{refer_to, is_first, open_left, OpenFits}
 
@@ -31,26 +32,26 @@ table_size [] = []
 table_size (n ∷ ns) = size_bytes (length (n ∷ ns))
 
 -- in sliced format, up to the entries of its table: flags and type id, size, members, and the size of the table
-abbrev pub slice_front : Sort → Tables → Bool → Slice → Piece Pen
+abbrev pub slice_front : SlicedType → Tables → Bool → Slice → Piece Pen
 slice_front sort t is_last s = slice_head sort t (is_there (table_of s)) true is_last s
     >> exactly ((slice_size.put (length (sized_bytes (rows_of sort t) s)) ++ sized_bytes (rows_of sort t) s) ++ table_size (table_of s))
 
 -- one of the slices of an instance or an exception: whether it is the first, and whether it is the last
-abbrev pub one_slice : Sort → Tables → (Option ℕ → Piece Pen) → Format → Bool → Bool → Slice → Piece Pen
+abbrev pub one_slice : SlicedType → Tables → (Option ℕ → Piece Pen) → Format → Bool → Bool → Slice → Piece Pen
 one_slice sort t refer sliced first is_last s = slice_head sort t (is_there (table_of s)) true is_last s >> sized_body (rows_of sort t) refer s
 one_slice sort t refer compact first is_last s = plain_head sort t first is_last s >> members_bytes (rows_of sort t) refer s
 
 -- ---- an instance, or an exception
 
 -- the slices that have not begun, the first one among them or not
-abbrev pub others_left : Sort → Tables → (Option ℕ → Piece Pen) → Format → Bool → List Slice → Piece Pen
+abbrev pub others_left : SlicedType → Tables → (Option ℕ → Piece Pen) → Format → Bool → List Slice → Piece Pen
 others_left Class t refer sliced first = written_slices t refer
 others_left Class t refer compact true = written_plain t refer
 others_left Class t refer compact false = written_bases t refer
 others_left Exception t refer f first = user_exception_as t refer f
 
 -- the slice that has begun, and those behind it
-abbrev pub instance_left : Sort → Tables → Format → InsideWritten Pen → Unfinished → Written Pen → Written Pen
+abbrev pub instance_left : SlicedType → Tables → Format → InsideWritten Pen → Unfinished → Written Pen → Written Pen
 instance_left sort t f inside u w = onto (others_left sort t (refer_to inside) f (is_first u.current) (view_slices u.slices.now)) (open_left t inside u.current w)
 
 -- ---- instances in one another
@@ -82,7 +83,7 @@ AllFit t count [] out = Unit {0}
 AllFit t count (u ∷ inner) out = Fits t count u out × AllFit t count inner out
 
 -- the next slice has begun and one fewer is behind it, or there is none
-abbrev pub BeginsNext : Sort → Tables → Format → InsideWritten Pen → Result Bool AllocError → Unfinished → Unfinished → Written Pen → Written Pen → Type 0
+abbrev pub BeginsNext : SlicedType → Tables → Format → InsideWritten Pen → Result Bool AllocError → Unfinished → Unfinished → Written Pen → Written Pen → Type 0
 BeginsNext sort t f inside (Ok true) old new w w' = onto (others_left sort t (refer_to inside) f (is_first old.current) (view_slices old.slices.now)) w ≡ instance_left sort t f inside new w'
 BeginsNext sort t f inside (Ok false) old new w w' = onto (others_left sort t (refer_to inside) f (is_first old.current) (view_slices old.slices.now)) w ≡ w'
 BeginsNext sort t f inside (Err e) old new w w' = Unit {0}

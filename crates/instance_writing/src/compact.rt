@@ -5,21 +5,21 @@ ghost use Rattle.ice_graphs.specs.Canonical.{Pen, members_bytes};
 ghost use Rattle.graph_arena.specs.Seen.{view_slice};
 ghost use Rattle.ice_values.specs.Putting.{InsideWritten, Written, onto};
 ghost use Rattle.ice_values.specs.WritingMembers.{WritesPiece};
+ghost use Rattle.ice_values.specs.SlicedType.{rows_of};
 ghost use Rattle.instance_writing.specs.Opened.{OpenFits, open_left, refer_to};
 ghost use Rattle.instance_writing.specs.Opened as spec;
-ghost use Rattle.instance_writing.specs.Sorts.{has_plain_id, plain_head, rows_of};
+ghost use Rattle.instance_writing.specs.Sorts.{has_plain_id, plain_head};
 ghost use Rattle.instance_writing.specs.Writable.{SliceCanBeWritten};
 
 use crate::encoder::Encoder;
 use crate::head::{Flags, put_head};
 use crate::open_slice::{OpenMembers, OpenSlice};
-use crate::parts::{has_optional, id_of, own_members};
+use crate::parts::{has_optional, id_of};
 use crate::pen::Pen;
 use crate::position::Position;
-use crate::sort::Sort;
 use graph_arena::Slice;
 use ice_prims::put_byte;
-use ice_values::{Ending, MembersWriter};
+use ice_values::{Ending, MembersWriter, SlicedType};
 use std::alloc::AllocError;
 
 /// Puts the flags of a slice without a size, and its type id where it is the first of an instance, or one of
@@ -27,7 +27,7 @@ use std::alloc::AllocError;
 /// (Ice manual, "Data Encoding for Class and Exception Types".)
 pub(crate) fn put_plain_head<'a>(
     by: &Encoder<'a>,
-    sort: Sort,
+    sort: SlicedType,
     slice: &'a Slice,
     position: Position,
     pen: &mut Pen<'a>,
@@ -50,12 +50,12 @@ pub(crate) fn put_plain_head<'a>(
 }
 
 /// Whether the type id stands: in the first slice of an instance, and in each of an exception.
-fn has_id(sort: Sort, is_first: bool) -> bool
+fn has_id(sort: SlicedType, is_first: bool) -> bool
     ensures { result ≡ has_plain_id sort is_first }
 {
     match sort {
-        Sort::Class => is_first,
-        Sort::Exception => true,
+        SlicedType::Class => is_first,
+        SlicedType::Exception => true,
     }
 }
 
@@ -63,7 +63,7 @@ fn has_id(sort: Sort, is_first: bool) -> bool
 /// is not known cannot stand in this format: nothing is written of it.
 pub(crate) fn open_members<'a>(
     by: &Encoder<'a>,
-    sort: Sort,
+    sort: SlicedType,
     slice: &'a Slice,
 ) -> Result<OpenSlice<'a>, AllocError>
     requires { SliceCanBeWritten (rows_of sort by.now.schema.now) (view_slice slice.now) }
@@ -76,7 +76,7 @@ pub(crate) fn open_members<'a>(
     match slice {
         Slice::Known { class, members } => {
             let writer = MembersWriter::new(by.alloc, members, Ending::Marked)?;
-            let own = own_members(by.schema, sort, *class);
+            let own = sort.own_members(by.schema, *class);
             Ok(OpenSlice::Members(Box::new(by.alloc, OpenMembers { writer, own })?))
         }
         Slice::Unknown { .. } => Ok(OpenSlice::Lent(&[])),

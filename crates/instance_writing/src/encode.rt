@@ -18,11 +18,10 @@ use crate::encoder::Encoder;
 use crate::format::Format;
 use crate::pen::Pen;
 use crate::slice::Desk;
-use crate::sort::Sort;
 use crate::unfinished::Unfinished;
 use graph_arena::{Graph, Slice};
 use ice_types::{List, Member, Schema};
-use ice_values::{Ending, MembersWriter, WritePaused};
+use ice_values::{Ending, MembersWriter, SlicedType, WritePaused};
 use std::alloc::{AllocError, Global};
 
 /// Puts the canonical bytes, in the format, of a graph whose instances are named by the order of their
@@ -115,7 +114,7 @@ fn put_more<'a>(
     ensures less { OnOk result
         (steps_left (room pen.new) (length stack.new) < steps_left (room pen.old) (length stack.old + 1)) }
 {
-    match top.go(by, Sort::Class, pen, desk, out)? {
+    match top.go(by, SlicedType::Class, pen, desk, out)? {
         WritePaused::Done => Ok(()),
         WritePaused::Begins(name) => {
             stack.push(top)?;

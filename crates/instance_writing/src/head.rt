@@ -8,9 +8,9 @@ ghost use Rattle.ice_values.specs.WritingMembers.{WritesPiece};
 ghost use Rattle.instance_writing.specs.Sorts.{head_of};
 
 use crate::pen::Pen;
-use crate::sort::Sort;
 use ice_prims::{put_byte, put_size, put_str};
 use ice_types::MOST_NUMBER;
+use ice_values::SlicedType;
 use std::alloc::AllocError;
 
 /// A type id that stands as a text, in the flags.
@@ -45,7 +45,7 @@ impl Flags {
 /// Puts the flags and the type id of a slice. Out of memory leaves a part of it; so does a type id of more
 /// bytes than the greatest int. (Ice manual, "Data Encoding for Class and Exception Types".)
 pub(crate) fn put_head<'a>(
-    sort: Sort,
+    sort: SlicedType,
     id: &'a str,
     flags: Flags,
     pen: &mut Pen<'a>,
@@ -56,8 +56,8 @@ pub(crate) fn put_head<'a>(
         result pen.old out.old.items pen.new out.new.items }
 {
     match sort {
-        Sort::Class => put_class_head(id, flags, pen, out),
-        Sort::Exception => put_exception_head(id, flags, out),
+        SlicedType::Class => put_class_head(id, flags, pen, out),
+        SlicedType::Exception => put_exception_head(id, flags, out),
     }
 }
 

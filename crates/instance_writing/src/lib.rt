@@ -33,7 +33,6 @@ mod parts;
 mod pen;
 mod position;
 mod slice;
-mod sort;
 mod table;
 mod unfinished;
 mod user_exception;

@@ -12,23 +12,22 @@ ghost use Rattle.graph_arena.specs.Arena.{AreBelow};
 ghost use Rattle.graph_arena.specs.Seen.{view_content, view_slice};
 ghost use Rattle.ice_values.specs.Putting.{onto};
 ghost use Rattle.ice_values.specs.WritingMembers.{ContentCanBeWritten};
+ghost use Rattle.ice_values.specs.SlicedType.{rows_of};
 ghost use Rattle.instance_writing.specs.Tabling.{HasPlaces, no_names};
 ghost use Rattle.instance_writing.specs.Opened.{HasEntries};
 ghost use Rattle.instance_writing.specs.Remains.{slice_front, table_size};
-ghost use Rattle.instance_writing.specs.Sorts.{rows_of};
 ghost use Rattle.instance_writing.specs.Writable.{SliceCanBeWritten};
 
 use crate::encoder::Encoder;
 use crate::head::{Flags, put_head};
 use crate::open_slice::OpenSlice;
-use crate::parts::{has_optional, id_of, own_members};
+use crate::parts::{has_optional, id_of};
 use crate::pen::Pen;
-use crate::sort::Sort;
 use crate::table::Table;
 use graph_arena::{Members, Slice};
 use ice_prims::put_size;
 use ice_types::MOST_NUMBER;
-use ice_values::{Ending, write_members};
+use ice_values::{Ending, SlicedType, write_members};
 use preserved::{put_slice_size, write_unknown};
 use std::alloc::{AllocError, Global};
 
@@ -45,7 +44,7 @@ pub(crate) struct Desk {
 /// that is. (Ice manual, "Data Encoding for Class and Exception Types".)
 pub(crate) fn put_slice<'a>(
     by: &Encoder<'a>,
-    sort: Sort,
+    sort: SlicedType,
     slice: &'a Slice,
     is_last: bool,
     pen: &mut Pen<'a>,
@@ -116,7 +115,7 @@ impl Desk {
     fn put_members(
         &mut self,
         by: &Encoder,
-        sort: Sort,
+        sort: SlicedType,
         class: u32,
         members: &Members,
     ) -> Result<(), AllocError>
@@ -131,7 +130,7 @@ impl Desk {
             ≡ record { count = self.old.table.count; names = table_of (known class (view_content members.now)) }) }
     {
         self.members.clear();
-        let own = own_members(by.schema, sort, class);
+        let own = sort.own_members(by.schema, class);
         write_members(
             by.alloc,
             by.schema,

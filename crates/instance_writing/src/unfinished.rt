@@ -8,13 +8,13 @@ ghost use Rattle.graph_arena.specs.Arena.{AreBelow};
 ghost use Rattle.graph_arena.specs.Seen.{view_slice};
 ghost use Rattle.ice_values.specs.Putting.{InsideWritten, NarrowsOnPause, onto};
 ghost use Rattle.ice_values.specs.WritingMembers.{GoesOn};
+ghost use Rattle.ice_values.specs.SlicedType.{rows_of};
 ghost use Rattle.instance_writing.specs.declared.open_slice.OpenSlice.TheVariants as opens;
 ghost use Rattle.instance_writing.specs.Formats.{view_format};
 ghost use Rattle.instance_writing.specs.Pens.{room};
 ghost use Rattle.instance_writing.specs.Opened.{OpenFits, open_left, refer_to};
 ghost use Rattle.instance_writing.specs.Opened as spec;
 ghost use Rattle.instance_writing.specs.Remains.{BeginsNext, Fits, LessOnNext, instance_left, one_slice};
-ghost use Rattle.instance_writing.specs.Sorts.{rows_of};
 ghost use Rattle.instance_writing.specs.Writable.{SliceCanBeWritten};
 
 use crate::compact::{open_members, put_plain_head};
@@ -24,9 +24,8 @@ use crate::open_slice::OpenSlice;
 use crate::pen::Pen;
 use crate::position::Position;
 use crate::slice::{Desk, put_slice};
-use crate::sort::Sort;
 use graph_arena::Slice;
-use ice_values::WritePaused;
+use ice_values::{SlicedType, WritePaused};
 use std::alloc::AllocError;
 use std::mem::size_of;
 
@@ -60,7 +59,7 @@ impl<'a> Unfinished<'a> {
     pub(crate) fn go(
         &mut self,
         by: &Encoder<'a>,
-        sort: Sort,
+        sort: SlicedType,
         pen: &mut Pen<'a>,
         desk: &mut Desk,
         out: &mut Vec<u8>,
@@ -92,7 +91,7 @@ impl<'a> Unfinished<'a> {
     fn begin_next(
         &mut self,
         by: &Encoder<'a>,
-        sort: Sort,
+        sort: SlicedType,
         pen: &mut Pen<'a>,
         desk: &mut Desk,
         out: &mut Vec<u8>,
@@ -125,7 +124,7 @@ impl<'a> Unfinished<'a> {
 /// Writes a slice in the format, up to the entries of its table or to its members.
 fn begin_slice<'a>(
     by: &Encoder<'a>,
-    sort: Sort,
+    sort: SlicedType,
     slice: &'a Slice,
     position: Position,
     pen: &mut Pen<'a>,

@@ -11,11 +11,10 @@ use crate::encoder::Encoder;
 use crate::format::Format;
 use crate::pen::Pen;
 use crate::slice::Desk;
-use crate::sort::Sort;
 use crate::unfinished::Unfinished;
 use graph_arena::{Graph, Slice};
 use ice_types::Schema;
-use ice_values::WritePaused;
+use ice_values::{SlicedType, WritePaused};
 use std::alloc::{AllocError, Global};
 
 /// Puts the content, in the format, of the user exception of these slices and of the instances of the graph
@@ -47,7 +46,7 @@ pub fn write_user_exception(
     let mut desk = Desk::new(alloc, graph.len())?;
     let mut user_exception = Unfinished::new(slices);
     loop {
-        match user_exception.go(&encoder, Sort::Exception, &mut pen, &mut desk, out)? {
+        match user_exception.go(&encoder, SlicedType::Exception, &mut pen, &mut desk, out)? {
             WritePaused::Done => return Ok(()),
             WritePaused::Begins(name) => {
                 put_instance(&encoder, graph, name, &mut pen, &mut desk, out)?;

@@ -1,35 +1,43 @@
--- What rows of a schema tell of the tables in which they are classes.
-use Rattle.std.proofs.Common.{◌≡◌, ℕ, ◌↔◌, IsTrue, Bool, List, sym, ap, ◌∙◌, subst, Some}
+-- Values of the members of a row of a schema, whose classes are its classes or its exceptions.
+use Rattle.std.proofs.Common.{◌≡◌, ℕ, zero, suc, ◌<◌, ◌↔◌, IsTrue, Bool, false, List, [], ◌∷◌, length, Some, refl, subst, arith}
 use Rattle.std.specs.Prelude.{slice_get}
-use Rattle.ice_types.specs.declared.declarations.ExceptionDecl.{ExceptionDecl}
-use Rattle.ice_types.specs.declared.declarations.Member.{Member}
+use Rattle.ice_types.specs.declared.declarations.ClassDecl.{ClassDecl}
+use Rattle.ice_types.specs.declared.declarations.Shape.{Shape}
 use Rattle.ice_types.specs.Tables.{Tables}
 use Rattle.ice_encoding.specs.Typed.{Refers}
-use Rattle.ice_graphs.specs.OptionalMembers.{Members, shape_of}
-use Rattle.ice_graphs.specs.Classes.{members_in, own_members}
-use Rattle.ice_graphs.specs.Exceptions.{as_class, of_exceptions}
+use Rattle.ice_graphs.specs.OptionalMembers.{Members}
+use Rattle.ice_graphs.specs.Classes.{own_members}
+use Rattle.ice_graphs.specs.Exceptions.{of_exceptions}
 use Rattle.ice_graphs.specs.Typed.{AreMembers, IsKnown}
 use Rattle.ice_graphs.proofs.Agreeing.{members_to, members_from}
-use Rattle.graph_laws.proofs.ExceptionRows.{as_row, row_is}
-use Rattle.value_checks.specs.declared.instances.Rows.{Rows}
-use Rattle.value_checks.specs.declared.instances.Rows.TheVariants.{Classes, Exceptions}
-use Rattle.value_checks.specs.Rows.{rows_of, HasOwn}
+use Rattle.ice_values.specs.SlicedType.{rows_of}
+use Rattle.ice_values.specs.declared.sliced_type.SlicedType.{SlicedType}
+use Rattle.ice_values.specs.declared.sliced_type.SlicedType.TheVariants.{Class, Exception}
 
-pub own_in : (rows : Rows) (t : Tables) (class : ℕ) (es : List ExceptionDecl) (e : ExceptionDecl) (members : List Member) → rows ≡ Exceptions → es ≡ t.exceptions → Some e ≡ slice_get es class → members ≡ e.members
-    → HasOwn (rows_of rows t) class members
-own_in rows t class es e members is same row are =
-    subst (λ (r : Rows). HasOwn (rows_of r t) class members) (sym is) (as_class e, row_is t.exceptions class ∙ ap as_row (ap (λ l. slice_get l class) (sym same) ∙ sym row), are)
+there : (ds : List ClassDecl) (at : ℕ) → at < length ds → (d : ClassDecl) × (slice_get ds at ≡ Some d)
+there [] at lt = absurd (omega (arith, lt))
+there (d ∷ ds) zero lt = (d, refl)
+there (d ∷ ds) (suc at) lt = there ds at (omega (arith, lt))
 
--- ---- values of the members of a row
+within : (ds : List ClassDecl) (at : ℕ) (d : ClassDecl) → slice_get ds at ≡ Some d → at < length ds
+within [] at d is = absurd cc
+within (e ∷ ds) zero d is = omega arith
+within (e ∷ ds) (suc at) d is = let rest = within ds at d is in omega (arith, rest)
 
-pub known_told : (rows : Rows) (t : Tables) (Refer : Refers) (class : ℕ) (own : List Member) (content : Members) (tells : Bool) → HasOwn (rows_of rows t) class own
-    → (IsTrue tells ↔ AreMembers t Refer (shape_of own) content) → IsTrue tells ↔ IsKnown (rows_of rows t) Refer class content
-known_told Classes t Refer class own content tells (d, row, is) told =
-    let same : own ≡ members_in (slice_get t.classes class) = is ∙ sym (ap members_in row) in
-    let h = subst (λ (ms : List Member). IsTrue tells ↔ AreMembers t Refer (shape_of ms) content) same told in
-    (λ b. (d, row, h.0 b), λ k. h.1 k.2)
-known_told Exceptions t Refer class own content tells (d, row, is) told =
+pub known_told : (sort : SlicedType) (t : Tables) (Refer : Refers) (class : ℕ) (shape : Shape) (content : Members) (tells : Bool) → class < length (rows_of sort t).classes
+    → shape ≡ own_members (rows_of sort t) class → (IsTrue tells ↔ AreMembers t Refer shape content) → IsTrue tells ↔ IsKnown (rows_of sort t) Refer class content
+known_told Class t Refer class shape content tells lt is told =
+    let row = there t.classes class lt in
+    let h = subst (λ (s : Shape). IsTrue tells ↔ AreMembers t Refer s content) is told in
+    (λ b. (row.0, row.1, h.0 b), λ k. h.1 k.2)
+known_told Exception t Refer class shape content tells lt is told =
     let u = of_exceptions t in
-    let same : own ≡ members_in (slice_get u.classes class) = is ∙ sym (ap members_in row) in
-    let h = subst (λ (ms : List Member). IsTrue tells ↔ AreMembers t Refer (shape_of ms) content) same told in
-    (λ b. (d, row, members_to t Refer (own_members u class) content (h.0 b)), λ k. h.1 (members_from t Refer (own_members u class) content k.2))
+    let row = there u.classes class lt in
+    let h = subst (λ (s : Shape). IsTrue tells ↔ AreMembers t Refer s content) is told in
+    (λ b. (row.0, row.1, members_to t Refer (own_members u class) content (h.0 b)), λ k. h.1 (members_from t Refer (own_members u class) content k.2))
+
+pub unknown_row : (u : Tables) (Refer : Refers) (class : ℕ) (content : Members) (has : Bool) → has ≡ false → (IsTrue has ↔ (class < length u.classes)) → IsTrue has ↔ IsKnown u Refer class content
+unknown_row u Refer class content has is told = (λ b. none (subst IsTrue is b), λ k. told.1 (within u.classes class k.0 k.1))
+  where
+    none : IsTrue false → IsKnown u Refer class content
+    none b = absurd cc

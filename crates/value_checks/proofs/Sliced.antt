@@ -1,13 +1,11 @@
 -- The slices of an instance, and type ids that a schema lacks.
-use Rattle.std.proofs.Common.{◌≡◌, ℕ, zero, suc, ◌+◌, ◌-◌, ◌==◌, ◌↔◌, IsTrue, Bool, true, false, not, if◌then◌else◌, List, [], ◌∷◌, length, take, drop, Option, None, Some, refl, sym, ap, subst, ◌∙◌, arith, bytes_eq}
+use Rattle.std.proofs.Common.{◌≡◌, ℕ, ◌+◌, ◌-◌, ◌==◌, ◌↔◌, IsTrue, Bool, true, false, not, List, [], ◌∷◌, length, take, drop, Option, None, Some, refl, sym, subst, ◌∙◌, arith}
 use Rattle.std.specs.Option.{is_some}
 use Rattle.std.specs.Str.{IsUtf8}
-use Rattle.std.proofs.lemmas.Bool.{false≢true}
 use Rattle.std.proofs.lemmas.List.{length-drop, take_all}
-use Rattle.std.proofs.lemmas.Slice.Eq.{bytes_eq-Decides}
-use Rattle.ice_types.specs.Tables.{Tables, Finds, HasId}
+use Rattle.ice_types.specs.Tables.{Tables}
 use Rattle.ice_encoding.specs.Typed.{Refers}
-use Rattle.ice_graphs.specs.Classes.{base_of, place_of, one_further}
+use Rattle.ice_graphs.specs.Classes.{base_of, class_named}
 use Rattle.ice_graphs.specs.Graph.{Slice, known, unknown}
 use Rattle.ice_graphs.specs.Typed.{AreBases, IsInstance, IsKnown}
 use Rattle.graph_arena.specs.declared.instance.Members.{Members}
@@ -16,37 +14,7 @@ use Rattle.graph_arena.specs.declared.instance.Slice.TheVariants.{Known}
 use Rattle.graph_arena.specs.Seen.{view_content, view_slices}
 use Rattle.value_checks.specs.First.{AreSlices}
 
--- ---- a text that stands nowhere
-
-lacks_by : (first : List ℕ) (ids : List (List ℕ)) (id : List ℕ) (b : Bool) → bytes_eq first id ≡ b → ((at : ℕ) → HasId (first ∷ ids) id at → ⊥) → place_of ids id ≡ None
-    → (if b then Some 0 else one_further (place_of ids id)) ≡ None
-lacks_by first ids id true is none rest = absurd (none zero (ap Some ((bytes_eq-Decides first id).0 is)))
-lacks_by first ids id false is none rest = ap one_further rest
-
-lacks : (ids : List (List ℕ)) (id : List ℕ) → ((at : ℕ) → HasId ids id at → ⊥) → place_of ids id ≡ None
-lacks [] id none = refl
-lacks (first ∷ ids) id none = lacks_by first ids id (bytes_eq first id) refl none (lacks ids id (λ at. none (suc at)))
-
-same_text : (a b : List ℕ) → Some a ≡ Some b → a ≡ b
-same_text a b e = cc
-
-no_further : (found : Option ℕ) → one_further found ≡ None → found ≡ None
-no_further None e = refl
-no_further (Some n) e = absurd cc
-
-has_by : (first : List ℕ) (ids : List (List ℕ)) (id : List ℕ) (b : Bool) (at : ℕ) → bytes_eq first id ≡ b → HasId (first ∷ ids) id at
-    → ((at : ℕ) → HasId ids id at → place_of ids id ≡ None → ⊥) → (if b then Some 0 else one_further (place_of ids id)) ≡ None → ⊥
-has_by first ids id true at same is rest gone = absurd cc
-has_by first ids id false zero same is rest gone = false≢true (sym same ∙ (bytes_eq-Decides first id).1 (same_text first id is))
-has_by first ids id false (suc at) same is rest gone = rest at is (no_further (place_of ids id) gone)
-
-has : (ids : List (List ℕ)) (id : List ℕ) (at : ℕ) → HasId ids id at → place_of ids id ≡ None → ⊥
-has [] id at is gone = absurd cc
-has (first ∷ ids) id at is gone = has_by first ids id (bytes_eq first id) at refl is (has ids id) gone
-
-none_found : (ids : List (List ℕ)) (id : List ℕ) (found : Option ℕ) → Finds (HasId ids id) found → (found ≡ None) ↔ (place_of ids id ≡ None)
-none_found ids id None none = (λ e. lacks ids id none, λ e. refl)
-none_found ids id (Some at) is = (λ e. absurd cc, λ e. absurd (has ids id at is e))
+-- ---- a type id that the schema lacks
 
 none_tells : (found : Option ℕ) (tells : Bool) → is_some found ≡ not tells → IsTrue tells ↔ (found ≡ None)
 none_tells None true e = (λ b. refl, λ h. refl)
@@ -54,17 +22,11 @@ none_tells None false e = absurd cc
 none_tells (Some at) true e = absurd cc
 none_tells (Some at) false e = (λ b. absurd cc, λ h. absurd cc)
 
-pub unknown_told : (rows ids : List (List ℕ)) (id text : List ℕ) (found : Option ℕ) (tells : Bool) → rows ≡ ids → text ≡ id → IsUtf8 text → Finds (HasId rows text) found → is_some found ≡ not tells
-    → IsTrue tells ↔ ((place_of ids id ≡ None) × IsUtf8 id)
-unknown_told rows ids id text found tells are same valid finds is =
-    let none = none_found rows text found finds in
-    let test = none_tells found tells is in
-    subst (λ (l : List (List ℕ)). IsTrue tells ↔ ((place_of l id ≡ None) × IsUtf8 id)) are (
-    subst (λ (s : List ℕ). IsTrue tells ↔ ((place_of rows s ≡ None) × IsUtf8 s)) same (
-      (λ b. (none.0 (test.0 b), valid)),
-      (λ h. test.1 (none.1 h.0)),
-    )
-    )
+pub unknown_told : (u : Tables) (id text : List ℕ) (found : Option ℕ) (tells : Bool) → text ≡ id → IsUtf8 text → found ≡ class_named u text → is_some found ≡ not tells
+    → IsTrue tells ↔ ((class_named u id ≡ None) × IsUtf8 id)
+unknown_told u id text found tells same valid is told =
+    let test = none_tells found tells told in
+    subst (λ (s : List ℕ). IsTrue tells ↔ ((class_named u s ≡ None) × IsUtf8 s)) same ((λ b. (sym is ∙ test.0 b, valid)), (λ h. test.1 (is ∙ h.0)))
 
 -- ---- one slice at least
 

@@ -1,5 +1,4 @@
 pub mod First
 pub mod Forms
 pub mod References
-pub mod Rows
 pub mod Zeros

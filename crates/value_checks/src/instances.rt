@@ -1,28 +1,21 @@
 //! Whether slices are those of an instance, or of an exception. (Ice manual, "Class Inheritance", "User
 //! Exceptions".)
 
-ghost use Rattle.std.specs.Prelude.{◌≡◌, ◌<◌, ◌↔◌, IsTrue, IfSome, None, length, slice_get};
+ghost use Rattle.std.specs.Prelude.{◌≡◌, ◌<◌, ◌↔◌, IsTrue, None, length};
 ghost use Rattle.std.specs.Str.{IsUtf8};
 ghost use Rattle.ice_prims.specs.Rest.{IsBytes};
 ghost use Rattle.ice_graphs.specs.Classes as classes;
 ghost use Rattle.ice_graphs.specs.Exceptions.{of_exceptions};
 ghost use Rattle.ice_graphs.specs.Typed.{AreBases, AreReferred, IsInstance, IsKnown, RefersIn};
 ghost use Rattle.graph_arena.specs.Seen.{view_content, view_slice, view_slices};
+ghost use Rattle.ice_values.specs.SlicedType.{rows_of};
 ghost use Rattle.value_checks.specs.First.{AreSlices, IsFine, IsUnknownSlice, IsSlice};
-ghost use Rattle.value_checks.specs.Rows.{HasOwn, rows_of};
 
 use crate::members::are_members;
 use crate::references::References;
 use graph_arena::{Graph, Members, Slice};
-use ice_types::{Member, Name, Schema};
-use ice_values::DeclaredMembers;
-
-/// Which rows of a schema slices are of.
-#[derive(Clone, Copy)]
-pub(crate) enum Rows {
-    Classes,
-    Exceptions,
-}
+use ice_types::{Name, Schema};
+use ice_values::SlicedType;
 
 /// Whether they are the slices of a user exception whose references stand for instances of the graph: kept
 /// ones and then those of an exception of the schema and of all its bases, in order, or unknown ones alone, and
@@ -32,7 +25,7 @@ pub fn is_user_exception(schema: &Schema, graph: &Graph, slices: &[Slice]) -> bo
     ensures { IsTrue result ↔ IsInstance (of_exceptions schema.now) (RefersIn schema.now graph.now.instances)
         (view_slices slices.now) }
 {
-    is_instance(schema, Rows::Exceptions, graph, slices)
+    is_instance(schema, SlicedType::Exception, graph, slices)
 }
 
 /// Whether the instance at a place is of its class.
@@ -42,7 +35,7 @@ pub(crate) fn is_fine(schema: &Schema, graph: &Graph, at: u32) -> bool
 {
     is_instance(
         schema,
-        Rows::Classes,
+        SlicedType::Class,
         graph,
         graph.instance(at).slices.as_slice(),
     )
@@ -50,24 +43,24 @@ pub(crate) fn is_fine(schema: &Schema, graph: &Graph, at: u32) -> bool
 
 /// Whether they are unknown slices and then those of a known class and of all its bases, in order, or kept
 /// slices alone, and one at least.
-fn is_instance(schema: &Schema, rows: Rows, graph: &Graph, slices: &[Slice]) -> bool
-    ensures { IsTrue result ↔ IsInstance (rows_of rows schema.now) (RefersIn schema.now graph.now.instances)
+fn is_instance(schema: &Schema, sort: SlicedType, graph: &Graph, slices: &[Slice]) -> bool
+    ensures { IsTrue result ↔ IsInstance (rows_of sort schema.now) (RefersIn schema.now graph.now.instances)
         (view_slices slices.now) }
 {
-    !slices.is_empty() && are_slices(schema, rows, graph, slices)
+    !slices.is_empty() && are_slices(schema, sort, graph, slices)
 }
 
 /// The same, where they may also be none.
-fn are_slices(schema: &Schema, rows: Rows, graph: &Graph, slices: &[Slice]) -> bool
-    ensures { IsTrue result ↔ AreSlices (rows_of rows schema.now) (RefersIn schema.now graph.now.instances)
+fn are_slices(schema: &Schema, sort: SlicedType, graph: &Graph, slices: &[Slice]) -> bool
+    ensures { IsTrue result ↔ AreSlices (rows_of sort schema.now) (RefersIn schema.now graph.now.instances)
         (view_slices slices.now) }
 {
     for (at, slice) in slices.iter().enumerate() {
         if let Slice::Known { class, members } = slice {
             let bases = &slices[at + 1..];
-            return is_whole(schema, rows, graph, *class, members, bases);
+            return is_whole(schema, sort, graph, *class, members, bases);
         }
-        if !is_unknown(schema, rows, graph, slice) {
+        if !is_unknown(schema, sort, graph, slice) {
             return false;
         }
     }
@@ -76,8 +69,8 @@ fn are_slices(schema: &Schema, rows: Rows, graph: &Graph, slices: &[Slice]) -> b
 
 /// Whether it is kept of a class that the schema lacks, as bytes, with a table of names that may stand where
 /// any class may.
-fn is_unknown(schema: &Schema, rows: Rows, graph: &Graph, slice: &Slice) -> bool
-    ensures { IsTrue result ↔ IsUnknownSlice (rows_of rows schema.now) (RefersIn schema.now graph.now.instances)
+fn is_unknown(schema: &Schema, sort: SlicedType, graph: &Graph, slice: &Slice) -> bool
+    ensures { IsTrue result ↔ IsUnknownSlice (rows_of sort schema.now) (RefersIn schema.now graph.now.instances)
         (view_slice slice.now) }
 {
     match slice {
@@ -88,7 +81,7 @@ fn is_unknown(schema: &Schema, rows: Rows, graph: &Graph, slice: &Slice) -> bool
             table,
             ..
         } => {
-            is_unknown_id(schema, rows, id)
+            is_unknown_id(schema, sort, id)
                 && are_referred(schema, graph, table.as_slice())
                 && are_bytes(bytes.as_slice())
         }
@@ -96,13 +89,10 @@ fn is_unknown(schema: &Schema, rows: Rows, graph: &Graph, slice: &Slice) -> bool
 }
 
 /// Whether the schema lacks the type id, which is UTF-8 as each text is.
-fn is_unknown_id(schema: &Schema, rows: Rows, id: &Name) -> bool
-    ensures { IsTrue result ↔ ((classes.class_named (rows_of rows schema.now) id.now ≡ None) × IsUtf8 id.now) }
+fn is_unknown_id(schema: &Schema, sort: SlicedType, id: &Name) -> bool
+    ensures { IsTrue result ↔ ((classes.class_named (rows_of sort schema.now) id.now ≡ None) × IsUtf8 id.now) }
 {
-    match rows {
-        Rows::Classes => schema.class(id.as_str()).is_none(),
-        Rows::Exceptions => schema.exception(id.as_str()).is_none(),
-    }
+    sort.row_named(schema, id.as_str()).is_none()
 }
 
 /// Each of them is one.
@@ -128,30 +118,30 @@ fn are_referred(schema: &Schema, graph: &Graph, names: &[u32]) -> bool
 /// Whether the class is known, they are the values of its own members, and these the slices of its bases.
 fn is_whole(
     schema: &Schema,
-    rows: Rows,
+    sort: SlicedType,
     graph: &Graph,
     class: u32,
     members: &Members,
     bases: &[Slice],
 ) -> bool
     ensures { IsTrue result ↔
-        (IsKnown (rows_of rows schema.now) (RefersIn schema.now graph.now.instances) class (view_content members.now)
-        × AreBases (rows_of rows schema.now) (RefersIn schema.now graph.now.instances)
-        (classes.base_of (rows_of rows schema.now) class) (view_slices bases.now)) }
+        (IsKnown (rows_of sort schema.now) (RefersIn schema.now graph.now.instances) class (view_content members.now)
+        × AreBases (rows_of sort schema.now) (RefersIn schema.now graph.now.instances)
+        (classes.base_of (rows_of sort schema.now) class) (view_slices bases.now)) }
 {
-    is_known(schema, rows, graph, class, members)
-        && are_bases(schema, rows, graph, base_of(schema, rows, class), bases)
+    is_known(schema, sort, graph, class, members)
+        && are_bases(schema, sort, graph, sort.base_of(schema, class), bases)
 }
 
 /// Whether they are the slices of this class, its base, the base of that and so on.
 fn are_bases(
     schema: &Schema,
-    rows: Rows,
+    sort: SlicedType,
     graph: &Graph,
     class: Option<u32>,
     slices: &[Slice],
 ) -> bool
-    ensures { IsTrue result ↔ AreBases (rows_of rows schema.now) (RefersIn schema.now graph.now.instances) class
+    ensures { IsTrue result ↔ AreBases (rows_of sort schema.now) (RefersIn schema.now graph.now.instances) class
         (view_slices slices.now) }
 {
     let mut next = class;
@@ -159,62 +149,33 @@ fn are_bases(
         let Some(class) = next else {
             return false;
         };
-        if !is_slice(schema, rows, graph, class, slice) {
+        if !is_slice(schema, sort, graph, class, slice) {
             return false;
         }
-        next = base_of(schema, rows, class);
+        next = sort.base_of(schema, class);
     }
     next.is_none()
 }
 
 /// Whether it is the slice of this class, with the values of its own members.
-fn is_slice(schema: &Schema, rows: Rows, graph: &Graph, class: u32, slice: &Slice) -> bool
-    ensures { IsTrue result ↔ IsSlice (rows_of rows schema.now) (RefersIn schema.now graph.now.instances) class
+fn is_slice(schema: &Schema, sort: SlicedType, graph: &Graph, class: u32, slice: &Slice) -> bool
+    ensures { IsTrue result ↔ IsSlice (rows_of sort schema.now) (RefersIn schema.now graph.now.instances) class
         (view_slice slice.now) }
 {
     match slice {
         Slice::Known {
             class: other,
             members,
-        } => *other == class && is_known(schema, rows, graph, class, members),
+        } => *other == class && is_known(schema, sort, graph, class, members),
         Slice::Unknown { .. } => false,
     }
 }
 
 /// Whether the class is known, and they are the values of its own members.
-fn is_known(schema: &Schema, rows: Rows, graph: &Graph, class: u32, members: &Members) -> bool
-    ensures { IsTrue result ↔ IsKnown (rows_of rows schema.now) (RefersIn schema.now graph.now.instances) class
+fn is_known(schema: &Schema, sort: SlicedType, graph: &Graph, class: u32, members: &Members) -> bool
+    ensures { IsTrue result ↔ IsKnown (rows_of sort schema.now) (RefersIn schema.now graph.now.instances) class
         (view_content members.now) }
 {
-    match own_members(schema, rows, class) {
-        Some(own) => {
-            let fields = DeclaredMembers {
-                required: own,
-                optional: own,
-            };
-            are_members(schema, graph, fields, members)
-        }
-        None => false,
-    }
-}
-
-/// The members of a class itself, without those of its bases.
-fn own_members(schema: &Schema, rows: Rows, class: u32) -> Option<&[Member]>
-    ensures none { result ≡ None → slice_get (rows_of rows schema.now).classes class ≡ None }
-    ensures some { IfSome result (λ own. HasOwn (rows_of rows schema.now) class own.now) }
-{
-    match rows {
-        Rows::Classes => Some(schema.classes().get(class as usize)?.members.as_slice()),
-        Rows::Exceptions => Some(schema.exceptions().get(class as usize)?.members.as_slice()),
-    }
-}
-
-/// The class that a class extends.
-fn base_of(schema: &Schema, rows: Rows, class: u32) -> Option<u32>
-    ensures { result ≡ classes.base_of (rows_of rows schema.now) class }
-{
-    match rows {
-        Rows::Classes => schema.classes().get(class as usize)?.base,
-        Rows::Exceptions => schema.exceptions().get(class as usize)?.base,
-    }
+    let fields = sort.own_fields(schema, class);
+    sort.has_row(schema, class) && are_members(schema, graph, fields, members)
 }

@@ -1,7 +1,6 @@
 //! Whether a proxy is one that bytes can spell. (Ice manual, "Data Encoding for Proxies".)
 
-ghost use Rattle.std.specs.Prelude.{◌≡◌, ◌≤◌, ◌<◌, ◌^◌, ◌↔◌, IsTrue, Some, length};
-ghost use Rattle.ice_prims.specs.Bytes.{size_bytes};
+ghost use Rattle.std.specs.Prelude.{◌≡◌, ◌<◌, ◌^◌, ◌↔◌, IsTrue, Some, length};
 ghost use Rattle.ice_prims.specs.Laws.{IsTextSize};
 ghost use Rattle.ice_types.specs.declared.proxy.Endpoint.TheVariants.{Opaque, Tcp};
 ghost use Rattle.ice_encoding.specs.Parts.{Each};
@@ -10,6 +9,7 @@ ghost use Rattle.ice_encoding.specs.Identity as names;
 ghost use Rattle.ice_encoding.specs.Endpoint as served;
 ghost use Rattle.ice_encoding.specs.Proxy as form;
 
+use encaps_optionals::size_length;
 use ice_encoding::{LARGEST, SIZE_BYTES};
 use ice_types::{Endpoint, Identity, Name, Proxy};
 
@@ -136,12 +136,4 @@ fn means_tcp(kind: i16, major: u8, minor: u8) -> bool
     ensures { result ≡ served.is_tcp kind (major, minor) }
 {
     kind == 1 && major == 1 && minor == 1
-}
-
-/// How many bytes a size has.
-fn size_length(size: usize) -> usize
-    ensures exact { result ≡ length (size_bytes size) }
-    ensures few { result ≤ 5 }
-{
-    if size < 255 { 1 } else { 5 }
 }

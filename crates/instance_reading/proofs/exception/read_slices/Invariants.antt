@@ -1,8 +1,8 @@
 use Rattle.std.proofs.Common.{◌≡◌}
 use Rattle.ice_graphs.specs.Instances.{most_instances}
+use Rattle.ice_values.specs.declared.sliced_type.SlicedType.TheVariants as sorts
 use Rattle.instance_reading.specs.Stacked.{exception_slices, instance_within}
 use Rattle.instance_reading.specs.Unfinished.{left_slices, room}
-use Rattle.instance_reading.specs.declared.sort.Sort.TheVariants as sorts
 use Rattle.instance_reading.proofs.exception.read_slices.Given as goal
 
 abbrev pub invariant-loop-user_exception : goal.invariant-loop-user_exception

@@ -4,9 +4,9 @@ use Rattle.graph_arena.specs.declared.instance.Slice as arena
 use Rattle.graph_arena.specs.Seen.{view_slice, view_content}
 use Rattle.ice_values.specs.Putting.{onto}
 use Rattle.ice_values.specs.WritingMembers.{remaining}
+use Rattle.ice_values.specs.SlicedType.{rows_of}
 use Rattle.instance_writing.specs.declared.open_slice.OpenMembers.{OpenMembers}
 use Rattle.instance_writing.specs.Opened.{members_of, refer_to}
-use Rattle.instance_writing.specs.Sorts.{rows_of}
 use Rattle.instance_writing.proofs.Steps.{members-open}
 use Rattle.instance_writing.proofs.compact.open_members.Goals as goal
 

@@ -4,8 +4,8 @@ use Rattle.ice_graphs.specs.Exceptions.{of_exceptions}
 use Rattle.graph_arena.specs.Seen.{view_slices}
 use Rattle.ice_values.specs.Putting.{Written}
 use Rattle.ice_graphs.specs.Canonical.{Pen}
+use Rattle.ice_values.specs.declared.sliced_type.SlicedType.TheVariants.{Exception}
 use Rattle.instance_writing.specs.declared.open_slice.OpenSlice.TheVariants as opens
-use Rattle.instance_writing.specs.declared.sort.Sort.TheVariants.{Exception}
 use Rattle.instance_writing.specs.Formats.{view_format}
 use Rattle.instance_writing.specs.Tabling.{Listed, no_names}
 use Rattle.instance_writing.specs.Remains.{inside_at, instance_left, Fits}

@@ -5,7 +5,7 @@ use Rattle.ice_graphs.specs.Exceptions.{of_exceptions}
 use Rattle.ice_graphs.specs.UserExceptionWritten.{user_exception_as}
 use Rattle.graph_arena.specs.Seen.{view_slices}
 use Rattle.ice_values.specs.Putting.{onto}
-use Rattle.instance_writing.specs.declared.sort.Sort.TheVariants.{Exception}
+use Rattle.ice_values.specs.declared.sliced_type.SlicedType.TheVariants.{Exception}
 use Rattle.instance_writing.specs.Formats.{view_format}
 use Rattle.instance_writing.specs.Opened.{refer_to}
 use Rattle.instance_writing.specs.Pens.{room}

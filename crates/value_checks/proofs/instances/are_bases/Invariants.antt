@@ -1,10 +1,10 @@
 use Rattle.std.proofs.Common.{◌↔◌, drop}
 use Rattle.ice_graphs.specs.Typed.{AreBases, RefersIn}
 use Rattle.graph_arena.specs.Seen.{view_slices}
-use Rattle.value_checks.specs.Rows.{rows_of}
+use Rattle.ice_values.specs.SlicedType.{rows_of}
 use Rattle.value_checks.proofs.instances.are_bases.Given as goal
 
 abbrev pub invariant-loop-slice : goal.invariant-loop-slice
 invariant-loop-slice l =
-    AreBases (rows_of l.rows l.schema) (RefersIn l.schema l.graph.instances) l.fn.class (view_slices l.slices)
-    ↔ AreBases (rows_of l.rows l.schema) (RefersIn l.schema l.graph.instances) l.next (view_slices (drop l.slice-index l.slices))
+    AreBases (rows_of l.sort l.schema) (RefersIn l.schema l.graph.instances) l.fn.class (view_slices l.slices)
+    ↔ AreBases (rows_of l.sort l.schema) (RefersIn l.schema l.graph.instances) l.next (view_slices (drop l.slice-index l.slices))

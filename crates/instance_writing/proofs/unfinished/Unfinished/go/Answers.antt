@@ -1,9 +1,9 @@
 use Rattle.std.proofs.Common.{ℕ, ◌-◌, ap, subst, ◌∙◌, arith}
 use Rattle.ice_graphs.specs.Visiting.{most}
+use Rattle.ice_values.specs.SlicedType.{rows_of}
 use Rattle.instance_writing.specs.Formats.{view_format}
 use Rattle.instance_writing.specs.Tabling.{Listed}
 use Rattle.instance_writing.specs.Remains.{Fits}
-use Rattle.instance_writing.specs.Sorts.{rows_of}
 use Rattle.instance_writing.proofs.Steps.{open-most, slice-done, next-ended, next-begun}
 use Rattle.instance_writing.proofs.unfinished.Unfinished.go.Goals as goal
 

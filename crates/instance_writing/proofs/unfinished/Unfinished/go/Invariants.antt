@@ -1,9 +1,9 @@
 use Rattle.std.proofs.Common.{◌≡◌, ◌≤◌, length}
 use Rattle.ice_graphs.specs.Canonical.{Pen}
 use Rattle.ice_values.specs.Putting.{InsideWritten}
+use Rattle.ice_values.specs.SlicedType.{rows_of}
 use Rattle.instance_writing.specs.Formats.{view_format}
 use Rattle.instance_writing.specs.Pens.{room}
-use Rattle.instance_writing.specs.Sorts.{rows_of}
 use Rattle.instance_writing.specs.Remains.{instance_left, Fits}
 use Rattle.instance_writing.proofs.unfinished.Unfinished.go.Given as goal
 

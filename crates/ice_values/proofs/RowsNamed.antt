@@ -1,15 +1,13 @@
--- The class that a schema finds by a type id is the first of that id, since no two classes have one id.
+-- The row that a schema finds by a type id is the first of that id, since no two rows have one id.
 use Rattle.std.proofs.Common.{ℕ, zero, suc, ◌≡◌, Bool, true, false, if◌then◌else◌, List, [], ◌∷◌, map, Option, None, Some, refl, sym, ap, ◌∙◌, bytes_eq}
-use Rattle.std.specs.Prelude.{slice_get, option_and_then}
 use Rattle.std.proofs.lemmas.Slice.Eq.{bytes_eq-Decides}
 use Rattle.ice_types.specs.declared.declarations.ExceptionDecl.{ExceptionDecl}
-use Rattle.ice_types.specs.declared.declarations.Member.{Member}
 use Rattle.ice_types.specs.Tables.{Tables, Finds, HasId, class_ids, exception_ids}
-use Rattle.ice_graphs.specs.Classes.{place_of, class_named, one_further, members_in}
+use Rattle.ice_graphs.specs.Classes.{place_of, class_named, one_further}
 use Rattle.ice_graphs.specs.Exceptions.{as_class}
-use Rattle.instance_reading.specs.Sorts.{rows_of}
-use Rattle.instance_reading.specs.declared.sort.Sort.{Sort}
-use Rattle.instance_reading.specs.declared.sort.Sort.TheVariants as sorts
+use Rattle.ice_values.specs.SlicedType.{rows_of}
+use Rattle.ice_values.specs.declared.sliced_type.SlicedType.{SlicedType}
+use Rattle.ice_values.specs.declared.sliced_type.SlicedType.TheVariants as sorts
 
 -- what stands at a place of texts, or nothing does
 abbrev IsPlace : List (List ℕ) → List ℕ → Option ℕ → Type 0
@@ -49,26 +47,12 @@ found_is ids id found apart finds = both found (place_of ids id) finds (place_is
 
 -- ---- exceptions as classes
 
-abbrev pub declared_in : Option ExceptionDecl → List Member
-declared_in None = []
-declared_in (Some e) = e.members
-
 pub same_ids : (es : List ExceptionDecl) → map (λ c. c.id) (map as_class es) ≡ map (λ e. e.id) es
 same_ids [] = refl
 same_ids (e ∷ es) = ap (λ (ids : List (List ℕ)). e.id ∷ ids) (same_ids es)
 
-pub class_is : (sort : Sort) (t : Tables) (id : List ℕ) (found : Option ℕ) → sort ≡ sorts.Class → found ≡ place_of (class_ids t) id → found ≡ class_named (rows_of sort t) id
+pub class_is : (sort : SlicedType) (t : Tables) (id : List ℕ) (found : Option ℕ) → sort ≡ sorts.Class → found ≡ place_of (class_ids t) id → found ≡ class_named (rows_of sort t) id
 class_is sort t id found is h = h ∙ (λ i. class_named (rows_of (sym is i) t) id)
 
-pub exception_is : (sort : Sort) (t : Tables) (id : List ℕ) (found : Option ℕ) → sort ≡ sorts.Exception → found ≡ place_of (exception_ids t) id → found ≡ class_named (rows_of sort t) id
+pub exception_is : (sort : SlicedType) (t : Tables) (id : List ℕ) (found : Option ℕ) → sort ≡ sorts.Exception → found ≡ place_of (exception_ids t) id → found ≡ class_named (rows_of sort t) id
 exception_is sort t id found is h = h ∙ ap (λ (ids : List (List ℕ)). place_of ids id) (sym (same_ids t.exceptions)) ∙ (λ i. class_named (rows_of (sym is i) t) id)
-
-pub base_same : (es : List ExceptionDecl) (at : ℕ) → option_and_then (λ c. c.base) (slice_get (map as_class es) at) ≡ option_and_then (λ e. e.base) (slice_get es at)
-base_same [] at = refl
-base_same (e ∷ es) zero = refl
-base_same (e ∷ es) (suc at) = base_same es at
-
-pub row_is : (es : List ExceptionDecl) (at : ℕ) → members_in (slice_get (map as_class es) at) ≡ declared_in (slice_get es at)
-row_is [] at = refl
-row_is (e ∷ es) zero = refl
-row_is (e ∷ es) (suc at) = row_is es at

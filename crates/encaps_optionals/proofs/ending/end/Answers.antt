@@ -1,6 +1,6 @@
 use Rattle.std.proofs.Common.{◌∙◌}
 use Rattle.ice_encoding.proofs.Times.{some_left}
-use Rattle.ice_messages.proofs.reading.end.Goals as goal
+use Rattle.encaps_optionals.proofs.ending.end.Goals as goal
 
 pub returns-else-left-eq0 : goal.returns-else-left-eq0
 returns-else-left-eq0 c =
