@@ -14,6 +14,7 @@ use crate::unfinished::Unfinished;
 use graph_arena::{Instance, Slice};
 use ice_prims::{Cursor, ReadFault};
 use ice_types::{List, Schema};
+use ice_values::Paused;
 use std::alloc::Global;
 
 /// The slices of a user exception, in which a known one names an exception of the schema by its place, and
@@ -65,8 +66,8 @@ fn read_slices<'a>(
     let mut user_exception = Unfinished::new(alloc, 0, cursor);
     loop {
         match user_exception.go(alloc, Sort::Exception, schema, cursor, arena) {
-            Ok(None) => return Ok(user_exception.slices),
-            Ok(Some(name)) => {
+            Ok(Paused::Done(())) => return Ok(user_exception.slices),
+            Ok(Paused::Begins(name)) => {
                 read_instance(alloc, schema, name, cursor, arena)?;
             }
             Err(fault) => return Err(fault),

@@ -22,7 +22,7 @@ use crate::sort::Sort;
 use crate::unfinished::Unfinished;
 use graph_arena::{Graph, Slice};
 use ice_types::{List, Member, Schema};
-use ice_values::{Ending, MembersWriter, WritePaused};
+use ice_values::{Ending, MembersWriter, Paused};
 use std::alloc::{AllocError, Global};
 
 /// Puts the canonical bytes, in the format, of a graph whose instances are named by the order of their
@@ -54,8 +54,8 @@ pub fn write_numbered(
     let mut roots = MembersWriter::new(alloc, graph.roots(), Ending::Bound)?;
     loop {
         match roots.go(alloc, schema, optional, out, &mut pen)? {
-            WritePaused::Done => return Ok(()),
-            WritePaused::Begins(name) => {
+            Paused::Done(()) => return Ok(()),
+            Paused::Begins(name) => {
                 put_instance(&encoder, graph, name, &mut pen, &mut desk, out)?;
             }
         }
@@ -116,8 +116,8 @@ fn put_more<'a>(
         (steps_left (room pen.new) (length stack.new) < steps_left (room pen.old) (length stack.old + 1)) }
 {
     match top.go(by, Sort::Class, pen, desk, out)? {
-        WritePaused::Done => Ok(()),
-        WritePaused::Begins(name) => {
+        Paused::Done(()) => Ok(()),
+        Paused::Begins(name) => {
             stack.push(top)?;
             stack.push(Unfinished::new(slices_of(graph, name)))?;
             Ok(())
