@@ -3,7 +3,7 @@ use Rattle.std.specs.Prelude.{ℕ, ◌≡◌, List, [], ◌∷◌, ◌++◌, Opt
 use Rattle.ice_prims.specs.declared.fault.Fault.{Fault}
 use Rattle.ice_prims.specs.declared.fault.ReadFault.{ReadFault}
 use Rattle.ice_prims.specs.declared.fault.ReadFault.TheVariants as faults
-use Rattle.ice_prims.specs.Rest.{Rest, ◌>>=◌}
+use Rattle.ice_prims.specs.Rest.{Rest}
 use Rattle.ice_prims.specs.Taking.{Fails}
 use Rattle.ice_types.specs.declared.kind.TypeRef.{TypeRef}
 use Rattle.ice_types.specs.declared.schema.TheConstants.{MOST_DEPTH}

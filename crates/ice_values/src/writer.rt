@@ -8,8 +8,8 @@ ghost use Rattle.ice_encoding.specs.Writing.{Piece, written};
 ghost use Rattle.ice_encoding.specs.Pausing.{written_in_place};
 ghost use Rattle.graph_arena.specs.View.{view, view_all};
 ghost use Rattle.ice_values.specs.Pauses.{GoesOnWriting, StepsWriting, NarrowsOnPause, NarrowsOnStep, LessOnStep};
-ghost use Rattle.ice_values.specs.Putting.{InsideWritten, Values, all_fit, left_written, lists, onto, tree_size, waiting};
-ghost use Rattle.ice_values.specs.Putting.{work_left};
+ghost use Rattle.ice_values.specs.Putting.{InsideWritten, Values, all_fit, left_written, lists, onto, tree_size};
+ghost use Rattle.ice_values.specs.Putting.{waiting, work_left};
 
 use crate::byte_sequence::put_byte_sequence;
 use crate::leaf::put_leaf;

@@ -69,7 +69,8 @@ impl<'a> Unfinished<'a> {
         requires few { desk.old.table.count ≤ most }
         requires empty { desk.old.table.names ≡ [] }
         ensures goes { (inside : InsideWritten Pen)
-            → GoesOnWriting inside (instance_left sort by.now.schema.now (view_format by.now.format) inside self.new) result
+            → GoesOnWriting inside
+            (instance_left sort by.now.schema.now (view_format by.now.format) inside self.new) result
             (instance_left sort by.now.schema.now (view_format by.now.format) inside self.old
             (pen.old, out.old.items)) (pen.new, out.new.items) }
         ensures fits { OnOk result (Fits (rows_of sort by.now.schema.now) desk.old.table.count self.new out.new.items) }
