@@ -15,11 +15,13 @@ use Rattle.ice_values.specs.declared.left.Left.{Left}
 use Rattle.ice_values.specs.declared.left.Left.TheVariants as lefts
 use Rattle.ice_values.specs.declared.frame.Frame.{Frame}
 use Rattle.ice_values.specs.declared.reader.ValueReader.{ValueReader}
-use Rattle.ice_values.specs.declared.reader.Stepped.{Stepped}
+use Rattle.ice_values.specs.declared.paused.Step.{Step}
+use Rattle.ice_values.specs.Pauses.{LessOnStep}
+use Rattle.graph_arena.specs.declared.value.Value.{Value}
 use Rattle.ice_values.specs.Frames.{Open, each, pairs, opened, given, with_key, kinds_left, members_of, Asks}
 use Rattle.ice_values.specs.Going.{Gives}
 use Rattle.ice_values.proofs.Frames.{levels_of}
-use Rattle.ice_values.specs.Cost.{members_in, width, weight, open_wants, wants, frames_cost, cost, LessOnStep}
+use Rattle.ice_values.specs.Cost.{members_in, width, weight, open_wants, wants, frames_cost, cost}
 
 module _ (t : Tables) where
   weight-positive : (levels : ℕ) → 0 < weight t levels
@@ -136,7 +138,7 @@ module _ (t : Tables) where
   asks-less (pairs levels key value left (Equal at) waits had) now (Err e) place h = tt
 
   -- the next part is taken out
-  pub next-less : (old new : ValueReader) (mid : Frame) (kind : TypeRef) (result : Result Stepped ReadFault) → mid.levels ≡ old.top.levels → wants t old.top ≡ weight t old.top.levels + wants t mid
+  pub next-less : (old new : ValueReader) (mid : Frame) (kind : TypeRef) (result : Result (Step Value) ReadFault) → mid.levels ≡ old.top.levels → wants t old.top ≡ weight t old.top.levels + wants t mid
       → LessOnStep result (weight t mid.levels + (wants t mid + frames_cost t old.below)) (cost t new) → LessOnStep result (cost t old) (cost t new)
   next-less old new mid kind result levels less h =
       let same : weight t mid.levels + (wants t mid + frames_cost t old.below) ≡ cost t old =

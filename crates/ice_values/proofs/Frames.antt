@@ -44,9 +44,10 @@ use Rattle.ice_prims.specs.Number.{bool_at, byte_at, signed_at, size_at, text_at
 use Rattle.ice_values.specs.Leaves.{IsLeaf, HasParts, leaf_at, seen}
 use Rattle.ice_values.specs.Rests.{then, value_in, rest_of, starts_at}
 use Rattle.ice_values.specs.declared.reader.ValueReader.{ValueReader}
-use Rattle.ice_values.specs.declared.reader.Stepped.{Stepped}
-use Rattle.ice_values.specs.declared.reader.Stepped.TheVariants as steps
-use Rattle.ice_values.specs.Going.{whole_value, whole_at, onward, left_in, left_of, fresh, StepsReading, Closes, Gives}
+use Rattle.ice_values.specs.declared.paused.Step.{Step}
+use Rattle.ice_values.specs.declared.paused.Step.TheVariants as steps
+use Rattle.ice_values.specs.Pauses.{StepsReading}
+use Rattle.ice_values.specs.Going.{whole_value, whole_at, onward, left_in, left_of, fresh, Closes, Gives}
 
 -- ---- lists of trees
 
@@ -331,8 +332,8 @@ module _ {S : Type 0} (take : Option ℕ → Reader S Met) (t : Tables) (inside 
       ∙ ap (λ (w : Tree). whole_value w s r') (sym all)
 
   -- what ending the innermost value answers
-  pub closes : (start : Frame) (old new : ValueReader) (result : Result Stepped ReadFault) (s : S) (r r' : Rest) → rest_of take t inside (opened start) s r ≡ Ok (whole (opened old.top), s, r') → Closes old new result
-      → StepsReading inside (left_of take t inside new) result (left_in take t inside start old.below s r) s r'
+  pub closes : (start : Frame) (old new : ValueReader) (result : Result (Step Value) ReadFault) (s : S) (r r' : Rest) → rest_of take t inside (opened start) s r ≡ Ok (whole (opened old.top), s, r') → Closes old new result
+      → StepsReading inside (left_of take t inside new) view result (left_in take t inside start old.below s r) s r'
   closes start old new (Ok steps.On) s r r' ends (around, is, now) = part-closed old.below new.below start old.top new.top around s r r' ends is now
   closes start old new (Ok (steps.Done v)) s r r' ends (is, all) = whole-closed old.below start old.top (view v) s r r' ends is all
   closes start old new (Ok (steps.Begins n)) s r r' ends h = absurd h
@@ -411,9 +412,6 @@ pub drop-found : (ms : List Member) (at : ℕ) (m : Member) → slice_get ms at 
 drop-found [] at m found = absurd (nothing-found at m found)
 drop-found (x ∷ xs) zero m found = ap (λ (y : Member). y.kind ∷ kinds_of xs) (some-same found)
 drop-found (x ∷ xs) (suc at) m found = drop-found xs at m found
-
-pub steps-along : {S : Type 0} (inside : Inside S) (now : Reader S Tree) (result : Result Stepped ReadFault) (read read' : Result (Tree × S × Rest) Fault) (s : S) (r : Rest) → read ≡ read' → StepsReading inside now result read' s r → StepsReading inside now result read s r
-steps-along {S = S} inside now result read read' s r is h = subst (λ (x : Result (Tree × S × Rest) Fault). StepsReading inside now result x s r) (sym is) h
 
 whole-read : {S : Type 0} (read : Result (Tree × S × Rest) Fault) → then (then (read >>= one_tree) (λ parts s r. Ok (last_of parts, s, r))) whole_value ≡ read
 whole-read (Ok x) = refl

@@ -8,10 +8,9 @@ use Rattle.ice_prims.specs.Taking.{Fails}
 use Rattle.ice_encoding.specs.Port.{Reader}
 use Rattle.ice_encoding.specs.Pausing.{Inside}
 use Rattle.ice_values.specs.Rests.{then}
-use Rattle.ice_values.specs.declared.advanced.Advanced.{Advanced}
-use Rattle.ice_values.specs.declared.members_reader.PausedMembers.{PausedMembers}
-use Rattle.ice_values.specs.Advancing.{Advances, Goes}
-use Rattle.ice_graphs.specs.OptionalMembers.{Members}
+use Rattle.ice_values.specs.declared.paused.Paused.{Paused}
+use Rattle.ice_values.specs.declared.paused.Step.{Step}
+use Rattle.ice_values.specs.Pauses.{GoesOnReading, StepsReading}
 
 -- a fault of the first is the fault of both
 pub then-fails : {S A B : Type 0} (e : ReadFault) (read : Result (A × S × Rest) Fault) (next : A → Reader S B) → Fails e read → Fails e (then read next)
@@ -42,8 +41,8 @@ made-then make (Ok x) next = refl
 made-then make (Err e) next = refl
 
 -- what is answered of a reading is answered of the same one
-pub advances-along : {S A : Type 0} (inside : Inside S) (now : Reader S A) (all : A) (result : Result Advanced ReadFault) (read read' : Result (A × S × Rest) Fault) (s : S) (r : Rest) → read ≡ read' → Advances inside now all result read' s r → Advances inside now all result read s r
-advances-along {S = S} {A = A} inside now all result read read' s r is h = subst (λ (x : Result (A × S × Rest) Fault). Advances inside now all result x s r) (sym is) h
+pub steps-along : {S A T : Type 0} (inside : Inside S) (now : Reader S A) (seen : T → A) (result : Result (Step T) ReadFault) (read read' : Result (A × S × Rest) Fault) (s : S) (r : Rest) → read ≡ read' → StepsReading inside now seen result read' s r → StepsReading inside now seen result read s r
+steps-along {S = S} {A = A} inside now seen result read read' s r is h = subst (λ (x : Result (A × S × Rest) Fault). StepsReading inside now seen result x s r) (sym is) h
 
-pub goes-along : {S : Type 0} (inside : Inside S) (now : Reader S Members) (result : Result PausedMembers ReadFault) (read read' : Result (Members × S × Rest) Fault) (s : S) (r : Rest) → read ≡ read' → Goes inside now result read' s r → Goes inside now result read s r
-goes-along {S = S} inside now result read read' s r is h = subst (λ (x : Result (Members × S × Rest) Fault). Goes inside now result x s r) (sym is) h
+pub goes-along : {S A T : Type 0} (inside : Inside S) (now : Reader S A) (seen : T → A) (result : Result (Paused T) ReadFault) (read read' : Result (A × S × Rest) Fault) (s : S) (r : Rest) → read ≡ read' → GoesOnReading inside now seen result read' s r → GoesOnReading inside now seen result read s r
+goes-along {S = S} {A = A} inside now seen result read read' s r is h = subst (λ (x : Result (A × S × Rest) Fault). GoesOnReading inside now seen result x s r) (sym is) h

@@ -11,9 +11,10 @@ use Rattle.graph_arena.specs.declared.value.Value.{Value}
 use Rattle.graph_arena.specs.declared.value.Value.TheVariants as variants
 use Rattle.graph_arena.specs.View.{trees_of, entries_of, view, view_all, view_pair, view_pairs}
 use Rattle.graph_arena.proofs.Shapes.{view_seq, view_dict}
-use Rattle.ice_values.specs.declared.writer.WriteStepped.{WriteStepped}
-use Rattle.ice_values.specs.declared.writer.WriteStepped.TheVariants as steps
-use Rattle.ice_values.specs.Putting.{InsideWritten, Written, onto, Waiting, Values, Pairs, level_written, left_written, level_fits, all_fit, level_size, tree_size, work_left, StepsWriting, LessOnOn}
+use Rattle.ice_values.specs.declared.paused.Step.{Step}
+use Rattle.ice_values.specs.declared.paused.Step.TheVariants as steps
+use Rattle.ice_values.specs.Pauses.{StepsWriting, LessOnStep}
+use Rattle.ice_values.specs.Putting.{InsideWritten, Written, onto, Waiting, Values, Pairs, level_written, left_written, level_fits, all_fit, level_size, tree_size, work_left}
 
 -- ---- pieces one after the other
 
@@ -59,13 +60,13 @@ pub work-push : (ls : List Waiting) (level : Waiting) → work_left (ls ++ level
 work-push [] level = omega arith
 work-push (l ∷ ls) level = let rest = work-push ls level in omega arith
 
-pub steps-along : {S : Type 0} (inside : InsideWritten S) (now : Piece S) (result : Result WriteStepped AllocError) (all all' w : Written S) → all ≡ all' → StepsWriting inside now result all' w → StepsWriting inside now result all w
+pub steps-along : {S T : Type 0} (inside : InsideWritten S) (now : Written S → Written S) (result : Result (Step T) AllocError) (all all' w : Written S) → all ≡ all' → StepsWriting inside now result all' w → StepsWriting inside now result all w
 steps-along {S = S} inside now result all all' w is h = subst (λ (x : Written S). StepsWriting inside now result x w) (sym is) h
 
 -- where the work at hand is no more than that before
-pub less-along : (result : Result WriteStepped AllocError) (before before' after : ℕ) → before' ≤ before → LessOnOn result before' after → LessOnOn result before after
+pub less-along : {T E : Type 0} (result : Result (Step T) E) (before before' after : ℕ) → before' ≤ before → LessOnStep result before' after → LessOnStep result before after
 less-along (Ok steps.On) before before' after le h = omega arith
-less-along (Ok steps.Done) before before' after le h = tt
+less-along (Ok (steps.Done x)) before before' after le h = tt
 less-along (Ok (steps.Begins n)) before before' after le h = tt
 less-along (Err e) before before' after le h = tt
 

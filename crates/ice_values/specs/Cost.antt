@@ -1,6 +1,5 @@
 -- How much there is left to do, so that reading ends: more than any value inside a value wants.
-use Rattle.std.specs.Prelude.{ℕ, zero, suc, ◌+◌, ◌*◌, ◌^◌, ◌<◌, List, [], ◌∷◌, length, Option, None, Some, Result, Ok, Err}
-use Rattle.ice_prims.specs.declared.fault.ReadFault.{ReadFault}
+use Rattle.std.specs.Prelude.{ℕ, zero, suc, ◌+◌, ◌*◌, ◌^◌, List, [], ◌∷◌, length, Option, None, Some}
 use Rattle.ice_types.specs.declared.declarations.StructDecl.{StructDecl}
 use Rattle.ice_types.specs.Tables.{Tables}
 use Rattle.ice_encoding.specs.Tree.{Tree}
@@ -8,8 +7,6 @@ use Rattle.ice_values.specs.declared.frame.Part.{Part}
 use Rattle.ice_values.specs.declared.frame.Part.TheVariants.{Next, Begun, Equal}
 use Rattle.ice_values.specs.declared.frame.Frame.{Frame}
 use Rattle.ice_values.specs.declared.reader.ValueReader.{ValueReader}
-use Rattle.ice_values.specs.declared.reader.Stepped.{Stepped}
-use Rattle.ice_values.specs.declared.reader.Stepped.TheVariants as steps
 use Rattle.ice_values.specs.Frames.{Open, each, pairs, opened, kinds_left}
 
 -- how many members the structs have together
@@ -49,9 +46,3 @@ frames_cost t (f ∷ fs) = wants t f + frames_cost t fs
 -- how much a reader has left to do, so that reading ends
 abbrev pub cost : Tables → ValueReader → ℕ
 cost t reader = wants t reader.top + frames_cost t reader.below
-
-abbrev pub LessOnStep : Result Stepped ReadFault → ℕ → ℕ → Type 0
-LessOnStep (Ok steps.On) before after = after < before
-LessOnStep (Ok (steps.Done v)) before after = Unit {0}
-LessOnStep (Ok (steps.Begins n)) before after = Unit {0}
-LessOnStep (Err e) before after = Unit {0}

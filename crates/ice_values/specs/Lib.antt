@@ -5,9 +5,10 @@ pub mod Kept
 pub mod Sorted
 pub mod Frames
 pub mod Rests
-pub mod Going
 pub mod Numbering
 pub mod Putting
+pub mod Pauses
+pub mod Going
 pub mod Cost
 pub mod Shapes
 pub mod SlicedType

@@ -9,10 +9,6 @@ use Rattle.graph_arena.specs.View.{view, view_all, view_pairs}
 use Rattle.ice_values.specs.declared.writer.Level.{Level}
 use Rattle.ice_values.specs.declared.writer.Level.TheVariants as levels
 use Rattle.ice_values.specs.declared.writer.ValueWriter.{ValueWriter}
-use Rattle.ice_values.specs.declared.writer.WritePaused.{WritePaused}
-use Rattle.ice_values.specs.declared.writer.WritePaused.TheVariants as pauses
-use Rattle.ice_values.specs.declared.writer.WriteStepped.{WriteStepped}
-use Rattle.ice_values.specs.declared.writer.WriteStepped.TheVariants as steps
 
 -- what a call of a port did: the reference, and the instance that it begins
 abbrev pub Puts : {S : Type 0} → (Option ℕ → S → Put S) → Option ℕ → Result (Option ℕ) AllocError → S → List ℕ → S → List ℕ → Type 0
@@ -102,37 +98,6 @@ level_size (Pairs ps) = entries_size ps
 abbrev pub work_left : List Waiting → ℕ
 work_left [] = 0
 work_left (level ∷ inner) = (1 + level_size level) + work_left inner
-
--- What was to be written has been; or it is what stands now, and then the instance that begins, and then what is now to be
--- written.
-abbrev pub Goes : {S : Type 0} → InsideWritten S → Piece S → Result WritePaused AllocError → Written S → Written S → Type 0
-Goes {S} inside now (Ok pauses.Done) all w = all ≡ w
-Goes {S} inside now (Ok (pauses.Begins n)) all w = all ≡ onto now (onto (inside n) w)
-Goes {S} inside now (Err e) all w = Unit {0}
-
-abbrev pub StepsWriting : {S : Type 0} → InsideWritten S → Piece S → Result WriteStepped AllocError → Written S → Written S → Type 0
-StepsWriting {S} inside now (Ok steps.On) all w = all ≡ onto now w
-StepsWriting {S} inside now (Ok steps.Done) all w = all ≡ w
-StepsWriting {S} inside now (Ok (steps.Begins n)) all w = all ≡ onto now (onto (inside n) w)
-StepsWriting {S} inside now (Err e) all w = Unit {0}
-
-abbrev pub LessOnOn : Result WriteStepped AllocError → ℕ → ℕ → Type 0
-LessOnOn (Ok steps.On) before after = after < before
-LessOnOn (Ok steps.Done) before after = Unit {0}
-LessOnOn (Ok (steps.Begins n)) before after = Unit {0}
-LessOnOn (Err e) before after = Unit {0}
-
--- fewer instances may begin where one has just begun, and no more in any case
-abbrev pub NarrowsOnPause : Result WritePaused AllocError → ℕ → ℕ → Type 0
-NarrowsOnPause (Ok pauses.Done) before after = after ≤ before
-NarrowsOnPause (Ok (pauses.Begins n)) before after = after < before
-NarrowsOnPause (Err e) before after = Unit {0}
-
-abbrev pub NarrowsOnStep : Result WriteStepped AllocError → ℕ → ℕ → Type 0
-NarrowsOnStep (Ok steps.On) before after = after ≤ before
-NarrowsOnStep (Ok steps.Done) before after = after ≤ before
-NarrowsOnStep (Ok (steps.Begins n)) before after = after < before
-NarrowsOnStep (Err e) before after = Unit {0}
 
 -- the value is written, and what is remembered is as it is behind it
 abbrev pub WritesValue : {S : Type 0} → (Option ℕ → S → Put S) → InsideWritten S → Tree → Result (Unit {0}) AllocError → S → List ℕ → S → List ℕ → Type 0

@@ -17,8 +17,6 @@ use Rattle.ice_graphs.specs.Optionals.{Present}
 use Rattle.ice_graphs.specs.OptionalMembers.{Members}
 use Rattle.ice_graphs.specs.Members.{written_options, written_slice_members, written_content}
 use Rattle.graph_arena.specs.Seen.{view_present}
-use Rattle.ice_values.specs.declared.writer.WritePaused.{WritePaused}
-use Rattle.ice_values.specs.declared.writer.WritePaused.TheVariants as pauses
 use Rattle.ice_values.specs.Putting.{InsideWritten, Written, onto, Waiting, Values, lists, left_written, all_fit}
 use Rattle.ice_values.specs.declared.ending.Ending.{Ending}
 use Rattle.ice_values.specs.declared.ending.Ending.TheVariants.{Marked, Bound}
@@ -114,13 +112,6 @@ held_bytes t None = []
 held_bytes t (Some kind) = held (prefix_of t kind)
 
 -- ---- what the calls answer
-
--- What was to be written has been; or it is what stands now, and then the instance that begins, and then what is now to be
--- written.
-abbrev pub GoesOn : {S : Type 0} → InsideWritten S → (Written S → Written S) → Result WritePaused AllocError → Written S → Written S → Type 0
-GoesOn {S} inside now (Ok pauses.Done) all w = all ≡ w
-GoesOn {S} inside now (Ok (pauses.Begins n)) all w = all ≡ now (onto (inside n) w)
-GoesOn {S} inside now (Err e) all w = Unit {0}
 
 -- the members are written, and what is remembered is as it is behind them
 abbrev pub WritesPiece : {S : Type 0} → Piece S → Result (Unit {0}) AllocError → S → List ℕ → S → List ℕ → Type 0

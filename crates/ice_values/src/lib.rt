@@ -15,6 +15,8 @@
 //! - Reading and writing are objects that pause (`ValueReader`, `ValueWriter`), over a stack of values that have
 //!   begun or of what is left: instances stand inside values, up to 100,000 in one another. The calls in one
 //!   piece (`read_value`, `write_value`) are these at a port at which nothing begins.
+//! - Whatever pauses answers `Paused`, and each step of it `Step`, in reading and in writing, of a value and of
+//!   members. So what such a call owes stands once (`specs/Pauses.antt`).
 //! - A port says in one call what stands at a reference (`Met`), and the reference is given to the value around
 //!   it before the instance is read. With a second call for the instance a port would have something pending
 //!   between the two; so its model is the definitions' state and nothing else.
@@ -44,7 +46,6 @@
 //!   told that the members are of the shape.
 #![tactic(auto)]
 
-mod advanced;
 mod begun;
 mod byte_sequence;
 mod ending;
@@ -57,6 +58,7 @@ mod members_reader;
 mod members_writer;
 mod numbers;
 mod options;
+mod paused;
 mod port;
 mod prefix;
 mod put_port;
@@ -71,13 +73,14 @@ mod writer;
 pub use ending::Ending;
 pub use fields::{DeclaredMembers, Optionals};
 pub use leaf::has_number;
-pub use members_reader::{MembersReader, PausedMembers, read_members};
+pub use members_reader::{MembersReader, read_members};
 pub use members_writer::{MembersWriter, write_members};
 pub use numbers::Numbers;
+pub use paused::{Paused, Step};
 pub use port::{Met, RefPort};
 pub use put_port::PutPort;
-pub use reader::{Paused, ValueReader};
+pub use reader::ValueReader;
 pub use sliced_type::SlicedType;
 pub use tagged::kind_tagged;
 pub use value::{read_plain_value, read_value, write_plain_value, write_value};
-pub use writer::{ValueWriter, WritePaused};
+pub use writer::ValueWriter;

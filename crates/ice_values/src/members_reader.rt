@@ -2,12 +2,15 @@
 
 ghost use Rattle.std.specs.Prelude.{◌≡◌, None, Some, []};
 ghost use Rattle.ice_encoding.specs.Pausing.{Inside};
+ghost use Rattle.graph_arena.specs.Seen.{view_content};
 ghost use Rattle.ice_values.specs.Shapes.{handed, shape_seen};
 ghost use Rattle.ice_values.specs.Unread.{left_of_members, from_stage};
-ghost use Rattle.ice_values.specs.Advancing.{Goes, NarrowsOnPause, ReadsMembers, fresh_members, members_at};
+ghost use Rattle.ice_values.specs.Pauses.{GoesOnReading, NarrowsOnPause};
+ghost use Rattle.ice_values.specs.Advancing.{ReadsMembers, fresh_members, members_at};
 
 use crate::fields::{DeclaredMembers, Optionals};
 use crate::options::OptionsReader;
+use crate::paused::Paused;
 use crate::port::RefPort;
 use crate::required::RequiredReader;
 use graph_arena::{Members, Value};
@@ -15,15 +18,6 @@ use ice_prims::{Cursor, ReadFault};
 use ice_types::{List, Schema};
 use std::alloc::Global;
 use std::mem;
-
-/// What a piece of reading ends with.
-#[derive(Debug, Drop)]
-pub enum PausedMembers {
-    /// The members, read whole.
-    Done(Members),
-    /// The instance of this name begins here. Once it is read, reading goes on.
-    Begins(u32),
-}
 
 /// Members that are being read. It takes memory for what is read, and never for what a size merely claims.
 #[derive(Debug, Drop)]
@@ -58,9 +52,10 @@ impl<'a> MembersReader<'a> {
         fields: DeclaredMembers<'_>,
         cursor: &mut Cursor<'a>,
         port: &mut P,
-    ) -> Result<PausedMembers, ReadFault>
+    ) -> Result<Paused<Members>, ReadFault>
         ensures goes { (inside : Inside P)
-            → Goes inside (left_of_members P.take schema.now inside (handed fields.entry) self.new) result
+            → GoesOnReading inside (left_of_members P.take schema.now inside
+            (handed fields.entry) self.new) view_content result
             (left_of_members P.take schema.now inside
             (handed fields.entry) self.old port.old cursor.old) port.new cursor.new }
         ensures room { NarrowsOnPause result (P.room port.old) (P.room port.new) }
@@ -79,10 +74,11 @@ impl<'a> MembersReader<'a> {
         fields: DeclaredMembers<'_>,
         cursor: &mut Cursor<'a>,
         port: &mut P,
-    ) -> Result<PausedMembers, ReadFault>
+    ) -> Result<Paused<Members>, ReadFault>
         requires { self.old.options ≡ None }
         ensures goes { (inside : Inside P)
-            → Goes inside (left_of_members P.take schema.now inside (handed fields.entry) self.new) result
+            → GoesOnReading inside (left_of_members P.take schema.now inside
+            (handed fields.entry) self.new) view_content result
             (from_stage P.take schema.now inside self.old.optionals
             (handed fields.entry) self.old.required None port.old cursor.old) port.new cursor.new }
         ensures room { NarrowsOnPause result (P.room port.old) (P.room port.new) }
@@ -91,9 +87,9 @@ impl<'a> MembersReader<'a> {
             .required
             .go(alloc, schema, fields.required, cursor, port)?
         {
-            Some(name) => Ok(PausedMembers::Begins(name)),
-            None => match self.optionals {
-                Optionals::Absent => Ok(PausedMembers::Done(self.with(alloc, List::new(alloc)))),
+            Paused::Begins(name) => Ok(Paused::Begins(name)),
+            Paused::Done(()) => match self.optionals {
+                Optionals::Absent => Ok(Paused::Done(self.with(alloc, List::new(alloc)))),
                 Optionals::Marked | Optionals::ToEnd => {
                     let options = OptionsReader::new(alloc, cursor);
                     self.go_optional(alloc, schema, fields, options, cursor, port)
@@ -111,21 +107,22 @@ impl<'a> MembersReader<'a> {
         mut options: OptionsReader<'a>,
         cursor: &mut Cursor<'a>,
         port: &mut P,
-    ) -> Result<PausedMembers, ReadFault>
+    ) -> Result<Paused<Members>, ReadFault>
         requires { self.old.options ≡ None }
         ensures goes { (inside : Inside P)
-            → Goes inside (left_of_members P.take schema.now inside (handed fields.entry) self.new) result
+            → GoesOnReading inside (left_of_members P.take schema.now inside
+            (handed fields.entry) self.new) view_content result
             (from_stage P.take schema.now inside self.old.optionals (handed fields.entry) self.old.required
             (Some options.entry) port.old cursor.old) port.new cursor.new }
         ensures room { NarrowsOnPause result (P.room port.old) (P.room port.new) }
     {
         let marked = self.optionals.is_marked();
         match options.go(alloc, schema, marked, fields.optional, cursor, port)? {
-            Some(name) => {
+            Paused::Begins(name) => {
                 self.options = Some(options);
-                Ok(PausedMembers::Begins(name))
+                Ok(Paused::Begins(name))
             }
-            None => Ok(PausedMembers::Done(self.with(alloc, options.done))),
+            Paused::Done(()) => Ok(Paused::Done(self.with(alloc, options.done))),
         }
     }
 
@@ -160,8 +157,8 @@ pub fn read_members<P: RefPort>(
 {
     let mut reader = MembersReader::new(alloc, optionals);
     match reader.go(alloc, schema, fields, cursor, port) {
-        Ok(PausedMembers::Done(members)) => Ok(members),
-        Ok(PausedMembers::Begins(_)) => unreachable!(),
+        Ok(Paused::Done(members)) => Ok(members),
+        Ok(Paused::Begins(_)) => unreachable!(),
         Err(fault) => Err(fault),
     }
 }

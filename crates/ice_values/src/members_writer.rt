@@ -7,18 +7,20 @@ ghost use Rattle.ice_graphs.specs.OptionalMembers.{shape_of};
 ghost use Rattle.ice_graphs.specs.Optionals.{kind_tagged};
 ghost use Rattle.graph_arena.specs.View.{view, view_all};
 ghost use Rattle.graph_arena.specs.Seen.{view_content, view_present};
-ghost use Rattle.ice_values.specs.Putting.{InsideWritten, NarrowsOnPause, Values, lists};
+ghost use Rattle.ice_values.specs.Putting.{InsideWritten, Values, lists};
+ghost use Rattle.ice_values.specs.Pauses.{GoesOnWriting, NarrowsOnPause};
 ghost use Rattle.ice_values.specs.WritingLengths.{GoesOnFrom, IsBehind};
 ghost use Rattle.ice_values.specs.WritingMembers.{remaining, all_of, is_marked, marker, members_left, members_written};
 ghost use Rattle.ice_values.specs.WritingMembers.{ContentCanBeWritten, RemainingFits, values_of, place_of, tag_bytes};
-ghost use Rattle.ice_values.specs.WritingMembers.{held_bytes, GoesOn, WritesPiece};
+ghost use Rattle.ice_values.specs.WritingMembers.{held_bytes, WritesPiece};
 
 use crate::ending::Ending;
 use crate::length_place::LengthPlace;
+use crate::paused::Paused;
 use crate::prefix::prefix_of;
 use crate::put_port::PutPort;
 use crate::tagged::kind_tagged;
-use crate::writer::{ValueWriter, WritePaused};
+use crate::writer::ValueWriter;
 use encaps_optionals::put_tag;
 use graph_arena::{Members, Value};
 use ice_prims::put_byte;
@@ -69,10 +71,10 @@ impl<'a> MembersWriter<'a> {
         optional: &[Member],
         out: &mut Vec<u8>,
         port: &mut P,
-    ) -> Result<WritePaused, AllocError>
+    ) -> Result<Paused<()>, AllocError>
         requires { RemainingFits (remaining self.old) out.old.items }
         ensures goes { (inside : InsideWritten P)
-            → GoesOn inside (members_left P.put inside schema.now optional.now (remaining self.new)) result
+            → GoesOnWriting inside (members_left P.put inside schema.now optional.now (remaining self.new)) result
             (members_left P.put inside schema.now optional.now (remaining self.old) (port.old, out.old.items))
             (port.new, out.new.items) }
         ensures fits { OnOk result (RemainingFits (remaining self.new) out.new.items) }
@@ -85,14 +87,14 @@ impl<'a> MembersWriter<'a> {
     {
         loop {
             match self.values.go(out, port)? {
-                WritePaused::Done => {}
-                WritePaused::Begins(name) => return Ok(WritePaused::Begins(name)),
+                Paused::Done(()) => {}
+                Paused::Begins(name) => return Ok(Paused::Begins(name)),
             }
             self.place.put(out)?;
             match self.optional.split_first() {
                 None => {
                     put_end(self.marked, out)?;
-                    return Ok(WritePaused::Done);
+                    return Ok(Paused::Done(()));
                 }
                 Some((option, others)) => {
                     self.optional = others;
@@ -208,8 +210,8 @@ pub fn write_members<P: PutPort>(
 {
     let mut writer = MembersWriter::new(alloc, members, ending)?;
     match writer.go(alloc, schema, optional, out, port) {
-        Ok(WritePaused::Done) => Ok(()),
-        Ok(WritePaused::Begins(_)) => unreachable!(),
+        Ok(Paused::Done(())) => Ok(()),
+        Ok(Paused::Begins(_)) => unreachable!(),
         Err(error) => Err(error),
     }
 }

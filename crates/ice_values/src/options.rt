@@ -12,13 +12,13 @@ ghost use Rattle.graph_arena.specs.Seen.{view_present};
 ghost use Rattle.ice_values.specs.Shapes.{with_tag};
 ghost use Rattle.ice_values.specs.Entering.{Begun, entered_at};
 ghost use Rattle.ice_values.specs.Unread.{left_options, from_item, option_behind, options_behind, options_work};
-ghost use Rattle.ice_values.specs.Advancing.{Advances, GoesOn, NarrowsOnAdvance, NarrowsOnBegin, LessOnAdvance};
 ghost use Rattle.ice_values.specs.Advancing.{fresh_options};
+ghost use Rattle.ice_values.specs.Pauses.{GoesOnReading, StepsReading, NarrowsOnPause, NarrowsOnStep, LessOnStep};
 
-use crate::advanced::Advanced;
+use crate::paused::{Paused, Step};
 use crate::port::{Met, RefPort};
 use crate::prefix::{enter, leave, prefix_of};
-use crate::reader::{Paused, ValueReader};
+use crate::reader::ValueReader;
 use crate::tagged::kind_tagged;
 use encaps_optionals::{Skipped, skip_format, take_tag};
 use graph_arena::Value;
@@ -69,8 +69,8 @@ impl<'a> OptionsReader<'a> {
         }
     }
 
-    /// Reads on, up to the end of the members, answering None, or to the next reference at which an
-    /// instance begins. Members without a tag are none of these.
+    /// Reads on, up to the end of the members or to the next reference at which an instance
+    /// begins. Members without a tag are none of these.
     pub(crate) fn go<P: RefPort>(
         &mut self,
         alloc: Global,
@@ -79,19 +79,19 @@ impl<'a> OptionsReader<'a> {
         members: &[Member],
         cursor: &mut Cursor<'a>,
         port: &mut P,
-    ) -> Result<Option<u32>, ReadFault>
+    ) -> Result<Paused<()>, ReadFault>
         ensures goes { (inside : Inside P)
-            → GoesOn inside (left_options P.take schema.now inside marked (with_tag members.now) self.new)
-            (view_present self.new.done) result
+            → GoesOnReading inside (left_options P.take schema.now inside marked (with_tag members.now) self.new)
+            (λ _. view_present self.new.done) result
             (left_options P.take schema.now inside marked
             (with_tag members.now) self.old port.old cursor.old) port.new cursor.new }
-        ensures room { NarrowsOnBegin result (P.room port.old) (P.room port.new) }
+        ensures room { NarrowsOnPause result (P.room port.old) (P.room port.new) }
     {
         loop {
             match self.step(alloc, schema, marked, members, cursor, port)? {
-                Advanced::On => {}
-                Advanced::Done => return Ok(None),
-                Advanced::Begins(name) => return Ok(Some(name)),
+                Step::On => {}
+                Step::Done(()) => return Ok(Paused::Done(())),
+                Step::Begins(name) => return Ok(Paused::Begins(name)),
             }
         }
     }
@@ -105,14 +105,14 @@ impl<'a> OptionsReader<'a> {
         members: &[Member],
         cursor: &mut Cursor<'a>,
         port: &mut P,
-    ) -> Result<Advanced, ReadFault>
+    ) -> Result<Step<()>, ReadFault>
         ensures advances { (inside : Inside P)
-            → Advances inside (left_options P.take schema.now inside marked (with_tag members.now) self.new)
-            (view_present self.new.done) result
+            → StepsReading inside (left_options P.take schema.now inside marked (with_tag members.now) self.new)
+            (λ _. view_present self.new.done) result
             (left_options P.take schema.now inside marked
             (with_tag members.now) self.old port.old cursor.old) port.new cursor.new }
-        ensures room { NarrowsOnAdvance result (P.room port.old) (P.room port.new) }
-        ensures less { LessOnAdvance result (options_work self.old) (options_work self.new) }
+        ensures room { NarrowsOnStep result (P.room port.old) (P.room port.new) }
+        ensures less { LessOnStep result (options_work self.old) (options_work self.new) }
     {
         match mem::replace(&mut self.item, None) {
             Some(item) => self.go_in_item(alloc, schema, item, cursor, port),
@@ -128,25 +128,25 @@ impl<'a> OptionsReader<'a> {
         mut item: Item<'a>,
         cursor: &mut Cursor<'a>,
         port: &mut P,
-    ) -> Result<Advanced, ReadFault>
+    ) -> Result<Step<()>, ReadFault>
         requires { self.old.item ≡ None }
         ensures advances { (inside : Inside P) (marked : Bool) (members : List Declared)
-            → Advances inside (left_options P.take schema.now inside marked members self.new)
-            (view_present self.new.done) result
+            → StepsReading inside (left_options P.take schema.now inside marked members self.new)
+            (λ _. view_present self.new.done) result
             (from_item P.take schema.now inside marked members (Some item.entry)
             (view_present self.old.done) self.old.steps self.old.last port.old cursor.old) port.new cursor.new }
-        ensures room { NarrowsOnAdvance result (P.room port.old) (P.room port.new) }
-        ensures less { LessOnAdvance result (suc (options_work self.old)) (options_work self.new) }
+        ensures room { NarrowsOnStep result (P.room port.old) (P.room port.new) }
+        ensures less { LessOnStep result (suc (options_work self.old)) (options_work self.new) }
     {
         match item.reader.go(alloc, schema, cursor, port)? {
             Paused::Done(value) => {
                 leave(item.behind, cursor)?;
                 self.done.push((item.tag, value))?;
-                Ok(Advanced::On)
+                Ok(Step::On)
             }
             Paused::Begins(name) => {
                 self.item = Some(item);
-                Ok(Advanced::Begins(name))
+                Ok(Step::Begins(name))
             }
         }
     }
@@ -160,15 +160,15 @@ impl<'a> OptionsReader<'a> {
         members: &[Member],
         cursor: &mut Cursor<'a>,
         port: &mut P,
-    ) -> Result<Advanced, ReadFault>
+    ) -> Result<Step<()>, ReadFault>
         requires { self.old.item ≡ None }
         ensures advances { (inside : Inside P)
-            → Advances inside (left_options P.take schema.now inside marked (with_tag members.now) self.new)
-            (view_present self.new.done) result
+            → StepsReading inside (left_options P.take schema.now inside marked (with_tag members.now) self.new)
+            (λ _. view_present self.new.done) result
             (options_behind P.take schema.now inside marked (with_tag members.now)
             (view_present self.old.done) self.old.steps self.old.last port.old cursor.old) port.new cursor.new }
-        ensures room { NarrowsOnAdvance result (P.room port.old) (P.room port.new) }
-        ensures less { LessOnAdvance result (options_work self.old) (options_work self.new) }
+        ensures room { NarrowsOnStep result (P.room port.old) (P.room port.new) }
+        ensures less { LessOnStep result (options_work self.old) (options_work self.new) }
     {
         if self.steps == 0 {
             return Err(ReadFault::Broken(cursor.fault(Kind::LeftOver)));
@@ -176,7 +176,7 @@ impl<'a> OptionsReader<'a> {
         self.steps -= 1;
         let place = cursor.place();
         match take_tag(cursor, self.last, marked)? {
-            None => Ok(Advanced::Done),
+            None => Ok(Step::Done(())),
             Some((tag, format)) => {
                 self.last = Some(tag);
                 let kind = kind_tagged(members, tag);
@@ -195,18 +195,18 @@ impl<'a> OptionsReader<'a> {
         kind: Option<TypeRef>,
         cursor: &mut Cursor<'a>,
         port: &mut P,
-    ) -> Result<Advanced, ReadFault>
+    ) -> Result<Step<()>, ReadFault>
         requires none { self.old.item ≡ None }
         requires last { self.old.last ≡ Some lead.tag }
         requires format { lead.format ≤ 7 }
         ensures advances { (inside : Inside P) (marked : Bool) (members : List Declared)
-            → Advances inside (left_options P.take schema.now inside marked members self.new)
-            (view_present self.new.done) result
+            → StepsReading inside (left_options P.take schema.now inside marked members self.new)
+            (λ _. view_present self.new.done) result
             (option_behind P.take schema.now inside marked members (view_present self.old.done) self.old.steps
             lead.place lead.tag kind lead.format port.old cursor.old)
             port.new cursor.new }
-        ensures room { NarrowsOnAdvance result (P.room port.old) (P.room port.new) }
-        ensures less { LessOnAdvance result (2 + options_work self.old) (options_work self.new) }
+        ensures room { NarrowsOnStep result (P.room port.old) (P.room port.new) }
+        ensures less { LessOnStep result (2 + options_work self.old) (options_work self.new) }
     {
         match kind {
             Some(kind) => {
@@ -217,11 +217,11 @@ impl<'a> OptionsReader<'a> {
                     }));
                 }
                 self.item = Some(begun(alloc, schema, lead.tag, kind, cursor)?);
-                Ok(Advanced::On)
+                Ok(Step::On)
             }
             None => match pass_over(lead.format, cursor, port)? {
-                Some(name) => Ok(Advanced::Begins(name)),
-                None => Ok(Advanced::On),
+                Paused::Begins(name) => Ok(Step::Begins(name)),
+                Paused::Done(()) => Ok(Step::On),
             },
         }
     }
@@ -233,19 +233,19 @@ fn pass_over<P: RefPort>(
     format: u8,
     cursor: &mut Cursor<'_>,
     port: &mut P,
-) -> Result<Option<u32>, ReadFault>
+) -> Result<Paused<()>, ReadFault>
     requires { format ≤ 7 }
     ensures goes { (inside : Inside P) (t : Tables)
-        → GoesOn inside (given None) None result
+        → GoesOnReading inside (given None) (λ _. None) result
         (skipped_by (in_place P.take inside) t
         (format == FORMAT_CLASS) format port.old cursor.old) port.new cursor.new }
-    ensures room { NarrowsOnBegin result (P.room port.old) (P.room port.new) }
+    ensures room { NarrowsOnPause result (P.room port.old) (P.room port.new) }
 {
     match skip_format(cursor, format)? {
-        Skipped::Passed => Ok(None),
+        Skipped::Passed => Ok(Paused::Done(())),
         Skipped::Reference => match port.take_ref(None, cursor)? {
-            Met::Known(_) => Ok(None),
-            Met::Begins(name) => Ok(Some(name)),
+            Met::Known(_) => Ok(Paused::Done(())),
+            Met::Begins(name) => Ok(Paused::Begins(name)),
         },
     }
 }

@@ -2,44 +2,26 @@
 
 ghost use Rattle.std.specs.Prelude.{◌≡◌, [], ◌∷◌, ◌++◌, ◌+◌, ◌<◌, ◌^◌, suc, OnOk};
 ghost use Rattle.ice_types.specs.declared.kind.TypeRef.TheVariants as kinds;
-ghost use Rattle.ice_encoding.specs.Reading.{made, value_step};
-ghost use Rattle.ice_encoding.specs.Pausing.{Inside, in_place};
-ghost use Rattle.ice_encoding.specs.Tree.{reference};
+ghost use Rattle.ice_encoding.specs.Pausing.{Inside};
 ghost use Rattle.graph_arena.specs.View.{view};
 ghost use Rattle.ice_values.specs.Leaves.{IsLeaf, HasParts};
 ghost use Rattle.ice_values.specs.ByteSequence.{HasByteItems};
-ghost use Rattle.ice_values.specs.Rests.{then, value_in};
-ghost use Rattle.ice_values.specs.Cost.{cost, weight, LessOnStep};
-ghost use Rattle.ice_values.specs.Going.{fresh, Goes, StepsReading, Closes, Gives, NarrowsOnPause, NarrowsOnStep};
-ghost use Rattle.ice_values.specs.Going.{left_of, onward, whole_value};
+ghost use Rattle.ice_values.specs.Cost.{cost, weight};
+ghost use Rattle.ice_values.specs.Going.{fresh, left_of, Closes, Gives, StepsFrom, part_of, part_within, reference_to};
+ghost use Rattle.ice_values.specs.Pauses.{GoesOnReading, StepsReading, NarrowsOnPause, NarrowsOnStep, LessOnStep};
 
 use crate::begun::begun;
 use crate::byte_sequence::{has_byte_items, take_byte_sequence};
 use crate::frame::{Assembly, Each, Frame, Parts};
 use crate::leaf::take_leaf;
 use crate::left::Left;
+use crate::paused::{Paused, Step};
 use crate::port::{Met, RefPort};
 use graph_arena::Value;
 use ice_prims::{Cursor, Kind, ReadFault};
 use ice_types::{List, MOST_DEPTH, Schema, TypeRef};
 use std::alloc::{AllocError, Global};
 use std::mem;
-
-/// What a piece of reading ends with.
-#[derive(Debug, Drop)]
-pub enum Paused {
-    /// The value, read whole.
-    Done(Value),
-    /// The instance of this name begins here. Once it is read, reading goes on.
-    Begins(u32),
-}
-
-/// What one step ends with.
-pub enum Stepped {
-    On,
-    Done(Value),
-    Begins(u32),
-}
 
 /// A value that is being read. It takes memory for what is read, and never for what a size merely claims.
 #[derive(Debug, Drop)]
@@ -78,17 +60,17 @@ impl ValueReader {
         schema: &Schema,
         cursor: &mut Cursor<'_>,
         port: &mut P,
-    ) -> Result<Paused, ReadFault>
+    ) -> Result<Paused<Value>, ReadFault>
         ensures goes { (inside : Inside P)
-            → Goes inside (left_of P.take schema.now inside self.new) result
+            → GoesOnReading inside (left_of P.take schema.now inside self.new) view result
             (left_of P.take schema.now inside self.old port.old cursor.old) port.new cursor.new }
         ensures room { NarrowsOnPause result (P.room port.old) (P.room port.new) }
     {
         loop {
             match self.step(alloc, schema, cursor, port)? {
-                Stepped::On => {}
-                Stepped::Done(value) => return Ok(Paused::Done(value)),
-                Stepped::Begins(name) => return Ok(Paused::Begins(name)),
+                Step::On => {}
+                Step::Done(value) => return Ok(Paused::Done(value)),
+                Step::Begins(name) => return Ok(Paused::Begins(name)),
             }
         }
     }
@@ -100,9 +82,9 @@ impl ValueReader {
         schema: &Schema,
         cursor: &mut Cursor<'_>,
         port: &mut P,
-    ) -> Result<Stepped, ReadFault>
+    ) -> Result<Step<Value>, ReadFault>
         ensures steps { (inside : Inside P)
-            → StepsReading inside (left_of P.take schema.now inside self.new) result
+            → StepsReading inside (left_of P.take schema.now inside self.new) view result
             (left_of P.take schema.now inside self.old port.old cursor.old) port.new cursor.new }
         ensures room { NarrowsOnStep result (P.room port.old) (P.room port.new) }
         ensures less { LessOnStep result (cost schema.now self.old) (cost schema.now self.new) }
@@ -114,7 +96,7 @@ impl ValueReader {
     }
 
     /// Ends the innermost value, of which all parts are read.
-    fn close(&mut self, alloc: Global, schema: &Schema) -> Result<Stepped, ReadFault>
+    fn close(&mut self, alloc: Global, schema: &Schema) -> Result<Step<Value>, ReadFault>
         ensures closes { Closes self.old self.new result }
         ensures less { LessOnStep result (cost schema.now self.old) (cost schema.now self.new) }
     {
@@ -122,7 +104,7 @@ impl ValueReader {
             Some(frame) => {
                 let value = mem::replace(&mut self.top, frame).value(alloc)?;
                 self.give(alloc, value)?;
-                Ok(Stepped::On)
+                Ok(Step::On)
             }
             None => {
                 let spent = Frame {
@@ -133,7 +115,7 @@ impl ValueReader {
                         done: List::new(alloc),
                     }),
                 };
-                Ok(Stepped::Done(mem::replace(&mut self.top, spent).value(alloc)?))
+                Ok(Step::Done(mem::replace(&mut self.top, spent).value(alloc)?))
             }
         }
     }
@@ -146,11 +128,9 @@ impl ValueReader {
         kind: TypeRef,
         cursor: &mut Cursor<'_>,
         port: &mut P,
-    ) -> Result<Stepped, ReadFault>
-        ensures steps { (inside : Inside P)
-            → StepsReading inside (left_of P.take schema.now inside self.new) result
-            (then (value_in P.take schema.now inside self.old.top.levels kind port.old cursor.old)
-            (onward P.take schema.now inside whole_value (self.old.below ++ self.old.top ∷ []))) port.new cursor.new }
+    ) -> Result<Step<Value>, ReadFault>
+        ensures steps { StepsFrom (part_within self.old.top.levels kind) P.take schema.now self.old port.old cursor.old
+            result self.new port.new cursor.new }
         ensures room { NarrowsOnStep result (P.room port.old) (P.room port.new) }
         ensures less { LessOnStep result (weight schema.now self.old.top.levels + cost schema.now self.old)
             (cost schema.now self.new) }
@@ -171,12 +151,9 @@ impl ValueReader {
         kind: TypeRef,
         cursor: &mut Cursor<'_>,
         port: &mut P,
-    ) -> Result<Stepped, ReadFault>
-        ensures steps { (inside : Inside P)
-            → StepsReading inside (left_of P.take schema.now inside self.new) result
-            (then (value_step (in_place P.take inside) schema.now
-            (value_in P.take schema.now inside levels) kind port.old cursor.old)
-            (onward P.take schema.now inside whole_value (self.old.below ++ self.old.top ∷ []))) port.new cursor.new }
+    ) -> Result<Step<Value>, ReadFault>
+        ensures steps { StepsFrom (part_of levels kind) P.take schema.now self.old port.old cursor.old
+            result self.new port.new cursor.new }
         ensures room { NarrowsOnStep result (P.room port.old) (P.room port.new) }
         ensures less { LessOnStep result (weight schema.now (suc levels) + cost schema.now self.old)
             (cost schema.now self.new) }
@@ -209,20 +186,17 @@ impl ValueReader {
         kind: TypeRef,
         cursor: &mut Cursor<'_>,
         port: &P,
-    ) -> Result<Stepped, ReadFault>
+    ) -> Result<Step<Value>, ReadFault>
         requires { IsLeaf kind }
-        ensures steps { (inside : Inside P)
-            → StepsReading inside (left_of P.take schema.now inside self.new) result
-            (then (value_step (in_place P.take inside) schema.now
-            (value_in P.take schema.now inside levels) kind port.now cursor.old)
-            (onward P.take schema.now inside whole_value (self.old.below ++ self.old.top ∷ []))) port.now cursor.new }
+        ensures steps { StepsFrom (part_of levels kind) P.take schema.now self.old port.now cursor.old
+            result self.new port.now cursor.new }
         ensures room { NarrowsOnStep result (P.room port.now) (P.room port.now) }
         ensures less { LessOnStep result (weight schema.now (suc levels) + cost schema.now self.old)
             (cost schema.now self.new) }
     {
         let value = take_leaf(alloc, schema, kind, cursor)?;
         self.give(alloc, value)?;
-        Ok(Stepped::On)
+        Ok(Step::On)
     }
 
     /// A sequence: one of bytes whole, and of any other one its size.
@@ -234,12 +208,9 @@ impl ValueReader {
         at: u32,
         cursor: &mut Cursor<'_>,
         port: &P,
-    ) -> Result<Stepped, ReadFault>
-        ensures steps { (inside : Inside P)
-            → StepsReading inside (left_of P.take schema.now inside self.new) result
-            (then (value_step (in_place P.take inside) schema.now (value_in P.take schema.now inside levels)
-            (kinds.Seq at) port.now cursor.old)
-            (onward P.take schema.now inside whole_value (self.old.below ++ self.old.top ∷ []))) port.now cursor.new }
+    ) -> Result<Step<Value>, ReadFault>
+        ensures steps { StepsFrom (part_of levels (kinds.Seq at)) P.take schema.now self.old port.now cursor.old
+            result self.new port.now cursor.new }
         ensures room { NarrowsOnStep result (P.room port.now) (P.room port.now) }
         ensures less { LessOnStep result (weight schema.now (suc levels) + cost schema.now self.old)
             (cost schema.now self.new) }
@@ -260,21 +231,18 @@ impl ValueReader {
         at: u32,
         cursor: &mut Cursor<'_>,
         port: &P,
-    ) -> Result<Stepped, ReadFault>
+    ) -> Result<Step<Value>, ReadFault>
         requires deep { 0 < levels }
         requires bytes { HasByteItems schema.now at }
-        ensures steps { (inside : Inside P)
-            → StepsReading inside (left_of P.take schema.now inside self.new) result
-            (then (value_step (in_place P.take inside) schema.now (value_in P.take schema.now inside levels)
-            (kinds.Seq at) port.now cursor.old)
-            (onward P.take schema.now inside whole_value (self.old.below ++ self.old.top ∷ []))) port.now cursor.new }
+        ensures steps { StepsFrom (part_of levels (kinds.Seq at)) P.take schema.now self.old port.now cursor.old
+            result self.new port.now cursor.new }
         ensures room { NarrowsOnStep result (P.room port.now) (P.room port.now) }
         ensures less { LessOnStep result (weight schema.now (suc levels) + cost schema.now self.old)
             (cost schema.now self.new) }
     {
         let value = take_byte_sequence(alloc, cursor)?;
         self.give(alloc, value)?;
-        Ok(Stepped::On)
+        Ok(Step::On)
     }
 
     /// A value with parts, up to the first of them.
@@ -286,20 +254,17 @@ impl ValueReader {
         kind: TypeRef,
         cursor: &mut Cursor<'_>,
         port: &P,
-    ) -> Result<Stepped, ReadFault>
+    ) -> Result<Step<Value>, ReadFault>
         requires { HasParts kind }
-        ensures steps { (inside : Inside P)
-            → StepsReading inside (left_of P.take schema.now inside self.new) result
-            (then (value_step (in_place P.take inside) schema.now
-            (value_in P.take schema.now inside levels) kind port.now cursor.old)
-            (onward P.take schema.now inside whole_value (self.old.below ++ self.old.top ∷ []))) port.now cursor.new }
+        ensures steps { StepsFrom (part_of levels kind) P.take schema.now self.old port.now cursor.old
+            result self.new port.now cursor.new }
         ensures room { NarrowsOnStep result (P.room port.now) (P.room port.now) }
         ensures less { LessOnStep result (weight schema.now (suc levels) + cost schema.now self.old)
             (cost schema.now self.new) }
     {
         let frame = begun(alloc, schema, levels, kind, cursor)?;
         self.begin(frame)?;
-        Ok(Stepped::On)
+        Ok(Step::On)
     }
 
     /// A reference. The innermost value gets it before the instance is read that begins at it.
@@ -311,11 +276,9 @@ impl ValueReader {
         declared: Option<u32>,
         cursor: &mut Cursor<'_>,
         port: &mut P,
-    ) -> Result<Stepped, ReadFault>
-        ensures steps { (inside : Inside P)
-            → StepsReading inside (left_of P.take schema.now inside self.new) result
-            (then (made reference (in_place P.take inside declared) port.old cursor.old)
-            (onward P.take schema.now inside whole_value (self.old.below ++ self.old.top ∷ []))) port.new cursor.new }
+    ) -> Result<Step<Value>, ReadFault>
+        ensures steps { StepsFrom (reference_to declared) P.take schema.now self.old port.old cursor.old
+            result self.new port.new cursor.new }
         ensures room { NarrowsOnStep result (P.room port.old) (P.room port.new) }
         ensures less { LessOnStep result (weight schema.now (suc levels) + cost schema.now self.old)
             (cost schema.now self.new) }
@@ -323,11 +286,11 @@ impl ValueReader {
         match port.take_ref(declared, cursor)? {
             Met::Known(name) => {
                 self.give(alloc, Value::Reference(name))?;
-                Ok(Stepped::On)
+                Ok(Step::On)
             }
             Met::Begins(name) => {
                 self.give(alloc, Value::Reference(Some(name)))?;
-                Ok(Stepped::Begins(name))
+                Ok(Step::Begins(name))
             }
         }
     }

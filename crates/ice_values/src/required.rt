@@ -4,12 +4,12 @@ ghost use Rattle.std.specs.Prelude.{◌≡◌, ◌+◌, ◌<◌, ◌^◌, IfSome
 ghost use Rattle.ice_encoding.specs.Pausing.{Inside};
 ghost use Rattle.graph_arena.specs.View.{view_all};
 ghost use Rattle.ice_values.specs.Unread.{left_required, from_member, kinds_left, required_work};
-ghost use Rattle.ice_values.specs.Advancing.{Advances, GoesOn, NarrowsOnAdvance, NarrowsOnBegin, LessOnAdvance};
 ghost use Rattle.ice_values.specs.Advancing.{fresh_required};
+ghost use Rattle.ice_values.specs.Pauses.{GoesOnReading, StepsReading, NarrowsOnPause, NarrowsOnStep, LessOnStep};
 
-use crate::advanced::Advanced;
+use crate::paused::{Paused, Step};
 use crate::port::RefPort;
-use crate::reader::{Paused, ValueReader};
+use crate::reader::ValueReader;
 use graph_arena::Value;
 use ice_prims::{Cursor, ReadFault};
 use ice_types::{List, Member, Schema};
@@ -39,8 +39,8 @@ impl RequiredReader {
         }
     }
 
-    /// Reads on, up to the last member's end, answering None, or to the next reference at which an
-    /// instance begins. Members with a tag are none of these.
+    /// Reads on, up to the last member's end or to the next reference at which an instance
+    /// begins. Members with a tag are none of these.
     pub(crate) fn go<P: RefPort>(
         &mut self,
         alloc: Global,
@@ -48,18 +48,18 @@ impl RequiredReader {
         members: &[Member],
         cursor: &mut Cursor<'_>,
         port: &mut P,
-    ) -> Result<Option<u32>, ReadFault>
+    ) -> Result<Paused<()>, ReadFault>
         ensures goes { (inside : Inside P)
-            → GoesOn inside (left_required P.take schema.now inside members.now self.new)
-            (view_all self.new.done) result
+            → GoesOnReading inside (left_required P.take schema.now inside members.now self.new)
+            (λ _. view_all self.new.done) result
             (left_required P.take schema.now inside members.now self.old port.old cursor.old) port.new cursor.new }
-        ensures room { NarrowsOnBegin result (P.room port.old) (P.room port.new) }
+        ensures room { NarrowsOnPause result (P.room port.old) (P.room port.new) }
     {
         loop {
             match self.step(alloc, schema, members, cursor, port)? {
-                Advanced::On => {}
-                Advanced::Done => return Ok(None),
-                Advanced::Begins(name) => return Ok(Some(name)),
+                Step::On => {}
+                Step::Done(()) => return Ok(Paused::Done(())),
+                Step::Begins(name) => return Ok(Paused::Begins(name)),
             }
         }
     }
@@ -72,23 +72,23 @@ impl RequiredReader {
         members: &[Member],
         cursor: &mut Cursor<'_>,
         port: &mut P,
-    ) -> Result<Advanced, ReadFault>
+    ) -> Result<Step<()>, ReadFault>
         ensures advances { (inside : Inside P)
-            → Advances inside (left_required P.take schema.now inside members.now self.new)
-            (view_all self.new.done) result
+            → StepsReading inside (left_required P.take schema.now inside members.now self.new)
+            (λ _. view_all self.new.done) result
             (left_required P.take schema.now inside members.now self.old port.old cursor.old) port.new cursor.new }
-        ensures room { NarrowsOnAdvance result (P.room port.old) (P.room port.new) }
-        ensures less { LessOnAdvance result (required_work members.now self.old) (required_work members.now self.new) }
+        ensures room { NarrowsOnStep result (P.room port.old) (P.room port.new) }
+        ensures less { LessOnStep result (required_work members.now self.old) (required_work members.now self.new) }
     {
         match mem::replace(&mut self.reader, None) {
             Some(mut reader) => match reader.go(alloc, schema, cursor, port)? {
                 Paused::Done(value) => {
                     self.done.push(value)?;
-                    Ok(Advanced::On)
+                    Ok(Step::On)
                 }
                 Paused::Begins(name) => {
                     self.reader = Some(reader);
-                    Ok(Advanced::Begins(name))
+                    Ok(Step::Begins(name))
                 }
             },
             None => match self.next_member(members) {
@@ -97,9 +97,9 @@ impl RequiredReader {
                     if member.tag.is_none() {
                         self.reader = Some(ValueReader::new(alloc, member.kind));
                     }
-                    Ok(Advanced::On)
+                    Ok(Step::On)
                 }
-                None => Ok(Advanced::Done),
+                None => Ok(Step::Done(())),
             },
         }
     }

@@ -11,10 +11,11 @@ ghost use Rattle.ice_values.specs.Going.{ReadsValue, whole_at};
 ghost use Rattle.ice_values.specs.Putting.{InsideWritten, WritesValue};
 
 use crate::numbers::Numbers;
+use crate::paused::Paused;
 use crate::port::RefPort;
 use crate::put_port::PutPort;
-use crate::reader::{Paused, ValueReader};
-use crate::writer::{ValueWriter, WritePaused};
+use crate::reader::ValueReader;
+use crate::writer::ValueWriter;
 use graph_arena::Value;
 use ice_prims::{Cursor, ReadFault};
 use ice_types::{Schema, TypeRef};
@@ -60,8 +61,8 @@ pub fn write_value<P: PutPort>(
 {
     let mut writer = ValueWriter::of(alloc, value)?;
     match writer.go(out, port) {
-        Ok(WritePaused::Done) => Ok(()),
-        Ok(WritePaused::Begins(_)) => unreachable!(),
+        Ok(Paused::Done(())) => Ok(()),
+        Ok(Paused::Begins(_)) => unreachable!(),
         Err(error) => Err(error),
     }
 }

@@ -7,31 +7,17 @@ ghost use Rattle.ice_encoding.specs.Tree.{none, tree};
 ghost use Rattle.ice_encoding.specs.Writing.{Piece, written};
 ghost use Rattle.ice_encoding.specs.Pausing.{written_in_place};
 ghost use Rattle.graph_arena.specs.View.{view, view_all};
-ghost use Rattle.ice_values.specs.Putting.{InsideWritten, Goes, StepsWriting, NarrowsOnPause, NarrowsOnStep, LessOnOn};
-ghost use Rattle.ice_values.specs.Putting.{lists, waiting, Values, left_written, onto, all_fit, work_left, tree_size};
+ghost use Rattle.ice_values.specs.Pauses.{GoesOnWriting, StepsWriting, NarrowsOnPause, NarrowsOnStep, LessOnStep};
+ghost use Rattle.ice_values.specs.Putting.{InsideWritten, Values, all_fit, left_written, lists, onto, tree_size};
+ghost use Rattle.ice_values.specs.Putting.{waiting, work_left};
 
 use crate::byte_sequence::put_byte_sequence;
 use crate::leaf::put_leaf;
+use crate::paused::{Paused, Step};
 use crate::put_port::PutPort;
 use graph_arena::Value;
 use ice_prims::put_size;
 use std::alloc::{AllocError, Global};
-
-/// What a piece of writing ends with.
-#[derive(Debug)]
-pub enum WritePaused {
-    /// All is written.
-    Done,
-    /// The instance of this name begins here. Once it is written, writing goes on.
-    Begins(u32),
-}
-
-/// What one step ends with.
-pub enum WriteStepped {
-    On,
-    Done,
-    Begins(u32),
-}
 
 /// What is left of a list of values or of pairs, or one value.
 #[derive(Clone, Copy)]
@@ -78,10 +64,10 @@ impl<'a> ValueWriter<'a> {
         &mut self,
         out: &mut Vec<u8>,
         port: &mut P,
-    ) -> Result<WritePaused, AllocError>
+    ) -> Result<Paused<()>, AllocError>
         requires { all_fit (lists self.old) }
         ensures goes { (inside : InsideWritten P)
-            → Goes inside (left_written P.put inside (lists self.new)) result
+            → GoesOnWriting inside (onto (left_written P.put inside (lists self.new))) result
             (onto (left_written P.put inside (lists self.old)) (port.old, out.old.items)) (port.new, out.new.items) }
         ensures fits { OnOk result (all_fit (lists self.new)) }
         ensures room { NarrowsOnPause result (P.room port.old) (P.room port.new) }
@@ -89,40 +75,36 @@ impl<'a> ValueWriter<'a> {
     {
         loop {
             match self.step(out, port)? {
-                WriteStepped::On => {}
-                WriteStepped::Done => return Ok(WritePaused::Done),
-                WriteStepped::Begins(name) => return Ok(WritePaused::Begins(name)),
+                Step::On => {}
+                Step::Done(()) => return Ok(Paused::Done(())),
+                Step::Begins(name) => return Ok(Paused::Begins(name)),
             }
         }
     }
 
     /// Writes the next value, or as much of it as stands before its parts.
-    fn step<P: PutPort>(
-        &mut self,
-        out: &mut Vec<u8>,
-        port: &mut P,
-    ) -> Result<WriteStepped, AllocError>
+    fn step<P: PutPort>(&mut self, out: &mut Vec<u8>, port: &mut P) -> Result<Step<()>, AllocError>
         requires { all_fit (lists self.old) }
         ensures steps { (inside : InsideWritten P)
-            → StepsWriting inside (left_written P.put inside (lists self.new)) result
+            → StepsWriting inside (onto (left_written P.put inside (lists self.new))) result
             (onto (left_written P.put inside (lists self.old)) (port.old, out.old.items)) (port.new, out.new.items) }
         ensures fits { OnOk result (all_fit (lists self.new)) }
         ensures room { NarrowsOnStep result (P.room port.old) (P.room port.new) }
-        ensures less { LessOnOn result (work_left (lists self.old)) (work_left (lists self.new)) }
+        ensures less { LessOnStep result (work_left (lists self.old)) (work_left (lists self.new)) }
         ensures grows { Grows out.old.items out.new.items }
     {
         match self.take_level() {
-            None => Ok(WriteStepped::Done),
+            None => Ok(Step::Done(())),
             Some(Level::Value(value)) => self.put(value, out, port),
             Some(Level::Values(values)) => match values.split_first() {
-                None => Ok(WriteStepped::On),
+                None => Ok(Step::On),
                 Some((value, others)) => {
                     self.add_level(Level::Values(others))?;
                     self.put(value, out, port)
                 }
             },
             Some(Level::Pairs(pairs)) => match pairs.split_first() {
-                None => Ok(WriteStepped::On),
+                None => Ok(Step::On),
                 Some((pair, others)) => {
                     self.add_level(Level::Pairs(others))?;
                     self.add_level(Level::Value(&pair.1))?;
@@ -154,17 +136,17 @@ impl<'a> ValueWriter<'a> {
         value: &'a Value,
         out: &mut Vec<u8>,
         port: &mut P,
-    ) -> Result<WriteStepped, AllocError>
+    ) -> Result<Step<()>, AllocError>
         requires fits { all_fit (lists self.old) }
         requires value_fits { HasSizes (view value.now) }
         ensures steps { (inside : InsideWritten P)
-            → StepsWriting inside (left_written P.put inside (lists self.new)) result
+            → StepsWriting inside (onto (left_written P.put inside (lists self.new))) result
             (onto (left_written P.put inside (lists self.old))
             (onto (written (written_in_place P.put inside) (view value.now)) (port.old, out.old.items)))
             (port.new, out.new.items) }
         ensures fits { OnOk result (all_fit (lists self.new)) }
         ensures room { NarrowsOnStep result (P.room port.old) (P.room port.new) }
-        ensures less { LessOnOn result (tree_size (view value.now) + work_left (lists self.old))
+        ensures less { LessOnStep result (tree_size (view value.now) + work_left (lists self.old))
             (work_left (lists self.new)) }
         ensures grows { Grows out.old.items out.new.items }
     {
@@ -172,24 +154,24 @@ impl<'a> ValueWriter<'a> {
             Value::Seq(items) => {
                 put_size(out, items.len() as u32)?;
                 self.add_level(Level::Values(items.as_slice()))?;
-                Ok(WriteStepped::On)
+                Ok(Step::On)
             }
             Value::Bytes(bytes) => {
                 put_byte_sequence(bytes, out)?;
-                Ok(WriteStepped::On)
+                Ok(Step::On)
             }
             Value::Pairs(pairs) => {
                 put_size(out, pairs.len() as u32)?;
                 self.add_level(Level::Pairs(pairs.as_slice()))?;
-                Ok(WriteStepped::On)
+                Ok(Step::On)
             }
             Value::Members(items) => {
                 self.add_level(Level::Values(items.as_slice()))?;
-                Ok(WriteStepped::On)
+                Ok(Step::On)
             }
             Value::Reference(name) => match port.put_ref(out, *name)? {
-                Some(begun) => Ok(WriteStepped::Begins(begun)),
-                None => Ok(WriteStepped::On),
+                Some(begun) => Ok(Step::Begins(begun)),
+                None => Ok(Step::On),
             },
             Value::Bool(_)
             | Value::Byte(_)
@@ -200,7 +182,7 @@ impl<'a> ValueWriter<'a> {
             | Value::Enum(_)
             | Value::Proxy(_) => {
                 put_leaf(value, out)?;
-                Ok(WriteStepped::On)
+                Ok(Step::On)
             }
         }
     }

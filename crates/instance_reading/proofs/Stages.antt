@@ -23,6 +23,7 @@ use Rattle.graph_arena.specs.declared.instance.Slice as stored
 use Rattle.graph_arena.specs.declared.instance.Slice.TheVariants.{Known}
 use Rattle.graph_arena.specs.Seen.{view_content, view_slice, view_slices}
 use Rattle.ice_values.specs.declared.members_reader.MembersReader.{MembersReader}
+use Rattle.ice_values.specs.declared.paused.Step.{Step}
 use Rattle.ice_values.specs.Unread.{left_of_members}
 use Rattle.ice_values.specs.SlicedType.{own_fields, rows_of}
 use Rattle.ice_values.specs.declared.sliced_type.SlicedType.{SlicedType}
@@ -36,7 +37,6 @@ use Rattle.instance_reading.specs.declared.sized.OpenSlice.{OpenSlice}
 use Rattle.instance_reading.specs.declared.slice.Stage.{Stage}
 use Rattle.instance_reading.specs.declared.slice.Stage.TheVariants as stages
 use Rattle.instance_reading.specs.declared.unfinished.Unfinished.{Unfinished}
-use Rattle.instance_reading.specs.declared.unfinished.Advanced.{Advanced}
 use Rattle.instance_reading.specs.Unfinished.{behind, left_behind, left_by, left_slices, Keeps, Pauses, Advances}
 use Rattle.instance_reading.proofs.Heads.{fails_then}
 use Rattle.instance_reading.proofs.Places.{fault_along}
@@ -225,7 +225,7 @@ module _ (inside : Inside (State ℕ)) (sort : SlicedType) (t : Tables) (u : Unf
       ∙ with_it slice (left_next (refer_by inside) sort t u.steps (view_next o.next) s' r)
 
   pub table_ends : (o : OpenSlice) (slice : stored.Slice) (s s' : State ℕ) (r : Rest) → o.left ≡ 0 → view_slice slice ≡ slice_with (view_body o.body) o.table → s' ≡ with_met (resolved o.table (uses_of (view_body o.body))) s
-      → (now : Unfinished) (result : Result Advanced ReadFault) → Advances inside sort t now result (left_behind inside sort t u.steps (u.slices ++ slice ∷ []) (view_next o.next) s' r) s' r → Advances inside sort t now result (left_by inside sort t u (stages.Open o) s r) s' r
+      → (now : Unfinished) (result : Result (Step (Unit {0})) ReadFault) → Advances inside sort t now result (left_behind inside sort t u.steps (u.slices ++ slice ∷ []) (view_next o.next) s' r) s' r → Advances inside sort t now result (left_by inside sort t u (stages.Open o) s r) s' r
   table_ends o slice s s' r none seen met now result h = subst (λ (x : Result (List Slice × State ℕ × Rest) Fault). Advances inside sort t now result x s' r) (sym (closes o slice s s' r none seen met)) h
 
 -- ---- the members of a slice without a size
@@ -285,7 +285,7 @@ module _ (inside : Inside (State ℕ)) (sort : SlicedType) (t : Tables) (u : Unf
     others_left : left_from old s r ≡ left_behind inside sort t u.steps (u.slices ++ Known class members ∷ []) (view_next next) s' after
     others_left = completes old s r ∙ ap completed read ∙ with_it inside sort t u (Known class members) (left_next (refer_by inside) sort t u.steps (view_next next) s' after)
 
-    pub members_whole : (now : Unfinished) (result : Result Advanced ReadFault) → Advances inside sort t now result (left_behind inside sort t u.steps (u.slices ++ Known class members ∷ []) (view_next next) s' after) s' after
+    pub members_whole : (now : Unfinished) (result : Result (Step (Unit {0})) ReadFault) → Advances inside sort t now result (left_behind inside sort t u.steps (u.slices ++ Known class members ∷ []) (view_next next) s' after) s' after
         → Advances inside sort t now result (left_from old s r) s' after
     members_whole now result h = subst (λ (x : Result (List Slice × State ℕ × Rest) Fault). Advances inside sort t now result x s' after) (sym others_left) h
 

@@ -1,11 +1,10 @@
 -- An instance that has begun and is not read whole: what is still read of it, and what reading on answers.
-use Rattle.std.specs.Prelude.{ℕ, ◌≡◌, ◌+◌, ◌*◌, ◌^◌, ◌<◌, ◌≤◌, ◌-◌, List, [], ◌∷◌, ◌++◌, length, Option, None, Some, Result, Ok, Err, Box}
+use Rattle.std.specs.Prelude.{ℕ, ◌≡◌, ◌+◌, ◌*◌, ◌^◌, ◌-◌, List, [], ◌∷◌, ◌++◌, length, Option, Result, Box}
 use Rattle.std.specs.declared.alloc.Global.{Global}
 use Rattle.ice_types.specs.Tables.{Tables}
 use Rattle.ice_prims.specs.declared.fault.Fault.{Fault}
 use Rattle.ice_prims.specs.declared.fault.ReadFault.{ReadFault}
-use Rattle.ice_prims.specs.Rest.{Rest, ◌>>=◌}
-use Rattle.ice_prims.specs.Taking.{Fails}
+use Rattle.ice_prims.specs.Rest.{Rest}
 use Rattle.ice_encoding.specs.Port.{Reader}
 use Rattle.ice_encoding.specs.Pausing.{Inside}
 use Rattle.ice_encoding.specs.Reading.{made}
@@ -15,7 +14,10 @@ use Rattle.ice_graphs.specs.References.{State}
 use Rattle.ice_graphs.specs.Instances.{most_instances}
 use Rattle.graph_arena.specs.declared.instance.Slice.{Slice}
 use Rattle.graph_arena.specs.Seen.{view_slices}
+use Rattle.ice_values.specs.declared.paused.Paused.{Paused}
+use Rattle.ice_values.specs.declared.paused.Step.{Step}
 use Rattle.ice_values.specs.declared.sliced_type.SlicedType.{SlicedType}
+use Rattle.ice_values.specs.Pauses.{GoesOnReading, StepsReading}
 use Rattle.instance_reading.specs.declared.slice.Before.TheVariants as befores
 use Rattle.instance_reading.specs.declared.slice.CompactSlice.{CompactSlice}
 use Rattle.instance_reading.specs.declared.slice.Stage.{Stage}
@@ -23,8 +25,6 @@ use Rattle.instance_reading.specs.declared.slice.Stage.TheVariants as stages
 use Rattle.instance_reading.specs.declared.sized.OpenSlice.{OpenSlice}
 use Rattle.instance_reading.specs.Slices.{Open, opened, refer_by, left_next, left_stage, stage_work}
 use Rattle.instance_reading.specs.declared.unfinished.Unfinished.{Unfinished}
-use Rattle.instance_reading.specs.declared.unfinished.Advanced.{Advanced}
-use Rattle.instance_reading.specs.declared.unfinished.Advanced.TheVariants as advances
 
 -- slices before others
 abbrev pub behind : List graphs.Slice → List graphs.Slice → List graphs.Slice
@@ -56,28 +56,20 @@ Keeps old new o name = (unknown : OpenSlice) × (new ≡ record { name = old.nam
 abbrev pub Pauses : Unfinished → Unfinished → CompactSlice → Type 0
 Pauses old new slice = (left : Box CompactSlice Global) × (new ≡ record { name = old.name; steps = old.steps; slices = old.slices; stage = stages.Compact left }) × (left.value ≡ slice)
 
--- It is read whole; or an instance begins, and then this is read on; or it is the fault.
-abbrev pub Goes : Inside (State ℕ) → SlicedType → Tables → Unfinished → Result (Option ℕ) ReadFault → Result (List graphs.Slice × State ℕ × Rest) Fault → State ℕ → Rest → Type 0
-Goes inside sort t now (Ok None) read s r = read ≡ Ok (view_slices now.slices, s, r)
-Goes inside sort t now (Ok (Some n)) read s r = read ≡ (inside n s r >>= λ x. left_slices inside sort t now x.0 x.1)
-Goes inside sort t now (Err e) read s r = Fails e read
+-- what was to be read, by what a step answered: what is now left; or all slices; or an instance that begins, and then what is left
+abbrev pub Advances : Inside (State ℕ) → SlicedType → Tables → Unfinished → Result (Step (Unit {0})) ReadFault → Result (List graphs.Slice × State ℕ × Rest) Fault → State ℕ → Rest → Type 0
+Advances inside sort t now result read s r = StepsReading inside (left_slices inside sort t now) (λ _. view_slices now.slices) result read s r
 
-abbrev pub Advances : Inside (State ℕ) → SlicedType → Tables → Unfinished → Result Advanced ReadFault → Result (List graphs.Slice × State ℕ × Rest) Fault → State ℕ → Rest → Type 0
-Advances inside sort t now (Ok advances.On) read s r = read ≡ left_slices inside sort t now s r
-Advances inside sort t now (Ok advances.Done) read s r = read ≡ Ok (view_slices now.slices, s, r)
-Advances inside sort t now (Ok (advances.Begins n)) read s r = read ≡ (inside n s r >>= λ x. left_slices inside sort t now x.0 x.1)
-Advances inside sort t now (Err e) read s r = Fails e read
+-- what a call answers that reads on, of all that is left; however the instances are read that begin
+abbrev pub ReadsOn : SlicedType → Tables → Unfinished → Unfinished → Result (Paused (Unit {0})) ReadFault → State ℕ → Rest → State ℕ → Rest → Type 0
+ReadsOn sort t old now result s r s' r' = (inside : Inside (State ℕ)) → GoesOnReading inside (left_slices inside sort t now) (λ _. view_slices now.slices) result (left_slices inside sort t old s r) s' r'
 
--- the same whatever is read inside, of all that is left
-abbrev pub ReadsOn : SlicedType → Tables → Unfinished → Unfinished → Result (Option ℕ) ReadFault → State ℕ → Rest → State ℕ → Rest → Type 0
-ReadsOn sort t old now result s r s' r' = (inside : Inside (State ℕ)) → Goes inside sort t now result (left_slices inside sort t old s r) s' r'
-
--- and of what is left from a stage on
-abbrev pub StepsOn : SlicedType → Tables → Unfinished → Stage → Unfinished → Result Advanced ReadFault → State ℕ → Rest → State ℕ → Rest → Type 0
+-- a step, of what is left from a stage on
+abbrev pub StepsOn : SlicedType → Tables → Unfinished → Stage → Unfinished → Result (Step (Unit {0})) ReadFault → State ℕ → Rest → State ℕ → Rest → Type 0
 StepsOn sort t old stage now result s r s' r' = (inside : Inside (State ℕ)) → Advances inside sort t now result (left_by inside sort t old stage s r) s' r'
 
 -- and behind a slice more
-abbrev pub Completes : SlicedType → Unfinished → Slice → Option flags.Before → Unfinished → Result Advanced ReadFault → Type 0
+abbrev pub Completes : SlicedType → Unfinished → Slice → Option flags.Before → Unfinished → Result (Step (Unit {0})) ReadFault → Type 0
 Completes sort old slice next now result = (inside : Inside (State ℕ)) (t : Tables) (s : State ℕ) (r : Rest)
     → Advances inside sort t now result (left_behind inside sort t old.steps (old.slices ++ slice ∷ []) next s r) s r
 
@@ -90,21 +82,3 @@ room s = most_instances - length s.instances
 -- the slice that has begun, and then slices
 abbrev pub work_left : Unfinished → ℕ
 work_left u = u.steps * (2 ^ 33) + stage_work u.stage
-
-abbrev pub LessOnOn : Result Advanced ReadFault → ℕ → ℕ → Type 0
-LessOnOn (Ok advances.On) before after = after < before
-LessOnOn (Ok advances.Done) before after = Unit {0}
-LessOnOn (Ok (advances.Begins n)) before after = Unit {0}
-LessOnOn (Err e) before after = Unit {0}
-
--- fewer instances may begin where one has just begun, and no more in any case
-abbrev pub NarrowsOnPause : Result (Option ℕ) ReadFault → ℕ → ℕ → Type 0
-NarrowsOnPause (Ok None) before after = after ≤ before
-NarrowsOnPause (Ok (Some n)) before after = after < before
-NarrowsOnPause (Err e) before after = Unit {0}
-
-abbrev pub NarrowsOnAdvance : Result Advanced ReadFault → ℕ → ℕ → Type 0
-NarrowsOnAdvance (Ok advances.On) before after = after ≤ before
-NarrowsOnAdvance (Ok advances.Done) before after = after ≤ before
-NarrowsOnAdvance (Ok (advances.Begins n)) before after = after < before
-NarrowsOnAdvance (Err e) before after = Unit {0}

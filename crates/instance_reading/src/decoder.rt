@@ -11,7 +11,7 @@ use crate::nesting::read_instance;
 use graph_arena::{Instance, Members};
 use ice_prims::{Cursor, ReadFault};
 use ice_types::Schema;
-use ice_values::{DeclaredMembers, MembersReader, Optionals, PausedMembers};
+use ice_values::{DeclaredMembers, MembersReader, Optionals, Paused};
 use std::alloc::Global;
 
 /// The members of a whole content, and the instances that begin in it, each named by its place.
@@ -61,8 +61,8 @@ fn read_roots<'a>(
     let mut reader = MembersReader::new(alloc, Optionals::ToEnd);
     loop {
         match reader.go(alloc, schema, fields, cursor, arena) {
-            Ok(PausedMembers::Done(members)) => return Ok(members),
-            Ok(PausedMembers::Begins(name)) => {
+            Ok(Paused::Done(members)) => return Ok(members),
+            Ok(Paused::Begins(name)) => {
                 read_instance(alloc, schema, name, cursor, arena)?;
             }
             Err(fault) => return Err(fault),

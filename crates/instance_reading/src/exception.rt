@@ -13,7 +13,7 @@ use encaps_optionals::end;
 use graph_arena::{Instance, Slice};
 use ice_prims::{Cursor, ReadFault};
 use ice_types::{List, Schema};
-use ice_values::SlicedType;
+use ice_values::{Paused, SlicedType};
 use std::alloc::Global;
 
 /// The slices of a user exception, in which a known one names an exception of the schema by its place, and
@@ -65,8 +65,8 @@ fn read_slices<'a>(
     let mut user_exception = Unfinished::new(alloc, 0, cursor);
     loop {
         match user_exception.go(alloc, SlicedType::Exception, schema, cursor, arena) {
-            Ok(None) => return Ok(user_exception.slices),
-            Ok(Some(name)) => {
+            Ok(Paused::Done(())) => return Ok(user_exception.slices),
+            Ok(Paused::Begins(name)) => {
                 read_instance(alloc, schema, name, cursor, arena)?;
             }
             Err(fault) => return Err(fault),

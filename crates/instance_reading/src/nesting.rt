@@ -10,7 +10,7 @@ use crate::arena::Arena;
 use crate::unfinished::Unfinished;
 use ice_prims::{Cursor, ReadFault};
 use ice_types::{List, Schema};
-use ice_values::SlicedType;
+use ice_values::{Paused, SlicedType};
 use std::alloc::Global;
 
 /// Reads the instance of this name, which begins here, whole, with those that begin in it.
@@ -52,11 +52,11 @@ fn read_on<'a>(
 {
     match top.go(alloc, SlicedType::Class, schema, cursor, arena) {
         Err(fault) => Err(fault),
-        Ok(None) => {
+        Ok(Paused::Done(())) => {
             arena.end(top.name, top.slices);
             Ok(())
         }
-        Ok(Some(name)) => {
+        Ok(Paused::Begins(name)) => {
             stack.push(top)?;
             stack.push(Unfinished::new(alloc, name, cursor))?;
             Ok(())

@@ -3,10 +3,10 @@
 ghost use Rattle.std.specs.Prelude.{ℕ, ◌≡◌, ◌<◌, ◌≤◌, ◌+◌, ◌*◌, ◌^◌, ◌++◌, ◌∷◌, [], IfOk, OnOk};
 ghost use Rattle.ice_graphs.specs.References.{resolved, with_met};
 ghost use Rattle.graph_arena.specs.Seen.{view_slice};
+ghost use Rattle.ice_values.specs.Pauses.{LessOnStep, NarrowsOnPause, NarrowsOnStep};
 ghost use Rattle.instance_reading.specs.Seen.{view_next};
 ghost use Rattle.instance_reading.specs.Slices.{opened, slice_with, uses_of, view_body};
-ghost use Rattle.instance_reading.specs.Unfinished.{Completes, Keeps, LessOnOn, NarrowsOnAdvance, NarrowsOnPause};
-ghost use Rattle.instance_reading.specs.Unfinished.{Pauses, ReadsOn, StepsOn, begun, room, work_left};
+ghost use Rattle.instance_reading.specs.Unfinished.{Completes, Keeps, Pauses, ReadsOn, StepsOn, begun, room, work_left};
 ghost use Rattle.instance_reading.specs.declared.slice.Stage.TheVariants as stages;
 
 use crate::arena::Arena;
@@ -15,7 +15,7 @@ use crate::slice::{Before, CompactSlice, Stage, begin_slice, is_over};
 use graph_arena::{Slice, resolve_members};
 use ice_prims::{Cursor, Kind, ReadFault};
 use ice_types::{List, Schema};
-use ice_values::{Met, PausedMembers, RefPort, SlicedType};
+use ice_values::{Met, Paused, RefPort, SlicedType, Step};
 use preserved::keep;
 use std::alloc::{AllocError, Global};
 use std::mem;
@@ -32,13 +32,6 @@ pub(crate) struct Unfinished<'a> {
     pub stage: Stage<'a>,
 }
 
-/// What one step ends with.
-pub(crate) enum Advanced {
-    On,
-    Done,
-    Begins(u32),
-}
-
 impl<'a> Unfinished<'a> {
     /// The instance of this name begins here.
     pub(crate) fn new(alloc: Global, name: u32, cursor: &Cursor<'_>) -> Unfinished<'a>
@@ -52,8 +45,7 @@ impl<'a> Unfinished<'a> {
         }
     }
 
-    /// Reads on, up to the last slice's end, answering None, or to the next reference at which an
-    /// instance begins.
+    /// Reads on, up to the last slice's end or to the next reference at which an instance begins.
     pub(crate) fn go(
         &mut self,
         alloc: Global,
@@ -61,16 +53,16 @@ impl<'a> Unfinished<'a> {
         schema: &Schema,
         cursor: &mut Cursor<'a>,
         arena: &mut Arena<'a>,
-    ) -> Result<Option<u32>, ReadFault>
+    ) -> Result<Paused<()>, ReadFault>
         ensures goes { ReadsOn sort schema.now self.old self.new result arena.old cursor.old arena.new cursor.new }
         ensures name { self.new.name ≡ self.old.name }
         ensures room { NarrowsOnPause result (room arena.old) (room arena.new) }
     {
         loop {
             match self.step(alloc, sort, schema, cursor, arena)? {
-                Advanced::On => {}
-                Advanced::Done => return Ok(None),
-                Advanced::Begins(name) => return Ok(Some(name)),
+                Step::On => {}
+                Step::Done(()) => return Ok(Paused::Done(())),
+                Step::Begins(name) => return Ok(Paused::Begins(name)),
             }
         }
     }
@@ -83,12 +75,12 @@ impl<'a> Unfinished<'a> {
         schema: &Schema,
         cursor: &mut Cursor<'a>,
         arena: &mut Arena<'a>,
-    ) -> Result<Advanced, ReadFault>
+    ) -> Result<Step<()>, ReadFault>
         ensures advances { StepsOn sort schema.now self.old self.old.stage self.new result
             arena.old cursor.old arena.new cursor.new }
         ensures name { self.new.name ≡ self.old.name }
-        ensures room { NarrowsOnAdvance result (room arena.old) (room arena.new) }
-        ensures less { LessOnOn result (work_left self.old) (work_left self.new) }
+        ensures room { NarrowsOnStep result (room arena.old) (room arena.new) }
+        ensures less { LessOnStep result (work_left self.old) (work_left self.new) }
     {
         match mem::replace(&mut self.stage, Stage::Next(Before::First)) {
             Stage::Next(before) => self.begin(alloc, sort, schema, before, cursor, arena),
@@ -112,15 +104,15 @@ impl<'a> Unfinished<'a> {
         before: Before,
         cursor: &mut Cursor<'a>,
         arena: &mut Arena<'a>,
-    ) -> Result<Advanced, ReadFault>
+    ) -> Result<Step<()>, ReadFault>
         ensures advances { StepsOn sort schema.now self.old
             (stages.Next before) self.new result arena.old cursor.old arena.new cursor.new }
         ensures name { self.new.name ≡ self.old.name }
-        ensures room { NarrowsOnAdvance result (room arena.old) (room arena.new) }
-        ensures less { LessOnOn result (self.old.steps * 2 ^ 33) (work_left self.new) }
+        ensures room { NarrowsOnStep result (room arena.old) (room arena.new) }
+        ensures less { LessOnStep result (self.old.steps * 2 ^ 33) (work_left self.new) }
     {
         if is_over(sort, before, cursor) {
-            return Ok(Advanced::Done);
+            return Ok(Step::Done(()));
         }
         if self.steps == 0 {
             return Err(ReadFault::Broken(cursor.fault(Kind::Short)));
@@ -130,7 +122,7 @@ impl<'a> Unfinished<'a> {
                 stage.is_bounded();
                 self.steps -= 1;
                 self.stage = stage;
-                Ok(Advanced::On)
+                Ok(Step::On)
             }
             Err(fault) => Err(fault),
         }
@@ -144,13 +136,13 @@ impl<'a> Unfinished<'a> {
         slice: OpenSlice<'a>,
         cursor: &mut Cursor<'a>,
         arena: &mut Arena<'a>,
-    ) -> Result<Advanced, ReadFault>
+    ) -> Result<Step<()>, ReadFault>
         requires { 0 < slice.left }
         ensures advances { StepsOn sort schema.now self.old
             (stages.Open slice.entry) self.new result arena.old cursor.old arena.new cursor.new }
         ensures name { self.new.name ≡ self.old.name }
-        ensures room { NarrowsOnAdvance result (room arena.old) (room arena.new) }
-        ensures less { LessOnOn result (self.old.steps * 2 ^ 33 + (1 + slice.entry.left)) (work_left self.new) }
+        ensures room { NarrowsOnStep result (room arena.old) (room arena.new) }
+        ensures less { LessOnStep result (self.old.steps * 2 ^ 33 + (1 + slice.entry.left)) (work_left self.new) }
     {
         let _ = sort;
         let _ = schema;
@@ -158,11 +150,11 @@ impl<'a> Unfinished<'a> {
         match arena.take_ref(None, cursor) {
             Ok(Met::Known(Some(name))) => {
                 self.keep_entry(slice, name)?;
-                Ok(Advanced::On)
+                Ok(Step::On)
             }
             Ok(Met::Begins(name)) => {
                 self.keep_entry(slice, name)?;
-                Ok(Advanced::Begins(name))
+                Ok(Step::Begins(name))
             }
             Ok(Met::Known(None)) => Err(ReadFault::Broken(no_such)),
             Err(fault) => Err(fault),
@@ -190,13 +182,13 @@ impl<'a> Unfinished<'a> {
         slice: OpenSlice<'a>,
         cursor: &Cursor<'_>,
         arena: &mut Arena<'_>,
-    ) -> Result<Advanced, ReadFault>
+    ) -> Result<Step<()>, ReadFault>
         requires { slice.left ≡ 0 }
         ensures advances { StepsOn sort schema.now self.old
             (stages.Open slice.entry) self.new result arena.old cursor.now arena.new cursor.now }
         ensures name { self.new.name ≡ self.old.name }
-        ensures room { NarrowsOnAdvance result (room arena.old) (room arena.new) }
-        ensures less { LessOnOn result (self.old.steps * 2 ^ 33 + 1) (work_left self.new) }
+        ensures room { NarrowsOnStep result (room arena.old) (room arena.new) }
+        ensures less { LessOnStep result (self.old.steps * 2 ^ 33 + 1) (work_left self.new) }
     {
         let _ = schema;
         let _ = cursor;
@@ -213,23 +205,23 @@ impl<'a> Unfinished<'a> {
         slice: Box<CompactSlice<'a>>,
         cursor: &mut Cursor<'a>,
         arena: &mut Arena<'a>,
-    ) -> Result<Advanced, ReadFault>
+    ) -> Result<Step<()>, ReadFault>
         ensures advances { StepsOn sort schema.now self.old
             (stages.Compact slice.entry) self.new result arena.old cursor.old arena.new cursor.new }
         ensures name { self.new.name ≡ self.old.name }
-        ensures room { NarrowsOnAdvance result (room arena.old) (room arena.new) }
-        ensures less { LessOnOn result (self.old.steps * 2 ^ 33 + 1) (work_left self.new) }
+        ensures room { NarrowsOnStep result (room arena.old) (room arena.new) }
+        ensures less { LessOnStep result (self.old.steps * 2 ^ 33 + 1) (work_left self.new) }
     {
         let mut slice = Box::into_inner(slice);
         let fields = sort.own_fields(schema, slice.class);
         match slice.members.go(alloc, schema, fields, cursor, arena) {
-            Ok(PausedMembers::Done(members)) => {
+            Ok(Paused::Done(members)) => {
                 let class = slice.class;
                 self.complete(alloc, sort, Slice::Known { class, members }, slice.next)
             }
-            Ok(PausedMembers::Begins(name)) => {
+            Ok(Paused::Begins(name)) => {
                 self.pause(alloc, slice)?;
-                Ok(Advanced::Begins(name))
+                Ok(Step::Begins(name))
             }
             Err(fault) => Err(fault),
         }
@@ -251,19 +243,19 @@ impl<'a> Unfinished<'a> {
         sort: SlicedType,
         slice: Slice,
         next: Option<Before>,
-    ) -> Result<Advanced, ReadFault>
+    ) -> Result<Step<()>, ReadFault>
         ensures advances { Completes sort self.old slice (view_next next) self.new result }
         ensures name { self.new.name ≡ self.old.name }
-        ensures room { (before after : ℕ) → after ≤ before → NarrowsOnAdvance result before after }
-        ensures less { LessOnOn result (self.old.steps * 2 ^ 33 + 1) (work_left self.new) }
+        ensures room { (before after : ℕ) → after ≤ before → NarrowsOnStep result before after }
+        ensures less { LessOnStep result (self.old.steps * 2 ^ 33 + 1) (work_left self.new) }
     {
         push_slice(alloc, &mut self.slices, slice, next.is_none())?;
         match next {
             Some(before) => {
                 self.stage = Stage::Next(before);
-                Ok(Advanced::On)
+                Ok(Step::On)
             }
-            None => Ok(Advanced::Done),
+            None => Ok(Step::Done(())),
         }
     }
 }

@@ -21,7 +21,7 @@ use crate::slice::Desk;
 use crate::unfinished::Unfinished;
 use graph_arena::{Graph, Slice};
 use ice_types::{List, Member, Schema};
-use ice_values::{Ending, MembersWriter, SlicedType, WritePaused};
+use ice_values::{Ending, MembersWriter, Paused, SlicedType};
 use std::alloc::{AllocError, Global};
 
 /// Puts the canonical bytes, in the format, of a graph whose instances are named by the order of their
@@ -53,8 +53,8 @@ pub fn write_numbered(
     let mut roots = MembersWriter::new(alloc, graph.roots(), Ending::Bound)?;
     loop {
         match roots.go(alloc, schema, optional, out, &mut pen)? {
-            WritePaused::Done => return Ok(()),
-            WritePaused::Begins(name) => {
+            Paused::Done(()) => return Ok(()),
+            Paused::Begins(name) => {
                 put_instance(&encoder, graph, name, &mut pen, &mut desk, out)?;
             }
         }
@@ -115,8 +115,8 @@ fn put_more<'a>(
         (steps_left (room pen.new) (length stack.new) < steps_left (room pen.old) (length stack.old + 1)) }
 {
     match top.go(by, SlicedType::Class, pen, desk, out)? {
-        WritePaused::Done => Ok(()),
-        WritePaused::Begins(name) => {
+        Paused::Done(()) => Ok(()),
+        Paused::Begins(name) => {
             stack.push(top)?;
             stack.push(Unfinished::new(slices_of(graph, name)))?;
             Ok(())

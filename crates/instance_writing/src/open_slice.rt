@@ -4,15 +4,16 @@ ghost use Rattle.std.specs.Prelude.{◌≡◌, ◌∷◌, ◌≤◌, ℕ, [], le
 ghost use Rattle.ice_types.specs.Tables.{Tables};
 ghost use Rattle.ice_graphs.specs.Visiting.{most};
 ghost use Rattle.ice_graphs.specs.Canonical.{Pen};
-ghost use Rattle.ice_values.specs.Putting.{InsideWritten, NarrowsOnPause};
-ghost use Rattle.ice_values.specs.WritingMembers.{GoesOn, RemainingFits, remaining};
+ghost use Rattle.ice_values.specs.Pauses.{GoesOnWriting, NarrowsOnPause};
+ghost use Rattle.ice_values.specs.Putting.{InsideWritten};
+ghost use Rattle.ice_values.specs.WritingMembers.{RemainingFits, remaining};
 ghost use Rattle.instance_writing.specs.Pens.{room};
 ghost use Rattle.instance_writing.specs.Opened.{IsTabled, OpenFits, entries_in, members_of, open_left};
 ghost use Rattle.instance_writing.specs.Opened as spec;
 
 use crate::pen::Pen;
 use ice_types::{List, Member, Schema};
-use ice_values::{MembersWriter, PutPort, WritePaused};
+use ice_values::{MembersWriter, Paused, PutPort};
 use std::alloc::{AllocError, Global};
 
 /// Members of a known class that are being written with references in place.
@@ -45,10 +46,10 @@ impl<'a> OpenMembers<'a> {
         schema: &Schema,
         pen: &mut Pen<'a>,
         out: &mut Vec<u8>,
-    ) -> Result<WritePaused, AllocError>
+    ) -> Result<Paused<()>, AllocError>
         requires { RemainingFits (remaining self.old.writer) out.old.items }
         ensures goes { (inside : InsideWritten Pen)
-            → GoesOn inside (members_of schema.now inside self.new) result
+            → GoesOnWriting inside (members_of schema.now inside self.new) result
             (members_of schema.now inside self.old (pen.old, out.old.items)) (pen.new, out.new.items) }
         ensures fits { OnOk result (RemainingFits (remaining self.new.writer) out.new.items) }
         ensures room { NarrowsOnPause result (room pen.old) (room pen.new) }
@@ -78,10 +79,10 @@ impl<'a> OpenSlice<'a> {
         schema: &Schema,
         pen: &mut Pen<'a>,
         out: &mut Vec<u8>,
-    ) -> Result<WritePaused, AllocError>
+    ) -> Result<Paused<()>, AllocError>
         requires { OpenFits most self.old out.old.items }
         ensures goes { (inside : InsideWritten Pen)
-            → GoesOn inside (open_left schema.now inside self.new) result
+            → GoesOnWriting inside (open_left schema.now inside self.new) result
             (open_left schema.now inside self.old (pen.old, out.old.items)) (pen.new, out.new.items) }
         ensures fits { OnOk result ((count : ℕ) → OpenFits count self.old out.old.items
             → OpenFits count self.new out.new.items) }
@@ -102,11 +103,11 @@ impl<'a> OpenSlice<'a> {
         &mut self,
         pen: &mut Pen<'a>,
         out: &mut Vec<u8>,
-    ) -> Result<WritePaused, AllocError>
+    ) -> Result<Paused<()>, AllocError>
         requires tabled { IsTabled self.old }
         requires fits { OpenFits most self.old out.old.items }
         ensures goes { (t : Tables) (inside : InsideWritten Pen)
-            → GoesOn inside (open_left t inside self.new) result
+            → GoesOnWriting inside (open_left t inside self.new) result
             (open_left t inside self.old (pen.old, out.old.items)) (pen.new, out.new.items) }
         ensures fits { OnOk result ((count : ℕ) → OpenFits count self.old out.old.items
             → OpenFits count self.new out.new.items) }
@@ -116,10 +117,10 @@ impl<'a> OpenSlice<'a> {
     {
         while let Some(name) = self.take_entry() {
             if let Some(begun) = pen.put_ref(out, Some(name))? {
-                return Ok(WritePaused::Begins(begun));
+                return Ok(Paused::Begins(begun));
             }
         }
-        Ok(WritePaused::Done)
+        Ok(Paused::Done(()))
     }
 
     /// Takes the next entry off.

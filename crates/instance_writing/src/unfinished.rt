@@ -6,8 +6,8 @@ ghost use Rattle.ice_graphs.specs.Names.{slice_names};
 ghost use Rattle.ice_graphs.specs.Canonical.{Pen};
 ghost use Rattle.graph_arena.specs.Arena.{AreBelow};
 ghost use Rattle.graph_arena.specs.Seen.{view_slice};
-ghost use Rattle.ice_values.specs.Putting.{InsideWritten, NarrowsOnPause, onto};
-ghost use Rattle.ice_values.specs.WritingMembers.{GoesOn};
+ghost use Rattle.ice_values.specs.Pauses.{GoesOnWriting, NarrowsOnPause};
+ghost use Rattle.ice_values.specs.Putting.{InsideWritten, onto};
 ghost use Rattle.ice_values.specs.SlicedType.{rows_of};
 ghost use Rattle.instance_writing.specs.declared.open_slice.OpenSlice.TheVariants as opens;
 ghost use Rattle.instance_writing.specs.Formats.{view_format};
@@ -25,7 +25,7 @@ use crate::pen::Pen;
 use crate::position::Position;
 use crate::slice::{Desk, put_slice};
 use graph_arena::Slice;
-use ice_values::{SlicedType, WritePaused};
+use ice_values::{Paused, SlicedType};
 use std::alloc::AllocError;
 use std::mem::size_of;
 
@@ -63,12 +63,13 @@ impl<'a> Unfinished<'a> {
         pen: &mut Pen<'a>,
         desk: &mut Desk,
         out: &mut Vec<u8>,
-    ) -> Result<WritePaused, AllocError>
+    ) -> Result<Paused<()>, AllocError>
         requires fits { Fits (rows_of sort by.now.schema.now) desk.old.table.count self.old out.old.items }
         requires few { desk.old.table.count ≤ most }
         requires empty { desk.old.table.names ≡ [] }
         ensures goes { (inside : InsideWritten Pen)
-            → GoesOn inside (instance_left sort by.now.schema.now (view_format by.now.format) inside self.new) result
+            → GoesOnWriting inside
+            (instance_left sort by.now.schema.now (view_format by.now.format) inside self.new) result
             (instance_left sort by.now.schema.now (view_format by.now.format) inside self.old
             (pen.old, out.old.items)) (pen.new, out.new.items) }
         ensures fits { OnOk result (Fits (rows_of sort by.now.schema.now) desk.old.table.count self.new out.new.items) }
@@ -78,11 +79,11 @@ impl<'a> Unfinished<'a> {
     {
         loop {
             match self.current.go(by.alloc, by.schema, pen, out)? {
-                WritePaused::Done => {}
-                WritePaused::Begins(name) => return Ok(WritePaused::Begins(name)),
+                Paused::Done(()) => {}
+                Paused::Begins(name) => return Ok(Paused::Begins(name)),
             }
             if !self.begin_next(by, sort, pen, desk, out)? {
-                return Ok(WritePaused::Done);
+                return Ok(Paused::Done(()));
             }
         }
     }

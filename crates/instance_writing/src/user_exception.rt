@@ -14,7 +14,7 @@ use crate::slice::Desk;
 use crate::unfinished::Unfinished;
 use graph_arena::{Graph, Slice};
 use ice_types::Schema;
-use ice_values::{SlicedType, WritePaused};
+use ice_values::{Paused, SlicedType};
 use std::alloc::{AllocError, Global};
 
 /// Puts the content, in the format, of the user exception of these slices and of the instances of the graph
@@ -47,8 +47,8 @@ pub fn write_user_exception(
     let mut user_exception = Unfinished::new(slices);
     loop {
         match user_exception.go(&encoder, SlicedType::Exception, &mut pen, &mut desk, out)? {
-            WritePaused::Done => return Ok(()),
-            WritePaused::Begins(name) => {
+            Paused::Done(()) => return Ok(()),
+            Paused::Begins(name) => {
                 put_instance(&encoder, graph, name, &mut pen, &mut desk, out)?;
             }
         }

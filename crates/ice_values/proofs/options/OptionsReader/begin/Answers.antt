@@ -23,10 +23,10 @@ pub returns-in_ok-begun-in-Some-clause-advances : goal.returns-in_ok-begun-in-So
 returns-in_ok-begun-in-Some-clause-advances g c inside marked members =
     rw (c.in-Some.is, c.requires.last) (item-begins g.P.RefPort.take c.args.schema.now inside marked members (view_present c.args.self.now.done) c.args.self.now.steps c.args.lead.place c.args.lead.tag c.in-Some.kind c.args.lead.format c.in_ok-begun-in-Some.field-0 c.args.port.now c.args.cursor.now c.begun.new.cursor (search (rules, c.optional_format.ensures, c.if-lead-optional_format.false)) c.in_ok-begun-in-Some.ensures.0 c.in_ok-begun-in-Some.ensures.1)
 
-pub returns-in-Some-2-clause-advances : goal.returns-in-Some-2-clause-advances
-returns-in-Some-2-clause-advances g c inside marked members =
-    rw (c.in-None.is, c.requires.none, c.requires.last) (passed-begins g.P.RefPort.take c.args.schema.now inside marked members (view_present c.args.self.now.done) c.args.self.now.steps c.args.lead.place c.args.lead.tag c.args.lead.format c.in-Some-2.name c.args.port.now c.pass_over.new.port c.args.cursor.now c.pass_over.new.cursor (rw c.in-Some-2.is at (c.in_ok-name-in-None.ensures.goes inside c.args.schema.now)))
+pub returns-in-Begins-clause-advances : goal.returns-in-Begins-clause-advances
+returns-in-Begins-clause-advances g c inside marked members =
+    rw (c.in-None.is, c.requires.none, c.requires.last) (passed-begins g.P.RefPort.take c.args.schema.now inside marked members (view_present c.args.self.now.done) c.args.self.now.steps c.args.lead.place c.args.lead.tag c.args.lead.format c.in-Begins.name c.args.port.now c.pass_over.new.port c.args.cursor.now c.pass_over.new.cursor (rw c.in-Begins.is at (c.in_ok-name-in-None.ensures.goes inside c.args.schema.now)))
 
-pub returns-in-None-2-clause-advances : goal.returns-in-None-2-clause-advances
-returns-in-None-2-clause-advances g c inside marked members =
-    rw (c.in-None.is, c.requires.none, c.requires.last) (passed g.P.RefPort.take c.args.schema.now inside marked members (view_present c.args.self.now.done) c.args.self.now.steps c.args.lead.place c.args.lead.tag c.args.lead.format c.args.port.now c.pass_over.new.port c.args.cursor.now c.pass_over.new.cursor (rw c.in-None-2.is at (c.in_ok-name-in-None.ensures.goes inside c.args.schema.now)))
+pub returns-in-Done-clause-advances : goal.returns-in-Done-clause-advances
+returns-in-Done-clause-advances g c inside marked members =
+    rw (c.in-None.is, c.requires.none, c.requires.last) (passed g.P.RefPort.take c.args.schema.now inside marked members (view_present c.args.self.now.done) c.args.self.now.steps c.args.lead.place c.args.lead.tag c.args.lead.format c.args.port.now c.pass_over.new.port c.args.cursor.now c.pass_over.new.cursor (rw c.in-Done.is at (c.in_ok-name-in-None.ensures.goes inside c.args.schema.now)))

@@ -2,7 +2,7 @@ use Rattle.std.proofs.Common.{◌≡◌, ℕ, suc, ◌-◌, Err, Ok, rules, subs
 use Rattle.graph_arena.specs.Seen.{view_present}
 use Rattle.ice_values.specs.Shapes.{with_tag}
 use Rattle.ice_values.specs.Unread.{left_options, options_behind, option_behind}
-use Rattle.ice_values.proofs.Joined.{advances-along}
+use Rattle.ice_values.proofs.Joined.{steps-along}
 use Rattle.ice_values.proofs.OptionParts.{no-steps, next-ends, next-refused, next-tagged}
 use Rattle.ice_values.proofs.options.OptionsReader.next.Goals as goal
 
@@ -33,6 +33,6 @@ returns-in-Some-clause-advances g c inside =
     let had = view_present old.done in
     let more : suc (old.steps - 1) ≡ old.steps = omega arith in
     let tagged = next-tagged g.P.RefPort.take c.args.schema.now inside c.args.marked (with_tag c.args.members.now) had (old.steps - 1) old.last c.in-Some.tag c.in-Some.format c.args.port.now c.args.cursor.now c.take_tag.new.cursor (rw c.in-Some.is at c.in_ok-take_tag.ensures) in
-    advances-along inside (left_options g.P.RefPort.take c.args.schema.now inside c.args.marked (with_tag c.args.members.now) c.begin.new.self) (view_present c.begin.new.self.done) c.begin.result _ _ c.begin.new.port c.begin.new.cursor
+    steps-along inside (left_options g.P.RefPort.take c.args.schema.now inside c.args.marked (with_tag c.args.members.now) c.begin.new.self) (λ _. view_present c.begin.new.self.done) c.begin.result _ _ c.begin.new.port c.begin.new.cursor
     (subst (λ (n : ℕ). options_behind g.P.RefPort.take c.args.schema.now inside c.args.marked (with_tag c.args.members.now) had n old.last c.args.port.now c.args.cursor.now ≡ option_behind g.P.RefPort.take c.args.schema.now inside c.args.marked (with_tag c.args.members.now) had (old.steps - 1) c.place-place.result c.in-Some.tag c.kind_tagged-kind.result c.in-Some.format c.args.port.now c.take_tag.new.cursor) more
     (rw (c.place-place.ensures, c.kind_tagged-kind.ensures.among_tagged) tagged)) (c.begin.ensures.advances inside c.args.marked (with_tag c.args.members.now))

@@ -1,9 +1,12 @@
 use Rattle.std.proofs.Common.{◌≡◌, ℕ, ◌+◌, Ok, Some, None, sym, ap, ◌∙◌, subst}
-use Rattle.ice_values.specs.Cost.{wants, weight, frames_cost, cost, LessOnStep}
+use Rattle.graph_arena.specs.View.{view}
+use Rattle.ice_values.specs.Cost.{wants, weight, frames_cost, cost}
+use Rattle.ice_values.specs.Pauses.{LessOnStep}
 use Rattle.ice_values.specs.Frames.{opened}
 use Rattle.ice_values.specs.Rests.{rest_of}
 use Rattle.ice_values.specs.Going.{left_of}
-use Rattle.ice_values.proofs.Frames.{closes, part-next, steps-along, asks-next, levels-opened, levels_of, NextsAt}
+use Rattle.ice_values.proofs.Frames.{closes, part-next, asks-next, levels-opened, levels_of, NextsAt}
+use Rattle.ice_values.proofs.Joined.{steps-along}
 use Rattle.ice_values.proofs.Costs.{asks-less, next-less, LessOnAsk}
 use Rattle.ice_values.proofs.reader.ValueReader.step.Goals as goal
 
@@ -12,7 +15,7 @@ returns-in-Some-clause-steps g c inside =
     let t = c.args.schema.now in
     let old = c.args.self.now in
     let levels : levels_of (opened old.top) ≡ c.next.new.self.levels = levels-opened old.top.levels old.top.parts ∙ sym c.next.ensures.levels in
-    steps-along inside (left_of g.P.RefPort.take t inside c.read_level.new.self) c.read_level.result _ _ c.read_level.new.port c.read_level.new.cursor
+    steps-along inside (left_of g.P.RefPort.take t inside c.read_level.new.self) view c.read_level.result _ _ c.read_level.new.port c.read_level.new.cursor
     (part-next g.P.RefPort.take t inside old.top c.next.new.self old.below c.in-Some.kind c.args.port.now c.args.cursor.now c.args.cursor.now
     (subst (λ (n : ℕ). NextsAt g.P.RefPort.take t inside n (opened c.next.new.self) (Ok (Some c.in-Some.kind)) (rest_of g.P.RefPort.take t inside (opened old.top) c.args.port.now c.args.cursor.now) c.args.port.now c.args.cursor.now) levels (asks-next g.P.RefPort.take t inside (opened old.top) (opened c.next.new.self) (Ok (Some c.in-Some.kind)) c.args.port.now c.args.cursor.now (rw c.in-Some.is at c.in_ok-kind.ensures.asks)))) (c.read_level.ensures.steps inside)
 

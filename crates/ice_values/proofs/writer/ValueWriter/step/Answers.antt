@@ -3,7 +3,7 @@ use Rattle.ice_encoding.specs.Writing.{written_each, written_pairs}
 use Rattle.ice_encoding.specs.Pausing.{written_in_place}
 use Rattle.graph_arena.specs.declared.value.Value.{Value}
 use Rattle.graph_arena.specs.View.{view, view_all, view_pairs}
-use Rattle.ice_values.specs.Putting.{Values, Pairs, lists, left_written}
+use Rattle.ice_values.specs.Putting.{Values, Pairs, lists, left_written, onto}
 use Rattle.ice_values.proofs.Levels.{one-fits, values-fit, pairs-fit, popped-fits, popped-work, one-work, values-work, pairs-work, one-written, first-written, key-written, level-ends, steps-along, less-along, no_items, no_pairs}
 use Rattle.ice_values.proofs.writer.ValueWriter.step.Goals as goal
 
@@ -17,7 +17,7 @@ put-requires-clause-value_fits g c = (one-fits (lists c.take_level.new.self) (li
 
 pub returns-in-Some-Value-clause-steps : goal.returns-in-Some-Value-clause-steps
 returns-in-Some-Value-clause-steps g c inside =
-    steps-along inside (left_written g.P.PutPort.put inside (lists c.put.new.self)) c.put.result _ _ (c.put.new.port, c.put.new.out.items)
+    steps-along inside (onto (left_written g.P.PutPort.put inside (lists c.put.new.self))) c.put.result _ _ (c.put.new.port, c.put.new.out.items)
     (one-written g.P.PutPort.put inside (lists c.take_level.new.self) (lists c.args.self.now) (view c.in-Some-Value.value.now) (c.args.port.now, c.args.out.now.items) (rw c.in-Some-Value.field-0-is at c.in-Some-Value.ensures)) (c.put.ensures.steps inside)
 
 pub returns-in-Some-Value-clause-less : goal.returns-in-Some-Value-clause-less
@@ -44,7 +44,7 @@ returns-in-None-split_first-clause-less g c = popped-work (lists c.take_level.ne
 
 pub returns-in_ok-add_level-in-Some-clause-steps : goal.returns-in_ok-add_level-in-Some-clause-steps
 returns-in_ok-add_level-in-Some-clause-steps g c inside =
-    steps-along inside (left_written g.P.PutPort.put inside (lists c.put-in-Some.new.self)) c.put-in-Some.result _ _ (c.put-in-Some.new.port, c.put-in-Some.new.out.items)
+    steps-along inside (onto (left_written g.P.PutPort.put inside (lists c.put-in-Some.new.self))) c.put-in-Some.result _ _ (c.put-in-Some.new.port, c.put-in-Some.new.out.items)
     (first-written g.P.PutPort.put inside (lists c.take_level.new.self) (lists c.args.self.now) c.in-Some-Values.values.now c.in-Some.others.now c.in-Some.value.now (lists c.add_level.new.self) (c.args.port.now, c.args.out.now.items) (rw c.in-Some-Values.field-0-is at c.in-Some-Values.ensures) c.in-Some.ensures.cases.0 c.in_ok-add_level-in-Some.ensures) (c.put-in-Some.ensures.steps inside)
 
 pub returns-in_ok-add_level-in-Some-clause-less : goal.returns-in_ok-add_level-in-Some-clause-less
@@ -71,7 +71,7 @@ returns-in-None-split_first-2-clause-less g c = popped-work (lists c.take_level.
 
 pub returns-in_ok-add_level-in-Some-split_first-2-clause-steps : goal.returns-in_ok-add_level-in-Some-split_first-2-clause-steps
 returns-in_ok-add_level-in-Some-split_first-2-clause-steps g c inside =
-    steps-along inside (left_written g.P.PutPort.put inside (lists c.put-in-Some-split_first.new.self)) c.put-in-Some-split_first.result _ _ (c.put-in-Some-split_first.new.port, c.put-in-Some-split_first.new.out.items)
+    steps-along inside (onto (left_written g.P.PutPort.put inside (lists c.put-in-Some-split_first.new.self))) c.put-in-Some-split_first.result _ _ (c.put-in-Some-split_first.new.port, c.put-in-Some-split_first.new.out.items)
     (key-written g.P.PutPort.put inside (lists c.take_level.new.self) (lists c.args.self.now) c.in-Some-Pairs.pairs.now c.in-Some-split_first.others.now c.in-Some-split_first.pair.now (lists c.add_level-in-Some-split_first.new.self) (lists c.add_level-in-Some-split_first-2.new.self) (c.args.port.now, c.args.out.now.items) (rw c.in-Some-Pairs.field-0-is at c.in-Some-Pairs.ensures) c.in-Some-split_first.ensures.cases.0 c.in_ok-add_level-in-Some-split_first.ensures c.in_ok-add_level-in-Some-split_first-2.ensures) (c.put-in-Some-split_first.ensures.steps inside)
 
 pub returns-in_ok-add_level-in-Some-split_first-2-clause-less : goal.returns-in_ok-add_level-in-Some-split_first-2-clause-less
