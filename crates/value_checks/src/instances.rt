@@ -105,7 +105,7 @@ fn is_unknown_id(schema: &Schema, rows: Rows, id: &Name) -> bool
     }
 }
 
-/// Each of them is one.
+/// Each of them is a byte, as their type says.
 fn are_bytes(bytes: &[u8]) -> bool
     ensures { IsTrue result ↔ IsBytes bytes.now }
 {
