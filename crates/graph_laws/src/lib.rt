@@ -12,6 +12,8 @@
 //! - That canonical bytes are spelled rests on the rules of a schema, by which each type id is UTF-8, as a type
 //!   id that bytes spell has to be. Equal canonical bytes are then spelled by both graphs, and what one piece of
 //!   bytes spells is one graph: no law compares two graphs part by part.
+//! - That canonical bytes are the only ones of their sort is said where a choice is left: of names (`forms_spelled`)
+//!   and of tables (`tables_by_first_use`). A relation over the whole would be the writer once more.
 //! - Two tables at once. A schema that lacks classes has its rows at other places. What the laws relate is
 //!   therefore types, members and slices of two tables by their type ids (`SameKind`, `SameShape` of
 //!   `ice_types`), and not one table with hidden rows: with those an id would no more name one class.

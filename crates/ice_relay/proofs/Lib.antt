@@ -6,6 +6,7 @@ pub mod TwoInputs
 pub mod Compared
 pub mod Deciding
 pub mod Noted
+pub mod Dumped
 pub mod TextTelling
 pub mod Tables
 pub mod Fitting

@@ -4,11 +4,13 @@ ghost use Rattle.std.specs.Prelude.{◌≡◌, ℕ, List, Option, Some};
 ghost use Rattle.ice_types.specs.declared.kind.TypeRef.{TypeRef};
 ghost use Rattle.ice_types.specs.Tables.{Tables};
 ghost use Rattle.ice_types.specs.Rules.{IsSchema};
+ghost use Rattle.ice_prims.specs.Rest.{IsBytes};
 ghost use Rattle.ice_graphs.specs.Graph.{Graph};
 ghost use Rattle.ice_graphs.specs.Canonical.{Format};
-ghost use Rattle.graph_json.specs.Texts.{IsRefused, Lists, NotesText};
+ghost use Rattle.graph_json.specs.Canonical.{canonical_noted};
+ghost use Rattle.graph_json.specs.Texts.{IsJson, IsRefused, Lists, NotesText};
 ghost use Rattle.graph_json.specs.declared.fault.JsonKind.{JsonKind};
-ghost use Rattle.ice_relay.specs.Relaying.{canonical_bytes, one_value};
+ghost use Rattle.ice_relay.specs.Relaying.{Holds, canonical_bytes, one_value};
 ghost use Rattle.ice_relay.specs.TextStreams.{ReadsText};
 
 /// What is read of an input decides it: the graph that the text lists, or why it lists none.
@@ -25,4 +27,15 @@ pub fn noted_bytes()
     ensures { (t : Tables) (kind : TypeRef) (f : Format) (text : List ℕ) (g h : Graph)
         → IsSchema t → Lists t (one_value kind) text g → NotesText t (one_value kind) text h
         → canonical_bytes t kind f g ≡ canonical_bytes t kind f h }
+{}
+
+/// A text that reads as the canonical notation of what an input holds notes it, and what is written for the graph that
+/// such a text lists is the canonical encapsulation of what the input holds.
+pub fn dumped_and_encoded()
+    ensures noted { (t : Tables) (kind : TypeRef) (input text : List ℕ) (g : Graph)
+        → IsSchema t → IsBytes input → Holds t kind input g → IsJson text (canonical_noted t (one_value kind) g)
+        → NotesText t (one_value kind) text g }
+    ensures encoded { (t : Tables) (kind : TypeRef) (f : Format) (input text : List ℕ) (g k : Graph)
+        → IsSchema t → IsBytes input → Holds t kind input g → IsJson text (canonical_noted t (one_value kind) g)
+        → Lists t (one_value kind) text k → canonical_bytes t kind f k ≡ canonical_bytes t kind f g }
 {}

@@ -38,6 +38,6 @@ pub use dumping::line_of;
 pub use encoding::canonical_of_text;
 pub use fault::RelayFault;
 pub use input::{read_input, read_two, read_up_to, reading_decides, two_decided};
-pub use laws::{noted_bytes, text_decides};
+pub use laws::{dumped_and_encoded, noted_bytes, text_decides};
 pub use relay::{canonical_of, root_of};
 pub use text_input::read_text;

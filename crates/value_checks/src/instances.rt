@@ -95,7 +95,7 @@ fn is_unknown_id(schema: &Schema, sort: SlicedType, id: &Name) -> bool
     sort.row_named(schema, id.as_str()).is_none()
 }
 
-/// Each of them is one.
+/// Each of them is a byte, as their type says.
 fn are_bytes(bytes: &[u8]) -> bool
     ensures { IsTrue result ↔ IsBytes bytes.now }
 {
