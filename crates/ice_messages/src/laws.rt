@@ -63,10 +63,11 @@ pub fn fronts_wait()
     ensures { (bytes : List ℕ) → IsBytes bytes → IsFront bytes ↔ (next_at bytes ≡ Ok None) }
 {}
 
-/// What stands next has a fault exactly where the message that begins there has the defect, at its place. Bytes have one
-/// first defect at most, and none where they are a front or begin with a message.
+/// What stands next has a fault exactly where the message that begins there has that defect. Bytes have one first defect
+/// at most, and none where they are a front or begin with a message.
 pub fn first_faults()
-    ensures next { (bytes : List ℕ) (fault : Fault) → IsBytes bytes → (next_at bytes ≡ Err fault) ↔ MessageBreaks bytes fault }
+    ensures next { (bytes : List ℕ) (fault : Fault) → IsBytes bytes
+        → (next_at bytes ≡ Err fault) ↔ MessageBreaks bytes fault }
     ensures one { (bytes : List ℕ) (a b : Fault) → MessageBreaks bytes a → MessageBreaks bytes b → a ≡ b }
     ensures no_front { (bytes : List ℕ) (fault : Fault) → MessageBreaks bytes fault → ¬ IsFront bytes }
     ensures no_message { (first others : List ℕ) (m : Message) (fault : Fault)
