@@ -2,7 +2,8 @@
 
 ghost use Rattle.std.specs.Prelude.{◌≡◌, ◌++◌, IfOk, OnOk, codes};
 ghost use Rattle.std.specs.List.{flat_map};
-ghost use Rattle.node_commands.specs.Audits.{seen_words, asked_words, capture_line, side_word, cause_word, denial, verdict_text};
+ghost use Rattle.node_commands.specs.Audits.{seen_words, asked_words, capture_line};
+ghost use Rattle.node_commands.specs.Audits.{side_word, cause_word, denial, verdict_text};
 
 use ice_audit::{Line, Seen, Side, Verdict, Why};
 use itoa::Buffer;
