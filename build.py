@@ -78,6 +78,14 @@ def crates_below(name, listed, found=None):
     return list(found)
 
 
+def lowest_of(crates):
+    """Returns the crate that most of the others stand on. It is proved before them, by as many processors as there are: of crates that can
+    begin side by side, `rt ci` gives each one."""
+    listed = listed_crates()
+    above = [it for crate in crates for it in crates_below(crate, listed)]
+    return max(crates, key=above.count)
+
+
 def crates_of_program():
     listed = listed_crates() if os.path.isfile(f"{TOP}/crates.txt") else {}
     if "ice" not in listed:
@@ -296,7 +304,7 @@ def build_by_ci(crates, progress, log):
             shutil.copyfile(f"{TOP}/HANDLES", f"{room}/HANDLES")
         # rt ci wants the top of a repository.
         os.mkdir(f"{room}/.git")
-        status = run_rt(["ci"], room, progress, log)
+        status = run_rt(["ci", lowest_of(crates)], room, progress, log) or run_rt(["ci"], room, progress, log)
         if not status:
             shutil.copy(f"{room}/crates/ice/out/ice", f"{PROGRAM}.new")
             os.replace(f"{PROGRAM}.new", PROGRAM)
