@@ -1,7 +1,7 @@
 //! Lines of inputs in pieces of one byte and of many, and what fails on the way.
 ghost use Rattle.std.specs.Prelude.{◌<◌};
 
-use crate::outside::{bytes, calls};
+use test_outside::{bytes, calls};
 use ice_ports::{MemSink, MemSource};
 use ice_prims::{Fault, Kind};
 use ice_types::List;

@@ -4,7 +4,7 @@ ghost use Rattle.std.specs.Prelude.{IfOk};
 ghost use Rattle.graph_arena.specs.Seen.{view_slice};
 ghost use Rattle.preserved.specs.Unknown.{IsUnknown};
 
-use crate::outside::{bytes, shelf};
+use test_outside::{bytes, shelf};
 use graph_arena::{Slice, Value};
 use ice_prims::{Fault, Kind, ReadFault};
 use ice_types::{List, Name, Schema};

@@ -7,8 +7,6 @@ mod dumps;
 #[cfg(test)]
 mod exceptions;
 #[cfg(test)]
-mod outside;
-#[cfg(test)]
 mod ports;
 #[cfg(test)]
 mod slice_files;

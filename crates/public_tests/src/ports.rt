@@ -1,7 +1,7 @@
 //! The objects in memory through their traits, and files at the edges of what a path may be. What the
 //! standard streams do, the cases show.
 
-use crate::outside::{bytes, calls};
+use test_outside::{bytes, calls};
 use ice_ports::{Failed, FolderShelf, MemSink, MemSource, Shelf, Sink, Source};
 use std::alloc::Global;
 use std::test::Fail;

@@ -1,6 +1,6 @@
 //! What a file brings with it, in which order, and the first fault on the way.
 
-use crate::outside::{file, shelf};
+use test_outside::{file, shelf};
 use ice_ports::MemShelf;
 use ice_types::{List, Schema};
 use slice_check::{LoadFault, load};

@@ -1,7 +1,7 @@
 //! `node` over an outside in memory: a call of each command and refusal, and what comes of each
 //! failure. What comes of other words, texts and inputs, the cases show.
 
-use crate::outside::{bytes, calls, shelf};
+use test_outside::{bytes, calls, shelf};
 use ice_node::node;
 use ice_ports::{MemSink, MemSource};
 use ice_types::List;
