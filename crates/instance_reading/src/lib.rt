@@ -11,8 +11,8 @@
 //! - What the next slice follows is told when a slice begins (`next`), None behind the last: so a slice of a
 //!   known class, one without a size and one that is kept end alike.
 //! - An exception is read by the same code as an instance, which is told what the slices are of (`SlicedType`):
-//!   that finds their rows, and flags, type ids and the test of the last slice have a function for each. Values go by the schema's own tables, since no type
-//!   says which classes there are (`read_same`).
+//!   that finds their rows, and flags, type ids and the test of the last slice have a function for each. Values
+//!   go by the schema's own tables, since no type says which classes there are (`read_same`).
 //! - An instance is read whole where it begins in the members of a content or in the slices of an exception
 //!   (`read_instance`): a stack stands only while one is read, and both readers are a loop of a few lines.
 //! - An instance with a single slice takes room for one: a list that grows takes room for four at first, which a
