@@ -26,8 +26,8 @@ pub use ends::{MOST_MESSAGES, client_fault, is_clients, is_servers, server_fault
 pub use fault::{FeedFault, WriteFault};
 pub use frames::Frames;
 pub use laws::{
-    cut_message, first_faults, first_messages, fronts_wait, messages_apart, messages_exact,
-    messages_written, one_stream, orderly_written, pieces_read,
+    cut_message, first_faults, first_messages, fronts_wait, input_faults, messages_apart,
+    messages_exact, messages_written, one_stream, orderly_written, pieces_read,
 };
 pub use lengths::{batch_length, message_length, reply_length, request_length};
 pub use message::{Answer, Call, Message};
