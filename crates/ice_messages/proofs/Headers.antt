@@ -16,7 +16,7 @@ use Rattle.ice_messages.proofs.Breaking.{failed}
 
 -- ---- bytes that are others than the known ones
 
-not_equal : (a known : List ℕ) → a ≢ known → (b : Bool) → bytes_eq a known ≡ b → bytes_eq a known ≡ false
+pub not_equal : (a known : List ℕ) → a ≢ known → (b : Bool) → bytes_eq a known ≡ b → bytes_eq a known ≡ false
 not_equal a known ne true e = absurd (ne ((bytes_eq-Decides a known).0 e))
 not_equal a known ne false e = e
 

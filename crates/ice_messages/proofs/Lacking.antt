@@ -142,9 +142,6 @@ text_agrees = then_agrees size size_lawful SizeBreaks size_agrees letters_at Let
 pub identity_agrees : Agrees identity.read IdentityBreaks
 identity_agrees = made_agrees _ _ (both_agrees text text_lawful TextBreaks text_agrees text TextBreaks text_agrees) _
 
-above_one : (n : ℕ) → leb n 1 ≡ false → 1 < n
-above_one n h = leb-false _ _ h
-
 pub facet_agrees : Agrees facet.read FacetBreaks
 facet_agrees = made_agrees _ _ (then_agrees facet_count (tested_lawful _ _ _ size_lawful) _
     (tested_agrees _ _ size size_lawful SizeBreaks size_agrees (λ n. 1 < n) (λ n h. leb-false _ _ h) (λ n h. lt-leb _ _ h))

@@ -20,3 +20,4 @@ mod Lacking
 mod Headers
 mod FirstFaults
 mod Known
+mod Inputs

@@ -10,3 +10,4 @@ pub mod Next
 pub mod Ends
 pub mod Defects
 pub mod Breaks
+pub mod WholeBreaks
