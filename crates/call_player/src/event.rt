@@ -14,7 +14,7 @@
 //! | `arrive CONNECTION BYTES` | so many of these reach the server |
 //! | `dispatch CONNECTION` | the server reads the message and dispatches its first call |
 //! | `refuse CONNECTION` | the server reads the message and has no such object |
-//! | `answer CONNECTION` | the call has its answer: the server dispatches the next of the message, or writes the reply |
+//! | `answer CONNECTION` | the call has its answer: the server dispatches the next one, or writes the reply |
 //! | `close CONNECTION` | the server closes the connection |
 //! | `read CONNECTION` | the client reads the next message |
 //! | `lose CONNECTION` | the client loses the connection |

@@ -8,8 +8,8 @@ use crate::client_table::{ClientAction, ClientEvent, ClientNext, ClientState, ne
 use std::alloc::{AllocError, Global};
 use std::marker::Model;
 
-/// The client's end of one message, a call or several that ask for no reply: told what came, it answers what to do next, and lists how each
-/// attempt ended. (Ice manual, "Automatic Retries".)
+/// The client's end of one message, a call or several that ask for no reply: told what came, it answers what to
+/// do next, and lists how each attempt ended. (Ice manual, "Automatic Retries".)
 #[derive(Debug, Drop)]
 pub struct Client {
     idempotent: bool,
