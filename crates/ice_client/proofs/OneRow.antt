@@ -15,7 +15,7 @@ use Rattle.retry_core.specs.declared.attempt.Attempt.{Attempt}
 use Rattle.retry_core.specs.declared.attempt.Attempt.TheVariants as tries
 use Rattle.ice_client.specs.declared.outcome.Outcome.{Outcome}
 use Rattle.ice_client.specs.declared.outgoing.Outgoing.{Outgoing}
-use Rattle.ice_client.specs.Rows.{Begins, AreValidates, Reads, awaited, Meets, is_stale, Row}
+use Rattle.ice_client.specs.Rows.{Begins, IsGreeted, AreValidates, Reads, awaited, Meets, is_stale, Row}
 use Rattle.ice_client.specs.Laws.{TalksHaveOneRow}
 
 -- ---- what stands behind validates
@@ -171,17 +171,21 @@ IsSent o t = (t.taken ≡ o.bytes) × (o.replies ≡ false) × Begins t.given Va
 Sort : Outgoing → Bool → Talk → Attempt → Type 0
 Sort o cached t a = ((a ≡ tries.NotWhole) × Cut o t) ⊎ (((a ≡ tries.Sent) × IsSent o t) ⊎ Stopped o cached t a)
 
+begun : {given : List ℕ} → IsGreeted given ⊎ StreamEnds given None → Begins given Validate ⊎ StreamEnds given None
+begun (inl h) = inl h.0
+begun (inr h) = inr h
+
 sort : (o : Outgoing) (cached : Bool) (t : Talk) (a : Attempt) (outcome : Outcome) → Row o cached a outcome t → Sort o cached t a
 unfolding Sort Cut IsSent Stopped IsStop Stops attempt_by
 sort o cached t tries.NotConnected outcome h = absurd h
-sort o cached t tries.NotWhole outcome h = inl (refl, (h.0, h.1))
-sort o cached t tries.Sent outcome h = inr (inl (refl, (h.0, h.1, h.2)))
+sort o cached t tries.NotWhole outcome h = inl (refl, (h.0, begun h.1))
+sort o cached t tries.Sent outcome h = inr (inl (refl, (h.0, h.1, h.2.0)))
 sort o cached t tries.Lost outcome h = inr (inr (Validate ∷ h.0, ends None, (omega arith, (h.1, h.2, h.3)), refl))
 sort o cached t tries.Closed outcome h = inr (inr (h.0, meets Close None, (h.1, λ e none. cc), refl))
-sort o cached t tries.Stale outcome (answer, (ms, meet, stale), is) = inr (inr (Validate ∷ ms, meets (Reply (pos 1) answer) None, (meet, λ e none. cc), rw stale refl))
+sort o cached t tries.Stale outcome (told, (ms, meet, stale), is) = inr (inr (Validate ∷ ms, meets (Reply (pos 1) told) None, (meet, λ e none. cc), rw stale refl))
 sort o cached t tries.Broke outcome (fault, inl (ms, rest, reads, breaks), is) = inr (inr (ms, ends (Some fault), (rest, reads, breaks), refl))
 sort o cached t tries.Broke outcome (fault, inr (ms, m, meet), is) = inr (inr (ms, meets m (Some fault), (meet, λ e none. cc), refl))
-sort o cached t tries.Replied outcome (answer, (ms, meet, stale), is) = inr (inr (Validate ∷ ms, meets (Reply (pos 1) answer) None, (meet, λ e none. cc), rw stale refl))
+sort o cached t tries.Replied outcome (told, (ms, meet, stale), is) = inr (inr (Validate ∷ ms, meets (Reply (pos 1) told) None, (meet, λ e none. cc), rw stale refl))
 
 -- ---- a message that was cut or sent met no stop
 
@@ -194,15 +198,15 @@ first_fine o t m fault validate (rest, reads, begins, is) stops =
 
 cut_stop : (o : Outgoing) (t : Talk) (ms : List Message) (s : Stop) → Cut o t → IsStop o t ms s → ⊥
 unfolding Cut IsStop
-cut_stop o t [] (ends None) (short, begun) (none, more) = absurd (omega (arith, none))
+cut_stop o t [] (ends None) (short, start) (none, more) = absurd (omega (arith, none))
 cut_stop o t [] (ends (Some fault)) (short, inl validate) (rest, reads, breaks) = ends_alone rest (Some fault) Validate breaks (subst (λ (z : List ℕ). Begins z Validate) reads.1 validate)
 cut_stop o t [] (ends (Some fault)) (short, inr front) (rest, reads, breaks) =
     absurd (let e : None ≡ Some fault = one_end rest None (Some fault) (subst (λ (z : List ℕ). StreamEnds z None) reads.1 front) breaks in cc)
 cut_stop o t [] (meets m fault) (short, inl validate) (meet, stops) = first_fine o t m fault validate meet stops
 cut_stop o t [] (meets m fault) (short, inr front) ((rest, reads, begins, is), stops) = ends_alone t.given None m front (subst (λ (z : List ℕ). Begins z m) (sym reads.1) begins)
-cut_stop o t (m ∷ ms) (ends None) (short, begun) (some, (rest, reads, front)) = absurd (omega (arith, short, ap length reads.0))
-cut_stop o t (m ∷ ms) (ends (Some fault)) (short, begun) (rest, reads, breaks) = absurd (omega (arith, short, ap length reads.0))
-cut_stop o t (m ∷ ms) (meets n fault) (short, begun) ((rest, reads, begins, is), stops) = absurd (omega (arith, short, ap length reads.0))
+cut_stop o t (m ∷ ms) (ends None) (short, start) (some, (rest, reads, front)) = absurd (omega (arith, short, ap length reads.0))
+cut_stop o t (m ∷ ms) (ends (Some fault)) (short, start) (rest, reads, breaks) = absurd (omega (arith, short, ap length reads.0))
+cut_stop o t (m ∷ ms) (meets n fault) (short, start) ((rest, reads, begins, is), stops) = absurd (omega (arith, short, ap length reads.0))
 
 asked_both : (b : Bool) → b ≡ true → b ≡ false → ⊥
 asked_both b one two = absurd (let e : true ≡ false = sym one ∙ two in cc)
