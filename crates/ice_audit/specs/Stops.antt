@@ -6,6 +6,7 @@ use Rattle.ice_prims.specs.declared.fault.Kind.TheVariants.{Unexpected, NotValid
 use Rattle.ice_messages.specs.declared.message.Message.{Message}
 use Rattle.ice_messages.specs.declared.message.Message.TheVariants.{Request, Batch, Reply, Validate, Close}
 use Rattle.ice_messages.specs.declared.message.TheConstants.{HEADER_BYTES}
+use Rattle.ice_messages.specs.Ends.{is_clients, is_servers}
 use Rattle.ice_audit.specs.declared.stop.Stop.{Stop}
 use Rattle.ice_audit.specs.declared.stop.Stage.{Stage}
 use Rattle.ice_audit.specs.declared.stop.Stage.TheVariants.{Fresh, Open, Closed}
@@ -24,20 +25,6 @@ end_stop at None = None
 end_stop at (Some fault) = Some (record { place = at + fault.place; why = Bytes fault.kind })
 
 -- ---- one message
-
-abbrev pub is_clients : Message → Bool
-is_clients (Request id c) = true
-is_clients (Batch calls) = true
-is_clients (Reply id a) = false
-is_clients Validate = true
-is_clients Close = true
-
-abbrev pub is_servers : Message → Bool
-is_servers (Request id c) = false
-is_servers (Batch calls) = false
-is_servers (Reply id a) = true
-is_servers Validate = true
-is_servers Close = true
 
 abbrev pub is_validate : Message → Bool
 is_validate (Request id c) = false

@@ -4,13 +4,13 @@ ghost use Rattle.std.specs.Prelude.{◌≡◌, ◌++◌, ◌≤◌, ◌<◌, ◌
 ghost use Rattle.ice_encoding.specs.declared.limits.TheConstants.{LARGEST};
 ghost use Rattle.ice_prims.specs.Rest.{IsBytes};
 ghost use Rattle.ice_audit.specs.declared.verdict.TheConstants.{MOST_BYTES};
-ghost use Rattle.ice_audit.specs.Stops.{client_message, is_clients};
+ghost use Rattle.ice_audit.specs.Stops.{client_message};
 ghost use Rattle.ice_audit.specs.Posing.{posed_by, batch_posed, request_posed, request_due, due_by, HasCount};
 ghost use Rattle.ice_audit.specs.Readings.{ReadsClient, TakesClient, HearsClient};
 
 use crate::stop::{Halt, Stage, Stop};
 use crate::stream::{next_message, out_of_turn, stage_after};
-use ice_messages::{Call, Frames, Message, messages_exact};
+use ice_messages::{Call, Frames, Message, is_clients, messages_exact};
 use std::alloc::{AllocError, Global};
 
 /// What a client asked with a message.
@@ -89,16 +89,6 @@ fn client_message(stage: Stage, message: &Message, at: u64) -> Option<Stop>
     ensures { result ≡ client_message stage message.now at }
 {
     out_of_turn(is_clients(message), stage, at)
-}
-
-/// Whether a client sends such messages.
-fn is_clients(message: &Message) -> bool
-    ensures { result ≡ is_clients message.now }
-{
-    match message {
-        Message::Reply { id: _, answer: _ } => false,
-        _ => true,
-    }
 }
 
 /// Keeps what a message asks.

@@ -4,14 +4,14 @@ ghost use Rattle.std.specs.Prelude.{◌≡◌, ◌++◌, ◌≤◌, ◌<◌, ◌
 ghost use Rattle.ice_encoding.specs.declared.limits.TheConstants.{LARGEST};
 ghost use Rattle.ice_messages.specs.Calls.{status_of};
 ghost use Rattle.ice_audit.specs.declared.verdict.TheConstants.{MOST_BYTES};
-ghost use Rattle.ice_audit.specs.Stops.{server_message, is_servers, is_validate, is_due, is_first, unvalidated, undue};
+ghost use Rattle.ice_audit.specs.Stops.{server_message, is_validate, is_due, is_first, unvalidated, undue};
 ghost use Rattle.ice_audit.specs.Posing.{statuses_by};
 ghost use Rattle.ice_audit.specs.Readings.{ReadsServer, TakesServer, HearsServer};
 
 use crate::stop::{Halt, Stage, Stop};
 use crate::stream::{next_message, out_of_turn, stage_after};
 use crate::verdict::Why;
-use ice_messages::{Answer, Frames, Message};
+use ice_messages::{Answer, Frames, Message, is_servers};
 use ice_prims::Kind;
 use std::alloc::{AllocError, Global};
 
@@ -96,17 +96,6 @@ fn server_message(stage: Stage, due: &[i32], message: &Message, at: u64) -> Opti
         return Some(stop);
     }
     undue(is_due(message, due), at)
-}
-
-/// Whether a server sends such messages.
-fn is_servers(message: &Message) -> bool
-    ensures { result ≡ is_servers message.now }
-{
-    match message {
-        Message::Request { id: _, call: _ } => false,
-        Message::Batch { calls: _ } => false,
-        _ => true,
-    }
 }
 
 fn is_validate(message: &Message) -> bool

@@ -31,7 +31,7 @@ no_fault h = cc
 pub same_fault : {d e : Fault} → failed d ≡ failed e → d ≡ e
 same_fault h = cc
 
-only_first : {A B C : Type 0} (r : Result A Fault) (f : A → B) (g : B → C) (e : Fault) → ((r >>= λ x. Ok (f x)) >>= λ y. Ok (g y)) ≡ Err e → r ≡ Err e
+pub only_first : {A B C : Type 0} (r : Result A Fault) (f : A → B) (g : B → C) (e : Fault) → ((r >>= λ x. Ok (f x)) >>= λ y. Ok (g y)) ≡ Err e → r ≡ Err e
 only_first (Ok x) f g e h = absurd cc
 only_first (Err d) f g e h = let same : d ≡ e = cc in ap Err same
 
@@ -80,18 +80,18 @@ module _ (head : List ℕ) (long : length head ≡ HEADER_BYTES) where
       rw whole_is refl
 
   module _ (type : ℕ) (z : ℤ) (reads : (behind : List ℕ) → header.read (at 0 (head ++ behind)) ≡ Ok ((type, z), at 14 behind)) where
-    next_counted : (behind : List ℕ) → next_at (head ++ behind) ≡ (claimed 10 LARGEST HEADER_BYTES z >>= counted (head ++ behind))
+    pub next_counted : (behind : List ℕ) → next_at (head ++ behind) ≡ (claimed 10 LARGEST HEADER_BYTES z >>= counted (head ++ behind))
     next_counted behind =
         let there : HEADER_BYTES ≤ length (head ++ behind) = omega (arith, long, length-append head behind) in
         let whole_is = whole_header (head ++ behind) there ∙ reads behind in
         let enough : ltb (length (head ++ behind)) HEADER_BYTES ≡ false = le-ltb _ _ there in
         rw (whole_is, enough) refl
 
-    abbrev body : List ℕ → ℕ → Result Message Fault
+    abbrev pub body : List ℕ → ℕ → Result Message Fault
     body behind n = filled (body_by type).read (at 14 (take (n - HEADER_BYTES) behind))
 
     -- a body that is whole has the fault
-    next_body : (behind : List ℕ) (n : ℕ) → claimed 10 LARGEST HEADER_BYTES z ≡ Ok n → n ≤ length (head ++ behind)
+    pub next_body : (behind : List ℕ) (n : ℕ) → claimed 10 LARGEST HEADER_BYTES z ≡ Ok n → n ≤ length (head ++ behind)
         → next_at (head ++ behind) ≡ ((body behind n >>= λ m. Ok (m, after (at 14 behind) (n - HEADER_BYTES))) >>= λ m. Ok (Some m))
     next_body behind n claim there =
         claimed_ok 10 LARGEST HEADER_BYTES z n claim λ same most left least.

@@ -15,3 +15,9 @@ mod Running
 pub mod Settled
 pub mod Near
 pub mod Faults
+mod Breaking
+mod Lacking
+mod Headers
+mod FirstFaults
+mod Known
+mod Inputs

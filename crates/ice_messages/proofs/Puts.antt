@@ -1,5 +1,5 @@
 -- What is put of parts, one after the other, each of which there is.
-use Rattle.std.proofs.Common.{◌≡◌, ℕ, ℤ, pos, ◌+◌, ◌≤◌, ◌<◌, get_or, List, [], ◌∷◌, ◌++◌, length, drop, Result, Ok, Err, refl, sym, ap, subst, ◌∙◌, append_assoc, arith}
+use Rattle.std.proofs.Common.{◌≡◌, ℕ, ℤ, pos, ◌+◌, ◌≤◌, ◌<◌, get_or, List, ◌∷◌, ◌++◌, length, drop, Result, Ok, Err, refl, sym, ap, subst, ◌∙◌, append_assoc, arith}
 use Rattle.std.specs.Prelude.{FitsSigned}
 use Rattle.std.specs.Int.{w32}
 use Rattle.std.specs.List.{flat_map}
@@ -111,9 +111,3 @@ batch_message_puts cs old new p = (p.0, (p.1, refl))
 
 pub reply_puts : (id : ℤ) (a : Answer) (old new : List ℕ) → Puts (both int answer) (id, a) old new → Puts (body_by 2) (Reply id a) old new
 reply_puts id a old new p = (p.0, (p.1, refl))
-
--- ---- a facet
-
-pub facet_is : (f : List ℕ) → text.Is f → facet.Is f
-facet_is [] is = (((omega arith, refl), (refl, tt)), refl)
-facet_is (c ∷ cs) is = (((omega arith, refl), (refl, (is, tt))), refl)

@@ -1,8 +1,6 @@
 -- What is put of a list, one item after the other.
 use Rattle.std.proofs.Common.{◌≡◌, ℕ, ◌+◌, ◌≤◌, ◌<◌, get_or, List, [], ◌∷◌, ◌++◌, length, drop, sym, ap, ◌∙◌, append_assoc, append-nil, arith}
 use Rattle.std.specs.List.{flat_map}
-use Rattle.std.specs.Result.{OnOk}
-use Rattle.std.proofs.Common.{Result, Ok, Err}
 use Rattle.std.proofs.Math.ListN.{drop_of_length-le}
 use Rattle.std.proofs.lemmas.List.{drop_more, length-append}
 use Rattle.std.proofs.Common.{Bool, true, false, cond, ltb}
@@ -52,8 +50,3 @@ entries_few (e ∷ es) = omega (arith, entries_few es, length-append ((both text
 pub calls_few : (cs : List Call) → length cs ≤ length (flat_map call.put cs)
 calls_few [] = omega arith
 calls_few (c ∷ cs) = omega (arith, calls_few cs, length-append (call.put c) (flat_map call.put cs), call_some c)
-
--- one part, and then another
-pub then_put : {X E : Type 0} (r : Result X E) (old mid new a b : List ℕ) → mid ≡ old ++ a → OnOk r (new ≡ mid ++ b) → OnOk r (new ≡ old ++ (a ++ b))
-then_put (Ok x) old mid new a b first second = second ∙ ap (λ (z : List ℕ). z ++ b) first ∙ append_assoc old a b
-then_put (Err e) old mid new a b first second = tt

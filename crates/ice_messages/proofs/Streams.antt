@@ -82,7 +82,7 @@ header_passes bytes x h =
     rw (parts.2, m.2, m.3, m.4.2, m.4.3, m.4.4.2, m.4.4.3, m.4.4.4, v.2, w.2, w.3, w.4, t.2, t.3.0.1, s.2, s.3.2.0.0.1)
     (refl, (refl, (refl, (refl, (refl, (refl, (refl, (refl, (leb-true _ _ t.3.1, (leb-true _ _ s.3.2.1, four_pass s.1 s.4.0))))))))))
 
-built : (t s : ℕ) (four : List ℕ) → t ≤ 4 → s ≤ 1 → length four ≡ 4 → (x : ℕ × ℤ) × header.Spells (73 ∷ 99 ∷ 101 ∷ 80 ∷ 1 ∷ 0 ∷ 1 ∷ 0 ∷ t ∷ s ∷ four) x
+pub built : (t s : ℕ) (four : List ℕ) → t ≤ 4 → s ≤ 1 → length four ≡ 4 → (x : ℕ × ℤ) × header.Spells (73 ∷ 99 ∷ 101 ∷ 80 ∷ 1 ∷ 0 ∷ 1 ∷ 0 ∷ t ∷ s ∷ four) x
 built t s four type_is status_is long = (
   (t, cast_signed w32 (from_le_bytes w32 four)),
   (
@@ -175,7 +175,7 @@ next_message a b m h =
 
 -- ---- fronts
 
-good_passes : Pass header_tests good_header
+pub good_passes : Pass header_tests good_header
 good_passes = (refl, (refl, (refl, (refl, (refl, (refl, (refl, (refl, (omega arith, (omega arith, (tt, (tt, (tt, (tt, tt))))))))))))))
 
 whole_read : (bytes : List ℕ) (x : ℕ × ℤ) → header.Spells bytes x → header.read (whole bytes) ≡ Ok (x, record { place = length bytes; bytes = [] })

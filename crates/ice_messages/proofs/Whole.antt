@@ -37,13 +37,13 @@ body_by_lawful (suc (suc (suc (suc n)))) = nothing_lawful _
 
 -- ---- the header
 
-magic_lawful : IsLawful magic
+pub magic_lawful : IsLawful magic
 magic_lawful = made_lawful _ _ _ (λ x. refl) (both_lawful _ _ (exactly_lawful _ _) (both_lawful _ _ (exactly_lawful _ _) (both_lawful _ _ (exactly_lawful _ _) (exactly_lawful _ _))))
 
-versions_lawful : IsLawful versions
+pub versions_lawful : IsLawful versions
 versions_lawful = made_lawful _ _ _ (λ x. refl) (both_lawful _ _ (exactly_lawful _ _) (exactly_lawful _ _))
 
-compression_lawful : IsLawful compression
+pub compression_lawful : IsLawful compression
 compression_lawful = made_sorted _ _ _ (λ s is. (((omega arith, refl), refl), refl)) (λ s is. omega arith) (tested_lawful _ _ _ (tested_lawful _ _ _ byte_lawful))
 
 pub header_lawful : IsLawful header

@@ -71,8 +71,11 @@ text_of (Missing status i f o) = []
 text_of (Unknown status what) = what
 
 -- the call that was not taken: its identity, facet and operation
+abbrev pub missed : Part (Identity × (List ℕ × List ℕ))
+missed = both identity (both facet text)
+
 abbrev pub missing : ℕ → Part Answer
-missing status = made (λ x. Missing status x.0 x.1.0 x.1.1) missed_of (both identity (both facet text))
+missing status = made (λ x. Missing status x.0 x.1.0 x.1.1) missed_of missed
 
 -- by its status
 abbrev pub answer_by : ℕ → Part Answer

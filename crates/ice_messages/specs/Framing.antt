@@ -7,7 +7,9 @@ use Rattle.ice_prims.specs.Rest.{Rest}
 use Rattle.ice_messages.specs.declared.message.Message.{Message}
 use Rattle.ice_messages.specs.declared.fault.FeedFault.{FeedFault}
 use Rattle.ice_messages.specs.declared.fault.FeedFault.TheVariants.{Stopped, Memory}
-use Rattle.ice_messages.specs.Streams.{next_at}
+use Rattle.ice_messages.specs.Streams.{IsFront, next_at}
+use Rattle.ice_messages.specs.Messages.{SpellsMessage}
+use Rattle.ice_messages.specs.Breaks.{MessageBreaks}
 use Rattle.ice_messages.specs.Next.{IsWholeNext}
 use Rattle.ice_messages.specs.Written.{IsOrderly}
 
@@ -29,13 +31,14 @@ Feeds piece old new (Err Memory) = (old.stopped ≡ None) × (new ≡ old)
 abbrev pub IsFaultOf : Held → Fault → Type 0
 IsFaultOf old fault = elim old.stopped [ None ↦ next_at old.bytes ≡ Err fault | Some before ↦ before ≡ fault ]
 
--- By what stands next in the bytes that are held: none while they are a front; else the message, whose bytes go, or the
--- fault, which stops the reader for good. Memory runs out for a whole message alone, which stays.
+-- By what stands next in the bytes that are held: none while they are a front; else the message, whose spelling goes, or
+-- the fault, which stops the reader for good. Memory runs out for a whole message alone, which stays.
 abbrev pub NextOf : Held → Held → Result (Option Message) ReadFault → Type 0
-NextOf old new (Ok None) = (old.stopped ≡ None) × (next_at old.bytes ≡ Ok None) × (new ≡ old)
+NextOf old new (Ok None) = (old.stopped ≡ None) × (next_at old.bytes ≡ Ok None) × (new ≡ old) × IsFront old.bytes
 NextOf old new (Ok (Some m)) = (old.stopped ≡ None) × (rest : Rest) × (next_at old.bytes ≡ Ok (Some (m, rest))) × (new ≡ record { bytes = rest.bytes; stopped = None })
-    × IsOrderly m
+    × IsOrderly m × (first : List ℕ) × (old.bytes ≡ first ++ rest.bytes) × SpellsMessage first m
 NextOf old new (Err (read_faults.Broken fault)) = IsFaultOf old fault × (new ≡ record { bytes = old.bytes; stopped = Some fault })
+    × (old.stopped ≡ None → MessageBreaks old.bytes fault)
 NextOf old new (Err read_faults.Memory) = (old.stopped ≡ None) × (new ≡ old) × IsWholeNext old.bytes
 
 -- ---- what was fed, and what was handed out

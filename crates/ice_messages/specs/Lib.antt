@@ -8,3 +8,6 @@ pub mod Written
 pub mod Framing
 pub mod Next
 pub mod Ends
+pub mod Defects
+pub mod Breaks
+pub mod WholeBreaks

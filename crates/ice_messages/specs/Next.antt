@@ -1,5 +1,5 @@
 -- What the calls answer that look at what stands next.
-use Rattle.std.specs.Prelude.{ℕ, ◌≡◌, ◌≤◌, ◌+◌, Bool, true, false, List, length, Option, None, Some, Result, Ok, Err}
+use Rattle.std.specs.Prelude.{ℕ, ◌≡◌, ◌≤◌, ◌+◌, Bool, true, false, List, ◌++◌, length, drop, Option, None, Some, Result, Ok, Err}
 use Rattle.ice_prims.specs.declared.fault.Fault.{Fault}
 use Rattle.ice_prims.specs.declared.fault.ReadFault.{ReadFault}
 use Rattle.ice_prims.specs.Rest.{Rest, after, whole, ◌>>=◌}
@@ -7,9 +7,10 @@ use Rattle.ice_prims.specs.declared.fault.ReadFault.TheVariants as faults
 use Rattle.ice_encoding.specs.Bounds.{claimed}
 use Rattle.ice_encoding.specs.declared.limits.TheConstants.{LARGEST}
 use Rattle.ice_messages.specs.declared.message.Message.{Message}
-use Rattle.ice_messages.specs.Streams.{next_at}
+use Rattle.ice_messages.specs.Streams.{IsFront, next_at}
+use Rattle.ice_messages.specs.Breaks.{MessageBreaks}
 use Rattle.ice_messages.specs.Written.{IsOrderly}
-use Rattle.ice_messages.specs.Messages.{header, message_at}
+use Rattle.ice_messages.specs.Messages.{header, message_at, SpellsMessage}
 use Rattle.ice_messages.specs.declared.message.TheConstants.{HEADER_BYTES}
 
 -- the message that begins the bytes
@@ -46,6 +47,13 @@ StandsNext (Ok None) bytes = next_at bytes ≡ Ok None
 StandsNext (Ok (Some x)) bytes = (next_at bytes ≡ Ok (Some (x.0, after (whole bytes) x.1))) × (x.1 ≤ length bytes) × IsOrderly x.0
 StandsNext (Err (faults.Broken fault)) bytes = next_at bytes ≡ Err fault
 StandsNext (Err faults.Memory) bytes = IsWholeNext bytes
+
+-- The same by what the bytes are: a front, the spelling of a message and what follows it, or the first defect.
+abbrev pub IsNext : Result (Option (Message × ℕ)) ReadFault → List ℕ → Type 0
+IsNext (Ok None) bytes = StandsNext (Ok None) bytes × IsFront bytes
+IsNext (Ok (Some x)) bytes = StandsNext (Ok (Some x)) bytes × (first : List ℕ) × (bytes ≡ first ++ drop x.1 bytes) × (x.1 ≡ length first) × SpellsMessage first x.0
+IsNext (Err (faults.Broken fault)) bytes = StandsNext (Err (faults.Broken fault)) bytes × MessageBreaks bytes fault
+IsNext (Err faults.Memory) bytes = StandsNext (Err faults.Memory) bytes
 
 -- whether a message is whole, by a header that is, or the fault of that header
 abbrev pub IsCounted : Result Bool Fault → List ℕ → Type 0

@@ -1,13 +1,15 @@
 //! What the definitions promise of each other, one law a function.
 
-ghost use Rattle.std.specs.Prelude.{◌≡◌, ◌≤◌, ◌++◌, ℕ, List, Ok, None, Some, Option, Result, length, ◌↔◌};
+ghost use Rattle.std.specs.Prelude.{◌≡◌, ◌≤◌, ◌++◌, ℕ, List, Ok, Err, None, Some, Option, Result, length, ◌↔◌};
 ghost use Rattle.ice_prims.specs.declared.fault.Fault.{Fault};
-ghost use Rattle.ice_prims.specs.Rest.{IsBytes};
+ghost use Rattle.ice_prims.specs.Rest.{IsBytes, whole};
 ghost use Rattle.ice_prims.specs.Laws.{FoundPart, OnlyPart};
 ghost use Rattle.ice_messages.specs.declared.message.Message.{Message};
-ghost use Rattle.ice_messages.specs.Messages.{message_at, message_bytes, SpellsMessage, IsMessage};
+ghost use Rattle.ice_messages.specs.Messages.{message_at, message_bytes, whole_message_at, SpellsMessage, IsMessage};
 ghost use Rattle.ice_messages.specs.Streams.{Stream, IsStream, IsFront, next_at};
 ghost use Rattle.ice_messages.specs.Framing.{Held, Ran};
+ghost use Rattle.ice_messages.specs.Breaks.{MessageBreaks};
+ghost use Rattle.ice_messages.specs.WholeBreaks.{InputBreaks};
 ghost use Rattle.ice_messages.specs.declared.message.Call.{Call};
 ghost use Rattle.ice_messages.specs.declared.message.Answer.{Answer};
 ghost use Rattle.ice_messages.specs.Written.{IsAnswer, IsCall, IsOrderly};
@@ -60,6 +62,23 @@ pub fn one_stream()
 /// What stands next is none as long as the bytes are a front, and else a message or a fault.
 pub fn fronts_wait()
     ensures { (bytes : List ℕ) → IsBytes bytes → IsFront bytes ↔ (next_at bytes ≡ Ok None) }
+{}
+
+/// What stands next has a fault exactly where the message that begins there has that defect. Bytes have one first defect
+/// at most, and none where they are a front or begin with a message.
+pub fn first_faults()
+    ensures next { (bytes : List ℕ) (fault : Fault) → IsBytes bytes
+        → (next_at bytes ≡ Err fault) ↔ MessageBreaks bytes fault }
+    ensures one { (bytes : List ℕ) (a b : Fault) → MessageBreaks bytes a → MessageBreaks bytes b → a ≡ b }
+    ensures no_front { (bytes : List ℕ) (fault : Fault) → MessageBreaks bytes fault → ¬ IsFront bytes }
+    ensures no_message { (first others : List ℕ) (m : Message) (fault : Fault)
+        → MessageBreaks (first ++ others) fault → ¬ SpellsMessage first m }
+{}
+
+/// Bytes that have to be one message are refused exactly where they have the defect as one.
+pub fn input_faults()
+    ensures { (bytes : List ℕ) (fault : Fault) → IsBytes bytes
+        → (whole_message_at (whole bytes) ≡ Err fault) ↔ InputBreaks bytes fault }
 {}
 
 /// The messages of the first bytes of a stream are the first messages of the stream.

@@ -7,7 +7,11 @@
 //!   not there yet as good, so a fault is answered as soon as its byte is there.
 //! - A facet that is spelled as one empty text is the default facet, which is written as no text.
 //! - A length that 64 bits cannot hold is told as the greatest number that they can (`TooLong`).
-//! - A body is a whole encapsulation, from its size on, whatever its version and content.
+//! - A body is a whole encapsulation, from its size on, whatever its version and content. One that is longer than a
+//!   message may be can be asked to be written, so that `TooLong` is an answer and no caller has to test.
+//! - The first fault stands twice: as what reading answers (`next_at`, `whole_message_at`), and by relations in the
+//!   words of the kinds (`MessageBreaks` and `InputBreaks` in `specs/`). The laws `first_faults` and `input_faults`
+//!   say that the two are one.
 #![tactic(auto)]
 
 mod ends;
@@ -26,8 +30,8 @@ pub use ends::{MOST_MESSAGES, client_fault, is_clients, is_servers, server_fault
 pub use fault::{FeedFault, WriteFault};
 pub use frames::Frames;
 pub use laws::{
-    cut_message, first_messages, fronts_wait, messages_apart, messages_exact, messages_written,
-    one_stream, orderly_written, pieces_read,
+    cut_message, first_faults, first_messages, fronts_wait, input_faults, messages_apart,
+    messages_exact, messages_written, one_stream, orderly_written, pieces_read,
 };
 pub use lengths::{batch_length, message_length, reply_length, request_length};
 pub use message::{Answer, Call, Message};

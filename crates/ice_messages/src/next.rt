@@ -3,7 +3,7 @@
 ghost use Rattle.std.specs.Prelude.{◌≡◌, ◌++◌, ◌<◌, ◌≤◌, ℕ, List, length, drop};
 ghost use Rattle.ice_messages.specs.declared.message.TheConstants.{HEADER_BYTES};
 ghost use Rattle.ice_messages.specs.Streams.{good_header};
-ghost use Rattle.ice_messages.specs.Next.{StandsNext, IsCounted, size_counted};
+ghost use Rattle.ice_messages.specs.Next.{IsNext, StandsNext, IsCounted, size_counted};
 
 use crate::message::{HEADER_BYTES, Message};
 use crate::reading::{take_header, take_message};
@@ -17,6 +17,13 @@ const GOOD_HEADER: [u8; HEADER_BYTES] = [73, 99, 101, 80, 1, 0, 1, 0, 3, 0, 14, 
 
 /// The message that stands next, and how many bytes it has. None while it is not whole.
 pub fn next_in(alloc: Global, bytes: &[u8]) -> Result<Option<(Message, usize)>, ReadFault>
+    ensures { IsNext result bytes.now }
+{
+    read_next(alloc, bytes)
+}
+
+/// The same, as reading goes.
+fn read_next(alloc: Global, bytes: &[u8]) -> Result<Option<(Message, usize)>, ReadFault>
     ensures { StandsNext result bytes.now }
 {
     if bytes.len() < HEADER_BYTES {

@@ -219,9 +219,9 @@ fn put_missing(
     facet: &Name,
     operation: &Name,
 ) -> Result<(), AllocError>
-    requires { length ((both names.identity (both names.facet text)).put (identity.now, (facet.now, operation.now))) ≤ LARGEST }
+    requires { length (form.missed.put (identity.now, (facet.now, operation.now))) ≤ LARGEST }
     ensures { OnOk result
-        (Puts (both names.identity (both names.facet text)) (identity.now, (facet.now, operation.now)) out.old.items out.new.items) }
+        (Puts form.missed (identity.now, (facet.now, operation.now)) out.old.items out.new.items) }
 {
     put_identity(out, identity)?;
     put_facet(out, facet)?;

@@ -1,5 +1,5 @@
 -- What is told of a source, and what the sink gets of it.
-use Rattle.std.specs.Prelude.{ℕ, ◌≡◌, ◌≤◌, ◌<◌, ◌⊎◌, Bool, true, false, List, [], ◌++◌, length, Option, None, Some, Result, Ok, Err}
+use Rattle.std.specs.Prelude.{ℕ, ◌≡◌, ◌≤◌, ◌<◌, ◌⊎◌, Bool, true, false, List, [], ◌++◌, length, Option, None, Some, Ok}
 use Rattle.std.specs.Io.KnownBytes.{Appends, Consumes, IsAtEnd}
 use Rattle.ice_ports.specs.declared.ports.TheConstants.{MOST_OF_A_READ}
 use Rattle.ice_ports.specs.Writing.{AppendsPrefix}

@@ -11,8 +11,8 @@ use ice_ports::{Failed, MOST_OF_A_READ, Sink, Source};
 use ice_prims::Fault;
 use std::alloc::{AllocError, Global};
 
-/// How many messages of one input are told.
-pub const MOST_MESSAGES: u32 = 1_000_000;
+/// How many messages of one input are told: as many as a client takes of a connection.
+pub const MOST_MESSAGES: u32 = ice_messages::MOST_MESSAGES;
 
 /// What telling the messages of an input came to.
 #[derive(Clone, Copy, Debug, PartialEq, Eq)]
