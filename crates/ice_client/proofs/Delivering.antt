@@ -48,7 +48,7 @@ attempted_more endpoints number (u ∷ ts) t net =
     attempted_more endpoints (suc number) ts t (attempted (tcp_at number endpoints) u.talk net)
     ∙ ap (λ (k : ℕ). attempted (tcp_at k endpoints) t.talk (attempted_all endpoints (suc number) ts (attempted (tcp_at number endpoints) u.talk net))) (omega arith)
 
-failures_more : (ts : List Tried) (t : Tried) (n : ℕ) → failures_after (ts ++ t ∷ []) n ≡ count_after (failures_after ts n) (is_failure t.talk)
+pub failures_more : (ts : List Tried) (t : Tried) (n : ℕ) → failures_after (ts ++ t ∷ []) n ≡ count_after (failures_after ts n) (is_failure t.talk)
 failures_more [] t n = refl
 failures_more (u ∷ ts) t n = failures_more ts t (count_after n (is_failure u.talk))
 

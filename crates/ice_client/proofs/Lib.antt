@@ -7,3 +7,5 @@ pub mod Rowed
 pub mod Conversing
 pub mod Delivering
 pub mod Preparing
+pub mod Counting
+pub mod OneRow

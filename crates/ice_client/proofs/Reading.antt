@@ -2,13 +2,15 @@
 use Rattle.std.proofs.Common.{◌≡◌, ℕ, ℤ, pos, ◌+◌, ◌<◌, ◌≤◌, ◌&&◌, Bool, true, false, inl, inr, List, [], ◌∷◌, ◌++◌, length, Option, None, Some, IsSome, Ok, refl, ap, subst, ◌∙◌, append_assoc, append-nil, arith, if◌then◌else◌}
 use Rattle.std.proofs.lemmas.List.{length-append}
 use Rattle.ice_prims.specs.declared.fault.Fault.{Fault}
+use Rattle.ice_ports.specs.declared.ports.TheConstants.{MOST_OF_A_READ}
 use Rattle.ice_ports.specs.declared.talk.Talk.{Talk}
 use Rattle.ice_ports.specs.Talks.{and_then, gives, adds}
 use Rattle.ice_messages.specs.declared.message.Answer.{Answer}
 use Rattle.ice_messages.specs.declared.message.Message.{Message}
 use Rattle.ice_messages.specs.declared.message.Message.TheVariants.{Request, Batch, Reply, Validate, Close}
 use Rattle.ice_messages.specs.Messages.{SpellsMessage}
-use Rattle.ice_messages.specs.Streams.{Stream}
+use Rattle.ice_messages.specs.Streams.{Stream, StreamEnds}
+use Rattle.ice_messages.proofs.Streams.{message_long}
 use Rattle.ice_messages.specs.Framing.{Held}
 use Rattle.retry_core.specs.declared.attempt.Attempt.TheVariants as tries
 use Rattle.retry_core.specs.declared.client_table.ClientEvent.TheVariants as events
@@ -21,7 +23,7 @@ use Rattle.ice_client.specs.declared.outcome.End.{End}
 use Rattle.ice_client.specs.declared.outcome.Outcome.TheVariants as outcomes
 use Rattle.ice_client.specs.declared.outgoing.Outgoing.{Outgoing}
 use Rattle.ice_messages.specs.Ends.{client_fault}
-use Rattle.ice_client.specs.Hearing.{IsGoing, Hears, heard_part, is_ended, is_failed}
+use Rattle.ice_client.specs.Hearing.{IsGoing, Hears, ReadsFrugally, heard_part, is_ended, is_failed}
 use Rattle.ice_client.specs.Rows.{AreValidates, Begins, Reads, is_no_object}
 use Rattle.ice_client.specs.Steps.{broke, met_end, end_of, EndsBy, Greets, Awaits}
 use Rattle.ice_client.proofs.Adding.{adds_then}
@@ -44,7 +46,12 @@ begins bytes new first m parts spelled = (new, (first, new, parts, spelled, refl
 
 -- ---- the first message
 
-module _ (E : Type 0) (cached : Bool) (got : List ℕ) (new : Held) where
+-- something was read where a message stands
+last_piece : {got : List ℕ} {m : Message} → ReadsFrugally [] got → Begins got m → (before piece : List ℕ) × (got ≡ before ++ piece) × StreamEnds before None × (length piece ≤ MOST_OF_A_READ)
+last_piece {got = got} {m = m} (inl none) begins = absurd (let long : 14 ≤ length begins.1.0 = message_long begins.1.0 m begins.1.3 in omega (arith, ap length none, ap length begins.1.2, length-append begins.1.0 begins.1.1, long))
+last_piece (inr some) begins = some
+
+module _ (E : Type 0) (cached : Bool) (got : List ℕ) (new : Held) (frugal : ReadsFrugally [] got) where
   odd_first : (m : Message) (fault : Fault) → client_fault None 0 m ≡ Some fault → Hears {E = E} got new (Ok (heards.Message m))
       → Greets {E = E} cached new (heard_part {E = E} got (Ok (heards.Message m))) (Ok (Some (broke fault)))
   odd_first m fault e (first, parts, spelled, going) =
@@ -54,7 +61,9 @@ module _ (E : Type 0) (cached : Bool) (got : List ℕ) (new : Held) where
   greets (heards.Message (Request id call)) h = odd_first (Request id call) _ refl h
   greets (heards.Message (Batch calls)) h = odd_first (Batch calls) _ refl h
   greets (heards.Message (Reply id answer)) h = odd_first (Reply id answer) _ refl h
-  greets (heards.Message Validate) (first, parts, spelled, going) = (refl, (first, new.bytes, parts, spelled, refl), going)
+  greets (heards.Message Validate) (first, parts, spelled, going) =
+      let stands = begins got new.bytes first Validate parts spelled in
+      (refl, (first, new.bytes, parts, spelled, refl), going, (stands, last_piece frugal stands))
   greets (heards.Message Close) (first, parts, spelled, going) =
       (refl, λ o some. (tries.Closed, refl, ([], (got, (refl, refl), begins got new.bytes first Close parts spelled, refl), refl)))
   greets (heards.Broken fault) h = (refl, λ o some. (tries.Broke, refl, (fault, inl ([], got, (refl, refl), h), refl)))

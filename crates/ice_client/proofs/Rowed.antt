@@ -28,7 +28,7 @@ use Rattle.ice_client.specs.declared.outcome.Outcome.TheVariants as outcomes
 use Rattle.ice_client.specs.declared.outcome.End.{End}
 use Rattle.ice_client.specs.declared.outcome.Once.{Once}
 use Rattle.ice_client.specs.declared.outgoing.Outgoing.{Outgoing}
-use Rattle.ice_client.specs.Rows.{Begins, Row, IsOrderly}
+use Rattle.ice_client.specs.Rows.{Begins, Row, IsOrderly, IsGreeted}
 use Rattle.ice_client.specs.Steps.{EndsBy, Awaits}
 use Rattle.ice_client.specs.Asking.{IsFor, Ends, IsOver, Converses, Asks}
 use Rattle.ice_client.specs.Writing.{writes_part}
@@ -126,17 +126,17 @@ pub unsent : (o : Outgoing) (t : Talk) → t.taken ≡ [] → IsOrderly o t
 unsent o t none = ((o.bytes, rw none refl), inl none)
 
 -- the message was cut
-pub cut_ends : (o : Outgoing) (cached : Bool) (given held : List ℕ) (n : ℕ) → n < length o.bytes → Stream given (Validate ∷ []) held
+pub cut_ends : (o : Outgoing) (cached : Bool) (given : List ℕ) (n : ℕ) → n < length o.bytes → IsGreeted given
     → EndsBy o cached (states.Sending (0 + n)) (record { event = events.Lost; outcome = outcomes.NetFailed }) (and_then (gives given) (writes_part o.bytes n))
-cut_ends o cached given held n less greeted =
+cut_ends o cached given n less greeted =
     let short : length (take n o.bytes) < length o.bytes = omega (arith, less, length-take-le n o.bytes (omega (arith, less))) in
-    (tries.NotWhole, refl, (short, inl (begun given held [] greeted), inl (refl, lt-ltb n (length o.bytes) less)))
+    (tries.NotWhole, refl, (short, inl (subst IsGreeted (sym (append-nil given)) greeted), inl (refl, lt-ltb n (length o.bytes) less)))
 
 -- it was taken whole, and asks for no reply
-pub sent_row : (o : Outgoing) (cached : Bool) (given held : List ℕ) (n : ℕ) → n ≡ length o.bytes → o.replies ≡ false → Stream given (Validate ∷ []) held
+pub sent_row : (o : Outgoing) (cached : Bool) (given : List ℕ) (n : ℕ) → n ≡ length o.bytes → o.replies ≡ false → IsGreeted given
     → Row o cached tries.Sent outcomes.Sent (and_then (gives given) (writes_part o.bytes n))
-sent_row o cached given held n same asks greeted =
-    (take_all n o.bytes (omega (arith, same)), asks, begun given held [] greeted, refl, le-ltb n (length o.bytes) (omega (arith, same)), refl)
+sent_row o cached given n same asks greeted =
+    (take_all n o.bytes (omega (arith, same)), asks, subst IsGreeted (sym (append-nil given)) greeted, refl, le-ltb n (length o.bytes) (omega (arith, same)), refl)
 
 -- ---- failures are counted
 
@@ -179,11 +179,11 @@ awaited_ends E o cached old given n t end same asks greeted h =
 
 module _ (E : Type 0) (o : Outgoing) (cached : Bool) (old : Held) (n : ℕ) (i j : Invoking) (made : IsFor i o) (is : i.state ≡ states.Sending 0) (new : j ≡ next_of i (row_of i (events.Taken n))) where
   pub asks_cut : (k : Invoking) (once : Once) → n < length o.bytes → Ends j k (record { event = events.Lost; outcome = outcomes.NetFailed }) once → Asks {E = E} o cached old (writes_part o.bytes n) i k (Ok once)
-  asks_cut k once less told s silent greeted =
+  asks_cut k once less told s silent greeted once_read =
       let there = cut_state i j o n made is less new in
       let on = moved_for i j o (states.Sending (0 + n)) there made in
       let row = row_over j k o cached (states.Sending (0 + n)) (record { event = events.Lost; outcome = outcomes.NetFailed }) once (and_then (gives s.given) (writes_part o.bytes n)) on.0 on.1
-      (cut_ends o cached s.given old.bytes n less greeted) told in
+      (cut_ends o cached s.given n less once_read) told in
       subst (λ (z : Talk). Converses {E = E} o cached (and_then z (writes_part o.bytes n)) i k (Ok once)) (sym silent) (
         row.0,
         row.1,
@@ -193,10 +193,10 @@ module _ (E : Type 0) (o : Outgoing) (cached : Bool) (old : Held) (n : ℕ) (i j
 
   pub asks_none : (action : ClientAction) → n ≡ length o.bytes → o.replies ≡ false → action ≡ action_of i (row_of i (events.Taken n))
       → Asks {E = E} o cached old (writes_part o.bytes n) i j (Ok (record { action = action; outcome = outcomes.Sent }))
-  asks_none action same asks does s silent greeted =
+  asks_none action same asks does s silent greeted once_read =
       subst (λ (z : Talk). Converses {E = E} o cached (and_then z (writes_part o.bytes n)) i j (Ok (record { action = action; outcome = outcomes.Sent }))) (sym silent) (
         tries.Sent,
-        sent_row o cached s.given old.bytes n same asks greeted,
+        sent_row o cached s.given n same asks once_read,
         orderly_behind o (gives s.given) (writes_part o.bytes n) old.bytes (drop n o.bytes) refl greeted (sym (take-append-drop n o.bytes)),
         sent_over i j o n action made is same asks new does,
       )
@@ -208,7 +208,7 @@ module _ (E : Type 0) (o : Outgoing) (cached : Bool) (old : Held) (n : ℕ) (i j
 
   pub asks_reply : (k : Invoking) (t : Talk) (end : End) (once : Once) → n ≡ length o.bytes → o.replies ≡ true → Awaits {E = E} cached old t (Ok end) → Ends j k end once
       → Asks {E = E} o cached old (and_then (writes_part o.bytes n) t) i k (Ok once)
-  asks_reply k t end once same asks h told s silent greeted =
+  asks_reply k t end once same asks h told s silent greeted once_read =
       let there = whole_state i j o n made is same asks new in
       let on = moved_for i j o states.AwaitingReply there made in
       let row = row_over j k o cached states.AwaitingReply end once (and_then (gives s.given) (and_then (writes_part o.bytes n) t)) on.0 on.1 (awaited_ends E o cached old s.given n t end same asks greeted h) told in
@@ -227,5 +227,5 @@ module _ (E : Type 0) (o : Outgoing) (cached : Bool) (old : Held) (n : ℕ) (i j
       may_come j o states.AwaitingReply end.event on.0 on.1 (h.1 o.replies (length o.bytes))
 
   pub asks_starved : (e : E) (k : Invoking) (t : Talk) → n ≡ length o.bytes → t.taken ≡ [] → Asks {E = E} o cached old (and_then (writes_part o.bytes n) t) i k (Err e)
-  asks_starved e k t same none s silent greeted =
+  asks_starved e k t same none s silent greeted once_read =
       subst (λ (z : Talk). IsOrderly o (and_then z (and_then (writes_part o.bytes n) t))) (sym silent) (orderly_whole s.given t same none greeted)

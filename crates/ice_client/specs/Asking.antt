@@ -14,7 +14,7 @@ use Rattle.ice_client.specs.declared.outcome.Outcome.TheVariants.{NetFailed}
 use Rattle.ice_client.specs.declared.outcome.End.{End}
 use Rattle.ice_client.specs.declared.outcome.Once.{Once}
 use Rattle.ice_client.specs.declared.outgoing.Outgoing.{Outgoing}
-use Rattle.ice_client.specs.Rows.{Row, IsOrderly}
+use Rattle.ice_client.specs.Rows.{Row, IsOrderly, IsGreeted}
 
 -- the client was made for this message, which has bytes
 pub record IsFor (i : Invoking) (o : Outgoing) : Type 0 where
@@ -54,4 +54,4 @@ Converses o cached t old new (Err e) = IsOrderly o t
 
 -- the same behind a validate
 abbrev pub Asks : {E : Type 0} → Outgoing → Bool → Held → Talk → Invoking → Invoking → Result Once E → Type 0
-Asks o cached old t i j result = (s : Talk) → s ≡ gives s.given → Stream s.given (Validate ∷ []) old.bytes → Converses o cached (and_then s t) i j result
+Asks o cached old t i j result = (s : Talk) → s ≡ gives s.given → Stream s.given (Validate ∷ []) old.bytes → IsGreeted s.given → Converses o cached (and_then s t) i j result

@@ -5,7 +5,7 @@ use Rattle.ice_types.specs.declared.proxy.Endpoint.{Endpoint}
 use Rattle.ice_encoding.specs.declared.limits.TheConstants.{LARGEST}
 use Rattle.ice_encoding.specs.Parts.{Each}
 use Rattle.ice_ports.specs.declared.talk.Talk.{Talk}
-use Rattle.ice_ports.specs.Failures.{count_after}
+use Rattle.ice_ports.specs.Failures.{count_after, one_more}
 use Rattle.ice_ports.specs.Nets.{ToldNet}
 use Rattle.ice_messages.specs.declared.fault.WriteFault.{WriteFault}
 use Rattle.ice_messages.specs.declared.fault.WriteFault.TheVariants.{TooLong, Memory}
@@ -71,6 +71,10 @@ failures_after (t ∷ ts) n = failures_after ts (count_after n (is_failure t.tal
 pub record Made (endpoints : List Endpoint) (tried : List Tried) (before after : Option ToldNet) (failed_before failed_after : ℕ) : Type 0 where
   pub net : after ≡ attempted_all endpoints 0 tried before
   pub failures : failed_after ≡ failures_after tried failed_before
+
+-- the count has risen, or stands at its greatest
+abbrev pub Rises : ℕ → ℕ → Type 0
+Rises before after = one_more before ≤ after
 
 -- ---- what is answered
 

@@ -1,6 +1,7 @@
 -- What is heard of a link.
-use Rattle.std.specs.Prelude.{◌≡◌, ℕ, Bool, true, false, List, [], ◌++◌, None, Result, Ok, Err}
+use Rattle.std.specs.Prelude.{◌≡◌, ◌≤◌, ◌⊎◌, ℕ, Bool, true, false, List, [], ◌++◌, length, None, Result, Ok, Err}
 use Rattle.ice_prims.specs.Rest.{IsBytes}
+use Rattle.ice_ports.specs.declared.ports.TheConstants.{MOST_OF_A_READ}
 use Rattle.ice_ports.specs.declared.talk.Talk.{Talk}
 use Rattle.ice_messages.specs.Messages.{SpellsMessage}
 use Rattle.ice_messages.specs.Streams.{IsFront, next_at}
@@ -30,6 +31,10 @@ is_failed (Err e) = false
 -- these bytes were given until then
 abbrev pub heard_part : {E : Type 0} → List ℕ → Result Heard E → Talk
 heard_part got result = record { given = got; taken = []; ended = is_ended result; failed = is_failed result }
+
+-- More was read only where no message stood: all but the last piece, behind what the reader held, is a front.
+abbrev pub ReadsFrugally : List ℕ → List ℕ → Type 0
+ReadsFrugally held got = (got ≡ []) ⊎ ((before piece : List ℕ) × (got ≡ before ++ piece) × IsFront (held ++ before) × (length piece ≤ MOST_OF_A_READ))
 
 -- what was heard stands at the front of these bytes, of which the reader holds what follows it
 abbrev pub Hears : {E : Type 0} → List ℕ → Held → Result Heard E → Type 0

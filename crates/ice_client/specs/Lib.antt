@@ -6,3 +6,4 @@ pub mod Asking
 pub mod Attempted
 pub mod Sending
 pub mod ClientDid
+pub mod Laws

@@ -1,6 +1,7 @@
 -- One attempt and its talk, row by row: the first row that fits counts. (Ice manual, "Automatic Retries" and "The Ice Protocol".)
 use Rattle.std.specs.Prelude.{ℕ, ℤ, pos, ◌≡◌, ◌≤◌, ◌<◌, ◌⊎◌, ◌&&◌, ◌==◌, Bool, true, false, List, [], ◌∷◌, ◌++◌, length, Option, None, Some}
 use Rattle.ice_prims.specs.declared.fault.Fault.{Fault}
+use Rattle.ice_ports.specs.declared.ports.TheConstants.{MOST_OF_A_READ}
 use Rattle.ice_ports.specs.declared.talk.Talk.{Talk}
 use Rattle.ice_messages.specs.declared.message.Answer.{Answer}
 use Rattle.ice_messages.specs.declared.message.Answer.TheVariants.{Done, Raised, Missing, Unknown}
@@ -20,6 +21,10 @@ use Rattle.ice_messages.specs.Ends.{client_fault}
 -- the bytes begin with this message
 abbrev pub Begins : List ℕ → Message → Type 0
 Begins bytes m = (rest : List ℕ) × Stream bytes (m ∷ []) rest
+
+-- the bytes begin with a validate, and nothing was read once that was whole: all but the last piece is a front
+abbrev pub IsGreeted : List ℕ → Type 0
+IsGreeted bytes = Begins bytes Validate × ((before piece : List ℕ) × (bytes ≡ before ++ piece) × StreamEnds before None × (length piece ≤ MOST_OF_A_READ))
 
 abbrev pub AreValidates : List Message → Type 0
 AreValidates [] = Unit {0}
@@ -72,8 +77,8 @@ Breaks o t fault = ((ms : List Message) × (rest : List ℕ) × Reads o t ms res
 -- an attempt that connected, to a place that came from a cache or not, what it came to, and its talk
 abbrev pub Row : Outgoing → Bool → Attempt → Outcome → Talk → Type 0
 Row o cached tries.NotConnected outcome t = ⊥
-Row o cached tries.NotWhole outcome t = (length t.taken < length o.bytes) × (Begins t.given Validate ⊎ StreamEnds t.given None) × IsLoss outcome t
-Row o cached tries.Sent outcome t = (t.taken ≡ o.bytes) × (o.replies ≡ false) × Begins t.given Validate × (t.ended ≡ false) × (t.failed ≡ false) × (outcome ≡ outcomes.Sent)
+Row o cached tries.NotWhole outcome t = (length t.taken < length o.bytes) × (IsGreeted t.given ⊎ StreamEnds t.given None) × IsLoss outcome t
+Row o cached tries.Sent outcome t = (t.taken ≡ o.bytes) × (o.replies ≡ false) × IsGreeted t.given × (t.ended ≡ false) × (t.failed ≡ false) × (outcome ≡ outcomes.Sent)
 Row o cached tries.Lost outcome t = (ms : List Message) × (rest : List ℕ) × Reads o t (Validate ∷ ms) rest × StreamEnds rest None × IsLoss outcome t
 Row o cached tries.Closed outcome t = (ms : List Message) × Meets o t ms Close None × (outcome ≡ outcomes.Closed)
 Row o cached tries.Stale outcome t = (answer : Answer) × IsReplied o cached t answer true × (outcome ≡ outcomes.Replied answer)

@@ -21,7 +21,7 @@ use Rattle.ice_client.specs.declared.outcome.End.{End}
 use Rattle.ice_client.specs.declared.outgoing.Outgoing.{Outgoing}
 use Rattle.ice_messages.specs.Ends.{client_fault}
 use Rattle.ice_client.specs.Hearing.{IsGoing}
-use Rattle.ice_client.specs.Rows.{is_no_object, Row}
+use Rattle.ice_client.specs.Rows.{is_no_object, IsGreeted, Row}
 
 abbrev pub broke : Fault → End
 broke fault = record { event = events.Broken; outcome = outcomes.Broke fault }
@@ -58,7 +58,7 @@ EndsBy o cached state end t = (a : Attempt) × (client_row o.replies (length o.b
 
 -- the first message: a validate, behind which the reader goes on, or the end of the attempt
 abbrev pub Greets : {E : Type 0} → Bool → Held → Talk → Result (Option End) E → Type 0
-Greets cached new t (Ok None) = (t ≡ gives t.given) × Stream t.given (Validate ∷ []) new.bytes × IsGoing new
+Greets cached new t (Ok None) = (t ≡ gives t.given) × Stream t.given (Validate ∷ []) new.bytes × IsGoing new × IsGreeted t.given
 Greets cached new t (Ok (Some end)) = (t.taken ≡ []) × ((o : Outgoing) → 0 < length o.bytes → EndsBy o cached AwaitingValidate end t)
 Greets cached new t (Err e) = t.taken ≡ []
 

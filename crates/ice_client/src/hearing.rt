@@ -3,7 +3,7 @@
 ghost use Rattle.std.specs.Prelude.{◌≡◌, ◌++◌, ℕ, List, OnOk};
 ghost use Rattle.ice_ports.specs.Failures.{count_after};
 ghost use Rattle.ice_ports.specs.Talks.{adds};
-ghost use Rattle.ice_client.specs.Hearing.{Hears, IsGoing, heard_part, is_failed};
+ghost use Rattle.ice_client.specs.Hearing.{Hears, IsGoing, ReadsFrugally, heard_part, is_failed};
 
 use ice_messages::{Frames, Message};
 use ice_ports::{Failed, Link, MOST_OF_A_READ, read_link};
@@ -26,7 +26,8 @@ pub enum Heard {
 pub fn hear<L: Link>(link: &mut L, frames: &mut Frames) -> Result<Heard, AllocError>
     requires { IsGoing frames.old }
     ensures heard { (got : List ℕ) × (L.talk link.new ≡ adds (L.talk link.old) (heard_part got result))
-        × Hears (frames.old.bytes ++ got) frames.new result }
+        × Hears (frames.old.bytes ++ got) frames.new result
+        × ReadsFrugally frames.old.bytes got }
     ensures reads { L.Source.failures link.new ≡ count_after (L.Source.failures link.old) (is_failed result) }
     ensures writes { L.Sink.failures link.new ≡ L.Sink.failures link.old }
 {

@@ -4,7 +4,8 @@ ghost use Rattle.std.specs.Prelude.{◌≡◌, ◌<◌, pos, List, IfOk, length}
 ghost use Rattle.ice_messages.specs.declared.message.Message.TheVariants.{Request};
 ghost use Rattle.ice_messages.specs.Written.{IsWritable, IsWritableCall};
 ghost use Rattle.ice_client.specs.Sending.{IsOneway};
-ghost use Rattle.ice_client.specs.ClientDid.{Delivers, Invokes, Made, Tried, goes_again};
+ghost use Rattle.ice_client.specs.ClientDid.{Delivers, Invokes, Made, Rises, Tried, goes_again};
+ghost use Rattle.ice_client.specs.declared.outcome.Outcome.TheVariants as outcomes;
 
 use crate::attempting::attempt_once;
 use crate::outcome::{Invoked, Outcome};
@@ -30,6 +31,8 @@ pub fn invoke<N: Net>(
     ensures told { (tried : List Tried)
         × Made proxy.now.endpoints tried (N.told net.old) (N.told net.new) (N.failures net.old) (N.failures net.new)
         × Invokes (Request (pos 1) call.now) proxy.now.endpoints retries tried result }
+    ensures fails { IfOk result (λ r. r.outcome ≡ outcomes.NetFailed
+        → Rises (N.failures net.old) (N.failures net.new)) }
     ensures kept { N.listen_failures net.new ≡ N.listen_failures net.old }
 {
     let outgoing = Outgoing::twoway(alloc, call)?;
@@ -50,6 +53,8 @@ pub fn send<N: Net>(
     ensures told { (tried : List Tried)
         × Made proxy.now.endpoints tried (N.told net.old) (N.told net.new) (N.failures net.old) (N.failures net.new)
         × Invokes message.now proxy.now.endpoints retries tried result }
+    ensures fails { IfOk result (λ r. r.outcome ≡ outcomes.NetFailed
+        → Rises (N.failures net.old) (N.failures net.new)) }
     ensures kept { N.listen_failures net.new ≡ N.listen_failures net.old }
 {
     let outgoing = Outgoing::oneway(alloc, message)?;
@@ -75,6 +80,8 @@ fn deliver<N: Net>(
     ensures told { (tried : List Tried)
         × Made proxy.now.endpoints tried (N.told net.old) (N.told net.new) (N.failures net.old) (N.failures net.new)
         × IfOk result (λ r. Delivers outgoing.now proxy.now.endpoints retries tried r) }
+    ensures fails { IfOk result (λ r. r.outcome ≡ outcomes.NetFailed
+        → Rises (N.failures net.old) (N.failures net.new)) }
     ensures kept { N.listen_failures net.new ≡ N.listen_failures net.old }
 {
     if tcp_of(proxy, 0).is_none() {

@@ -18,11 +18,13 @@
 mod attempting;
 mod hearing;
 mod invoking;
+mod laws;
 mod outcome;
 mod outgoing;
 mod phases;
 
 pub use attempting::attempt_once;
 pub use invoking::{invoke, send};
+pub use laws::one_row;
 pub use outcome::{Invoked, Once, Outcome};
 pub use outgoing::Outgoing;

@@ -55,6 +55,6 @@ returns g c =
         and_then t.0 more.0,
         adds_then (g.L.Link.talk c.args.link.now) (g.L.Link.talk c.greet.new.link) (g.L.Link.talk c.ask.new.link) t.0 more.0 t.1 more.1,
         more.2 ∙ sym (ap (λ (z : Talk). z.failed || more.0.failed) on.0),
-        converses_moved AllocError c.args.outgoing.now c.args.cached (and_then t.0 more.0) c.args.client.now c.step.new.self c.ask.new.client (states.Sending 0) c.ask.result there (more.3 t.0 on.0 on.1),
+        converses_moved AllocError c.args.outgoing.now c.args.cached (and_then t.0 more.0) c.args.client.now c.step.new.self c.ask.new.client (states.Sending 0) c.ask.result there (more.3 t.0 on.0 on.1 on.3),
       );
     }

@@ -1,8 +1,9 @@
-use Rattle.std.proofs.Common.{rules, ◌≡◌, ◌∷◌, ◌++◌, ◌∙◌, [], true, refl, sym}
+use Rattle.std.proofs.Common.{rules, ◌≡◌, ◌∷◌, ◌++◌, ◌∙◌, [], true, refl, sym, ap, subst}
 use Rattle.std.proofs.lemmas.Result.{err_from_is_err_and}
 use Rattle.ice_proxy.specs.Usable.{tcp_at}
 use Rattle.retry_core.specs.declared.attempt.Attempt.TheVariants.{NotConnected}
-use Rattle.ice_client.specs.ClientDid.{goes_again}
+use Rattle.ice_client.specs.ClientDid.{goes_again, Ended, had}
+use Rattle.ice_client.proofs.Counting.{rises}
 use Rattle.ice_client.proofs.Delivering.{each_number, made_none, made_more, begun, newest, another, the_last, no_place, some_place, unplaced, placed}
 use Rattle.ice_client.proofs.invoking.deliver.Goals as goal
 
@@ -80,3 +81,15 @@ loop-client-preserved g c =
       under_way = (another c.args.outgoing.now c.args.retries c.loop-client.number i.tried c.loop-client.client c.attempt_once.new.client once.3.0 once.0 c.in_ok-once.once i.under_way once.3.1 once.3.2 on).0;
       kept = c.in_ok-once.ensures.kept ∙ i.kept;
     }
+
+pub returns-then-not-goes_again-clause-fails : goal.returns-then-not-goes_again-clause-fails
+returns-then-not-goes_again-clause-fails g c = λ net_failed.
+    let i = c.loop-client.invariant in
+    let once = c.in_ok-once.ensures.told in
+    let t = newest once.3.0 once.0 in
+    let tried = i.tried ++ t ∷ [] in
+    let last = the_last c.args.outgoing.now c.args.retries c.loop-client.number i.tried c.loop-client.client c.attempt_once.new.client once.3.0 once.0 c.in_ok-once.once i.under_way once.3.1 once.3.2 (sym c.if-not-goes_again.ensures) in
+    rises c.args.outgoing.now c.args.proxy.now.endpoints c.args.retries tried (g.N.Net.told c.args.net.now) (g.N.Net.told c.attempt_once.new.net) (g.N.Net.failures c.args.net.now) (g.N.Net.failures c.attempt_once.new.net)
+    (made_more c.args.proxy.now.endpoints c.loop-client.number i.tried t (g.N.Net.told c.args.net.now) (g.N.Net.told c.loop-client.net) (g.N.Net.told c.attempt_once.new.net) (g.N.Net.failures c.args.net.now) (g.N.Net.failures c.loop-client.net)
+    (g.N.Net.failures c.attempt_once.new.net) i.under_way.counted i.made once.1 once.2)
+    (subst (Ended c.args.outgoing.now c.args.retries tried) (ap had net_failed) last.1)

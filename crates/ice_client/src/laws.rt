@@ -1,0 +1,8 @@
+//! What the definitions promise of each other, one law a function.
+
+ghost use Rattle.ice_client.specs.Laws.{TalksHaveOneRow};
+
+/// What went over a connection tells how the attempt ended: the rows of the table exclude each other.
+pub fn one_row()
+    ensures { TalksHaveOneRow }
+{}
