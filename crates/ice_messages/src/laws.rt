@@ -64,8 +64,8 @@ pub fn fronts_wait()
     ensures { (bytes : List ℕ) → IsBytes bytes → IsFront bytes ↔ (next_at bytes ≡ Ok None) }
 {}
 
-/// What stands next has a fault exactly where the message that begins there has that defect. Bytes have one first defect
-/// at most, and none where they are a front or begin with a message.
+/// What stands next has a fault exactly where the message that begins there has that defect. Bytes have one first
+/// defect at most, and none where they are a front or begin with a message.
 pub fn first_faults()
     ensures next { (bytes : List ℕ) (fault : Fault) → IsBytes bytes
         → (next_at bytes ≡ Err fault) ↔ MessageBreaks bytes fault }

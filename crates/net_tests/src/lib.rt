@@ -1,5 +1,5 @@
-//! Tests of connections and of calls over them: those of the system over the loopback, alone and many at once, and those in
-//! memory through the same functions.
+//! Tests of connections and of calls over them: those of the system over the loopback, alone and many at once, and
+//! those in memory through the same functions.
 #![tactic(auto)]
 
 #[cfg(test)]
