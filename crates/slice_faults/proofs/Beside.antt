@@ -1,11 +1,12 @@
 -- The enumerators beside the enums.
-use Rattle.std.proofs.Common.{◌≡◌, ℕ, zero, suc, ◌+◌, ◌<◌, ◌≤◌, Bool, true, false, cond, List, [], ◌∷◌, ◌++◌, length, drop, Option, Some, None, refl, sym, ap, ◌∙◌, subst}
+use Rattle.std.proofs.Common.{◌≡◌, ℕ, zero, suc, ◌+◌, ◌≤◌, Bool, true, false, cond, List, [], ◌∷◌, ◌++◌, length, drop, Some, None, refl, sym, ap, ◌∙◌, arith, length-append}
 use Rattle.std.specs.Prelude.{◌||◌, String, slice_get, bytes_eq}
 use Rattle.std.specs.BTreeSet.{BTreeSet, contains_text}
 use Rattle.ice_types.specs.declared.declarations.Entry.{Entry}
 use Rattle.ice_types.specs.declared.declarations.EnumDecl.{EnumDecl}
 use Rattle.slice_meaning.specs.Names.{Name}
-use Rattle.slice_faults.specs.Enumerators.{has_name, HoldsEntries, AreHeld}
+use Rattle.ice_types.specs.Tables.{Tables, with_enum}
+use Rattle.slice_faults.specs.Enumerators.{has_name, HoldsEntries, holds_at, AreHeld}
 use Rattle.slice_faults.proofs.Noting.{drop_end}
 
 or_none : (b : Bool) → b || false ≡ b
@@ -29,25 +30,32 @@ held_next entries i e text name was now all at is so step =
 pub held_end : (entries : List Entry) (i : ℕ) (name : Name) (was all : Bool) → length entries ≤ i → was || has_name (drop i entries) name ≡ all → was ≡ all
 held_end entries i name was all h so = sym (ap (λ l. was || has_name l name) (drop_end entries i h) ∙ or_none was) ∙ so
 
+-- the set at a place, where there is one
+pub held_some : {Y : Type 0} (ss : List (BTreeSet (String Y))) (at : ℕ) (s : BTreeSet (String Y)) (name : Name) → slice_get ss at ≡ Some s → contains_text s name ≡ holds_at ss at name
+held_some ss at s name h = rw (h, holds_at) refl
+
+pub held_none : {Y : Type 0} (ss : List (BTreeSet (String Y))) (at : ℕ) (name : Name) → slice_get ss at ≡ None → false ≡ holds_at ss at name
+held_none ss at name h = rw (h, holds_at) refl
+
+-- the enum at a place has an enumerator of this name
+abbrev named_at : List EnumDecl → ℕ → Name → Bool
+named_at es at name = elim (slice_get es at) [
+  | None ↦ false
+  | Some e ↦ has_name e.entries name
+]
+
 -- an enum more
-pub held_more : {Y : Type 0} (ss : List (BTreeSet (String Y))) (es : List EnumDecl) (s : BTreeSet (String Y)) (e : EnumDecl) → AreHeld ss es → HoldsEntries s e.entries → AreHeld (ss ++ s ∷ []) (es ++ e ∷ [])
-held_more [] [] s e held holds = (holds, tt)
-held_more [] (x ∷ es) s e held holds = absurd held
-held_more (x ∷ ss) [] s e held holds = absurd held
-held_more (x ∷ ss) (y ∷ es) s e held holds = (held.0, held_more ss es s e held.1 holds)
+more_at : {Y : Type 0} (ss : List (BTreeSet (String Y))) (es : List EnumDecl) (s : BTreeSet (String Y)) (e : EnumDecl) (name : Name) → length ss ≡ length es
+    → ((at : ℕ) → holds_at ss at name ≡ named_at es at name) → contains_text s name ≡ has_name e.entries name
+    → (at : ℕ) → holds_at (ss ++ s ∷ []) at name ≡ named_at (es ++ e ∷ []) at name
+more_at [] [] s e name l h is zero = is
+more_at [] [] s e name l h is (suc at) = refl
+more_at [] (y ∷ es) s e name l h is at = absurd cc
+more_at (x ∷ ss) [] s e name l h is at = absurd cc
+more_at (x ∷ ss) (y ∷ es) s e name l h is zero = h zero
+more_at (x ∷ ss) (y ∷ es) s e name l h is (suc at) = more_at ss es s e name (cc) (λ i. h (suc i)) is at
 
-pub found_at : {Y : Type 0} (ss : List (BTreeSet (String Y))) (es : List EnumDecl) (at : ℕ) (s : BTreeSet (String Y)) (name : Name) → AreHeld ss es → slice_get ss at ≡ Some s
-    → contains_text s name ≡ elim (slice_get es at) as (λ _. Bool) [ None ↦ false | Some e ↦ has_name e.entries name ]
-found_at [] [] at s name held h = absurd cc
-found_at [] (e ∷ es) at s name held h = absurd held
-found_at (x ∷ ss) [] at s name held h = absurd held
-found_at (x ∷ ss) (e ∷ es) zero s name held h = let same : x ≡ s = cc in ap (λ (y : BTreeSet _). contains_text y name) (sym same) ∙ held.0 name
-found_at (x ∷ ss) (e ∷ es) (suc at) s name held h = found_at ss es at s name held.1 h
-
-pub none_at : {Y : Type 0} (ss : List (BTreeSet (String Y))) (es : List EnumDecl) (at : ℕ) (name : Name) → AreHeld ss es → slice_get ss at ≡ None
-    → false ≡ elim (slice_get es at) as (λ _. Bool) [ None ↦ false | Some e ↦ has_name e.entries name ]
-none_at [] [] at name held h = refl
-none_at [] (e ∷ es) at name held h = absurd held
-none_at (x ∷ ss) [] at name held h = absurd held
-none_at (x ∷ ss) (e ∷ es) zero name held h = absurd cc
-none_at (x ∷ ss) (e ∷ es) (suc at) name held h = none_at ss es at name held.1 h
+pub held_more : {Y : Type 0} (ss : List (BTreeSet (String Y))) (t : Tables) (s : BTreeSet (String Y)) (e : EnumDecl) → AreHeld ss t → HoldsEntries s e.entries → AreHeld (ss ++ s ∷ []) (with_enum t e)
+held_more ss t s e held holds =
+    let long : length (ss ++ s ∷ []) ≡ length (t.enums ++ e ∷ []) = omega (arith, held.0, length-append ss (s ∷ []), length-append t.enums (e ∷ [])) in
+    (long, λ at name. more_at ss t.enums s e name held.0 (λ i. held.1 i name) (holds name) at)

@@ -1,6 +1,6 @@
 -- Enumerators are declared inside their enum.
 use Rattle.std.proofs.Common.{◌≡◌, ℕ, suc, ◌≤◌, Bool, true, false, cond, List, [], ◌∷◌, ◌++◌, length, map, Option, None, refl, sym, ap, ◌∙◌, subst, arith}
-use Rattle.std.specs.Prelude.{◌&&◌, ◌||◌, ◌==◌, bytes_eq}
+use Rattle.std.specs.Prelude.{◌&&◌, ◌==◌, bytes_eq}
 use Rattle.std.specs.Str.{str_eq_ignore_ascii_case}
 use Rattle.std.proofs.lemmas.Bool.Decides.{nat_tests}
 use Rattle.slice_syntax.specs.declared.tree.Word.{Word}
@@ -9,7 +9,7 @@ use Rattle.slice_syntax.specs.Places.{Each}
 use Rattle.ice_types.specs.Tables.{Tables}
 use Rattle.slice_meaning.specs.declared.fault.CheckKind.TheVariants as rows
 use Rattle.slice_meaning.specs.declared.standing.Standing.{Standing}
-use Rattle.slice_meaning.specs.Names.{Name, Scope, Declared, same_scope, is_called, declared_in}
+use Rattle.slice_meaning.specs.Names.{Name, Scope, Declared, same_scope, declared_in}
 use Rattle.slice_meaning.specs.Known.{Known, new_declared, with_name}
 use Rattle.slice_meaning.specs.Clashes.{new_name, is_among, second_names}
 use Rattle.slice_meaning.specs.Uses.{where_true}

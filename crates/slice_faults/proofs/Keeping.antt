@@ -1,6 +1,6 @@
 -- What holds before a declaration holds after it.
 use Rattle.std.proofs.Common.{◌≡◌, ℕ, zero, suc, ◌⊎◌, Bool, true, false, cond, List, [], ◌∷◌, ◌++◌, length, map, Option, Some, None, Result, Ok, Err, refl, sym, ap, ◌∙◌, subst, inl, inr}
-use Rattle.std.specs.Prelude.{◌&&◌, IsTrue, drop, slice_get, bytes_eq, option_map}
+use Rattle.std.specs.Prelude.{◌&&◌, drop, slice_get, bytes_eq, option_map}
 use Rattle.std.specs.Option.{is_some}
 use Rattle.std.proofs.lemmas.List.{map-append}
 use Rattle.std.proofs.lemmas.Slice.Eq.{bytes_eq-Decides, slice_eq-Decides}
@@ -27,7 +27,7 @@ use Rattle.slice_meaning.specs.declared.standing.Value.{Value}
 use Rattle.slice_meaning.specs.Names.{Name, Scope, Declared, same_scope, is_called, declared_in, type_id}
 use Rattle.slice_meaning.specs.Known.{Known, nothing_known, standing_here, new_declared, with_name, id_here, with_new_class, with_class_name, with_new_interface, with_interface_name}
 use Rattle.slice_meaning.specs.Values.{typed}
-use Rattle.slice_meaning.specs.After.{after, with_tables, entered, kind_of, with_constant, enumerator, with_entries, enum_decl, struct_decl, seq_decl, dict_decl, exception_decl, with_enum_name, with_class_body, with_interface_body}
+use Rattle.slice_meaning.specs.After.{after, with_tables, kind_of, enumerator, with_entries, enum_decl, struct_decl, seq_decl, dict_decl, exception_decl, with_enum_name, with_class_body, with_interface_body}
 use Rattle.slice_meaning.specs.Faults.{faults}
 use Rattle.slice_meaning.specs.Meaning.{next_file}
 use Rattle.slice_meaning.proofs.TypeIds.{ids_apart}

@@ -1,5 +1,5 @@
 -- Operations, part by part.
-use Rattle.std.proofs.Common.{◌≡◌, ℕ, ◌+◌, ◌<◌, ◌≤◌, Bool, true, false, not, cond, List, [], ◌∷◌, ◌++◌, length, drop, map, Option, refl, sym, ap, ◌∙◌, arith}
+use Rattle.std.proofs.Common.{◌≡◌, ℕ, ◌+◌, ◌≤◌, Bool, true, false, not, cond, List, [], ◌∷◌, ◌++◌, length, drop, map, Option, refl, sym, ap, ◌∙◌}
 use Rattle.std.specs.Prelude.{flat_map, ◌&&◌, ◌||◌}
 use Rattle.slice_syntax.specs.declared.tree.Constant.{Constant}
 use Rattle.slice_syntax.specs.declared.tree.Path.{Path}

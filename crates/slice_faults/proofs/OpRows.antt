@@ -9,7 +9,7 @@ use Rattle.slice_meaning.specs.declared.fault.CheckKind.{CheckKind}
 use Rattle.slice_meaning.specs.Known.{Known}
 use Rattle.slice_meaning.specs.Uses.{type_of}
 use Rattle.slice_meaning.specs.Members.{with_field, members_of, with_meaning, named}
-use Rattle.slice_faults.specs.Sides.{is_side, side, side_members}
+use Rattle.slice_faults.specs.Sides.{side, side_members}
 
 field_more : (k : Known) (f : Field) (r : Result TypeRef CheckKind) (others : List Member) → with_field k f r others ≡ with_field k f r [] ++ others
 field_more k f (Ok kind) others = refl

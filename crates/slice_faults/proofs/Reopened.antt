@@ -1,6 +1,6 @@
 -- Names of classes and interfaces, which may be declared before they are defined.
 use Rattle.std.proofs.Common.{◌≡◌, ℕ, zero, suc, ◌+◌, ◌<◌, Bool, true, false, not, cond, List, [], ◌∷◌, ◌++◌, length, Option, Some, None, refl, sym, ap, ◌∙◌, subst, arith, length-append}
-use Rattle.std.specs.Prelude.{◌&&◌, bytes_eq, slice_get, unwrap_or, option_map}
+use Rattle.std.specs.Prelude.{◌&&◌, bytes_eq, unwrap_or, option_map}
 use Rattle.std.proofs.lemmas.Slice.Eq.{bytes_eq-Decides, slice_eq-Decides}
 use Rattle.slice_syntax.specs.declared.tree.Word.{Word}
 use Rattle.ice_types.specs.declared.kind.TypeRef.TheVariants as kinds

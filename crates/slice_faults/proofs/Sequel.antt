@@ -1,10 +1,10 @@
 -- Declarations, one after the other.
-use Rattle.std.proofs.Common.{◌≡◌, ℕ, ◌+◌, ◌<◌, ◌≤◌, false, List, [], ◌∷◌, length, drop, Option, Some, None, Result, refl, sym, ap, ◌∙◌, subst}
+use Rattle.std.proofs.Common.{◌≡◌, ℕ, ◌+◌, ◌≤◌, false, List, ◌∷◌, length, drop, Option, Some, None, Result, refl, sym, ap, ◌∙◌, subst}
 use Rattle.std.specs.Option.{option_or, is_some}
 use Rattle.slice_syntax.specs.declared.tree.Item.{Item}
 use Rattle.slice_syntax.specs.declared.tree.File.{File}
 use Rattle.ice_types.specs.Tables.{Tables}
-use Rattle.slice_syntax.specs.Places.{Each, IsRegular}
+use Rattle.slice_syntax.specs.Places.{Each}
 use Rattle.slice_meaning.specs.declared.fault.Fault.{Fault}
 use Rattle.slice_meaning.specs.Known.{Known}
 use Rattle.slice_meaning.specs.Faults.{faults}

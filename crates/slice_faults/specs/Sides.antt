@@ -1,5 +1,5 @@
 -- The parameters of one side of a call.
-use Rattle.std.specs.Prelude.{ℕ, Bool, true, false, not, List, [], ◌∷◌, ◌++◌, map, flat_map, cond, None, Some}
+use Rattle.std.specs.Prelude.{ℕ, Bool, true, false, not, List, [], ◌++◌, map, flat_map, cond, None, Some}
 use Rattle.std.specs.Ordering.{ordering_then, nat_cmp}
 use Rattle.std.specs.BTreeMap.{insert_entry}
 use Rattle.ice_types.specs.declared.declarations.Member.{Member}

@@ -121,7 +121,7 @@ fn is_class(known: &Known, defines: bool, standing: Standing) -> bool
     ensures { result ≡ is_class (known_of known.now) defines standing }
 {
     match as_class(standing) {
-        Some(at) => !(defines && known.rows.schema().is_class_defined(at)),
+        Some(at) => !(defines && known.rows.is_class_defined(at)),
         None => false,
     }
 }
@@ -145,7 +145,7 @@ fn put_name<'a>(alloc: Global, known: &mut Known<'a>, word: &'a Word) -> Result<
         → is_defined known.new.rows.defined_classes (class_at (known_of known.new) word.now) ≡ false) }
 {
     if standing_here(known, word).is_none() {
-        has_room(known.rows.schema().classes().len())?;
+        has_room(known.rows.classes().len())?;
         let id = new_id(alloc, known, word)?;
         let at = known.rows.add_class(id)?;
         declare(alloc, known, word, Standing::Type(TypeRef::Class(Some(at))))?;
@@ -168,7 +168,7 @@ fn base_row(known: &Known, path: &Path) -> Option<CheckKind>
         ≡ as_class_base (known_of known.now) path.now.place (class_named (known_of known.now) path.now) }
 {
     match class_named(known, path) {
-        Ok(at) if known.rows.schema().is_class_defined(at) => None,
+        Ok(at) if known.rows.is_class_defined(at) => None,
         Ok(_) => Some(CheckKind::BadBase),
         Err(row) => Some(row),
     }

@@ -38,7 +38,7 @@ pub(crate) fn sequence<'a>(
 {
     let fault = sequence_fault(alloc, known, word, element)?;
     if fault.is_none() {
-        has_room(known.rows.schema().seqs().len())?;
+        has_room(known.rows.seqs().len())?;
         let id = new_id(alloc, known, word)?;
         let element = kind_of(known, element);
         let at = known.rows.add_seq(SeqDecl { id, element })?;
@@ -85,7 +85,7 @@ pub(crate) fn dictionary<'a>(
 {
     let fault = dictionary_fault(alloc, known, word, key, value)?;
     if fault.is_none() {
-        has_room(known.rows.schema().dicts().len())?;
+        has_room(known.rows.dicts().len())?;
         let id = new_id(alloc, known, word)?;
         let key = kind_of(known, key);
         let value = kind_of(known, value);
@@ -123,7 +123,7 @@ fn is_deep(known: &Known, levels: u32, word: &TypeWord) -> bool
     ensures { result ≡ is_deep (known_of known.now).tables levels (type_of (known_of known.now) word.now) }
 {
     match type_of(known, word) {
-        Ok(kind) => known.rows.schema().measure_within(levels, kind).is_none(),
+        Ok(kind) => known.rows.measure_within(levels, kind).is_none(),
         Err(_) => false,
     }
 }
@@ -135,7 +135,7 @@ fn note_key(known: &Known, word: &TypeWord, found: &mut Found)
         (known_of known.now) word.now)) }
 {
     if let Ok(kind) = type_of(known, word) {
-        let is_no_key = match known.rows.schema().measure_within(MOST_DEPTH, kind) {
+        let is_no_key = match known.rows.measure_within(MOST_DEPTH, kind) {
             Some(measure) => !measure.is_key,
             None => false,
         };

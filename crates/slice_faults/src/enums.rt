@@ -12,6 +12,7 @@ ghost use Rattle.ice_types.specs.declared.schema.TheConstants.{MOST_NUMBER};
 ghost use Rattle.slice_faults.specs.Held.{known_of, entry_rows, AreFree};
 ghost use Rattle.slice_faults.specs.Kept.{IsKept};
 
+use crate::enumerators::add_enum;
 use crate::ids::new_id;
 use crate::known::Known;
 use crate::named::note_names;
@@ -44,9 +45,10 @@ pub(crate) fn enumeration<'a>(
     let rows = note_enum(alloc, known, word, entries, &mut found)?;
     let fault = found.first;
     if fault.is_none() {
-        has_room(known.rows.schema().enums().len())?;
+        has_room(known.rows.enums().len())?;
         let id = new_id(alloc, known, word)?;
-        let at = known.rows.add_enum(alloc, EnumDecl { id, entries: rows })?;
+        let decl = EnumDecl { id, entries: rows };
+        let at = add_enum(alloc, &mut known.rows, &mut known.enumerators, decl)?;
         declare(alloc, known, word, Standing::Type(TypeRef::Enum(at)))?;
         declare_inside(alloc, known, at, entries.as_slice())?;
     }

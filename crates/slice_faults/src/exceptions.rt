@@ -40,7 +40,7 @@ pub(crate) fn exception<'a>(
 {
     let fault = exception_fault(alloc, known, word, base, fields)?;
     if fault.is_none() {
-        has_room(known.rows.schema().exceptions().len())?;
+        has_room(known.rows.exceptions().len())?;
         let id = new_id(alloc, known, word)?;
         let base = base_at(known, base);
         let members = members_of(alloc, known, fields.as_slice())?;

@@ -13,7 +13,6 @@ ghost use Rattle.slice_faults.specs.Answer.{IsAnswer, answer_of};
 use crate::fault::CheckFault;
 use crate::items::declare_all;
 use crate::known::Known;
-use crate::rows::Rows;
 use crate::undefined::first_undefined;
 use ice_types::Schema;
 use slice_meaning::{CheckKind, Fault};
@@ -29,7 +28,7 @@ pub fn check(alloc: Global, files: &[File]) -> Result<Schema, CheckFault>
     let mut known = nothing_known(alloc);
     let found = first_fault(alloc, &mut known, files)?;
     let Known { rows, .. } = known;
-    answer(rows.into_schema(), found)
+    answer(rows, found)
 }
 
 /// The schema, or the fault where one was found.
@@ -88,7 +87,8 @@ fn nothing_known<'a>(alloc: Global) -> Known<'a>
         file: 0,
         scope: 0,
         names: Scopes::new(alloc),
-        rows: Rows::new(alloc),
+        rows: Schema::new(alloc),
+        enumerators: Vec::new(alloc),
     }
 }
 

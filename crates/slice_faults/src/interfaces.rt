@@ -134,7 +134,7 @@ fn is_interface(known: &Known, defines: bool, standing: Standing) -> bool
     ensures { result ≡ is_interface (known_of known.now) defines standing }
 {
     match as_interface(standing) {
-        Some(at) => !(defines && known.rows.schema().is_interface_defined(at)),
+        Some(at) => !(defines && known.rows.is_interface_defined(at)),
         None => false,
     }
 }
@@ -148,7 +148,7 @@ fn put_name<'a>(alloc: Global, known: &mut Known<'a>, word: &'a Word) -> Result<
         → is_defined known.new.rows.defined_interfaces (interface_at (known_of known.new) word.now) ≡ false) }
 {
     if standing_here(known, word).is_none() {
-        has_room(known.rows.schema().interfaces().len())?;
+        has_room(known.rows.interfaces().len())?;
         let id = new_id(alloc, known, word)?;
         let at = known.rows.add_interface(id)?;
         declare(alloc, known, word, Standing::Interface(at))?;
@@ -254,7 +254,7 @@ fn base_count(known: &Known, path: &Path) -> u64
     ensures most { result ≤ 2 ^ 32 }
 {
     match interface_named(known, path) {
-        Ok(at) => u64::from(known.rows.schema().paths(at)) + 1,
+        Ok(at) => u64::from(known.rows.paths(at)) + 1,
         Err(_) => 0,
     }
 }
@@ -292,7 +292,7 @@ fn note_base(
     match interface_named(known, path) {
         Ok(at) => {
             let is_new = before.numbers.insert(at)?;
-            let is_bad = !known.rows.schema().is_interface_defined(at) || !is_new;
+            let is_bad = !known.rows.is_interface_defined(at) || !is_new;
             found.note_where(is_bad, path.place, CheckKind::BadBase);
         }
         Err(row) => found.note_where(true, path.place, row),

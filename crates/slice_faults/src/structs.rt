@@ -42,7 +42,7 @@ pub(crate) fn structure<'a>(
     let members = members_of(alloc, known, fields.as_slice())?;
     let fault = struct_fault(alloc, known, word, fields, members.as_slice())?;
     if fault.is_none() {
-        has_room(known.rows.schema().structs().len())?;
+        has_room(known.rows.structs().len())?;
         let id = new_id(alloc, known, word)?;
         let at = known.rows.add_struct(StructDecl { id, members })?;
         declare(alloc, known, word, Standing::Type(TypeRef::Struct(at)))?;
@@ -89,11 +89,7 @@ fn limit(known: &Known, members: &[Member]) -> Option<CheckKind>
     let most = u64::from(MOST_SMALLEST);
     let mut smallest = 0;
     for member in members {
-        match known
-            .rows
-            .schema()
-            .measure_within(MOST_DEPTH - 1, member.kind)
-        {
+        match known.rows.measure_within(MOST_DEPTH - 1, member.kind) {
             Some(measure) => smallest = (smallest + u64::from(measure.smallest)).min(most + 1),
             None => return Some(CheckKind::TooDeep),
         }

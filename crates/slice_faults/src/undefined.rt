@@ -56,7 +56,7 @@ fn is_undefined(known: &Known, standing: Standing) -> bool
     ensures { (d : Declared) → d.standing ≡ standing → result ≡ is_undefined (known_of known.now).tables d }
 {
     match standing {
-        Standing::Type(TypeRef::Class(Some(at))) => !known.rows.schema().is_class_defined(at),
+        Standing::Type(TypeRef::Class(Some(at))) => !known.rows.is_class_defined(at),
         _ => false,
     }
 }

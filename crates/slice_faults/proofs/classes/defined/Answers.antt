@@ -1,6 +1,5 @@
 use Rattle.std.proofs.Common.{◌≡◌, length, None, Some, sym, subst}
 use Rattle.slice_syntax.specs.declared.tree.Item.TheVariants as items
-use Rattle.slice_meaning.specs.Known as meaning
 use Rattle.slice_meaning.specs.Faults.{faults}
 use Rattle.slice_meaning.specs.After.{class_at}
 use Rattle.slice_meaning.specs.Rows.{KnowsRows}

@@ -1,4 +1,3 @@
-use Rattle.slice_meaning.specs.Known as meaning
 use Rattle.slice_faults.specs.Held.{known_of}
 use Rattle.slice_faults.proofs.ClassFaults.{same_fits}
 use Rattle.slice_faults.proofs.classes.fill.Goals as goal

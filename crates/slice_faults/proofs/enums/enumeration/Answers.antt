@@ -1,11 +1,10 @@
-use Rattle.std.proofs.Common.{◌≡◌, List, [], None, sym, subst, ap, ◌∙◌}
+use Rattle.std.proofs.Common.{List, sym, subst, ap, ◌∙◌}
 use Rattle.slice_syntax.specs.declared.tree.Item.TheVariants as items
 use Rattle.ice_types.specs.declared.declarations.Entry.{Entry}
 use Rattle.ice_types.specs.declared.kind.TypeRef.TheVariants as kinds
 use Rattle.ice_types.specs.Fits.{EnumFits}
 use Rattle.slice_meaning.specs.declared.standing.Standing.TheVariants as standings
 use Rattle.slice_meaning.specs.Known as meaning
-use Rattle.slice_meaning.specs.Names.{declared_in}
 use Rattle.slice_meaning.specs.Faults.{faults}
 use Rattle.slice_meaning.specs.Checking.{noted}
 use Rattle.slice_meaning.proofs.Fitting.{enum_fits}
@@ -38,7 +37,7 @@ declare_inside-requires c =
     let k = known_of c.args.known.now in
     let fs = faults k (items.Enum c.args.word.now c.args.entries.now) in
     let found = c.in_ok-rows.ensures.found ∙ ap (λ o. noted o fs) c.new-found.ensures in
-    let mid : meaning.Known = record k { tables = c.add_enum.new.self } in
+    let mid : meaning.Known = record k { tables = c.add_enum.new.rows } in
     let new = free_new k c.args.word.now c.note_enum.new.found.first _ _ c.is_none.ensures c.if-is_none.true found in
     let none = unfaulted c.note_enum.new.found.first _ fs c.is_none.ensures c.if-is_none.true found in
     free_behind mid (known_of c.declare.new.known) c.args.word.now (standings.Type (kinds.Enum c.in_ok-at.at)) c.in_ok-at.at c.args.entries.now c.as_slice.result.now

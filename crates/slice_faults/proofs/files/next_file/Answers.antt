@@ -1,4 +1,4 @@
-use Rattle.std.proofs.Common.{◌≡◌, ℕ, suc, ◌+◌, ap, ◌∙◌, arith}
+use Rattle.std.proofs.Common.{◌≡◌, ℕ, suc, ap, ◌∙◌, arith}
 use Rattle.slice_meaning.specs.Names.{Scope}
 use Rattle.slice_meaning.specs.Known as meaning
 use Rattle.slice_names.specs.Numbers.{scope_at}

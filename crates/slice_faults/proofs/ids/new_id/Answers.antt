@@ -2,7 +2,6 @@ use Rattle.std.proofs.Common.{◌≡◌, List, [], ◌∷◌, ℕ, ◌++◌, len
 use Rattle.std.specs.Str.{IsUtf8}
 use Rattle.std.proofs.lemmas.Str.{IsUtf8-string_bytes}
 use Rattle.ice_types.specs.Tables.{HasRowId}
-use Rattle.slice_meaning.specs.Known.{id_here}
 use Rattle.slice_faults.specs.Held.{known_of}
 use Rattle.slice_faults.proofs.Parts.{part, parts, of_parts, begins}
 use Rattle.slice_faults.proofs.Keeping.{is_new_id}

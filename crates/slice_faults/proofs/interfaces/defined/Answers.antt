@@ -1,8 +1,5 @@
-use Rattle.std.proofs.Common.{◌≡◌, length, None, Some, sym, ap, ◌∙◌, subst}
-use Rattle.std.specs.Prelude.{◌++◌}
+use Rattle.std.proofs.Common.{◌≡◌, length, None, Some, sym, subst}
 use Rattle.slice_syntax.specs.declared.tree.Item.TheVariants as items
-use Rattle.slice_meaning.specs.Known.{Known}
-use Rattle.slice_meaning.specs.Clashes.{reopened_name, is_interface}
 use Rattle.slice_meaning.specs.Faults.{faults}
 use Rattle.slice_meaning.specs.After.{interface_at}
 use Rattle.slice_meaning.specs.Rows.{KnowsRows}

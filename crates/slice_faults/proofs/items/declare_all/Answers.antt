@@ -1,5 +1,4 @@
-use Rattle.std.proofs.Common.{◌≡◌, false, sym, subst, ◌∙◌}
-use Rattle.std.specs.Option.{is_some}
+use Rattle.std.proofs.Common.{sym, subst, ◌∙◌}
 use Rattle.slice_syntax.specs.Places.{IsRegular}
 use Rattle.slice_meaning.specs.Known as meaning
 use Rattle.slice_faults.specs.Held.{known_of}

@@ -1,4 +1,4 @@
-use Rattle.std.proofs.Common.{◌≡◌, ℕ, ◌+◌, ◌-◌, ◌≤◌, ◌++◌, ◌∷◌, [], List, length, sym, ap, ◌∙◌, append_assoc, length-append, arith}
+use Rattle.std.proofs.Common.{◌≡◌, ◌+◌, ◌-◌, ◌++◌, ◌∷◌, [], List, length, sym, ap, ◌∙◌, append_assoc, length-append, arith}
 use Rattle.ice_types.specs.declared.declarations.Member.{Member}
 use Rattle.slice_faults.proofs.Rising.{AreKeyed, required_next, optional_next, keyed_next, keyed_below, below_next, above_next}
 use Rattle.slice_faults.proofs.shapes.shape.Goals as goal

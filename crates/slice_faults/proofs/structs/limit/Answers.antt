@@ -17,7 +17,7 @@ pub returns-in-None : goal.returns-in-None
 returns-in-None c = λ place.
     let i = c.loop-member.member-index in
     limits_none place c.loop-member.smallest (measure c.args.known.now.rows 99) c.args.members.now i c.member-item.result _
-    (front c.args.members.now i c.member-item.result c.loop-member-test.true c.member-item.is) (ap (λ (t : Tables). measure t 99 c.member-item.result.kind) (sym c.schema.ensures) ∙ (sym c.measure_within.ensures.found ∙ c.in-None.is)) (c.loop-member.invariant.0 place)
+    (front c.args.members.now i c.member-item.result c.loop-member-test.true c.member-item.is) (sym c.measure_within.ensures.found ∙ c.in-None.is) (c.loop-member.invariant.0 place)
 
 at_end : (small : ℕ) (b : Bool) (row : Option CheckKind) (members : List Member) (i : ℕ) (t : Tables) (place : ℕ) (all : List Fault) → length members ≤ i → nat_lt 1048576 small ≡ b → where_row place row ≡ where_true b place rows.TooBig
     → limits_from place small (measure_members (measure t 99) (drop i members)) ≡ all → where_row place row ≡ all

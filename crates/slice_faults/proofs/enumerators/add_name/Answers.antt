@@ -1,8 +1,8 @@
-use Rattle.std.proofs.Common.{List, ℕ, Bool, true, cond, string_bytes, ap, ◌∙◌}
+use Rattle.std.proofs.Common.{List, ℕ, true, cond, string_bytes, ap, ◌∙◌}
 use Rattle.std.specs.Prelude.{bytes_eq}
 use Rattle.std.specs.BTreeSet.{contains_text}
 use Rattle.std.proofs.lemmas.Map.Text.{btree_set_updates_text}
-use Rattle.slice_faults.proofs.rows.add_name.Goals as goal
+use Rattle.slice_faults.proofs.enumerators.add_name.Goals as goal
 
 pub returns : goal.returns
 returns c = λ word.
