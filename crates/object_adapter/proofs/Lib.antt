@@ -1,0 +1,10 @@
+pub mod Sole
+pub mod Zeros
+pub mod Below
+pub mod Texts
+pub mod Rising
+pub mod Ordered
+pub mod Changed
+pub mod Collected
+pub mod Listed
+pub mod Dispatched

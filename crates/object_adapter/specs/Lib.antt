@@ -1,0 +1,17 @@
+pub mod Refusals
+pub mod Admitting
+pub mod Arguments
+pub mod Interfaces
+pub mod Writing
+pub mod Deeds
+pub mod FirstValue
+pub mod Stores
+pub mod Echoes
+pub mod Own
+pub mod Ids
+pub mod Servants
+pub mod Rising
+pub mod Keys
+pub mod Objects
+pub mod Adapters
+pub mod Laws
