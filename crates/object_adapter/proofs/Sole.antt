@@ -1,5 +1,6 @@
 -- The only argument.
-use Rattle.std.proofs.Common.{pos, ◌≡◌, ◌≤◌, List, [], ◌∷◌, length, None, map, refl, sym, subst, ap, ◌∙◌, arith}
+use Rattle.std.specs.Prelude.{slice_get}
+use Rattle.std.proofs.Common.{ℕ, zero, suc, pos, ◌≡◌, ◌≤◌, List, [], ◌∷◌, length, None, Some, map, refl, sym, subst, ap, ◌∙◌, arith}
 use Rattle.ice_types.specs.declared.kind.TypeRef.{TypeRef}
 use Rattle.ice_types.specs.declared.kind.TypeRef.TheVariants as kinds
 use Rattle.ice_types.specs.declared.declarations.Member.{Member}
@@ -12,8 +13,8 @@ use Rattle.ice_graphs.specs.Graph.{Graph}
 use Rattle.ice_graphs.specs.Typed.{OfType, RefersIn}
 use Rattle.ice_values.specs.Shapes.{told_apart, without_tag}
 use Rattle.graph_arena.specs.declared.value.Value.{Value}
-use Rattle.graph_arena.specs.View.{view_all}
-use Rattle.object_adapter.specs.Arguments.{sole_number, sole_text}
+use Rattle.graph_arena.specs.View.{view, view_all}
+use Rattle.object_adapter.specs.Arguments.{sole_members, sole_number, sole_text, text_at, text_of}
 use Rattle.object_adapter.specs.Deeds.{IsOne}
 
 -- several
@@ -26,6 +27,22 @@ pub no_sole_text : (values : List Value) (all : Trees) → 2 ≤ length values �
 no_sole_text [] all many is = absurd (omega (arith, many))
 no_sole_text (v ∷ []) all many is = absurd (omega (arith, many))
 no_sole_text (v ∷ w ∷ vs) all many is = subst (λ (a : Trees). [] ≡ sole_text a) is refl
+
+pub no_sole_members : (values : List Value) (all : Trees) → 2 ≤ length values → view_all values ≡ all → none ≡ sole_members all
+no_sole_members [] all many is = absurd (omega (arith, many))
+no_sole_members (v ∷ []) all many is = absurd (omega (arith, many))
+no_sole_members (v ∷ w ∷ vs) all many is = subst (λ (a : Trees). none ≡ sole_members a) is refl
+
+-- the text at a place, and past the end
+pub text_there_at : (values : List Value) (at : ℕ) (v : Value) → Some v ≡ slice_get values at → text_of (view v) ≡ text_at (view_all values) at
+text_there_at [] at v is = absurd cc
+text_there_at (w ∷ ws) zero v is = let same : v ≡ w = cc in ap (λ (x : Value). text_of (view x)) same
+text_there_at (w ∷ ws) (suc at) v is = text_there_at ws at v is
+
+pub no_text_at : (values : List Value) (at : ℕ) → None ≡ slice_get values at → [] ≡ text_at (view_all values) at
+no_text_at [] at is = refl
+no_text_at (w ∷ ws) zero is = absurd cc
+no_text_at (w ∷ ws) (suc at) is = no_text_at ws at is
 
 -- the type of the only one
 pub one_required : (members : List Member) (m : Member) → members ≡ m ∷ [] → m.tag ≡ None → without_tag members ≡ m ∷ []

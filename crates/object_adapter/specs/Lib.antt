@@ -2,6 +2,7 @@ pub mod Refusals
 pub mod Admitting
 pub mod Arguments
 pub mod Interfaces
+pub mod Results
 pub mod Writing
 pub mod Deeds
 pub mod FirstValue
@@ -9,8 +10,10 @@ pub mod Stores
 pub mod Echoes
 pub mod Own
 pub mod Ids
-pub mod Servants
 pub mod Rising
+pub mod Places
+pub mod Locators
+pub mod Servants
 pub mod Keys
 pub mod Objects
 pub mod Adapters

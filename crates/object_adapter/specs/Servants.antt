@@ -9,13 +9,17 @@ use Rattle.object_adapter.specs.declared.refusal.Refusal.{Refusal}
 use Rattle.object_adapter.specs.declared.own.Own.{Own}
 use Rattle.object_adapter.specs.declared.store.Store.{Store as AStore}
 use Rattle.object_adapter.specs.declared.echo.Echo.{Echo as AnEcho}
+use Rattle.object_adapter.specs.declared.locator.Locator.{Locator as ALocator}
 use Rattle.object_adapter.specs.declared.servant.Servant.{Servant}
-use Rattle.object_adapter.specs.declared.servant.Servant.TheVariants.{Store, Echo}
+use Rattle.object_adapter.specs.declared.servant.Servant.TheVariants.{Store, Echo, Locator}
 use Rattle.object_adapter.specs.FirstValue.{IsFirst}
 use Rattle.object_adapter.specs.Refusals.{told}
 use Rattle.object_adapter.specs.Own.{IsNamed, OwnActs, OwnRefuses}
 use Rattle.object_adapter.specs.Stores as stores
 use Rattle.object_adapter.specs.Echoes as echoes
+use Rattle.object_adapter.specs.Locators as locators
+use Rattle.object_adapter.specs.Places.{Known}
+use Rattle.locator_types.specs.Locator.{locator_tables}
 
 -- ---- new objects
 
@@ -27,17 +31,23 @@ IsNewStore t interface servant = (s : AStore) × (servant ≡ Store s) × (arc_v
 abbrev pub IsNewEcho : Tables → ℕ → Servant → Type 0
 IsNewEcho t interface servant = (e : AnEcho) × (servant ≡ Echo e) × (arc_value e.schema ≡ t) × (e.interface ≡ interface)
 
+-- a locator that knows these places
+abbrev pub IsNewLocator : Known → Servant → Type 0
+IsNewLocator places servant = (l : ALocator) × (servant ≡ Locator l) × (l.places ≡ places)
+
 -- ---- their interfaces
 
 -- the types that its interface speaks of
 abbrev pub tables_of : Servant → Tables
 tables_of (Store s) = arc_value s.schema
 tables_of (Echo e) = arc_value e.schema
+tables_of (Locator l) = locator_tables
 
 -- the place of its interface
 abbrev pub interface_of : Servant → ℕ
 interface_of (Store s) = s.interface
 interface_of (Echo e) = e.interface
+interface_of (Locator l) = 0
 
 -- ---- what they answer
 
@@ -50,11 +60,13 @@ abbrev pub Does : Servant → Call → Answer → Servant → Type 0
 Does (Store s) call answer new = (results : List ℕ) × (after : AStore) × (answer ≡ Done results) × (new ≡ Store after) × (after ≡ record s { kept = after.kept })
     × stores.Acts (arc_value s.schema) s.interface call s.kept results after.kept
 Does (Echo e) call answer new = (results : List ℕ) × (answer ≡ Done results) × (new ≡ Echo e) × echoes.Acts (arc_value e.schema) e.interface call results
+Does (Locator l) call answer new = (new ≡ Locator l) × locators.Acts l.places call answer
 
 -- why it gives nothing
 abbrev pub Lacks : Servant → Call → Refusal → Type 0
 Lacks (Store s) call refusal = stores.Refuses (arc_value s.schema) s.interface call s.kept refusal
 Lacks (Echo e) call refusal = echoes.Refuses (arc_value e.schema) e.interface call refusal
+Lacks (Locator l) call refusal = locators.Refuses l.places call refusal
 
 -- what an operation that every object has gives; it changes nothing
 abbrev pub DoesOwn : Servant → Call → Answer → Servant → Type 0

@@ -2,6 +2,7 @@
 
 ghost use Rattle.std.specs.Prelude.{◌≡◌, ◌<◌, IfOk, IfErr, OnOk, OnErr, length};
 ghost use Rattle.std.specs.List.{insert};
+ghost use Rattle.ice_messages.specs.Written.{IsAnswer};
 ghost use Rattle.object_adapter.specs.declared.add_fault.AddFault.TheVariants as add_faults;
 ghost use Rattle.object_adapter.specs.declared.keys.TheConstants.{MOST_OBJECTS};
 ghost use Rattle.object_adapter.specs.Objects.{AreObjects, no_objects};
@@ -86,6 +87,7 @@ impl Adapter {
     /// memory changes nothing.
     pub fn answer(&mut self, alloc: Global, call: &Call) -> Result<Answer, AllocError>
         ensures ok { IfOk result (λ answer. Answered self.old call.now answer self.new) }
+        ensures writable { IfOk result IsAnswer }
         ensures err { OnErr result (self.new ≡ self.old) }
     {
         match self.find(&call.identity, call.facet.as_str()) {

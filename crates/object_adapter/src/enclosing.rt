@@ -7,13 +7,13 @@ ghost use Rattle.object_adapter.specs.Refusals.{Outcome};
 ghost use Rattle.object_adapter.specs.Admitting.{IsEnclosed, IsRefusedLength};
 
 use crate::refusal::{LONGEST, Refusal, Unanswered};
+use crate::results::Results;
 use ice_encoding::SMALLEST;
 use ice_prims::{put_byte, put_int};
-use ice_types::{Bytes, List};
 use std::alloc::{AllocError, Global};
 
 /// The encapsulation of this content, where it is not longer than results may be.
-pub(crate) fn enclose(alloc: Global, content: &[u8]) -> Result<Bytes, Unanswered>
+pub(crate) fn enclose(alloc: Global, content: &[u8]) -> Result<Results, Unanswered>
     ensures { Outcome (IsEnclosed content.now) (IsRefusedLength content.now) result }
 {
     if content.len() > LONGEST as usize - SMALLEST {
@@ -23,7 +23,7 @@ pub(crate) fn enclose(alloc: Global, content: &[u8]) -> Result<Bytes, Unanswered
 }
 
 /// The encapsulation of this content.
-pub(crate) fn enclose_short(alloc: Global, content: &[u8]) -> Result<Bytes, AllocError>
+pub(crate) fn enclose_short(alloc: Global, content: &[u8]) -> Result<Results, AllocError>
     requires { SMALLEST + length content.now ≤ LONGEST }
     ensures { IfOk result (λ bytes. bytes ≡ encapsulated_bytes content.now) }
 {
@@ -32,5 +32,5 @@ pub(crate) fn enclose_short(alloc: Global, content: &[u8]) -> Result<Bytes, Allo
     put_byte(&mut out, 1)?;
     put_byte(&mut out, 1)?;
     out.extend_from_slice(content)?;
-    Ok(List::from_vec(out))
+    Ok(Results::of(out))
 }

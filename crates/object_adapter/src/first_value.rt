@@ -5,10 +5,11 @@ ghost use Rattle.ice_types.specs.Fits.{IsOf};
 ghost use Rattle.object_adapter.specs.FirstValue.{HoldsZeros, zeros};
 ghost use Rattle.object_adapter.specs.Interfaces.{named};
 
+use crate::results::Results;
 use crate::store_deeds::put_type;
 use crate::writing::written;
 use graph_arena::{Graph, Members};
-use ice_types::{Bytes, List, Schema, TypeRef};
+use ice_types::{List, Schema, TypeRef};
 use std::alloc::{AllocError, Global};
 use value_checks::{zero, zeros_have_types};
 
@@ -18,7 +19,7 @@ pub(crate) fn first_value(
     alloc: Global,
     schema: &Schema,
     interface: u32,
-) -> Result<Option<Bytes>, AllocError>
+) -> Result<Option<Results>, AllocError>
     ensures { IfOk result (λ value. HoldsZeros schema.now (named schema.now interface (codes "put")) value) }
 {
     schema.rules();

@@ -1,6 +1,7 @@
 //! The ids of an object. (Ice manual, "The Object Base Interface".)
 
-ghost use Rattle.std.specs.Prelude.{◌≡◌, ◌<◌, ◌+◌, ◌++◌, ℕ, List, length, map, IfOk, OnOk, bytes_eq, string_bytes, true, if◌then◌else◌};
+ghost use Rattle.std.specs.Prelude.{◌≡◌, ◌<◌, ◌+◌, ◌++◌, ℕ, List, length, map, IfOk, OnOk, true};
+ghost use Rattle.std.specs.Prelude.{bytes_eq, string_bytes, if◌then◌else◌};
 ghost use Rattle.std.specs.List.{flat_map};
 ghost use Rattle.ice_prims.specs.Bytes.{text_bytes};
 ghost use Rattle.object_adapter.specs.declared.refusal.Refusal.TheVariants as refusals;
@@ -45,7 +46,8 @@ pub(crate) fn ids_content(
 /// Puts texts at the end of the output, where none is longer than results may be. A refusal may leave some.
 fn put_texts(out: &mut Vec<u8>, mut texts: BTreeSet<String>) -> Result<(), Unanswered>
     ensures { Outcome (λ done. out.new.items ≡ out.old.items ++ flat_map text_bytes (map string_bytes texts.keys))
-        (λ refusal. (refusal ≡ refusals.TooLong) × (LONGEST < length (flat_map text_bytes (map string_bytes texts.keys)))) result }
+        (λ refusal. (refusal ≡ refusals.TooLong)
+        × (LONGEST < length (flat_map text_bytes (map string_bytes texts.keys)))) result }
 {
     while let Some(text) = texts.pop_first() {
         if text.len() > LONGEST as usize {
@@ -82,7 +84,8 @@ fn take(
     ids: &mut BTreeSet<String>,
 ) -> Result<(), AllocError>
     requires { at < length schema.now.interfaces }
-    ensures { OnOk result (HoldsBefore schema.now interface at ids.old → HoldsBefore schema.now interface (at + 1) ids.new) }
+    ensures { OnOk result
+        (HoldsBefore schema.now interface at ids.old → HoldsBefore schema.now interface (at + 1) ids.new) }
 {
     if schema.interface_is_a(interface, at) {
         insert(alloc, ids, id_of(schema, at))?;

@@ -15,10 +15,11 @@ ghost use Rattle.object_adapter.specs.Stores.{Does, Overflows, no_results, numbe
 use crate::arguments::sole_number;
 use crate::enclosing::enclose_short;
 use crate::refusal::{Refusal, Unanswered};
+use crate::results::Results;
 use crate::store_deeds::Deed;
 use crate::writing::written;
 use graph_arena::Graph;
-use ice_types::{Bytes, List, Schema, Shape};
+use ice_types::{Schema, Shape};
 use std::alloc::{AllocError, Global};
 
 /// What a store keeps.
@@ -26,7 +27,7 @@ use std::alloc::{AllocError, Global};
 pub struct Kept {
     pub number: i32,
     /// The canonical encapsulation of the value, None where it is longer than results may be.
-    pub value: Option<Bytes>,
+    pub value: Option<Results>,
 }
 
 impl Kept {
@@ -38,7 +39,7 @@ impl Kept {
         deed: Deed,
         shape: &Shape,
         arguments: Graph,
-    ) -> Result<Bytes, Unanswered>
+    ) -> Result<Results, Unanswered>
         requires typed { OfType schema.now (told_apart shape.now) arguments }
         requires number { deed ≡ deeds.Add → IsOne shape.now kinds.Int }
         ensures does { Outcome (λ results. Does schema.now deed shape.now arguments self.old results self.new)
@@ -54,7 +55,7 @@ impl Kept {
     }
 
     /// Adds the argument to the number, and gives it.
-    fn add(&mut self, alloc: Global, arguments: &Graph) -> Result<Bytes, AllocError>
+    fn add(&mut self, alloc: Global, arguments: &Graph) -> Result<Results, AllocError>
         ensures ok { IfOk result (λ results.
             results ≡ number_results (plus self.old (sole_number arguments.now.roots.required))) }
         ensures added { OnOk result
@@ -74,7 +75,7 @@ impl Kept {
         schema: &Schema,
         shape: &Shape,
         arguments: Graph,
-    ) -> Result<Bytes, AllocError>
+    ) -> Result<Results, AllocError>
         requires { OfType schema.now (told_apart shape.now) arguments }
         ensures ok { IfOk result (λ results. results ≡ no_results) }
         ensures put { OnOk result (self.new ≡ record self.old { value = written schema.now shape.now arguments }) }
@@ -88,18 +89,19 @@ impl Kept {
 }
 
 /// The results of an operation with a number.
-fn number_results(alloc: Global, number: i32) -> Result<Bytes, AllocError>
+fn number_results(alloc: Global, number: i32) -> Result<Results, AllocError>
     ensures { IfOk result (λ results. results ≡ number_results number) }
 {
     enclose_short(alloc, &number.to_le_bytes())
 }
 
 /// A copy of the kept value, where it is not too long to be given.
-fn given(alloc: Global, value: &Option<Bytes>) -> Result<Bytes, Unanswered>
-    ensures { Outcome (λ results. value.now ≡ Some results) (λ refusal. (refusal ≡ refusals.TooLong) × (value.now ≡ None)) result }
+fn given(alloc: Global, value: &Option<Results>) -> Result<Results, Unanswered>
+    ensures { Outcome (λ results. value.now ≡ Some results)
+        (λ refusal. (refusal ≡ refusals.TooLong) × (value.now ≡ None)) result }
 {
     match value {
-        Some(bytes) => Ok(List::from_vec(Vec::from_slice(alloc, bytes.as_slice())?)),
+        Some(results) => Ok(results.copied(alloc)?),
         None => Err(Unanswered::Refused(Refusal::TooLong)),
     }
 }

@@ -7,17 +7,19 @@ ghost use Rattle.ice_graphs.specs.Typed.{OfType};
 ghost use Rattle.ice_values.specs.Shapes.{told_apart};
 ghost use Rattle.object_adapter.specs.declared.refusal.Refusal.TheVariants as refusals;
 ghost use Rattle.object_adapter.specs.Refusals.{Outcome};
-ghost use Rattle.object_adapter.specs.Own.{HasObjectId, IsNamed, OwnActs, OwnGives, OwnOverflows, OwnRefuses, id_in, own_shape};
+ghost use Rattle.object_adapter.specs.Own.{HasObjectId, IsNamed, OwnActs, OwnGives, OwnOverflows, OwnRefuses, id_in};
+ghost use Rattle.object_adapter.specs.Own.{own_shape};
 
 use crate::admitting::admit;
 use crate::arguments::sole_text;
 use crate::enclosing::enclose;
 use crate::ids::ids_content;
 use crate::refusal::{LONGEST, Refusal, Unanswered};
+use crate::results::Results;
 use graph_arena::Graph;
 use ice_messages::Call;
 use ice_prims::{put_bool, put_str};
-use ice_types::{Bytes, List, Member, Name, Schema, Shape, TypeRef};
+use ice_types::{List, Member, Name, Schema, Shape, TypeRef};
 use std::alloc::{AllocError, Global};
 
 /// An operation that every object has.
@@ -53,8 +55,9 @@ pub(crate) fn act_own(
     interface: u32,
     own: Own,
     call: &Call,
-) -> Result<Bytes, Unanswered>
-    ensures { Outcome (OwnActs schema.now interface own call.now) (OwnRefuses schema.now interface own call.now) result }
+) -> Result<Results, Unanswered>
+    ensures { Outcome (OwnActs schema.now interface own call.now)
+        (OwnRefuses schema.now interface own call.now) result }
 {
     let shape = own_shape(alloc, own)?;
     let arguments = admit(alloc, schema, true, &shape, call)?;

@@ -2,11 +2,15 @@
 
 ghost use Rattle.std.specs.Prelude.{◌≡◌, ◌<◌, IfOk, OnErr, length};
 ghost use Rattle.std.specs.Arc.{arc_value};
+ghost use Rattle.ice_messages.specs.Written.{IsAnswer};
 ghost use Rattle.object_adapter.specs.Refusals.{Outcome};
-ghost use Rattle.object_adapter.specs.Servants.{Acts, Answered, IsNewEcho, IsNewStore, Refuses, interface_of, tables_of};
+ghost use Rattle.object_adapter.specs.Servants.{Acts, Answered, IsNewEcho, IsNewLocator, IsNewStore, Refuses};
+ghost use Rattle.object_adapter.specs.Servants.{interface_of, tables_of};
 
 use crate::echo::Echo;
+use crate::locator::Locator;
 use crate::own::{act_own, own_of};
+use crate::places::Places;
 use crate::refusal::Unanswered;
 use crate::store::Store;
 use crate::telling::tell;
@@ -20,6 +24,7 @@ use std::sync::Arc;
 pub enum Servant {
     Store(Store),
     Echo(Echo),
+    Locator(Locator),
 }
 
 impl Servant {
@@ -37,9 +42,17 @@ impl Servant {
         Servant::Echo(Echo { schema, interface })
     }
 
+    /// A locator that knows these places.
+    pub fn locator(alloc: Global, places: Places) -> Result<Servant, AllocError>
+        ensures { IfOk result (IsNewLocator places) }
+    {
+        Ok(Servant::Locator(Locator::new(alloc, places)?))
+    }
+
     /// What the object answers to a call. Out of memory changes nothing.
     pub fn answer(&mut self, alloc: Global, call: &Call) -> Result<Answer, AllocError>
         ensures ok { IfOk result (λ answer. Answered self.old call.now answer self.new) }
+        ensures writable { IfOk result IsAnswer }
         ensures err { OnErr result (self.new ≡ self.old) }
     {
         match self.act(alloc, call) {
@@ -52,15 +65,17 @@ impl Servant {
     /// What the operation of a call gives, or why the call is refused. A refusal changes nothing.
     fn act(&mut self, alloc: Global, call: &Call) -> Result<Answer, Unanswered>
         ensures acts { Outcome (λ answer. Acts self.old call.now answer self.new) (Refuses self.old call.now) result }
+        ensures writable { IfOk result IsAnswer }
         ensures err { OnErr result (self.new ≡ self.old) }
     {
         if let Some(own) = own_of(call.operation.as_str()) {
             let results = act_own(alloc, self.schema(), self.interface(), own, call)?;
-            return Ok(Answer::Done(results));
+            return Ok(results.done());
         }
         match self {
-            Servant::Store(store) => Ok(Answer::Done(store.act(alloc, call)?)),
-            Servant::Echo(echo) => Ok(Answer::Done(echo.act(alloc, call)?)),
+            Servant::Store(store) => Ok(store.act(alloc, call)?.done()),
+            Servant::Echo(echo) => Ok(echo.act(alloc, call)?.done()),
+            Servant::Locator(locator) => locator.act(alloc, call),
         }
     }
 
@@ -71,6 +86,7 @@ impl Servant {
         match self {
             Servant::Store(store) => &store.schema,
             Servant::Echo(echo) => &echo.schema,
+            Servant::Locator(locator) => &locator.schema,
         }
     }
 
@@ -81,6 +97,7 @@ impl Servant {
         match self {
             Servant::Store(store) => store.interface,
             Servant::Echo(echo) => echo.interface,
+            Servant::Locator(_) => 0,
         }
     }
 }

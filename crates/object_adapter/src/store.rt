@@ -12,9 +12,10 @@ use crate::admitting::admit;
 use crate::first_value::first_value;
 use crate::kept::Kept;
 use crate::refusal::{Refusal, Unanswered};
+use crate::results::Results;
 use crate::store_deeds::{Deed, deed_of};
 use ice_messages::Call;
-use ice_types::{Bytes, OpDecl, Schema};
+use ice_types::{OpDecl, Schema};
 use std::alloc::{AllocError, Global};
 use std::sync::Arc;
 
@@ -44,9 +45,10 @@ impl Store {
     }
 
     /// The results of a call, or why it is refused. A refusal changes nothing.
-    pub(crate) fn act(&mut self, alloc: Global, call: &Call) -> Result<Bytes, Unanswered>
+    pub(crate) fn act(&mut self, alloc: Global, call: &Call) -> Result<Results, Unanswered>
         ensures acts { Outcome
-            (λ results. Acts (arc_value self.old.schema) self.old.interface call.now self.old.kept results self.new.kept)
+            (λ results. Acts (arc_value self.old.schema) self.old.interface call.now self.old.kept results
+            self.new.kept)
             (Refuses (arc_value self.old.schema) self.old.interface call.now self.old.kept) result }
         ensures same { self.new ≡ record self.old { kept = self.new.kept } }
         ensures err { OnErr result (self.new ≡ self.old) }

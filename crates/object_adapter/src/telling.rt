@@ -1,6 +1,7 @@
 //! What a call that is not done is answered. (Ice manual, "Reply Message".)
 
 ghost use Rattle.std.specs.Prelude.{◌≡◌, IfOk};
+ghost use Rattle.ice_messages.specs.Written.{IsAnswer};
 ghost use Rattle.object_adapter.specs.Refusals.{failed, fault_text, missed, told};
 
 use crate::refusal::Refusal;
@@ -11,7 +12,8 @@ use std::alloc::{AllocError, Global};
 
 /// The answer to a refused call.
 pub(crate) fn tell(alloc: Global, call: &Call, refusal: Refusal) -> Result<Answer, AllocError>
-    ensures { IfOk result (λ answer. answer ≡ told call.now refusal) }
+    ensures told { IfOk result (λ answer. answer ≡ told call.now refusal) }
+    ensures writable { IfOk result IsAnswer }
 {
     match refusal {
         Refusal::NoOperation => missed(alloc, 4, call),

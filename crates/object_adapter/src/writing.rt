@@ -6,9 +6,10 @@ ghost use Rattle.ice_values.specs.Shapes.{told_apart};
 ghost use Rattle.object_adapter.specs.Writing as spec;
 
 use crate::refusal::LONGEST;
+use crate::results::Results;
 use class_slices::{Format, WriteFault, encode_typed};
 use graph_arena::Graph;
-use ice_types::{Bytes, List, Schema, Shape};
+use ice_types::{Schema, Shape};
 use ice_values::DeclaredMembers;
 use std::alloc::{AllocError, Global};
 
@@ -19,7 +20,7 @@ pub(crate) fn written(
     schema: &Schema,
     shape: &Shape,
     values: Graph,
-) -> Result<Option<Bytes>, AllocError>
+) -> Result<Option<Results>, AllocError>
     requires { OfType schema.now (told_apart shape.now) values }
     ensures { IfOk result (λ bytes. bytes ≡ spec.written schema.now shape.now values) }
 {
@@ -28,7 +29,7 @@ pub(crate) fn written(
         optional: shape.optional.as_slice(),
     };
     match encode_typed(alloc, schema, fields, values, Format::Sliced, LONGEST) {
-        Ok(bytes) => Ok(Some(List::from_vec(bytes))),
+        Ok(bytes) => Ok(Some(Results::of(bytes))),
         Err(WriteFault::TooLong(_)) => Ok(None),
         Err(_) => Err(AllocError),
     }
