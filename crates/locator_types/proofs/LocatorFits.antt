@@ -1,0 +1,139 @@
+-- The rows of the locator's schema may be added.
+use Rattle.std.proofs.Common.{ℕ, zero, suc, ◌≡◌, ◌≢◌, ◌<◌, ◌≤◌, true, false, List, [], ◌∷◌, map, All, None, Some, codes, refl, arith}
+use Rattle.std.specs.Prelude.{IsTrue}
+use Rattle.std.specs.Str.{bytes_eq, str_to_ascii_lowercase}
+use Rattle.std.proofs.lemmas.Slice.Eq.{bytes_eq-Decides}
+use Rattle.std.proofs.lemmas.List.Elements.{All-nil, All-cons}
+use Rattle.ice_types.specs.declared.kind.TypeRef.{TypeRef}
+use Rattle.ice_types.specs.declared.kind.TypeRef.TheVariants as kinds
+use Rattle.ice_types.specs.declared.kind.RowRef.TheVariants as rows
+use Rattle.ice_types.specs.Names.{IsFree, AreNew}
+use Rattle.ice_types.specs.Tables.{Tables, IsNewId, is_defined, no_types}
+use Rattle.ice_types.specs.Measures.{measure, built_in, structure, with_member, no_members, proxy}
+use Rattle.ice_types.specs.Fits.{IsOf, AreOf, AreRequired, ShapeFits, OpFits, StructFits, ExceptionFits, InterfaceFits}
+use Rattle.ice_types.specs.Object.{required}
+use Rattle.locator_types.specs.Locator.{identity_decl, identity_declared, object_declared, types_declared, locator_declared, finding, find_object, find_adapter, locator_operations}
+
+-- ---- ids
+
+differs : (a b : List ℕ) → bytes_eq a b ≡ false → Some a ≡ Some b → ⊥
+differs a b apart e =
+    let same : a ≡ b = cc in
+    let equal : bytes_eq a b ≡ true = (bytes_eq-Decides a b).1 same in
+    cc
+
+nothing : (a : List ℕ) → None ≡ Some a → ⊥
+nothing a e = cc
+
+pub identity_new : IsNewId no_types (codes "::Ice::Identity")
+identity_new (rows.Seq at) h = nothing (codes "::Ice::Identity") h
+identity_new (rows.Dict at) h = nothing (codes "::Ice::Identity") h
+identity_new (rows.Struct at) h = nothing (codes "::Ice::Identity") h
+identity_new (rows.Enum at) h = nothing (codes "::Ice::Identity") h
+identity_new (rows.Class at) h = nothing (codes "::Ice::Identity") h
+identity_new (rows.Exception at) h = nothing (codes "::Ice::Identity") h
+identity_new (rows.Interface at) h = nothing (codes "::Ice::Identity") h
+
+pub object_new : IsNewId identity_declared (codes "::Ice::ObjectNotFoundException")
+object_new (rows.Seq at) h = nothing (codes "::Ice::ObjectNotFoundException") h
+object_new (rows.Dict at) h = nothing (codes "::Ice::ObjectNotFoundException") h
+object_new (rows.Struct zero) h = differs (codes "::Ice::Identity") (codes "::Ice::ObjectNotFoundException") refl h
+object_new (rows.Struct (suc at)) h = nothing (codes "::Ice::ObjectNotFoundException") h
+object_new (rows.Enum at) h = nothing (codes "::Ice::ObjectNotFoundException") h
+object_new (rows.Class at) h = nothing (codes "::Ice::ObjectNotFoundException") h
+object_new (rows.Exception at) h = nothing (codes "::Ice::ObjectNotFoundException") h
+object_new (rows.Interface at) h = nothing (codes "::Ice::ObjectNotFoundException") h
+
+pub adapter_new : IsNewId object_declared (codes "::Ice::AdapterNotFoundException")
+adapter_new (rows.Seq at) h = nothing (codes "::Ice::AdapterNotFoundException") h
+adapter_new (rows.Dict at) h = nothing (codes "::Ice::AdapterNotFoundException") h
+adapter_new (rows.Struct zero) h = differs (codes "::Ice::Identity") (codes "::Ice::AdapterNotFoundException") refl h
+adapter_new (rows.Struct (suc at)) h = nothing (codes "::Ice::AdapterNotFoundException") h
+adapter_new (rows.Enum at) h = nothing (codes "::Ice::AdapterNotFoundException") h
+adapter_new (rows.Class at) h = nothing (codes "::Ice::AdapterNotFoundException") h
+adapter_new (rows.Exception zero) h = differs (codes "::Ice::ObjectNotFoundException") (codes "::Ice::AdapterNotFoundException") refl h
+adapter_new (rows.Exception (suc at)) h = nothing (codes "::Ice::AdapterNotFoundException") h
+adapter_new (rows.Interface at) h = nothing (codes "::Ice::AdapterNotFoundException") h
+
+pub locator_new : IsNewId types_declared (codes "::Ice::Locator")
+locator_new (rows.Seq at) h = nothing (codes "::Ice::Locator") h
+locator_new (rows.Dict at) h = nothing (codes "::Ice::Locator") h
+locator_new (rows.Struct zero) h = differs (codes "::Ice::Identity") (codes "::Ice::Locator") refl h
+locator_new (rows.Struct (suc at)) h = nothing (codes "::Ice::Locator") h
+locator_new (rows.Enum at) h = nothing (codes "::Ice::Locator") h
+locator_new (rows.Class at) h = nothing (codes "::Ice::Locator") h
+locator_new (rows.Exception zero) h = differs (codes "::Ice::ObjectNotFoundException") (codes "::Ice::Locator") refl h
+locator_new (rows.Exception (suc zero)) h = differs (codes "::Ice::AdapterNotFoundException") (codes "::Ice::Locator") refl h
+locator_new (rows.Exception (suc (suc at))) h = nothing (codes "::Ice::Locator") h
+locator_new (rows.Interface at) h = nothing (codes "::Ice::Locator") h
+
+-- ---- names
+
+free : (name : List ℕ) → IsFree [] name
+free name = All-nil (λ other. str_to_ascii_lowercase other ≢ str_to_ascii_lowercase name)
+
+-- a name beside one other
+beside : (other name : List ℕ) → bytes_eq (str_to_ascii_lowercase other) (str_to_ascii_lowercase name) ≡ false → IsFree (other ∷ []) name
+beside other name differ = All-cons (λ o. str_to_ascii_lowercase o ≢ str_to_ascii_lowercase name) other [] apart (free name)
+  where
+    apart : str_to_ascii_lowercase other ≢ str_to_ascii_lowercase name
+    apart e = let same : bytes_eq (str_to_ascii_lowercase other) (str_to_ascii_lowercase name) ≡ true = (bytes_eq-Decides (str_to_ascii_lowercase other) (str_to_ascii_lowercase name)).1 e in cc
+
+-- ---- members
+
+no_tag : (name : List ℕ) (kind : TypeRef) → AreRequired (required name kind ∷ [])
+no_tag name kind = All-cons (λ m. m.tag ≡ None) (required name kind) [] refl (All-nil (λ m. m.tag ≡ None))
+
+pub identity_fits : StructFits no_types identity_decl.members
+unfolding measure
+identity_fits = (
+  with_member (built_in 1 false) (with_member (built_in 1 false) no_members),
+  refl,
+  omega arith,
+  λ e. cc,
+  (free (codes "name"), (beside (codes "name") (codes "category") refl, tt)),
+  All-cons (λ m. m.tag ≡ None) (required (codes "name") kinds.Text) (required (codes "category") kinds.Text ∷ []) refl (no_tag (codes "category") kinds.Text),
+)
+
+-- an exception without members and without a base
+pub nothing_fits : (t : Tables) → ExceptionFits t None []
+nothing_fits t = (tt, (All-nil (λ m. IsOf t m.kind), tt, (All-nil (λ n. n ≤ 2147483647), tt)))
+
+-- ---- operations
+
+proxy_of : IsOf locator_declared (kinds.Proxy None)
+unfolding measure
+proxy_of = (proxy, refl)
+
+text_of : IsOf locator_declared kinds.Text
+unfolding measure
+text_of = (built_in 1 false, refl)
+
+identity_of : IsOf locator_declared (kinds.Struct 0)
+unfolding measure
+identity_of = (structure (with_member (built_in 1 false) (with_member (built_in 1 false) no_members)), refl)
+
+none_of : AreOf locator_declared []
+none_of = All-nil (λ m. IsOf locator_declared m.kind)
+
+one_fits : (name : List ℕ) (kind : TypeRef) → IsOf locator_declared kind → ShapeFits locator_declared (record { required = required name kind ∷ []; optional = [] })
+one_fits name kind is = (All-cons (λ m. IsOf locator_declared m.kind) (required name kind) [] is none_of, no_tag name kind, none_of, tt)
+
+finding_fits : (name : List ℕ) (kind : TypeRef) (at : ℕ) → at < 2 → IsOf locator_declared kind → OpFits locator_declared (finding name kind at)
+finding_fits name kind at lt is = (
+  one_fits (codes "id") kind is,
+  one_fits (codes "$return") (kinds.Proxy None) proxy_of,
+  (free (codes "id"), (beside (codes "id") (codes "$return") refl, tt)),
+  All-cons (λ n. n < 2) at [] lt (All-nil (λ n. n < 2)),
+)
+
+pub operations_fit : InterfaceFits locator_declared [] locator_operations
+operations_fit =
+    let adapter : All (OpFits locator_declared) (find_adapter ∷ []) =
+    All-cons (OpFits locator_declared) find_adapter [] (finding_fits (codes "findAdapterById") kinds.Text 1 (omega arith) text_of) (All-nil (OpFits locator_declared)) in
+    let all : All (OpFits locator_declared) locator_operations =
+    All-cons (OpFits locator_declared) find_object (find_adapter ∷ []) (finding_fits (codes "findObjectById") (kinds.Struct 0) 0 (omega arith) identity_of) adapter in (
+      (All-nil (λ base. IsTrue (is_defined locator_declared.defined_interfaces base)), tt, omega arith),
+      all,
+      (free (codes "findObjectById"), (beside (codes "findObjectById") (codes "findAdapterById") refl, tt)),
+    )

@@ -1,0 +1,13 @@
+pub mod Sole
+pub mod Zeros
+pub mod Below
+pub mod Texts
+pub mod Written
+pub mod Rising
+pub mod Ordered
+pub mod Changed
+pub mod Collected
+pub mod Listed
+pub mod Known
+pub mod Looked
+pub mod Dispatched

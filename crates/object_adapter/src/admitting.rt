@@ -1,0 +1,48 @@
+//! What is tried of a call before an object acts.
+
+ghost use Rattle.std.specs.Prelude.{◌↔◌, IsTrue, IfOk};
+ghost use Rattle.ice_graphs.specs.Typed.{OfType};
+ghost use Rattle.ice_values.specs.Shapes.{told_apart};
+ghost use Rattle.object_adapter.specs.Refusals.{Outcome};
+ghost use Rattle.object_adapter.specs.Admitting.{Comes, ModeFits, Stops};
+
+use crate::refusal::{Refusal, Unanswered};
+use class_slices::decode;
+use graph_arena::Graph;
+use ice_messages::Call;
+use ice_types::{Schema, Shape};
+use ice_values::DeclaredMembers;
+use std::alloc::Global;
+
+/// The arguments of a call of an operation that takes these, and that may be called again or not; or that
+/// the mode is none for it, or else the first fault of the arguments. (Ice manual, "Request Message".)
+pub(crate) fn admit(
+    alloc: Global,
+    schema: &Schema,
+    again: bool,
+    shape: &Shape,
+    call: &Call,
+) -> Result<Graph, Unanswered>
+    ensures admits { Outcome (λ graph. Comes schema.now again shape.now call.now graph)
+        (Stops schema.now again shape.now call.now) result }
+    ensures typed { IfOk result (λ graph. OfType schema.now (told_apart shape.now) graph) }
+{
+    if !mode_fits(again, call.mode) {
+        return Err(Unanswered::Refused(Refusal::BadMode));
+    }
+    let fields = DeclaredMembers {
+        required: shape.required.as_slice(),
+        optional: shape.optional.as_slice(),
+    };
+    Ok(decode(alloc, schema, fields, call.body.as_slice())?)
+}
+
+/// Whether an operation that may be called again, or not, takes this mode.
+fn mode_fits(again: bool, mode: u8) -> bool
+    ensures { IsTrue result ↔ ModeFits again mode }
+{
+    match again {
+        true => mode == 1 || mode == 2,
+        false => mode == 0,
+    }
+}
