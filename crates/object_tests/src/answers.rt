@@ -124,12 +124,12 @@ const ASKED: &[(&[u8], &[u8])] = &[
 /// A server's one object: a counter, which a store is.
 fn counter(alloc: Global) -> Result<Adapter, Fail> {
     let mut files = shelf(alloc, &[("t.ice", TEXT)], &[])?;
-    let schema = load(alloc, &mut files, "t.ice")
-        .ok()
-        .ok_or(Fail::from("no schema"))?;
-    let interface = schema
-        .interface("::T::Counter")
-        .ok_or(Fail::from("no interface"))?;
+    let Ok(schema) = load(alloc, &mut files, "t.ice") else {
+        return Err(Fail::from("no schema"));
+    };
+    let Some(interface) = schema.interface("::T::Counter") else {
+        return Err(Fail::from("no interface"));
+    };
     let store = Servant::store(alloc, Arc::new(alloc, schema)?, interface)?;
     let identity = Identity {
         name: Name::of(alloc, "hello")?,

@@ -36,14 +36,14 @@ const CALLS: &[(&[u8], &[u8])] = &[
         b"IceP\x01\0\x01\0\0\0\x2a\0\0\0\x01\0\0\0\x05hello\0\0\x03add\x01\0\x0a\0\0\0\x01\x01\x03\0\0\0",
         b"IceP\x01\0\x01\0\x02\0\x1c\0\0\0\x01\0\0\0\x05\x08bad mode",
     ),
-    // no argument, one byte too many, and another version
+    // no argument; one byte too many, which begins a member of an unknown tag; another version
     (
         b"IceP\x01\0\x01\0\0\0\x26\0\0\0\x01\0\0\0\x05hello\0\0\x03add\0\0\x06\0\0\0\x01\x01",
         b"IceP\x01\0\x01\0\x02\0\x2c\0\0\0\x01\0\0\0\x05\x18bad arguments Short at 6",
     ),
     (
         b"IceP\x01\0\x01\0\0\0\x29\0\0\0\x01\0\0\0\x05hello\0\0\x05total\x02\0\x07\0\0\0\x01\x01\0",
-        b"IceP\x01\0\x01\0\x02\0\x2f\0\0\0\x01\0\0\0\x05\x1bbad arguments LeftOver at 6",
+        b"IceP\x01\0\x01\0\x02\0\x2c\0\0\0\x01\0\0\0\x05\x18bad arguments Short at 7",
     ),
     (
         b"IceP\x01\0\x01\0\0\0\x28\0\0\0\x01\0\0\0\x05hello\0\0\x05total\x02\0\x06\0\0\0\x01\0",
