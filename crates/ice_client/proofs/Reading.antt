@@ -17,16 +17,16 @@ use Rattle.retry_core.specs.declared.client_table.ClientEvent.TheVariants as eve
 use Rattle.retry_core.specs.declared.client_table.ClientState.TheVariants.{AwaitingReply}
 use Rattle.retry_core.specs.ClientTable.{client_row}
 use Rattle.ice_messages.specs.declared.ends.TheConstants.{MOST_MESSAGES}
-use Rattle.ice_client.specs.declared.hearing.Heard.{Heard}
-use Rattle.ice_client.specs.declared.hearing.Heard.TheVariants as heards
+use Rattle.talking.specs.declared.hearing.Heard.{Heard}
+use Rattle.talking.specs.declared.hearing.Heard.TheVariants as heards
 use Rattle.ice_client.specs.declared.outcome.End.{End}
 use Rattle.ice_client.specs.declared.outcome.Outcome.TheVariants as outcomes
 use Rattle.ice_client.specs.declared.outgoing.Outgoing.{Outgoing}
 use Rattle.ice_messages.specs.Ends.{client_fault}
-use Rattle.ice_client.specs.Hearing.{IsGoing, Hears, ReadsFrugally, heard_part, is_ended, is_failed}
+use Rattle.talking.specs.Hearing.{IsGoing, Hears, ReadsFrugally, heard_part, is_ended, is_failed}
 use Rattle.ice_client.specs.Rows.{AreValidates, Begins, Reads, is_no_object}
 use Rattle.ice_client.specs.Steps.{broke, met_end, end_of, EndsBy, Greets, Awaits}
-use Rattle.ice_client.proofs.Adding.{adds_then}
+use Rattle.talking.proofs.Adding.{adds_then}
 use Rattle.ice_client.proofs.Messages.{stream_join, stream_more, stream_grows, unfaulted, reply_id}
 
 abbrev ending : End → Option End

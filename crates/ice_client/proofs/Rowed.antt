@@ -31,8 +31,8 @@ use Rattle.ice_client.specs.declared.outgoing.Outgoing.{Outgoing}
 use Rattle.ice_client.specs.Rows.{Begins, Row, IsOrderly, IsGreeted}
 use Rattle.ice_client.specs.Steps.{EndsBy, Awaits}
 use Rattle.ice_client.specs.Asking.{IsFor, Ends, IsOver, Converses, Asks}
-use Rattle.ice_client.specs.Writing.{writes_part}
-use Rattle.ice_client.proofs.Adding.{or_twice}
+use Rattle.talking.specs.Writing.{writes_part}
+use Rattle.talking.proofs.Adding.{or_twice}
 
 -- ---- a row of the client's table, at a state that an equation tells
 

@@ -1,5 +1,3 @@
-pub mod Hearing
-pub mod Writing
 pub mod Rows
 pub mod Steps
 pub mod Asking

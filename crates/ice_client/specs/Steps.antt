@@ -14,13 +14,13 @@ use Rattle.retry_core.specs.declared.client_table.ClientState.{ClientState}
 use Rattle.retry_core.specs.declared.client_table.ClientState.TheVariants.{AwaitingValidate, AwaitingReply}
 use Rattle.retry_core.specs.declared.client_table.ClientNext.TheVariants.{Ends}
 use Rattle.retry_core.specs.ClientTable.{client_row}
-use Rattle.ice_client.specs.declared.hearing.Heard.{Heard}
-use Rattle.ice_client.specs.declared.hearing.Heard.TheVariants as heards
+use Rattle.talking.specs.declared.hearing.Heard.{Heard}
+use Rattle.talking.specs.declared.hearing.Heard.TheVariants as heards
 use Rattle.ice_client.specs.declared.outcome.Outcome.TheVariants as outcomes
 use Rattle.ice_client.specs.declared.outcome.End.{End}
 use Rattle.ice_client.specs.declared.outgoing.Outgoing.{Outgoing}
 use Rattle.ice_messages.specs.Ends.{client_fault}
-use Rattle.ice_client.specs.Hearing.{IsGoing}
+use Rattle.talking.specs.Hearing.{IsGoing}
 use Rattle.ice_client.specs.Rows.{is_no_object, IsGreeted, Row}
 
 abbrev pub broke : Fault → End

@@ -10,17 +10,18 @@ ghost use Rattle.retry_core.specs.declared.client_table.ClientState.TheVariants 
 ghost use Rattle.retry_core.specs.Client.{MayCome, next_of, row_of, action_of};
 ghost use Rattle.ice_client.specs.Asking.{Asks, Converses, Attempts, IsFor, Ends};
 ghost use Rattle.ice_client.specs.Attempted.{attempted, is_failure};
-ghost use Rattle.ice_client.specs.Hearing.{IsGoing};
+ghost use Rattle.talking.specs.Hearing.{IsGoing};
 
 use crate::outcome::{End, Once, Outcome};
 use crate::outgoing::Outgoing;
-use crate::phases::{await_reply, greet, write_bytes};
+use crate::phases::{await_reply, greet};
 use ice_messages::Frames;
 use ice_ports::{Failed, Link, Net};
 use ice_proxy::tcp_of;
 use ice_types::Proxy;
 use retry_core::{Client, ClientEvent};
 use std::alloc::{AllocError, Global};
+use talking::write_bytes;
 
 /// Tells the client how its attempt ends.
 fn over(client: &mut Client, end: End) -> Once

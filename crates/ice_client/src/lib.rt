@@ -16,7 +16,6 @@
 #![tactic(auto)]
 
 mod attempting;
-mod hearing;
 mod invoking;
 mod laws;
 mod outcome;

@@ -1,22 +1,21 @@
 //! The phases of an attempt that has its connection.
 
-ghost use Rattle.std.specs.Prelude.{◌≡◌, ◌<◌, ◌≤◌, ℕ, [], length, nat_lt};
+ghost use Rattle.std.specs.Prelude.{◌≡◌, []};
 ghost use Rattle.ice_ports.specs.Failures.{count_after};
 ghost use Rattle.ice_ports.specs.Talks.{adds};
 ghost use Rattle.ice_ports.specs.declared.talk.Talk.{Talk};
-ghost use Rattle.ice_client.specs.Hearing.{IsGoing};
+ghost use Rattle.talking.specs.Hearing.{IsGoing};
 ghost use Rattle.ice_client.specs.Rows as rows;
 ghost use Rattle.ice_client.specs.Steps as steps;
 ghost use Rattle.ice_client.specs.Steps.{Greets, Awaits};
-ghost use Rattle.ice_client.specs.Writing.{writes_part};
 
-use crate::hearing::{Heard, hear};
 use crate::outcome::{End, Outcome};
 use crate::outgoing::REQUEST_ID;
 use ice_messages::{Answer, Frames, Message, client_fault};
-use ice_ports::{Failed, Link, write_link};
+use ice_ports::Link;
 use retry_core::ClientEvent;
 use std::alloc::AllocError;
+use talking::{Heard, hear};
 
 /// Whether the answer says that there is no such object.
 fn is_no_object(answer: &Answer) -> bool
@@ -86,24 +85,6 @@ pub fn greet<L: Link>(
 {
     let heard = hear(link, frames)?;
     Ok(end_of(heard, None, 0, cached))
-}
-
-/// Writes the bytes, and answers how many of them were taken: fewer only where a write failed. Reads nothing.
-pub fn write_bytes<L: Link>(link: &mut L, bytes: &[u8]) -> usize
-    ensures talk { L.talk link.new ≡ adds (L.talk link.old) (writes_part bytes.now result) }
-    ensures most { result ≤ length bytes.now }
-    ensures writes { L.Sink.failures link.new
-        ≡ count_after (L.Sink.failures link.old) (nat_lt result (length bytes.now)) }
-    ensures reads { L.Source.failures link.new ≡ L.Source.failures link.old }
-{
-    let mut at = 0;
-    while at < bytes.len() {
-        match write_link(link, &bytes[at..]) {
-            Ok(count) => at += count,
-            Err(Failed) => return at,
-        }
-    }
-    at
 }
 
 /// Reads up to the reply, or whatever else ends the attempt. Writes nothing.

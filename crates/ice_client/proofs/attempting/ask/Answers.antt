@@ -4,8 +4,8 @@ use Rattle.std.proofs.lemmas.Result.{err_from_is_err_and}
 use Rattle.std.specs.declared.alloc.AllocError.{AllocError}
 use Rattle.ice_ports.specs.Failures.{count_after}
 use Rattle.ice_ports.specs.Talks.{adds, and_then}
-use Rattle.ice_client.specs.Writing.{writes_part}
-use Rattle.ice_client.proofs.Adding.{adds_then}
+use Rattle.talking.specs.Writing.{writes_part}
+use Rattle.talking.proofs.Adding.{adds_then}
 use Rattle.ice_client.proofs.Rowed.{count_writes, count_both, asks_cut, asks_none, asks_reply, asks_starved, reply_comes}
 use Rattle.ice_client.proofs.attempting.ask.Goals as goal
 

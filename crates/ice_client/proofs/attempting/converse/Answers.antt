@@ -7,7 +7,7 @@ use Rattle.ice_ports.specs.declared.talk.Talk.{Talk}
 use Rattle.retry_core.specs.declared.client_table.ClientState.TheVariants as states
 use Rattle.ice_client.specs.declared.outcome.End.{End}
 use Rattle.ice_client.specs.Steps.{Greets}
-use Rattle.ice_client.proofs.Adding.{adds_then}
+use Rattle.talking.proofs.Adding.{adds_then}
 use Rattle.ice_client.proofs.Rowed.{count_reads, greeted_state, unsent}
 use Rattle.ice_client.proofs.Conversing.{greeted_comes, greeted_over, converses_moved}
 use Rattle.ice_client.proofs.attempting.converse.Goals as goal

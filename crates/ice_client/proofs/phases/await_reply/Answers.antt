@@ -3,8 +3,8 @@ use Rattle.std.proofs.lemmas.Result.{err_from_is_err_and}
 use Rattle.std.specs.declared.alloc.AllocError.{AllocError}
 use Rattle.ice_ports.specs.Failures.{count_after}
 use Rattle.ice_ports.specs.Talks.{gives}
-use Rattle.ice_client.specs.Hearing.{is_failed}
-use Rattle.ice_client.proofs.Adding.{adds_then, adds_nothing}
+use Rattle.talking.specs.Hearing.{is_failed}
+use Rattle.talking.proofs.Adding.{adds_then, adds_nothing}
 use Rattle.ice_client.proofs.Reading.{waits_on, waits_over}
 use Rattle.ice_client.proofs.phases.await_reply.Goals as goal
 

@@ -1,7 +1,7 @@
 use Rattle.std.proofs.Common.{◌++◌, List, ℕ, Option, Ok, sym, subst}
 use Rattle.std.specs.declared.alloc.AllocError.{AllocError}
 use Rattle.ice_client.specs.declared.outcome.End.{End}
-use Rattle.ice_client.specs.Hearing.{Hears, ReadsFrugally, heard_part}
+use Rattle.talking.specs.Hearing.{Hears, ReadsFrugally, heard_part}
 use Rattle.ice_client.specs.Steps.{Greets}
 use Rattle.ice_client.proofs.Reading.{greets}
 use Rattle.ice_client.proofs.phases.greet.Goals as goal

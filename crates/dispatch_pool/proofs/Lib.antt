@@ -1,0 +1,8 @@
+pub mod Results
+pub mod Growing
+pub mod Sets
+pub mod Turning
+pub mod Messages
+pub mod Calls
+pub mod Bounds
+pub mod Sessions

@@ -1,0 +1,9 @@
+pub mod Abreast
+pub mod Rows
+pub mod Lanes
+pub mod Turns
+pub mod Ends
+pub mod Handled
+pub mod Said
+pub mod ServerDid
+pub mod Parts
