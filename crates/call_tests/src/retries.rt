@@ -138,7 +138,7 @@ fn oneways(rt: HostRuntime) -> Result<(), Fail> {
         assert!(rt; client.accepts(event), "{event:?}");
         assert_eq!(rt; client.step(event), action, "at {event:?}");
     }
-    assert_eq!(rt; client.into_attempts().as_slice(), &[NotWhole, Sent]);
+    assert_eq!(rt; client.into_attempts().as_slice(), [NotWhole, Sent].as_slice());
     Ok(())
 }
 

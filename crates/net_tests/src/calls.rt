@@ -92,7 +92,13 @@ fn call_of(alloc: Global, request: &[u8]) -> Result<Call, Fail>
 
 /// How a call ends: its request, its retries, what the servers do, the attempts, and how many bytes the
 /// connections took.
-type Row = (&'static [u8], u32, &'static [Server], &'static [Attempt], &'static [usize]);
+type Row = (
+    &'static [u8],
+    u32,
+    &'static [Server],
+    &'static [Attempt],
+    &'static [usize],
+);
 
 const ROWS: &[Row] = &[
     // The first connection takes 37 of 38 bytes, the second all of them, and gives the reply.
@@ -107,13 +113,7 @@ const ROWS: &[Row] = &[
         &[37, 38],
     ),
     // The whole request was taken, and then a read fails.
-    (
-        ADD,
-        2,
-        &[Some((&[VALIDATE], 38, Some(14)))],
-        &[Lost],
-        &[38],
-    ),
+    (ADD, 2, &[Some((&[VALIDATE], 38, Some(14)))], &[Lost], &[38]),
     // The same of an idempotent call, three times.
     (
         TOTAL,
@@ -185,7 +185,10 @@ fn the_cause_of_a_broken_attempt_has_its_name(rt: HostRuntime) -> Result<(), Fai
         let mut net = net(alloc, &[Some((messages, 38, None))])?;
         let invoked = invoke(alloc, &mut net, &proxy, &call, 1)?;
         let fault = Fault { place, kind };
-        assert!(rt; matches!(invoked.outcome, Outcome::Broke(found) if found == fault), "{kind:?}");
+        assert!(rt;
+            matches!(invoked.outcome, Outcome::Broke(found) if found == fault),
+            "{kind:?}"
+        );
     }
     Ok(())
 }

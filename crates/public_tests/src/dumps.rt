@@ -1,13 +1,13 @@
 //! Lines of inputs in pieces of one byte and of many, and what fails on the way.
 ghost use Rattle.std.specs.Prelude.{◌<◌};
 
-use test_outside::{bytes, calls};
 use ice_ports::{MemSink, MemSource};
 use ice_prims::{Fault, Kind};
 use ice_types::List;
 use message_dump::{Dump, dump_messages};
 use std::process::Abort;
 use std::test::Fail;
+use test_outside::{bytes, calls};
 
 /// Inputs with the lines that tell them and what they come to.
 const INPUTS: &[(&[u8], &str, Dump)] = &[

@@ -4,7 +4,6 @@ ghost use Rattle.std.specs.Prelude.{IfOk};
 ghost use Rattle.graph_arena.specs.Seen.{view_slice};
 ghost use Rattle.preserved.specs.Unknown.{IsUnknown};
 
-use test_outside::{bytes, shelf};
 use graph_arena::{Slice, Value};
 use ice_prims::{Fault, Kind, ReadFault};
 use ice_types::{List, Name, Schema};
@@ -12,6 +11,7 @@ use instance_reading::reopen;
 use slice_check::load;
 use std::alloc::{AllocError, Global};
 use std::test::Fail;
+use test_outside::{bytes, shelf};
 
 const TEXT: &str = "module M { class B { int b; }; class D extends B { string x; B other; }; };";
 

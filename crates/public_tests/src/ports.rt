@@ -1,10 +1,10 @@
 //! The objects in memory through their traits, and files at the edges of what a path may be. What the
 //! standard streams do, the cases show.
 
-use test_outside::{bytes, calls};
 use ice_ports::{Failed, FolderShelf, MemSink, MemSource, Shelf, Sink, Source};
 use std::alloc::Global;
 use std::test::Fail;
+use test_outside::{bytes, calls};
 
 /// Hands what one read gives to a sink, and answers how many bytes it took.
 fn move_piece<S: Source, K: Sink>(source: &mut S, sink: &mut K) -> Result<usize, Failed> {

@@ -1,11 +1,11 @@
 //! What a file brings with it, in which order, and the first fault on the way.
 
-use test_outside::{file, shelf};
 use ice_ports::MemShelf;
 use ice_types::{List, Schema};
 use slice_check::{LoadFault, load};
 use std::alloc::{AllocError, Global};
 use std::test::Fail;
+use test_outside::{file, shelf};
 
 /// Names and texts on a shelf.
 type Texts = &'static [(&'static str, &'static str)];

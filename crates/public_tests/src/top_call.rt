@@ -1,12 +1,12 @@
 //! `node` over an outside in memory: a call of each command and refusal, and what comes of each
 //! failure. What comes of other words, texts and inputs, the cases show.
 
-use test_outside::{bytes, calls, shelf};
 use ice_node::node;
 use ice_ports::{MemSink, MemSource};
 use ice_types::List;
 use std::alloc::{AllocError, Global};
 use std::test::Fail;
+use test_outside::{bytes, calls, shelf};
 
 /// The shelf: each file's name and text.
 const FILES: &[(&str, &str)] = &[
