@@ -138,7 +138,10 @@ fn oneways(rt: HostRuntime) -> Result<(), Fail> {
         assert!(rt; client.accepts(event), "{event:?}");
         assert_eq!(rt; client.step(event), action, "at {event:?}");
     }
-    assert_eq!(rt; client.into_attempts().as_slice(), [NotWhole, Sent].as_slice());
+    assert_eq!(rt;
+        client.into_attempts().as_slice(),
+        [NotWhole, Sent].as_slice()
+    );
     Ok(())
 }
 
