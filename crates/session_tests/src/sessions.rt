@@ -17,12 +17,12 @@ use std::test::Fail;
 use test_outside::{bytes, shelf};
 use turnstile::Stray;
 
-const COUNTER: &str =
+pub(crate) const COUNTER: &str =
     "module T { interface Counter { int add(int n); idempotent int total(); }; };";
 
 const LOG: &str = "module U { interface Log { void put(string s); idempotent string get(); }; };";
 
-fn identity(alloc: Global, name: &str) -> Result<Identity, AllocError> {
+pub(crate) fn identity(alloc: Global, name: &str) -> Result<Identity, AllocError> {
     Ok(Identity {
         name: Name::of(alloc, name)?,
         category: Name::of(alloc, "")?,
