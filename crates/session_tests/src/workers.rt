@@ -51,7 +51,7 @@ fn counters(alloc: Global) -> Result<Adapter, Fail> {
     let schema = load(alloc, &mut files, "t.ice").ok().ok_or(Failed)?;
     let place = schema.interface("::T::Counter").ok_or(Failed)?;
     let schema = Arc::new(alloc, schema)?;
-    let first = Servant::store(alloc, schema.clone(), place)?;
+    let first = Servant::store(alloc, schema.clone()?, place)?;
     let second = Servant::store(alloc, schema, place)?;
     let mut adapter = Adapter::new(alloc);
     let added = adapter.add(identity(alloc, "a")?, Name::of(alloc, "")?, first);
