@@ -130,11 +130,16 @@ fn one_worker_serves_all_links_until_none_is_to_come(rt: HostRuntime) -> Result<
     incoming.push(plan(alloc, ADD_TO_B)?)?;
     let mut net = MemNet::new(alloc, List::new(alloc), incoming, List::new(alloc), false)?;
     let door = net.listen("localhost", 4100)?;
-    let served = serve_all(
+    let Served {
+        door,
+        passes,
+        accepted,
+        failed,
+        starved,
+    } = serve_all(
         &rt, alloc, &lanes, passes, &OpenGate, door, 1, 1000, 1_000_000,
     );
-    assert!(rt; served.accepted == 2 && !served.failed && !served.starved);
-    let Served { door, passes, .. } = served;
+    assert!(rt; accepted == 2 && !failed && !starved);
     net.retire(door);
     assert!(rt; net.talks().len() == 2);
     assert!(rt; lanes.close(alloc, passes).is_ok());
@@ -153,9 +158,14 @@ fn a_failed_accept_ends_the_accepting(rt: HostRuntime) -> Result<(), Fail> {
     fails.push(1)?;
     let mut net = MemNet::new(alloc, List::new(alloc), incoming, fails, false)?;
     let door = net.listen("localhost", 4100)?;
-    let served = serve_all(&rt, alloc, &lanes, passes, &OpenGate, door, 4, 2, 1_000_000);
-    assert!(rt; served.accepted == 1 && served.failed && !served.starved);
-    let Served { door, passes, .. } = served;
+    let Served {
+        door,
+        passes,
+        accepted,
+        failed,
+        starved,
+    } = serve_all(&rt, alloc, &lanes, passes, &OpenGate, door, 4, 2, 1_000_000);
+    assert!(rt; accepted == 1 && failed && !starved);
     net.retire(door);
     assert!(rt; net.talks().len() == 1);
     assert!(rt; lanes.close(alloc, passes).is_ok());
