@@ -1,9 +1,7 @@
-//! Tests of connections and of calls over them: those of the system over the loopback, alone and many at once, and
-//! those in memory through the same functions.
+//! Tests of connections: those of the system over the loopback, alone and many at once, and those in memory
+//! through the same functions.
 #![tactic(auto)]
 
-#[cfg(test)]
-mod calls;
 #[cfg(test)]
 mod carrying;
 #[cfg(test)]
