@@ -53,14 +53,22 @@ fn call(alloc: Global, name: &str, operation: &str, mode: u8) -> Result<Call, Al
     })
 }
 
+/// The bytes of a text in hexadecimal.
+pub(crate) fn decoded(alloc: Global, text: &str) -> Result<Vec<u8>, Fail> {
+    match hex::decode(alloc, text.as_bytes()) {
+        Ok(bytes) => Ok(bytes),
+        Err(_) => Err(Fail::from("no hexadecimal text")),
+    }
+}
+
 /// A link that gives these bytes, three a read.
-fn plan(alloc: Global, gives: &[u8]) -> Result<List<Plan>, AllocError>
+fn plan(alloc: Global, gives: &str) -> Result<List<Plan>, Fail>
     ensures { IfOk result (All IsPlan) }
 {
     let mut plans = List::new(alloc);
     plans.push(Plan {
         refuse: false,
-        gives: bytes(alloc, gives)?,
+        gives: List::from_vec(decoded(alloc, gives)?),
         piece: 3,
         read_fails_at: None,
         takes: 1000,
@@ -75,34 +83,30 @@ fn serve<R: Wait>(
     lanes: &Lanes,
     passes: &mut LanePasses,
     messages: u64,
-    gives: &[u8],
-    takes: &[u8],
+    gives: &str,
+    takes: &str,
 ) -> Result<(End, bool), Fail>
     requires { AreOf lanes.now passes.old }
     ensures { AreOf lanes.now passes.new }
 {
     let plans = plan(alloc, gives)?;
+    let takes = decoded(alloc, takes)?;
     let mut net = MemNet::new(alloc, plans, List::new(alloc), List::new(alloc), false)?;
     let mut link = net.connect("localhost", 4100)?;
     let end = serve_connection(rt, alloc, lanes, passes, &OpenGate, &mut link, messages)?;
     net.hang_up(link);
     match net.talks().iter().next() {
-        Some(talk) => Ok((end, talk.taken.as_slice() == takes)),
+        Some(talk) => Ok((end, talk.taken.as_slice() == takes.as_slice())),
         None => Ok((end, false)),
     }
 }
 
 /// `ice_ping` on `hello` with id 1.
-const PING: &[u8] = &[
-    0x49, 0x63, 0x65, 0x50, 1, 0, 1, 0, 0, 0, 0x2B, 0, 0, 0, 1, 0, 0, 0, 5, 0x68, 0x65, 0x6C, 0x6C,
-    0x6F, 0, 0, 8, 0x69, 0x63, 0x65, 0x5F, 0x70, 0x69, 0x6E, 0x67, 1, 0, 6, 0, 0, 0, 1, 1,
-];
+const PING: &str =
+    "496365500100010000002b000000010000000568656c6c6f0000086963655f70696e670100060000000101";
 
 /// A validate message, and the reply to the ping.
-const PONG: &[u8] = &[
-    0x49, 0x63, 0x65, 0x50, 1, 0, 1, 0, 3, 0, 14, 0, 0, 0, //
-    0x49, 0x63, 0x65, 0x50, 1, 0, 1, 0, 2, 0, 0x19, 0, 0, 0, 1, 0, 0, 0, 0, 6, 0, 0, 0, 1, 1,
-];
+const PONG: &str = "496365500100010003000e00000049636550010001000200190000000100000000060000000101";
 
 #[test]
 fn a_store_answers_a_ping_and_keeps_its_number(rt: HostRuntime) -> Result<(), Fail> {
@@ -119,19 +123,12 @@ fn a_store_answers_a_ping_and_keeps_its_number(rt: HostRuntime) -> Result<(), Fa
 }
 
 /// A batch of two `put` of `a` on `c`, and then `get` with id 1.
-const PUTS_AND_GET: &[u8] = &[
-    0x49, 0x63, 0x65, 0x50, 1, 0, 1, 0, 1, 0, 0x36, 0, 0, 0, 2, 0, 0, 0, //
-    1, 0x63, 0, 0, 3, 0x70, 0x75, 0x74, 0, 0, 8, 0, 0, 0, 1, 1, 1, 0x61, //
-    1, 0x63, 0, 0, 3, 0x70, 0x75, 0x74, 0, 0, 8, 0, 0, 0, 1, 1, 1, 0x61, //
-    0x49, 0x63, 0x65, 0x50, 1, 0, 1, 0, 0, 0, 0x22, 0, 0, 0, 1, 0, 0, 0, //
-    1, 0x63, 0, 0, 3, 0x67, 0x65, 0x74, 2, 0, 6, 0, 0, 0, 1, 1,
-];
+const PUTS_AND_GET: &str =
+    "496365500100010001003600000002000000016300000370757400000800000001010161016300000370757400000800\
+    00000101016149636550010001000000220000000100000001630000036765740200060000000101";
 
-const GOT: &[u8] = &[
-    0x49, 0x63, 0x65, 0x50, 1, 0, 1, 0, 3, 0, 14, 0, 0, 0, //
-    0x49, 0x63, 0x65, 0x50, 1, 0, 1, 0, 2, 0, 0x1B, 0, 0, 0, 1, 0, 0, 0, 0, 8, 0, 0, 0, 1, 1, 1,
-    0x61,
-];
+const GOT: &str =
+    "496365500100010003000e000000496365500100010002001b00000001000000000800000001010161";
 
 #[test]
 fn the_calls_of_a_batch_have_turns_and_no_replies(rt: HostRuntime) -> Result<(), Fail> {
@@ -144,49 +141,34 @@ fn the_calls_of_a_batch_have_turns_and_no_replies(rt: HostRuntime) -> Result<(),
     Ok(())
 }
 
-/// A validate message and then a close message, as a server writes them after no more than one message.
-const SHORT: &[u8] = &[
-    0x49, 0x63, 0x65, 0x50, 1, 0, 1, 0, 3, 0, 14, 0, 0, 0, //
-    0x49, 0x63, 0x65, 0x50, 1, 0, 1, 0, 4, 0, 14, 0, 0, 0,
-];
+/// A validate message, as a server writes it, and then a close message.
+const GREETED: &str = "496365500100010003000e000000";
 
-/// What a peer sends, how many messages are taken at most, how the connection ends, and how many of the bytes of
-/// `SHORT` it takes.
-const ENDS: &[(&[u8], u64, End, usize)] = &[
-    (&[], 9, End::PeerEnded, 14),
-    (&[0x49, 0x63], 9, End::PeerEnded, 14),
+const GREETED_AND_CLOSED: &str = "496365500100010003000e000000496365500100010004000e000000";
+
+/// What a peer sends, how many messages are taken at most, how the connection ends, and what it takes.
+const ENDS: &[(&str, u64, End, &str)] = &[
+    ("", 9, End::PeerEnded, GREETED),
+    ("4963", 9, End::PeerEnded, GREETED),
+    (GREETED, 1, End::Enough, GREETED_AND_CLOSED),
+    ("496365500100010004000e000000", 9, End::PeerClosed, GREETED),
     (
-        &[0x49, 0x63, 0x65, 0x50, 1, 0, 1, 0, 3, 0, 14, 0, 0, 0],
-        1,
-        End::Enough,
-        28,
-    ),
-    (
-        &[0x49, 0x63, 0x65, 0x50, 1, 0, 1, 0, 4, 0, 14, 0, 0, 0],
-        9,
-        End::PeerClosed,
-        14,
-    ),
-    (
-        &[0],
+        "00",
         9,
         End::PeerBroke(Fault {
             place: 0,
             kind: Kind::BadMagic,
         }),
-        14,
+        GREETED,
     ),
     (
-        &[
-            0x49, 0x63, 0x65, 0x50, 1, 0, 1, 0, 2, 0, 0x19, 0, 0, 0, 1, 0, 0, 0, 0, 6, 0, 0, 0, 1,
-            1,
-        ],
+        "49636550010001000200190000000100000000060000000101",
         9,
         End::PeerBroke(Fault {
             place: 0,
             kind: Kind::Unexpected,
         }),
-        14,
+        GREETED,
     ),
 ];
 
@@ -195,15 +177,7 @@ fn a_connection_ends_as_its_peer_ends_it(rt: HostRuntime) -> Result<(), Fail> {
     let alloc = rt.alloc();
     let (lanes, mut passes) = Lanes::new(alloc, Adapter::new(alloc))?;
     for (gives, messages, end, takes) in ENDS {
-        let served = serve(
-            &rt,
-            alloc,
-            &lanes,
-            &mut passes,
-            *messages,
-            gives,
-            &SHORT[..*takes],
-        )?;
+        let served = serve(&rt, alloc, &lanes, &mut passes, *messages, gives, takes)?;
         assert!(rt; served == (*end, true));
     }
     Ok(())

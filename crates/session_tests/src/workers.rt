@@ -3,7 +3,7 @@
 ghost use Rattle.std.specs.Prelude.{◌≡◌, All, IfOk};
 ghost use Rattle.ice_ports.specs.MemLinks.{IsPlan};
 
-use crate::sessions::{COUNTER, identity};
+use crate::sessions::{COUNTER, decoded, identity};
 use dispatch_pool::{Gate, LanePasses, Lanes, OpenGate};
 use ice_messages::{Answer, Call};
 use ice_ports::{Failed, MemNet, Net, Plan};
@@ -15,7 +15,7 @@ use std::sync::Arc;
 use std::sync::atomic::{AtomicBool, AtomicU64, Ordering};
 use std::test::Fail;
 use std::thread::yield_now;
-use test_outside::{bytes, shelf};
+use test_outside::shelf;
 use worker_pool::{Served, serve_all};
 
 /// The call on `a` waits until the call on `b` has been answered, or for so many looks.
@@ -62,23 +62,19 @@ fn counters(alloc: Global) -> Result<Adapter, Fail> {
 }
 
 /// `add` of 1 with id 1, on `a` and on `b`.
-const ADD_TO_A: &[u8] = &[
-    0x49, 0x63, 0x65, 0x50, 1, 0, 1, 0, 0, 0, 0x26, 0, 0, 0, 1, 0, 0, 0, //
-    1, 0x61, 0, 0, 3, 0x61, 0x64, 0x64, 0, 0, 10, 0, 0, 0, 1, 1, 1, 0, 0, 0,
-];
+const ADD_TO_A: &str =
+    "496365500100010000002600000001000000016100000361646400000a000000010101000000";
 
-const ADD_TO_B: &[u8] = &[
-    0x49, 0x63, 0x65, 0x50, 1, 0, 1, 0, 0, 0, 0x26, 0, 0, 0, 1, 0, 0, 0, //
-    1, 0x62, 0, 0, 3, 0x61, 0x64, 0x64, 0, 0, 10, 0, 0, 0, 1, 1, 1, 0, 0, 0,
-];
+const ADD_TO_B: &str =
+    "496365500100010000002600000001000000016200000361646400000a000000010101000000";
 
 /// A link that gives these bytes.
-fn plan(alloc: Global, gives: &[u8]) -> Result<Plan, AllocError>
+fn plan(alloc: Global, gives: &str) -> Result<Plan, Fail>
     ensures { IfOk result IsPlan }
 {
     Ok(Plan {
         refuse: false,
-        gives: bytes(alloc, gives)?,
+        gives: List::from_vec(decoded(alloc, gives)?),
         piece: 4096,
         read_fails_at: None,
         takes: 1000,
