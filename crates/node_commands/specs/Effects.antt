@@ -69,8 +69,11 @@ Outputs old new (refused_after written fault) = Appends old new written
 Outputs old new (read_failed_after written) = Appends old new written
 Outputs old new (no_memory_after written) = Appends old new written
 
--- what the sink of errors got: the line, or a prefix of it where a write to it failed
+-- what the sink of errors got: this text, or a prefix of it where a write to it failed
+abbrev pub GetsText : (old new : Option (List ℕ)) → (before after : ℕ) → List ℕ → Type 0
+GetsText old new before after text =
+    (Appends old new text × (after ≡ before)) ⊎ (AppendsPrefix old new text × (after ≡ one_more before))
+
+-- the answer's line
 abbrev pub GetsLine : (old new : Option (List ℕ)) → (before after : ℕ) → Answer → Type 0
-GetsLine old new before after answer =
-    (Appends old new (error_line answer) × (after ≡ before))
-    ⊎ (AppendsPrefix old new (error_line answer) × (after ≡ one_more before))
+GetsLine old new before after answer = GetsText old new before after (error_line answer)

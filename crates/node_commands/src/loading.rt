@@ -10,7 +10,7 @@ use slice_check::load;
 use std::alloc::Global;
 
 /// The schema that the file on the shelf means, or why there is none.
-pub(crate) fn load_schema<H: Shelf>(
+pub fn load_schema<H: Shelf>(
     alloc: Global,
     file: &str,
     shelf: &mut H,

@@ -137,7 +137,7 @@ fn audit_of<'a>(client: &'a str, server: &'a str) -> Option<Command<'a>>
 
 /// The number from the least to the most that the word spells in decimal digits, without a sign or a leading zero;
 /// None where it spells none.
-fn number_of(word: &str, least: u32, most: u32) -> Option<u32>
+pub fn number_of(word: &str, least: u32, most: u32) -> Option<u32>
     ensures { SpellsWithin word.now least most result }
 {
     let number = word.parse::<u32>().ok()?;
