@@ -1,4 +1,5 @@
-//! The numbers of the limits, so that none of them can change unseen.
+//! Laws of the whole program: the numbers of the limits, so that none of them can change unseen; and that what both ends
+//! of calls say is one world (`once`).
 
 ghost use Rattle.std.specs.Prelude.{◌≡◌};
 ghost use Rattle.ice_encoding.specs.declared.limits.TheConstants.{LARGEST, SMALLEST};
@@ -13,6 +14,8 @@ ghost use Rattle.ice_relay.specs.declared.drilling.TheConstants.{MOST_NODES};
 ghost use Rattle.message_dump.specs.declared.dump.TheConstants.{MOST_MESSAGES};
 ghost use Rattle.ice_audit.specs.declared.verdict.TheConstants.{MOST_BYTES as MOST_CAPTURED};
 ghost use Rattle.node_commands.specs.declared.words.TheConstants.{MOST_OF_A_WORD};
+
+pub use once_law::{once, successes_have_turns, turns_are_single};
 
 /// The limits that the definitions name, each by its number: of encapsulations and messages, types, reads, Slice
 /// files, instances, JSON texts, compared values, drilled nodes, messages of one input, each end of a capture, and

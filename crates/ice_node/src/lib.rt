@@ -12,6 +12,6 @@
 mod laws;
 mod top_call;
 
-pub use laws::limits_numbered;
+pub use laws::{limits_numbered, once, successes_have_turns, turns_are_single};
 pub use node_commands::{Outcome, report};
 pub use top_call::node;
