@@ -4,6 +4,8 @@ use Rattle.std.specs.declared.alloc.AllocError.{AllocError}
 use Rattle.std.proofs.lemmas.Result.{err_from_is_err_and}
 use Rattle.std.proofs.Math.Facts.{to_z-of_z}
 use Rattle.ice_ports.specs.Talks.{silent}
+use Rattle.ice_messages.specs.declared.message.Message.TheVariants.{Reply}
+use Rattle.object_adapter.specs.Replies.{KeepsLimit}
 use Rattle.talking.proofs.Adding.{adds_nothing}
 use Rattle.dispatch_pool.specs.Handled.{reply_of}
 use Rattle.dispatch_pool.specs.Parts.{Says}
@@ -15,11 +17,14 @@ returns-in_err-answer-clause-did g c =
     let failed = err_from_is_err_and c.from_residual.result c.from_residual.ensures.1 in
     rw failed.1 (silent, sym (adds_nothing (g.L.Link.talk c.args.link.now)), not_called c.args.service.now.lanes.now.keys _ _ AllocError _ _ c.in_err-answer.ensures.err)
 
-pub reply-went-requires-clause-answer : goal.reply-went-requires-clause-answer
-reply-went-requires-clause-answer g c = λ κs lives. (called_replies c.args.service.now.lanes.now c.args.passes.now c.dispatch.new.passes c.args.call.now c.in_ok-answer.answer c.in_ok-answer.ensures.ok).0
+pub reply-requires-clause-answer : goal.reply-requires-clause-answer
+reply-requires-clause-answer g c = λ κs lives. (called_replies c.args.service.now.lanes.now c.args.passes.now c.dispatch.new.passes c.args.call.now c.in_ok-answer.answer c.in_ok-answer.ensures.ok).0
 
-pub reply-went-requires-clause-short : goal.reply-went-requires-clause-short
-reply-went-requires-clause-short g c = λ κs lives. (called_replies c.args.service.now.lanes.now c.args.passes.now c.dispatch.new.passes c.args.call.now c.in_ok-answer.answer c.in_ok-answer.ensures.ok).1 c.requires.came.0 c.args.id _ c.requires.came.1
+pub reply-requires-clause-short : goal.reply-requires-clause-short
+reply-requires-clause-short g c = λ κs lives.
+    let answer = c.in_ok-answer.answer in
+    let can = called_replies c.args.service.now.lanes.now c.args.passes.now c.dispatch.new.passes c.args.call.now answer c.in_ok-answer.ensures.ok in
+    subst (λ (z : ℤ). KeepsLimit (Reply z answer)) (sym (to_z-of_z c.ranges.id)) (can.1 c.requires.came.0 c.args.id c.args.id c.requires.came.1)
 
 pub returns-in_err-went-clause-did : goal.returns-in_err-went-clause-did
 returns-in_err-went-clause-did g c =
