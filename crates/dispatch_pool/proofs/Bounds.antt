@@ -1,7 +1,7 @@
 -- Numbers in messages: ids, sizes, counts.
-use Rattle.std.proofs.Common.{◌≡◌, ◌≢◌, ℕ, ◌+◌, ◌-◌, ◌*◌, ◌<◌, ◌≤◌, ◌^◌, zero, suc, Bool, true, false, List, [], ◌∷◌, length, refl, sym, ap, ◌∙◌, subst, arith}
-use Rattle.std.specs.Prelude.{ℤ, pos, negsuc, slice_index}
-use Rattle.std.proofs.Math.Facts.{to_z-of_z, to_z_pos}
+use Rattle.std.proofs.Common.{◌≡◌, ◌≢◌, ℕ, ◌-◌, ◌<◌, ◌^◌, zero, suc, Bool, true, false, List, length, refl, sym, ap, ◌∙◌, subst, arith}
+use Rattle.std.specs.Prelude.{ℤ, pos, negsuc}
+use Rattle.std.proofs.Math.Facts.{to_z-of_z}
 use Rattle.std.proofs.lemmas.Bool.{ltb-true, ltb-false}
 use mir.Val.{SFits, of_z, to_z, sel}
 use Rattle.std.specs.Int.{from_le_bytes}
@@ -10,7 +10,7 @@ use lib.Dec.{ltb}
 use Rattle.ice_encoding.specs.Parts.{SpellsTimes}
 use Rattle.ice_messages.specs.declared.message.Call.{Call}
 use Rattle.ice_messages.specs.declared.message.Message.TheVariants.{Request, Batch}
-use Rattle.ice_messages.specs.Calls.{IsEncapsulation, call}
+use Rattle.ice_messages.specs.Calls.{call}
 use Rattle.ice_messages.specs.Messages.{SpellsMessage, count_of}
 
 -- ---- ids

@@ -1,4 +1,4 @@
-use Rattle.std.proofs.Common.{◌∷◌, [], refl, sym, subst}
+use Rattle.std.proofs.Common.{◌∷◌, [], sym, subst}
 use Rattle.std.specs.Prelude.{ℤ}
 use Rattle.std.proofs.Math.Facts.{to_z-of_z}
 use Rattle.ice_messages.specs.declared.message.Message.TheVariants.{Reply}
