@@ -15,6 +15,10 @@ use Rattle.worker_pool.specs.Shares.{row_parts, parts_at, SameShares, all_parts}
 
 -- ---- rows of passes
 
+a_stile : (ts : List Stile) (i : ℕ) → i < length ts → Stile
+a_stile [] i lt = absurd (omega (arith, lt))
+a_stile (t ∷ ts) i lt = t
+
 module _ {g : Ghosts Object Call Answer} where
   -- it is that of the pass
   row_is : (ps : List (Pass Object Call Answer g)) (i k : ℕ) (d : Pass Object Call Answer g) → i < length ps → row_parts ps i k ≡ parts (get_or ps i d) k
@@ -45,10 +49,6 @@ module _ {g : Ghosts Object Call Answer} where
 
   row_split : (ps rs qs : List (Pass Object Call Answer g)) → RowSplit ps rs qs → (i k : ℕ) → row_parts qs i k + row_parts rs i k ≡ row_parts ps i k
   row_split ps rs qs s = rows_add ps qs rs s.one_each.1 s.one_each.0 (λ i d lt. (s.each i d d d lt).4)
-
-  a_stile : (ts : List Stile) (i : ℕ) → i < length ts → Stile
-  a_stile [] i lt = absurd (omega (arith, lt))
-  a_stile (t ∷ ts) i lt = t
 
   row_joined : (ts : List Stile) (ps rs qs : List (Pass Object Call Answer g)) → length ps ≡ length ts → RowJoined ts ps rs qs → (i k : ℕ) → row_parts ps i k + row_parts rs i k ≡ row_parts qs i k
   row_joined ts ps rs qs long j = rows_add qs ps rs (sym j.one_each.1) (j.one_each.0 ∙ sym j.one_each.1)

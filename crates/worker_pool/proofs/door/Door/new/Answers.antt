@@ -3,8 +3,8 @@ use Rattle.worker_pool.specs.Sessions.{DoorTells}
 use Rattle.worker_pool.proofs.Told.{door_new}
 use Rattle.worker_pool.proofs.door.Door.new.Goals as goal
 
-pub invariant_of-return : goal.invariant_of-return
-invariant_of-return g c = record {
+pub invariant_of-result : goal.invariant_of-result
+invariant_of-result g c = record {
   wanted_is = c.requires.asked;
   accepted_is = c.requires.taken;
   fits = omega arith;
