@@ -13,11 +13,17 @@ each world that a list of events reaches it asks three things:
 
 No list may break one of them. Then each guard of each event is left out in turn. Where the three things rest on it, the
 shortest list that breaks one is printed; where they do not, none may be found. So it is known of each guard whether the
-three things rest on it. The last line is `N passed, M failed`, and the status is 0 where M is 0.
+three things rest on it.
+
+Then it goes through what both ends can say of a call: its client of each attempt, what was taken and read, and servers of
+their sessions, what they were given, had turns for, and said. Where the ends fit together, the first and the last of the
+three things hold of what they say. Each premise of that is left out in turn, and the shortest that breaks one is printed.
+The last line is `N passed, M failed`, and the status is 0 where M is 0.
 """
 import os
 import sys
 from collections import namedtuple
+from itertools import product
 from concurrent.futures import ProcessPoolExecutor
 
 Invocation = namedtuple("Invocation", "idempotent twoway attempts result")
@@ -392,6 +398,191 @@ class Met:
         self.seen[what] = True
 
 
+# What both ends say. A message has two bytes here, and each message of a server has one. An attempt says on which
+# connection it was (None: it did not connect), how many bytes were taken, and which messages were read; a session on which
+# connection it was, how many bytes it was given, the turn that it gave to the call, or None, and which messages were taken.
+Attempt = namedtuple("Attempt", "connection taken read")
+Session = namedtuple("Session", "connection given turn said")
+LONG = 2
+VALIDATE, CLOSE = ("validate",), ("close",)
+REFUSED, DISPATCHED = ("refused", NO_OBJECT), ("dispatched", SUCCESS)
+
+# The premises by name: that the ends fit together, and that each end did as Ice lets it. The second column says which of
+# the things breaks without the premise.
+TWICE = "a call that is not idempotent was dispatched twice"
+UNFOUNDED = "a success carries no reply that a dispatch recorded"
+PREMISES = {
+    "each attempt has its own connection": TWICE,
+    "each session has its own connection": TWICE,
+    "each session belongs to an attempt": TWICE,
+    "a session was given the first bytes that were taken from its attempt": TWICE,
+    "an attempt was given the first bytes that were taken from its session": TWICE,
+    "an attempt without a session was given no bytes": UNFOUNDED,
+    "a client tries again only after an attempt that it can tell to be dead": TWICE,
+    "a server has turns for whole messages alone, each once": TWICE,
+    "a server closes only behind the replies of all turns": TWICE,
+    "a server answers a turn with its own reply": TWICE,
+}
+
+
+class Ends:
+    """What both ends can say of one call that is not idempotent, and of a second one with the same bytes."""
+
+    def __init__(self, without=None):
+        self.without = without
+
+    def holds(self, premise, fact):
+        return fact or premise == self.without
+
+    # What a client says
+
+    def attempts(self, connection):
+        """Each attempt on this connection: nothing is taken before a validate, and the rest is read when all was taken."""
+        yield Attempt(connection, 0, ())
+        for taken in range(LONG + 1):
+            yield Attempt(connection, taken, (VALIDATE,))
+        for last in (CLOSE, ("answer", NO_OBJECT), ("answer", SUCCESS)):
+            yield Attempt(connection, LONG, (VALIDATE, last))
+
+    def may_follow(self, attempt):
+        dead = attempt.connection is None or attempt.taken < LONG or attempt.read[1:] in ((CLOSE,), (("answer", NO_OBJECT),))
+        return self.holds("a client tries again only after an attempt that it can tell to be dead", dead)
+
+    def tried(self, most, connections):
+        """Each list of up to `most` attempts, on these connections or on new ones."""
+        for count in range(1, most + 1):
+            yield from self.tried_more(count, connections)
+
+    def tried_more(self, count, connections):
+        new = max(connections, default=-1) + 1
+        old = range(new) if self.without == "each attempt has its own connection" else ()
+        firsts = [Attempt(None, 0, ())] + [it for c in (*old, new) for it in self.attempts(c)]
+        for first in firsts:
+            if count == 1:
+                yield (first,)
+            elif self.may_follow(first):
+                used = connections if first.connection is None else connections | {first.connection}
+                for others in self.tried_more(count - 1, used):
+                    yield (first, *others)
+
+    # What a server says
+
+    def sessions(self, connection):
+        """Each session on this connection: of the replies and the close that it says the last may lack."""
+        for given in range(LONG + 1):
+            whole = self.holds("a server has turns for whole messages alone, each once", given == LONG)
+            for turn in (None, REFUSED, DISPATCHED) if whole else (None,):
+                for answer, closes in product(self.answers(turn), (False, True)):
+                    messages = (VALIDATE, *answer, *((CLOSE,) if closes else ()))
+                    for said in (messages[:-1], messages):
+                        yield Session(connection, given, turn, said)
+
+    def answers(self, turn):
+        if turn is None:
+            return [()]
+        replies = [(("answer", turn[1]),)]
+        if turn == DISPATCHED and self.without == "a server answers a turn with its own reply":
+            replies.append((("answer", NO_OBJECT),))
+        if turn == DISPATCHED and self.without == "a server closes only behind the replies of all turns":
+            replies.append(())
+        return replies
+
+    # Both
+
+    def fit(self, attempts, sessions):
+        """Whether those of one connection fit together. Where there are several, one of them has to."""
+        for s in sessions:
+            given = any(s.given <= a.taken for a in attempts) or not attempts
+            if not self.holds("a session was given the first bytes that were taken from its attempt", given):
+                return False
+        for a in attempts:
+            if sessions:
+                read = any(s.said[: len(a.read)] == a.read for s in sessions)
+                if not self.holds("an attempt was given the first bytes that were taken from its session", read):
+                    return False
+            elif not self.holds("an attempt without a session was given no bytes", not a.read):
+                return False
+        return True
+
+    def served(self, attempts):
+        """Yields the sessions that fit the attempts of one connection, as far as they differ in what comes to the calls."""
+        most = 2 if self.without == "each session has its own connection" else 1
+        options = list(self.sessions(attempts[0].connection))
+        seen = set()
+        for count in range(most + 1):
+            for sessions in product(options, repeat=count):
+                turns = tuple(it.turn for it in sessions)
+                if turns not in seen and self.fit(attempts, sessions):
+                    seen.add(turns)
+                    yield sessions
+
+    def broken(self, tried, sessions, strays):
+        """Returns which of the things breaks for the call with these attempts, or nothing."""
+        own = {it.connection for it in tried}
+        dispatched = [it for it in sessions if it.connection in own and it.turn == DISPATCHED]
+        count = len(dispatched) + sum(it.turn == DISPATCHED for it in strays)
+        if count > 1:
+            return TWICE
+        if tried[-1].read[1:] == (("answer", SUCCESS),) and not count:
+            return UNFOUNDED
+        return None
+
+    def search(self, wanted=(TWICE, UNFOUNDED)):
+        """Goes through all that both ends can say, fewest attempts first. Returns how many there were, and the first that
+        breaks one of the things that are wanted, with what it breaks, if there is one."""
+        count = 0
+        strays = [()]
+        if self.without == "each session belongs to an attempt":
+            strays += [(it,) for it in self.sessions(-1)]
+        for first in self.tried(3, frozenset()):
+            used = frozenset(it.connection for it in first if it.connection is not None)
+            for second in [(), *self.tried(1, used)]:
+                links = {}
+                for it in (*first, *second):
+                    if it.connection is not None:
+                        links.setdefault(it.connection, []).append(it)
+                for groups in product(*(list(self.served(it)) for it in links.values())):
+                    sessions = [it for group in groups for it in group]
+                    for stray in strays:
+                        count += 1
+                        for tried in filter(None, (first, second)):
+                            fault = self.broken(tried, sessions, stray)
+                            if fault in wanted:
+                                return count, self.told(first, second, sessions, stray), fault
+        return count, None, None
+
+    def told(self, first, second, sessions, strays):
+        def attempt(it):
+            if it.connection is None:
+                return "no connection"
+            return f"connection {it.connection} took {it.taken} of {LONG} and gave {names(it.read)}"
+
+        def names(messages):
+            return " and ".join(" ".join(map(str, it)) for it in messages) or "nothing"
+
+        parts = [", then ".join(attempt(it) for it in first)]
+        if second:
+            parts.append("another call with these bytes: " + ", then ".join(attempt(it) for it in second))
+        for s in (*sessions, *strays):
+            turn = f", {s.turn[0]}" if s.turn else ""
+            where = f"on connection {s.connection}" if s.connection >= 0 else "without an attempt"
+            parts.append(f"a session {where} was given {s.given}{turn}, and said {names(s.said)}")
+        return parts
+
+
+def joined(premise):
+    """Searches what both ends can say with this premise left out, or none. Returns how much there was, what to print, and
+    whether it came as the table says."""
+    if premise is None:
+        count, parts, fault = Ends().search()
+        told = f"calls: {count:,} pairs of ends that fit together"
+        return count, told if fault is None else f"FAILED {told}: {'; '.join(parts)}: {fault}", fault is None
+    count, parts, fault = Ends(premise).search((PREMISES[premise],))
+    if fault is None:
+        return count, f"FAILED calls: without `{premise}` it never comes that {PREMISES[premise]}", False
+    return count, f"  without `{premise}`: {'; '.join(parts)}: {fault}", True
+
+
 def named(kinds):
     return " and ".join(f"{'idempotent' if again else 'not idempotent'}{'' if twoway else ' oneway'}" for again, twoway in kinds)
 
@@ -433,15 +624,19 @@ def main(words):
     with ProcessPoolExecutor(os.cpu_count()) as pool:
         searches = [pool.submit(searched, kinds, most + more) for kinds, most in SEARCHES]
         guards = [pool.submit(without, guard, more) for guard in GUARDS]
+        premises = [pool.submit(joined, premise) for premise in (None, *PREMISES)]
         found = [it.result() for it in searches]
         left_out = [it.result() for it in guards]
+        ends = [it.result() for it in premises]
     shown = {what: any(it[3][what] for it in found) for what in found[0][3]}
     lists = [it[1] for it in left_out if it[1] and not (is_brief and it[2])]
     for told in [it[1] for it in found] + lists + [f"FAILED calls: no world showed {it}" for it in shown if not shown[it]]:
         print(told)
+    for told in [it[1] for n, it in enumerate(ends) if not (is_brief and n and it[2])]:
+        print(told)
     worlds = sum(it[0] for it in found + left_out)
     print(f"calls: {worlds:,} worlds in all; the three things rest on {sum(GUARDS.values())} of {len(GUARDS)} guards")
-    checks = [it[2] for it in found + left_out] + list(shown.values())
+    checks = [it[2] for it in found + left_out + ends] + list(shown.values())
     print(f"{sum(checks)} passed, {len(checks) - sum(checks)} failed")
     return 0 if all(checks) else 1
 

@@ -35,20 +35,6 @@ request_fits bytes id c (suc (suc zero), head, body, parts, header, most, spelle
 request_fits bytes id c (suc (suc (suc zero)), head, body, parts, header, most, spelled) = absurd (let e = spelled.1 in cc)
 request_fits bytes id c (suc (suc (suc (suc n))), head, body, parts, header, most, spelled) = absurd (let e = spelled.1 in cc)
 
--- ---- an encapsulation by its size
-
-pub sized : (bytes : List ℕ) (r : ℤ) → 6 ≤ length bytes → length bytes ≤ 1048576 → SFits w32 r
-    → r ≡ to_z w32 (slice_index bytes 0 + slice_index bytes 1 * 256 + slice_index bytes 2 * 65536 + slice_index bytes 3 * 16777216)
-    → of_z w32 r ≡ length bytes → IsEncapsulation bytes
-sized [] r least most fits is same = absurd (omega arith)
-sized (a ∷ []) r least most fits is same = absurd (omega arith)
-sized (a ∷ b ∷ []) r least most fits is same = absurd (omega arith)
-sized (a ∷ b ∷ c ∷ []) r least most fits is same = absurd (omega arith)
-sized (a ∷ b ∷ c ∷ d ∷ rest) r least most fits is same =
-    let n = length (a ∷ b ∷ c ∷ d ∷ rest) in
-    let small : n < 2 ^ 31 = omega arith in
-    (a ∷ b ∷ c ∷ d ∷ [], rest, refl, (refl, sym (to_z_pos w32 small) ∙ (sym (ap (to_z w32) same) ∙ (to_z-of_z fits ∙ is))), least, most)
-
 -- ---- how many calls a batch has
 
 times_long : {A : Type 0} (Spells : List ℕ → A → Type 0) (n : ℕ) (bytes : List ℕ) (items : List A) → SpellsTimes Spells n bytes items → length items ≡ n

@@ -11,6 +11,8 @@ use Rattle.ice_messages.specs.declared.message.Message.{Message}
 use Rattle.object_adapter.specs.declared.keys.Found.{Found}
 use Rattle.object_adapter.specs.declared.keys.Found.TheVariants.{At, NoObject, NoFacet}
 use Rattle.object_adapter.specs.Keys.{IsFound}
+use Rattle.object_adapter.specs.Replies.{CanReply}
+use Rattle.object_adapter.proofs.Short.{missed_replies}
 use Rattle.retry_core.specs.declared.server.ServerAction.{ServerAction}
 use Rattle.retry_core.specs.declared.server.ServerState.{ServerState}
 use Rattle.retry_core.specs.declared.server.ServerState.TheVariants.{Reading, Dispatched}
@@ -65,6 +67,11 @@ called lanes old new call answer (found, is, did) = by found is did
     by (At at) is h = (had_turn at h.ticket answer, refl, (is, h.no_refusal), h.grew)
     by NoObject is h = (refused answer, refl, inl (is, h.0), subst (λ (z : LanePasses). RowGrew old.passes.items z.passes.items []) (sym h.1) (row_still old.passes.items))
     by NoFacet is h = (refused answer, refl, inr (is, h.0), subst (λ (z : LanePasses). RowGrew old.passes.items z.passes.items []) (sym h.1) (row_still old.passes.items))
+
+pub called_replies : (lanes : Lanes) (old new : LanePasses) (call : Call) (answer : Answer) → DispatchedBy lanes old new call answer → CanReply call answer
+called_replies lanes old new call answer (At at, is, did) = did.replies
+called_replies lanes old new call answer (NoObject, is, did) = subst (CanReply call) (sym did.0) (missed_replies 2 call (omega arith) (omega arith))
+called_replies lanes old new call answer (NoFacet, is, did) = subst (CanReply call) (sym did.0) (missed_replies 3 call (omega arith) (omega arith))
 
 module _ {g : Ghosts Object Call Answer} (keys : Keys) (ps qs : List (Pass Object Call Answer g)) where
   pub request_done : (E : Type 0) (r : Result Bool E) (id : ℤ) (call : Call) (answer : Answer) (t : Talk) → Called keys ps qs call answer → Says (reply_of id answer) t r

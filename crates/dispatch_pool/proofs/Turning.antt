@@ -9,10 +9,11 @@ use Rattle.turnstile.specs.History.{entry, LeadsTo}
 use Rattle.turnstile.specs.Passes.{opening, DidTurn}
 use Rattle.ice_messages.specs.declared.message.Call.{Call}
 use Rattle.ice_messages.specs.declared.message.Answer.{Answer}
-use Rattle.object_adapter.specs.Servants.{Answered}
+use Rattle.object_adapter.specs.Replies.{CanReply}
 use Rattle.object_adapter.specs.Laws.{IsDispatched}
 use Rattle.object_adapter.proofs.Dispatched.{dispatched}
 use Rattle.dispatch_pool.specs.declared.object.Object.{Object}
+use Rattle.dispatch_pool.specs.Answering.{Answers}
 use Rattle.dispatch_pool.specs.Rows.{Turn, at_place, PassGrew, RowGrew}
 use Rattle.dispatch_pool.specs.Lanes.{Stile}
 use Rattle.dispatch_pool.proofs.Growing.{at_append, at_here, at_else, grew_still, grew_then, last_turn}
@@ -50,11 +51,11 @@ module _ {X C R : Type 0} {g : Ghosts X C R} where
   }
 
 module _ {g : Ghosts Object Call Answer} where
-  -- what a turn answers is no refusal
+  -- what a turn answers is no refusal, and a reply can be written of it
   pub turn_answers : (t : Stile) (p q : Pass Object Call Answer g) (call : Call) (answer : Answer)
-      → (turns : (x y : Object) (c : Call) (a : Answer) → g.turns x c a y → Answered x.servant c a y.servant)
-      → DidTurn t p q call answer → IsDispatched answer
+      → (turns : (x y : Object) (c : Call) (a : Answer) → g.turns x c a y → Answers x.servant c a y.servant)
+      → DidTurn t p q call answer → IsDispatched answer × CanReply call answer
   turn_answers t p q call answer turns d =
       let e : Entry Call Answer = entry d.0 call answer in
       let x = last_turn g.turns (opening t) d.4.0.0 d.1 e (subst (λ (z : List (Entry Call Answer)). LeadsTo g.turns (opening t) z d.4.0.0) d.3 d.4.0.1) in
-      dispatched x.0.servant call answer x.1.servant (turns x.0 x.1 call answer x.2)
+      let h = turns x.0 x.1 call answer x.2 in (dispatched x.0.servant call answer x.1.servant h.0, h.1)

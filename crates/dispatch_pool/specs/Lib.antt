@@ -1,4 +1,5 @@
 pub mod Abreast
+pub mod Answering
 pub mod Rows
 pub mod Lanes
 pub mod Turns

@@ -11,6 +11,7 @@ use Rattle.object_adapter.specs.declared.keys.Found.{Found}
 use Rattle.object_adapter.specs.declared.keys.Found.TheVariants.{At, NoObject, NoFacet}
 use Rattle.object_adapter.specs.Keys.{IsFound}
 use Rattle.object_adapter.specs.Refusals.{missed}
+use Rattle.object_adapter.specs.Replies.{CanReply}
 use Rattle.dispatch_pool.specs.declared.object.Object.{Object}
 use Rattle.dispatch_pool.specs.declared.lanes.Lanes.{Lanes}
 use Rattle.dispatch_pool.specs.declared.lanes.LanePasses.{LanePasses}
@@ -29,6 +30,7 @@ module _ {g : Ghosts Object Call Answer} where
     pub others : (i : ℕ) (d : Pass Object Call Answer g) → i ≢ at → slice_index_or qs i d ≡ slice_index_or ps i d
     -- the answer of a turn is no refusal
     pub no_refusal : IsDispatched answer
+    pub replies : CanReply call answer
     pub ticket : ℕ
     pub grew : RowGrew ps qs (turn_at at ticket call answer ∷ [])
 

@@ -1,8 +1,10 @@
 //! The calls of one message.
 
-ghost use Rattle.std.specs.Prelude.{◌≡◌, ◌<◌, ◌^◌, ◌∷◌, [], Bool, true, length, IfOk, OnOk};
+ghost use Rattle.std.specs.Prelude.{◌≡◌, ◌<◌, ◌^◌, ◌∷◌, ℕ, [], List, Bool, true, length, IfOk, OnOk};
 ghost use Rattle.ice_ports.specs.Talks.{adds, silent};
 ghost use Rattle.ice_ports.specs.declared.talk.Talk.{Talk};
+ghost use Rattle.ice_messages.specs.declared.message.Message.TheVariants.{Request};
+ghost use Rattle.ice_messages.specs.Messages.{SpellsMessage};
 ghost use Rattle.retry_core.specs.declared.server.ServerState.TheVariants as states;
 ghost use Rattle.dispatch_pool.specs.Lanes.{AreOf};
 ghost use Rattle.dispatch_pool.specs.Handled.{unasked};
@@ -37,6 +39,7 @@ pub(crate) fn serve_request<R: Wait, L: Link, G: Gate>(
     call: &Call,
 ) -> Result<bool, AllocError>
     requires of { AreOf service.now.lanes.now passes.old }
+    requires came { (bytes : List ℕ) × SpellsMessage bytes (Request id call.now) }
     requires dispatched { (asked : Bool) × (server.old ≡ states.Dispatched 0 asked) }
     ensures of { AreOf service.now.lanes.now passes.new }
     ensures did { (t : Talk) × (L.talk link.new ≡ adds (L.talk link.old) t)

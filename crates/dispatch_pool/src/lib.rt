@@ -20,8 +20,8 @@
 //!   behind them (`Stream`): an end, a failed link and want of memory differ in what may lack at the end of each.
 //! - A session makes the steps of `retry_core::Server`, and nothing else. It lends a message to what handles it, since
 //!   a value that is taken apart by a `match` and dropped in it is not covered yet.
-//! - An answer of which no message can be made (its body is no encapsulation, or it is too long) is taken for want of
-//!   memory. No object gives one; that its definition says so is left to do, and then the test in `reply` can go.
+//! - That a reply can be written of an answer is part of a turn (`Answers`): the definition of an object's answer alone
+//!   cannot say it, since it speaks of what a store keeps and not of how that is bounded.
 #![tactic(auto)]
 
 mod dispatching;

@@ -13,13 +13,13 @@ pub struct Object {
 }
 
 impl Turned for Object {
-    ghost use Rattle.object_adapter.specs.Servants.{Answered};
+    ghost use Rattle.dispatch_pool.specs.Answering.{Answers};
 
     type Call = Call;
 
     type Reply = Answer;
 
-    ghost turns = { λ old call answer new. Answered old.servant call answer new.servant };
+    ghost turns = { λ old call answer new. Answers old.servant call answer new.servant };
 
     fn turned(&mut self, call: &Call) -> Result<Answer, AllocError> {
         self.servant.answer(self.alloc, call)

@@ -7,9 +7,13 @@ use Rattle.node_commands.specs.Outside.{Files, Outside}
 use Rattle.node_commands.specs.Answers.{Answer}
 use Rattle.node_commands.specs.Decided.{Decided}
 use Rattle.node_commands.specs.Statuses.{Answered, EndsWithStatus}
+use Rattle.call_command.specs.Words.{CallWords, CallForm}
+use Rattle.call_command.specs.Rounds.{NetSeen}
+use Rattle.call_command.specs.Called.{Called}
 use Rattle.ice_node.specs.Carrying.{Carries}
 
-pub record KeepsPromises (words : List Word) (before after : Outside) (status : ℕ) : Type 0 where
+-- Of a command that leaves the net alone.
+pub record KeepsLocally (words : List Word) (before after : Outside) (status : ℕ) : Type 0 where
   -- There is one answer: its status is returned, it comes for its cause, no more of the input was
   -- taken than it says, and the sinks got what it says.
   pub answered : (answer : Answer) × Answered words before after status answer
@@ -23,3 +27,9 @@ pub record KeepsPromises (words : List Word) (before after : Outside) (status : 
   pub carried : (files : Files) (input : List ℕ)
       → before.files ≡ Some files → before.input ≡ Some input → IsBytes input → status ≡ 0
       → (out : List ℕ) × Appends before.output after.output out × Carries words files input out
+
+pub record KeepsPromises (words : List Word) (before after : Outside) (net later : NetSeen) (status : ℕ) : Type 0 where
+  -- any other command leaves the net as it was
+  pub locally : ((c : CallWords) → CallForm words c → ⊥) → KeepsLocally words before after status × (later ≡ net)
+  -- `call` does what its words say
+  pub called : (c : CallWords) → CallForm words c → Called c before after net later status

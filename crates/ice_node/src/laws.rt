@@ -1,4 +1,5 @@
-//! The numbers of the limits, so that none of them can change unseen.
+//! Laws of the whole program: the numbers of the limits, so that none of them can change unseen; and that both ends of
+//! calls are one world (`once`).
 
 ghost use Rattle.std.specs.Prelude.{◌≡◌};
 ghost use Rattle.ice_encoding.specs.declared.limits.TheConstants.{LARGEST, SMALLEST};
@@ -13,10 +14,15 @@ ghost use Rattle.ice_relay.specs.declared.drilling.TheConstants.{MOST_NODES};
 ghost use Rattle.message_dump.specs.declared.dump.TheConstants.{MOST_MESSAGES};
 ghost use Rattle.ice_audit.specs.declared.verdict.TheConstants.{MOST_BYTES as MOST_CAPTURED};
 ghost use Rattle.node_commands.specs.declared.words.TheConstants.{MOST_OF_A_WORD};
+ghost use Rattle.call_command.specs.declared.words.TheConstants.{MOST_RETRIES, MOST_TIMES};
+ghost use Rattle.call_command.specs.declared.arguments.TheConstants.{MOST_OF_ARGUMENTS};
+
+pub use once_law::once;
 
 /// The limits that the definitions name, each by its number: of encapsulations and messages, types, reads, Slice
-/// files, instances, JSON texts, compared values, drilled nodes, messages of one input, each end of a capture, and
-/// words. (The listed forms of the command line have seven words at most.)
+/// files, instances, JSON texts, compared values, drilled nodes, messages of one input, each end of a capture, words,
+/// and of calls their retries, their number and their arguments. (The listed forms of the command
+/// line have ten words at most.)
 pub fn limits_numbered()
     ensures encapsulation { (SMALLEST ≡ 6) × (LARGEST ≡ 1048576) }
     ensures types { (MOST_DEPTH ≡ 100) × (MOST_SMALLEST ≡ 1048576) × (MOST_BASES ≡ 1000) × (MOST_NUMBER ≡ 2147483647) }
@@ -29,4 +35,5 @@ pub fn limits_numbered()
     ensures messages { MOST_MESSAGES ≡ 1000000 }
     ensures captures { MOST_CAPTURED ≡ 16777216 }
     ensures word { MOST_OF_A_WORD ≡ 8192 }
+    ensures calls { (MOST_RETRIES ≡ 10) × (MOST_TIMES ≡ 1000) × (MOST_OF_ARGUMENTS ≡ 1000000) }
 {}

@@ -4,14 +4,16 @@
 //!
 //! - `ice_node` is the call alone, over `node_commands`, which does what the words ask for. So the laws of
 //!   `graph_laws` are in reach of one function.
-//! - `node` keeps three promises (`KeepsPromises`). `answered` says of the answer that came all that stands with
-//!   it; `exactly` says the other direction; `carried` says what `relay` in sliced format has written for those
-//!   who know more classes. A clause for each status would say the same in eight places.
+//! - `node` keeps its promises (`KeepsPromises`): words that are a form of `call` do what that command owes
+//!   (`Called`); any other leave the net as it was, and keep three (`KeepsLocally`). Of these `answered` says of
+//!   the answer that came all that stands with it; `exactly` says the other direction; `carried` says what `relay`
+//!   in sliced format has written for those who know more classes. A clause for each status would say the same in
+//!   eight places.
 #![tactic(auto)]
 
 mod laws;
 mod top_call;
 
-pub use laws::limits_numbered;
+pub use laws::{limits_numbered, once};
 pub use node_commands::{Outcome, report};
 pub use top_call::node;

@@ -3,6 +3,7 @@ pub mod Zeros
 pub mod Below
 pub mod Texts
 pub mod Written
+pub mod Short
 pub mod Rising
 pub mod Ordered
 pub mod Changed

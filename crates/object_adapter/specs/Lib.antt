@@ -1,4 +1,5 @@
 pub mod Refusals
+pub mod Replies
 pub mod Admitting
 pub mod Arguments
 pub mod Interfaces

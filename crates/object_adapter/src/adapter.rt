@@ -2,12 +2,12 @@
 
 ghost use Rattle.std.specs.Prelude.{◌≡◌, ◌<◌, IfOk, IfErr, OnOk, OnErr, length};
 ghost use Rattle.std.specs.List.{insert};
-ghost use Rattle.ice_messages.specs.Written.{IsAnswer};
 ghost use Rattle.object_adapter.specs.declared.add_fault.AddFault.TheVariants as add_faults;
 ghost use Rattle.object_adapter.specs.declared.keys.TheConstants.{MOST_OBJECTS};
 ghost use Rattle.object_adapter.specs.Objects.{AreObjects, no_objects};
 ghost use Rattle.object_adapter.specs.Adapters.{Adds, Answered};
 ghost use Rattle.object_adapter.specs.Keys.{IsFound, IsGapFor};
+ghost use Rattle.object_adapter.specs.Replies.{CanReply};
 
 use crate::add_fault::AddFault;
 use crate::keys::{Found, Keys, MOST_OBJECTS};
@@ -83,11 +83,12 @@ impl Adapter {
         )
     }
 
-    /// What the objects answer to a call: the one that it names answers, and no other changes. Out of
-    /// memory changes nothing.
+    /// What the objects answer to a call: the one that it names answers, and no other changes. A reply with the answer
+    /// is no longer than a message may be, where the call came in a message. Out of memory changes nothing.
+    #[tactic(auto, using(crate::proofs::Short::missed_2, crate::proofs::Short::missed_3))]
     pub fn answer(&mut self, alloc: Global, call: &Call) -> Result<Answer, AllocError>
         ensures ok { IfOk result (λ answer. Answered self.old call.now answer self.new) }
-        ensures writable { IfOk result IsAnswer }
+        ensures writable { IfOk result (CanReply call.now) }
         ensures err { OnErr result (self.new ≡ self.old) }
     {
         match self.find(&call.identity, call.facet.as_str()) {

@@ -28,8 +28,8 @@ impl Locator {
     ghost use Rattle.ice_encoding.specs.Proxy.{HasProxySizes};
     ghost use Rattle.ice_graphs.specs.Typed.{OfType};
     ghost use Rattle.ice_values.specs.Shapes.{told_apart};
-    ghost use Rattle.ice_messages.specs.Written.{IsAnswer};
     ghost use Rattle.object_adapter.specs.Refusals.{Outcome};
+    ghost use Rattle.object_adapter.specs.Replies.{IsReply};
     ghost use Rattle.object_adapter.specs.Locators.{Acts, Gives, IsSought, Overflows, Refuses, sought_shape};
 
     /// A locator that knows these places.
@@ -45,7 +45,7 @@ impl Locator {
     /// What a locator gives at a call, or why the call is refused.
     pub(crate) fn act(&self, alloc: Global, call: &Call) -> Result<Answer, Unanswered>
         ensures acts { Outcome (Acts self.now.places call.now) (Refuses self.now.places call.now) result }
-        ensures writable { IfOk result IsAnswer }
+        ensures writable { IfOk result IsReply }
     {
         let Some(sought) = sought_of(call.operation.as_str()) else {
             return Err(Unanswered::Refused(Refusal::NoOperation));
@@ -60,7 +60,7 @@ impl Locator {
         requires { OfType locator_tables (told_apart (sought_shape sought)) arguments.now }
         ensures gives { Outcome (Gives self.now.places sought arguments.now)
             (Overflows self.now.places sought arguments.now) result }
-        ensures writable { IfOk result IsAnswer }
+        ensures writable { IfOk result IsReply }
     {
         match self.place_of(alloc, sought, arguments)? {
             Some(proxy) => proxy_answer(alloc, proxy),

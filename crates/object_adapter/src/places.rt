@@ -1,13 +1,14 @@
 //! Where objects and adapters are, as a locator knows it. (Ice manual, "Locators".)
 
-ghost use Rattle.std.specs.Prelude.{◌≡◌, Some, OnErr, MatchOption};
+ghost use Rattle.std.specs.Prelude.{◌≡◌, ◌≤◌, Some, IfErr, OnErr, MatchOption, length};
+ghost use Rattle.std.specs.Cmp.{IsTotalOrder};
 ghost use Rattle.std.specs.Ordering.{nat_cmp};
 ghost use Rattle.std.specs.Cmp.Lexicographic.{slice_cmp};
 ghost use Rattle.ice_encoding.specs.Proxies.{identity_cmp};
 ghost use Rattle.ice_encoding.specs.Proxy.{HasProxySizes};
 ghost use Rattle.ice_types.specs.declared.proxy.Proxy as proxies;
 ghost use Rattle.object_adapter.specs.Rising.{IsSearched, Rises};
-ghost use Rattle.object_adapter.specs.Places.{AddsPlace, IsAt, by_id, by_identity, no_places};
+ghost use Rattle.object_adapter.specs.Places.{AddsPlace, ArePlacesBy, IsAt, by_id, by_identity, no_places};
 
 use crate::add_fault::AddFault;
 use crate::keys::identity_order;
@@ -55,16 +56,8 @@ impl Places {
         ensures same { self.new ≡ record self.old { objects = self.new.objects } }
         ensures err { OnErr result (self.new ≡ self.old) }
     {
-        let Err(at) = object_place(self.objects.as_slice(), &identity) else {
-            return Err(AddFault::Twice);
-        };
-        if self.objects.len() == MOST_PLACES {
-            return Err(AddFault::Full);
-        }
-        if self.objects.insert(at, (identity, proxy)).is_err() {
-            return Err(AddFault::Memory);
-        }
-        Ok(())
+        let searched = object_place(self.objects.as_slice(), &identity);
+        add_place(&mut self.objects, searched, identity, proxy)
     }
 
     /// Adds where an adapter is, by its id. It is refused as `add_object` is.
@@ -74,16 +67,8 @@ impl Places {
         ensures same { self.new ≡ record self.old { adapters = self.new.adapters } }
         ensures err { OnErr result (self.new ≡ self.old) }
     {
-        let Err(at) = adapter_place(self.adapters.as_slice(), id.as_str()) else {
-            return Err(AddFault::Twice);
-        };
-        if self.adapters.len() == MOST_PLACES {
-            return Err(AddFault::Full);
-        }
-        if self.adapters.insert(at, (id, proxy)).is_err() {
-            return Err(AddFault::Memory);
-        }
-        Ok(())
+        let searched = adapter_place(self.adapters.as_slice(), id.as_str());
+        add_place(&mut self.adapters, searched, id, proxy)
     }
 
     /// Where the object of this identity is. It takes no memory.
@@ -109,6 +94,33 @@ impl Places {
             Err(_) => None,
         }
     }
+}
+
+/// Adds the place of a key where a search found no such key and there is room. A refusal changes nothing.
+fn add_place<K: Drop>(
+    places: &mut Vec<(K, Proxy)>,
+    searched: Result<usize, usize>,
+    key: K,
+    proxy: Proxy,
+) -> Result<(), AddFault>
+    requires within { IfErr searched (λ at. at ≤ length places.old.items) }
+    requires room { length places.old.items ≤ MOST_PLACES }
+    ensures adds { (cmp : _) → IsTotalOrder cmp → IsSearched cmp (λ p. p.0) places.old.items key searched
+        → AddsPlace cmp places.old.items (key, proxy) result places.new.items }
+    ensures kept { (cmp : _) → IsTotalOrder cmp → IsSearched cmp (λ p. p.0) places.old.items key searched
+        → HasProxySizes (Some proxy) → ArePlacesBy cmp places.old.items → ArePlacesBy cmp places.new.items }
+    ensures err { OnErr result (places.new.items ≡ places.old.items) }
+{
+    let Err(at) = searched else {
+        return Err(AddFault::Twice);
+    };
+    if places.len() == MOST_PLACES {
+        return Err(AddFault::Full);
+    }
+    if places.insert(at, (key, proxy)).is_err() {
+        return Err(AddFault::Memory);
+    }
+    Ok(())
 }
 
 /// Where the place of this object stands among those that rise, or would stand.

@@ -1,8 +1,8 @@
 //! Results in their encapsulation.
 
 ghost use Rattle.std.specs.Prelude.{◌≡◌, IfOk};
-ghost use Rattle.ice_messages.specs.Written.{IsAnswer};
 ghost use Rattle.ice_messages.specs.declared.message.Answer.TheVariants as answers;
+ghost use Rattle.object_adapter.specs.Replies.{IsReply};
 ghost use Rattle.object_adapter.specs.Results.{AreResults};
 
 use ice_messages::Answer;
@@ -50,7 +50,7 @@ impl Results {
     /// The answer with these results.
     pub(crate) fn done(self) -> Answer
         ensures done { result ≡ answers.Done self }
-        ensures writable { IsAnswer result }
+        ensures writable { IsReply result }
     {
         Answer::Done(self.bytes)
     }
@@ -58,7 +58,7 @@ impl Results {
     /// The answer with this exception.
     pub(crate) fn raised(self) -> Answer
         ensures raised { result ≡ answers.Raised self }
-        ensures writable { IsAnswer result }
+        ensures writable { IsReply result }
     {
         Answer::Raised(self.bytes)
     }

@@ -5,7 +5,7 @@ ghost use Rattle.ice_types.specs.Tables.{Finds};
 ghost use Rattle.ice_types.specs.declared.kind.TypeRef.TheVariants as kinds;
 ghost use Rattle.ice_encoding.specs.Proxy as form;
 ghost use Rattle.ice_encoding.specs.Proxy.{HasProxySizes};
-ghost use Rattle.ice_messages.specs.Written.{IsAnswer};
+ghost use Rattle.object_adapter.specs.Replies.{IsReply};
 ghost use Rattle.ice_messages.specs.declared.message.Answer.TheVariants as answers;
 ghost use Rattle.class_slices.specs.Seen.{view_user_exception};
 ghost use Rattle.locator_types.specs.Locator.{locator_tables};
@@ -76,7 +76,7 @@ pub(crate) fn proxy_answer(alloc: Global, proxy: &Proxy) -> Result<Answer, Unans
     requires { HasProxySizes (Some proxy.now) }
     ensures answers { Outcome (λ answer. answer ≡ answers.Done (proxy_results proxy.now))
         (IsRefusedLength (form.proxy.put (Some proxy.now))) result }
-    ensures writable { IfOk result IsAnswer }
+    ensures writable { IfOk result IsReply }
 {
     let mut content = Vec::new(alloc);
     write_proxy(&mut content, Some(proxy))?;
@@ -93,7 +93,7 @@ pub(crate) fn not_found_answer(
     requires { schema.now ≡ locator_tables }
     ensures raises { Outcome (λ answer. answer ≡ answers.Raised (not_found_bytes sought))
         (λ refusal. (refusal ≡ refusals.TooLong) × (LONGEST < length (not_found_bytes sought))) result }
-    ensures writable { IfOk result IsAnswer }
+    ensures writable { IfOk result IsReply }
 {
     let raised = not_found(alloc, sought)?;
     match write_exception(alloc, schema, raised, Format::Sliced, LONGEST) {

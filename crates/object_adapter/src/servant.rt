@@ -2,8 +2,8 @@
 
 ghost use Rattle.std.specs.Prelude.{◌≡◌, ◌<◌, IfOk, OnErr, length};
 ghost use Rattle.std.specs.Arc.{arc_value};
-ghost use Rattle.ice_messages.specs.Written.{IsAnswer};
 ghost use Rattle.object_adapter.specs.Refusals.{Outcome};
+ghost use Rattle.object_adapter.specs.Replies.{CanReply, IsReply};
 ghost use Rattle.object_adapter.specs.Servants.{Acts, Answered, IsNewEcho, IsNewLocator, IsNewStore, Refuses};
 ghost use Rattle.object_adapter.specs.Servants.{interface_of, tables_of};
 
@@ -49,10 +49,12 @@ impl Servant {
         Ok(Servant::Locator(Locator::new(alloc, places)?))
     }
 
-    /// What the object answers to a call. Out of memory changes nothing.
+    /// What the object answers to a call. A reply with the answer is no longer than a message may be, where the call
+    /// came in a message. Out of memory changes nothing.
+    #[tactic(auto, using(crate::proofs::Short::replies))]
     pub fn answer(&mut self, alloc: Global, call: &Call) -> Result<Answer, AllocError>
         ensures ok { IfOk result (λ answer. Answered self.old call.now answer self.new) }
-        ensures writable { IfOk result IsAnswer }
+        ensures writable { IfOk result (CanReply call.now) }
         ensures err { OnErr result (self.new ≡ self.old) }
     {
         match self.act(alloc, call) {
@@ -65,7 +67,7 @@ impl Servant {
     /// What the operation of a call gives, or why the call is refused. A refusal changes nothing.
     fn act(&mut self, alloc: Global, call: &Call) -> Result<Answer, Unanswered>
         ensures acts { Outcome (λ answer. Acts self.old call.now answer self.new) (Refuses self.old call.now) result }
-        ensures writable { IfOk result IsAnswer }
+        ensures writable { IfOk result IsReply }
         ensures err { OnErr result (self.new ≡ self.old) }
     {
         if let Some(own) = own_of(call.operation.as_str()) {

@@ -1,24 +1,25 @@
 //! What a call that is not done is answered. (Ice manual, "Reply Message".)
 
-ghost use Rattle.std.specs.Prelude.{◌≡◌, IfOk};
-ghost use Rattle.ice_messages.specs.Written.{IsAnswer};
+ghost use Rattle.std.specs.Prelude.{◌≡◌, ◌≤◌, IfOk, length};
 ghost use Rattle.object_adapter.specs.Refusals.{failed, fault_text, missed, told};
+ghost use Rattle.object_adapter.specs.Replies.{CanReply};
 
 use crate::refusal::Refusal;
 use ice_messages::{Answer, Call};
-use ice_prims::Fault;
+use ice_prims::Kind;
 use ice_types::{Identity, Name};
 use std::alloc::{AllocError, Global};
 
 /// The answer to a refused call.
+#[tactic(auto, using(crate::proofs::Short::missed_4))]
 pub(crate) fn tell(alloc: Global, call: &Call, refusal: Refusal) -> Result<Answer, AllocError>
     ensures told { IfOk result (λ answer. answer ≡ told call.now refusal) }
-    ensures writable { IfOk result IsAnswer }
+    ensures writable { IfOk result (CanReply call.now) }
 {
     match refusal {
         Refusal::NoOperation => missed(alloc, 4, call),
         Refusal::BadMode => failed(alloc, "bad mode"),
-        Refusal::BadArguments(fault) => failed_at(alloc, fault),
+        Refusal::BadArguments(fault) => failed_at(alloc, fault.kind, fault.place),
         Refusal::TooLong => failed(alloc, "answer too long"),
     }
 }
@@ -49,10 +50,11 @@ fn failed(alloc: Global, text: &str) -> Result<Answer, AllocError>
     })
 }
 
-/// That the arguments have this fault.
-fn failed_at(alloc: Global, fault: Fault) -> Result<Answer, AllocError>
-    ensures { IfOk result (λ answer. answer ≡ failed (fault_text fault)) }
+/// That the arguments have this kind of fault at this place.
+fn failed_at(alloc: Global, kind: Kind, place: u64) -> Result<Answer, AllocError>
+    ensures failed { IfOk result (λ answer. answer ≡ failed (fault_text (record { place = place; kind = kind }))) }
+    ensures short { length (fault_text (record { place = place; kind = kind })) ≤ 1000 }
 {
-    let text = format!(in alloc; "bad arguments {} at {}", fault.kind.name(), fault.place)?;
+    let text = format!(in alloc; "bad arguments {} at {}", kind.name(), place)?;
     failed(alloc, text.as_str())
 }

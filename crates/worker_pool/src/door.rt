@@ -34,6 +34,28 @@ pub(crate) struct Door<D: Listener, A: Ledger, L: Ledger, O: Opening> {
 }
 
 impl<D: Listener, A: Ledger, L: Ledger, O: Opening> Door<D, A, L, O> {
+    /// A door at which no link was accepted yet.
+    pub(crate) fn new(listener: D, wanted: u64, asked: Book<A>, taken: Book<L>) -> Door<D, A, L, O>
+        requires asked { asked.total ≡ wanted }
+        requires taken { taken.total ≡ 0 }
+        requires told { O.first ≡ D.told listener }
+        requires counts { (O.failures ≡ D.failures listener) × (O.nones ≡ D.nones listener) }
+        ensures listener { result.listener ≡ listener }
+        ensures wanted { result.wanted ≡ wanted }
+        ensures accepted { result.accepted ≡ 0 }
+        ensures ending { result.ending ≡ endings.Open }
+    {
+        Door {
+            listener,
+            wanted,
+            accepted: 0,
+            ending: Ending::Open,
+            asked,
+            taken,
+            opening: PhantomData,
+        }
+    }
+
     /// The next link, which counts in the share; None where accepting has ended, now or before.
     pub(crate) fn accept(&mut self, mine: &mut Share<L>) -> Option<D::Link>
         requires { 0 < mine.old.parts }

@@ -2,10 +2,11 @@
 
 ghost use Rattle.std.specs.Prelude.{◌≡◌, ◌⊎◌, ℕ, ◌+◌, ◌<◌, ◌≤◌, [], Some, false, true, length, slice_index_or};
 ghost use Rattle.ice_ports.specs.Failures.{count_after};
-ghost use Rattle.dispatch_pool.specs.Lanes.{AreOf};
+ghost use Rattle.dispatch_pool.specs.Lanes.{AreOf, AreWhole};
 ghost use Rattle.worker_pool.specs.Endings.{has_failed, has_run_out};
 ghost use Rattle.worker_pool.specs.Sessions.{callers, split_off, ServedWith, DoorTells, NoneToCome, HasServed};
 ghost use Rattle.worker_pool.specs.Sessions.{AllServed};
+ghost use Rattle.worker_pool.specs.Shares.{SameShares, all_parts, parts_at};
 ghost use Rattle.worker_pool.specs.declared.ending.Ending.TheVariants as endings;
 
 use crate::door::Door;
@@ -15,7 +16,7 @@ use crate::worker::Worker;
 use dispatch_pool::{Gate, LanePasses, Lanes};
 use ice_ports::Listener;
 use std::alloc::Global;
-use std::marker::{Brand, PhantomData};
+use std::marker::Brand;
 use std::sync::ledger::{Blank, Ledger, Share};
 use std::sync::{Mutex, Wait};
 use std::thread;
@@ -54,6 +55,8 @@ fn hire<D: Listener, L: Ledger, O: Opening>(
     ensures parts { rest.new.parts + length result.0.items ≡ rest.old.parts }
     ensures amount { rest.new.amount ≡ 0 }
     ensures some { 0 < rest.new.parts }
+    ensures shares { (i k : ℕ) → parts_at passes.new i k + all_parts result.0.items (λ w. w.passes) i k
+        ≡ parts_at passes.old i k }
     ensures each { (i : ℕ) (d : _) → i < length result.0.items
         → HasServed split_off lanes.now messages O.first O.passes
         (D.Tray.told (slice_index_or result.0.items i d).tray) (slice_index_or result.0.items i d).passes
@@ -108,6 +111,8 @@ fn serve_many<
         (slice_index_or workers.new i d).mine.amount (slice_index_or workers.new i d).starved }
     ensures parts_each { (i : ℕ) (d : _) → i < length workers.old
         → (slice_index_or workers.new i d).mine.parts ≡ (slice_index_or workers.old i d).mine.parts }
+    ensures shares_each { (i : ℕ) (d : _) → i < length workers.old
+        → SameShares (slice_index_or workers.old i d).passes (slice_index_or workers.new i d).passes }
 {
     thread::for_each_mut(
         rt,
@@ -119,7 +124,8 @@ fn serve_many<
             ensures { HasServed split_off lanes.entry.now messages O.first O.passes
                 (D.Tray.told worker.exit.now.tray) worker.exit.now.passes
                 worker.exit.now.mine.amount worker.exit.now.starved
-                × (worker.exit.now.mine.parts ≡ worker.entry.now.mine.parts) }
+                × (worker.exit.now.mine.parts ≡ worker.entry.now.mine.parts)
+                × SameShares worker.entry.now.passes worker.exit.now.passes }
         { worker.work(rt, alloc, lanes, gate, door, messages) },
     );
 }
@@ -147,7 +153,10 @@ fn gather_all<D: Listener, L: Ledger, O: Opening>(
         → AllServed lanes.now messages O.first O.passes given (D.told listener.new) passes.new mine.new.amount result }
     ensures of { AreOf lanes.now passes.new }
     ensures parts { mine.new.parts ≡ mine.old.parts + length workers.items }
-    ensures counts { (D.failures listener.new ≡ D.failures listener.old) × (D.nones listener.new ≡ D.nones listener.old) }
+    ensures shares { (i k : ℕ) → parts_at passes.new i k
+        ≡ parts_at passes.old i k + all_parts workers.items (λ w. w.passes) i k }
+    ensures failures { D.failures listener.new ≡ D.failures listener.old }
+    ensures nones { D.nones listener.new ≡ D.nones listener.old }
     ensures to_come { NoneToCome (D.told listener.old) → NoneToCome (D.told listener.new) }
     ensures starved { result ≡ false → starved ≡ false }
 {
@@ -199,6 +208,8 @@ fn finish<D: Listener, A: Ledger, L: Ledger, O: Opening>(
         → (slice_index_or workers.items i d).mine.parts ≡ 1 }
     ensures done { AllServed lanes.now messages O.first O.passes result.accepted (D.told result.door) result.passes
         result.accepted result.starved }
+    ensures shares { (i k : ℕ) → parts_at result.passes i k
+        ≡ parts_at caller.passes i k + all_parts workers.items (λ w. w.passes) i k }
     ensures few { result.accepted ≤ whole.amount }
     ensures failed { result.failed ≡ has_failed door.ending }
     ensures failures { D.failures result.door ≡ count_after O.failures result.failed }
@@ -274,6 +285,7 @@ fn serve_under<
         × (O.failures ≡ D.failures door) × (O.nones ≡ D.nones door) }
     ensures done { AllServed lanes.now messages (D.told door) (Some passes) result.accepted (D.told result.door)
         result.passes result.accepted result.starved }
+    ensures shares { SameShares passes result.passes }
     ensures few { result.accepted ≤ connections }
     ensures failures { D.failures result.door ≡ count_after (D.failures door) result.failed }
     ensures ended { result.failed ≡ false → result.starved ≡ false
@@ -294,15 +306,7 @@ fn serve_under<
         messages,
     );
     let tray = door.tray();
-    let lock = Mutex::new(Door::<D, A, L, O> {
-        listener: door,
-        wanted: connections,
-        accepted: 0,
-        ending: Ending::Open,
-        asked,
-        taken,
-        opening: PhantomData::<O>,
-    });
+    let lock = Mutex::new(Door::<D, A, L, O>::new(door, connections, asked, taken));
     let threads = workers as usize;
     serve_many(
         rt,
@@ -329,7 +333,8 @@ fn serve_under<
 /// accepted, the listener has no more, an accept fails, or memory lacks. The gate stands round the answers of objects,
 /// and a connection ends after so many messages.
 ///
-/// Each link that the listener gave was served and taken back. `failed` says that an accept failed, which the listener
+/// Each link that the listener gave was served and taken back, and the passes have the share that was handed in: with
+/// the whole share `Lanes::close` leaves no stray. `failed` says that an accept failed, which the listener
 /// counted; `starved`, that memory lacked: a worker that lacked it took no more links. Without both, as many links were
 /// accepted as were asked for, or the listener had no more. A connection that stays open holds its worker.
 pub fn serve_all<D: Listener, G: Gate, R: Threads + Wait + Sync>(
@@ -347,6 +352,8 @@ pub fn serve_all<D: Listener, G: Gate, R: Threads + Wait + Sync>(
     requires workers { 0 < workers }
     ensures done { AllServed lanes.now messages (D.told door) (Some passes) result.accepted (D.told result.door)
         result.passes result.accepted result.starved }
+    ensures shares { SameShares passes result.passes }
+    ensures whole { AreWhole passes → AreWhole result.passes }
     ensures few { result.accepted ≤ connections }
     ensures failures { D.failures result.door ≡ count_after (D.failures door) result.failed }
     ensures ended { result.failed ≡ false → result.starved ≡ false

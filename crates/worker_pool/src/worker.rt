@@ -22,6 +22,7 @@ pub(crate) struct Worker<D: Listener, L: Ledger> {
 
 impl<D: Listener, L: Ledger> Worker<D, L> {
     ghost use Rattle.dispatch_pool.specs.Lanes.{AreOf};
+    ghost use Rattle.worker_pool.specs.Shares.{SameShares};
     ghost use Rattle.worker_pool.specs.Sessions.{Side, callers, split_off, LinkTells, HasServed};
     ghost use Rattle.worker_pool.specs.declared.ending.Ending.TheVariants as endings;
 
@@ -39,6 +40,7 @@ impl<D: Listener, L: Ledger> Worker<D, L> {
         requires new { LinkTells O.first (D.Link.talk link) }
         ensures parts { self.new.mine.parts ≡ self.old.mine.parts }
         ensures amount { self.new.mine.amount ≡ self.old.mine.amount }
+        ensures shares { SameShares self.old.passes self.new.passes }
         ensures did { (side : Side) (n : ℕ)
             → HasServed side lanes.now messages O.first O.passes
             (D.Tray.told self.old.tray) self.old.passes n self.old.starved
@@ -74,6 +76,7 @@ impl<D: Listener, L: Ledger> Worker<D, L> {
         ensures did { HasServed split_off lanes.now messages O.first O.passes
             (D.Tray.told self.new.tray) self.new.passes self.new.mine.amount self.new.starved }
         ensures parts { self.new.mine.parts ≡ self.old.mine.parts }
+        ensures shares { SameShares self.old.passes self.new.passes }
     {
         for _ in rt.forever() {
             if self.starved {
@@ -104,6 +107,7 @@ impl<D: Listener, L: Ledger> Worker<D, L> {
         ensures did { HasServed callers lanes.now messages O.first O.passes
             (D.Tray.told self.new.tray) self.new.passes self.new.mine.amount self.new.starved }
         ensures parts { self.new.mine.parts ≡ self.old.mine.parts }
+        ensures shares { SameShares self.old.passes self.new.passes }
         ensures ended { self.new.starved ≡ false → door.new.ending ≢ endings.Open }
     {
         for _ in rt.forever() {

@@ -7,13 +7,19 @@ use Rattle.ice_ports.specs.Talks.{silent}
 use Rattle.talking.proofs.Adding.{adds_nothing}
 use Rattle.dispatch_pool.specs.Handled.{reply_of}
 use Rattle.dispatch_pool.specs.Parts.{Says}
-use Rattle.dispatch_pool.proofs.Calls.{called, request_done, not_called}
+use Rattle.dispatch_pool.proofs.Calls.{called, called_replies, request_done, not_called}
 use Rattle.dispatch_pool.proofs.handling.serve_request.Goals as goal
 
 pub returns-in_err-answer-clause-did : goal.returns-in_err-answer-clause-did
 returns-in_err-answer-clause-did g c =
     let failed = err_from_is_err_and c.from_residual.result c.from_residual.ensures.1 in
     rw failed.1 (silent, sym (adds_nothing (g.L.Link.talk c.args.link.now)), not_called c.args.service.now.lanes.now.keys _ _ AllocError _ _ c.in_err-answer.ensures.err)
+
+pub reply-went-requires-clause-answer : goal.reply-went-requires-clause-answer
+reply-went-requires-clause-answer g c = λ κs lives. (called_replies c.args.service.now.lanes.now c.args.passes.now c.dispatch.new.passes c.args.call.now c.in_ok-answer.answer c.in_ok-answer.ensures.ok).0
+
+pub reply-went-requires-clause-short : goal.reply-went-requires-clause-short
+reply-went-requires-clause-short g c = λ κs lives. (called_replies c.args.service.now.lanes.now c.args.passes.now c.dispatch.new.passes c.args.call.now c.in_ok-answer.answer c.in_ok-answer.ensures.ok).1 c.requires.came.0 c.args.id _ c.requires.came.1
 
 pub returns-in_err-went-clause-did : goal.returns-in_err-went-clause-did
 returns-in_err-went-clause-did g c =

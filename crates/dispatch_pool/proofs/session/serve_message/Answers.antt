@@ -26,6 +26,12 @@ returns-in-Some-clause-did g c = (
   λ bytes held first is spelled. next_end c.args.service.now.lanes.now.keys c.args.passes.now.passes.items silent bytes held (ends.PeerBroke c.in-Some.fault) refl (inr (c.args.message.now, (held, (first, held, is, spelled, refl)), sym c.server_fault.ensures ∙ c.in-Some.is)) (λ e. cc),
 )
 
+pub serve_request-requires-clause-came : goal.serve_request-requires-clause-came
+serve_request-requires-clause-came g c = λ κs lives.
+    let first = c.requires.spelled.0 in let id = c.in-Request.id in let call = c.in-Request.call in
+    let spelled = subst (λ (z : Message). SpellsMessage first z) c.in-Request.is c.requires.spelled.1 in
+    (first, subst (λ (z : ℤ). SpellsMessage first (Request z call)) (sym (to_z-of_z (request_fits first id call spelled))) spelled)
+
 pub returns-in_err-went-in-Request-clause-did : goal.returns-in_err-went-in-Request-clause-did
 returns-in_err-went-in-Request-clause-did g c =
     let failed = err_from_is_err_and c.from_residual.result c.from_residual.ensures.1 in

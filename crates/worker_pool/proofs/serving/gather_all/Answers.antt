@@ -1,12 +1,13 @@
 use Rattle.std.proofs.Common.{◌≡◌, ◌∙◌, refl, sym, subst, ap, arith, ℕ, [], ◌∷◌, length, length-append}
 use Rattle.std.specs.Prelude.{◌||◌}
 use Rattle.worker_pool.specs.Sessions.{split_off, HasServed, AllServed}
+use Rattle.worker_pool.proofs.Shares.{all_push, join_shares}
 use Rattle.worker_pool.proofs.Told.{none_gathered}
 use Rattle.worker_pool.proofs.Working.{or_false, pop_front, pop_last, worker_done}
 use Rattle.worker_pool.proofs.serving.gather_all.Goals as goal
 
 pub loop-worker-init : goal.loop-worker-init
-loop-worker-init g c = (c.requires.done.1.of, refl, refl, (λ n. n), refl, c.requires.each, c.requires.parts_each, (λ given a. a), (λ e. e))
+loop-worker-init g c = (c.requires.done.1.of, refl, refl, (λ n. n), refl, c.requires.each, c.requires.parts_each, (λ given a. a), (λ e. e), (λ i k. refl))
 
 pub join-requires-clause-other : goal.join-requires-clause-other
 join-requires-clause-other g c =
@@ -35,4 +36,9 @@ loop-worker-preserved g c =
           (worker_done c.args.lanes.now c.args.messages g.O.Opening.first g.O.Opening.passes given (g.D.Listener.told c.loop-worker.listener) _ _ c.loop-worker.passes c.in-Some.worker.passes c.join.new.passes _ _ c.loop-worker.starved c.in-Some.worker.starved
           c.gather.ensures.told c.join.ensures.of c.join.ensures.joined (i.7 given a) h)),
       (λ e. i.8 (or_false c.loop-worker.starved c.in-Some.worker.starved e).0),
+      (λ j k.
+          let before = i.9 j k in
+          let last = all_push (λ w. w.passes) c.pop.new.self.items c.loop-worker.workers.items c.in-Some.worker all j k in
+          let joined = join_shares c.args.lanes.now c.loop-worker.passes c.in-Some.worker.passes c.join.new.passes i.0 c.join.ensures.joined j k in
+          omega arith),
     )

@@ -1,6 +1,7 @@
 use Rattle.std.proofs.Common.{◌≡◌, false, ℕ, ◌+◌, ◌<◌, length, vec_len}
 use Rattle.std.specs.Prelude.{slice_index_or}
 use Rattle.dispatch_pool.specs.Lanes.{AreOf}
+use Rattle.worker_pool.specs.Shares.{parts_at, all_parts}
 use Rattle.worker_pool.specs.Sessions.{split_off, HasServed, AllServed, NoneToCome}
 use Rattle.worker_pool.proofs.serving.gather_all.Given as goal
 
@@ -17,6 +18,7 @@ invariant-loop-worker g l =
     × ((given : ℕ) → AllServed l.lanes l.messages g.O.Opening.first g.O.Opening.passes given (g.D.Listener.told l.initial.listener) l.initial.passes l.initial.mine.amount l.initial.starved
     → AllServed l.lanes l.messages g.O.Opening.first g.O.Opening.passes given (g.D.Listener.told l.listener) l.passes l.mine.amount l.starved)
     × (l.starved ≡ false → l.initial.starved ≡ false)
+    × ((i k : ℕ) → parts_at l.passes i k + all_parts l.workers.items (λ w. w.passes) i k ≡ parts_at l.initial.passes i k + all_parts l.fn.workers.items (λ w. w.passes) i k)
 
 abbrev pub decreases-loop-worker : goal.decreases-loop-worker
 decreases-loop-worker g l = vec_len l.workers

@@ -3,6 +3,8 @@ use Rattle.std.specs.Prelude.{Some}
 use Rattle.ice_ports.specs.Failures.{count_after}
 use Rattle.worker_pool.specs.Endings.{has_run_out}
 use Rattle.worker_pool.specs.Sessions.{callers, split_off, ServedWith, DoorTells, HasServed, AllServed}
+use Rattle.worker_pool.specs.Shares.{all_parts}
+use Rattle.worker_pool.proofs.Shares.{all_same}
 use Rattle.worker_pool.proofs.Told.{door_new}
 use Rattle.worker_pool.proofs.Rows.{begins}
 use Rattle.worker_pool.proofs.Working.{written_back, caller_begins, ended_by}
@@ -14,17 +16,8 @@ hire-hired-requires-clause-from g c κs bounds = subst (λ z. ServedWith callers
 pub hire-hired-requires-clause-tells : goal.hire-hired-requires-clause-tells
 hire-hired-requires-clause-tells g c κs bounds = subst (λ z. DoorTells z 0 (g.D.Listener.told c.args.door) []) (sym c.requires.opening.0) (door_new (g.D.Listener.told c.args.door))
 
-pub invariant_of-new : goal.invariant_of-new
-invariant_of-new g c = record {
-  wanted_is = (let a = c.add.ensures.total in let b = c.open-asked.ensures.total in omega arith);
-  accepted_is = c.open-taken.ensures.total;
-  fits = omega arith;
-  tells = subst (λ z. DoorTells z 0 (g.D.Listener.told c.args.door) []) (sym c.requires.opening.0) (door_new (g.D.Listener.told c.args.door));
-  failures_are = sym c.requires.opening.2;
-  nones_are = sym c.requires.opening.3;
-  reached = λ e. absurd cc;
-  no_more = λ e. absurd cc;
-}
+pub new-requires-clause-asked : goal.new-requires-clause-asked
+new-requires-clause-asked g c κs bounds = let a = c.add.ensures.total in let b = c.open-asked.ensures.total in omega arith
 
 pub work_alone-requires-clause-served : goal.work_alone-requires-clause-served
 work_alone-requires-clause-served g c κs bounds =
@@ -57,3 +50,16 @@ returns-clause-ended g c fine fed =
     let f = c.finish.ensures in
     ended_by c.work_alone.new.door.ending c.finish.result.failed (g.D.Listener.nones c.args.door) (g.D.Listener.nones c.finish.result.door) f.failed fine (c.work_alone.ensures.ended (f.starved fed))
     (λ e. f.reached e ∙ (let a = c.add.ensures.amount in let b = c.open-asked.ensures.amount in omega arith)) f.no_more (f.nones ∙ ap (λ (n : ℕ). count_after n (has_run_out c.work_alone.new.door.ending)) c.requires.opening.3)
+
+pub returns-clause-shares : goal.returns-clause-shares
+returns-clause-shares g c i k =
+    let hired = c.hire-hired.result.0.items in
+    let len : length c.serve_many.new.workers ≡ length hired = (let a = c.serve_many.auto.workers in let b = ap length c.as_mut_slice.ensures.value in omega arith) in
+    let same = written_back c.hire-hired.result.0.len hired c.serve_many.new.workers len (let a = c.hire-hired.result.0.ok in omega arith) in
+    let all = all_same (λ w. w.passes) c.as_mut_slice.result.now c.serve_many.new.workers c.serve_many.auto.workers (λ j d lt. c.serve_many.ensures.shares_each j d lt) i k in
+    let first = ap (λ ws. all_parts ws (λ w. w.passes) i k) c.as_mut_slice.ensures.value in
+    let last = ap (λ ws. all_parts ws (λ w. w.passes) i k) same in
+    let begun = c.hire-hired.ensures.shares i k in
+    let alone = c.work_alone.ensures.shares i k in
+    let done = c.finish.ensures.shares i k in
+    omega arith

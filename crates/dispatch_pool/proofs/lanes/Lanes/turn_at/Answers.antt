@@ -29,7 +29,8 @@ returns-clause-ok g c =
       within = sp.within;
       turn = λ a b. as_three (λ x y z. DidTurn x y z c.args.call.now reply) (stands_is stiles c.args.at t st a) (stands_is passes c.args.at p sp b) (this passes c.args.at p sp q b) d;
       others = others passes c.args.at p q;
-      no_refusal = turn_answers t p q c.args.call.now reply (λ x y call answer h. h) d;
+      no_refusal = (turn_answers t p q c.args.call.now reply (λ x y call answer h. h) d).0;
+      replies = (turn_answers t p q c.args.call.now reply (λ x y call answer h. h) d).1;
       ticket = d.0;
       grew = row_turn passes c.args.at p q (entry d.0 c.args.call.now reply) sp (grew_turn t p q c.args.call.now reply d);
     })

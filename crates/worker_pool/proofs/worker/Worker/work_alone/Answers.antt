@@ -11,4 +11,5 @@ loop-preserved g c =
       subst (λ (n : ℕ). HasServed callers c.args.lanes.now c.args.messages g.O.Opening.first g.O.Opening.passes (g.D.Tray.Tray.told c.serve.new.self.tray) c.serve.new.self.passes n c.serve.new.self.starved)
           (sym (c.serve.ensures.amount ∙ more.1)) (c.serve.ensures.did callers c.loop.self.mine.amount i.2),
       (c.serve.ensures.parts ∙ (c.accept.ensures.parts ∙ i.3)),
+      (λ j k. c.serve.ensures.shares j k ∙ i.4 j k),
     )

@@ -1,0 +1,15 @@
+pub mod Lists
+pub mod Links
+pub mod Moves
+pub mod Serving
+pub mod Sweeps
+pub mod Tries
+pub mod Facts
+pub mod Streams
+pub mod Sessions
+pub mod Attempts
+pub mod Dispatches
+pub mod Deliveries
+pub mod Matching
+pub mod Turns
+pub mod Fitting

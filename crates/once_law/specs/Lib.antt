@@ -1,0 +1,5 @@
+pub mod Placed
+pub mod Ends
+pub mod Shown
+pub mod Matched
+pub mod Laws

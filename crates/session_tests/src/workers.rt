@@ -1,0 +1,124 @@
+//! Two objects of a server are served at once: under one lock for all, or by one thread, the first call would wait in
+//! vain. And an accept that fails ends the accepting.
+
+use crate::serving::{COUNTER, plan, stores};
+use dispatch_pool::{Gate, Lanes, OpenGate};
+use ice_messages::Call;
+use ice_ports::{MemNet, Net};
+use ice_types::List;
+use std::alloc::Global;
+use std::process::Abort;
+use std::sync::Wait;
+use std::sync::atomic::{AtomicBool, AtomicU64, Ordering};
+use std::test::Fail;
+use std::thread::{Threads, yield_now};
+use worker_pool::{Served, serve_all};
+
+/// The call on `a` waits until the call on `b` has been answered, or for so many looks.
+#[derive(Drop)]
+struct OneAfterTheOther {
+    answered: AtomicBool,
+    seen: AtomicU64,
+}
+
+impl Gate for OneAfterTheOther {
+    fn before(&self, call: &Call) {
+        if call.identity.name.as_str() == "a" {
+            for _ in 0..1_000_000_000u32 {
+                if self.answered.load(Ordering::SeqCst) {
+                    self.seen.fetch_add(1, Ordering::SeqCst);
+                    return;
+                }
+                yield_now();
+            }
+        }
+    }
+
+    fn after(&self, call: &Call) {
+        if call.identity.name.as_str() == "b" {
+            self.answered.store(true, Ordering::SeqCst);
+        }
+    }
+}
+
+/// `add` of 1 with id 1, on `a` and on `b`.
+const ADD_TO_A: &str =
+    "496365500100010000002600000001000000016100000361646400000a000000010101000000";
+
+const ADD_TO_B: &str =
+    "496365500100010000002600000001000000016200000361646400000a000000010101000000";
+
+/// How many links were accepted, whether an accept failed, and how many talks are over and have a reply, when so many
+/// workers serve at most so many links, of which there are two, where these accepts fail.
+fn serve_both<R: Threads + Wait + Sync, G: Gate>(
+    rt: &R,
+    alloc: Global,
+    gate: &G,
+    workers: u32,
+    connections: u64,
+    fails: &[u64],
+) -> Result<(u64, bool, usize), Fail>
+    requires { 0 < workers }
+{
+    let (lanes, passes) = Lanes::new(alloc, stores(alloc, COUNTER, &["a", "b"])?)?;
+    let mut incoming = List::new(alloc);
+    incoming.push(plan(alloc, ADD_TO_A)?)?;
+    incoming.push(plan(alloc, ADD_TO_B)?)?;
+    let fails = List::from_vec(Vec::from_slice(alloc, fails)?);
+    let mut net = MemNet::new(alloc, List::new(alloc), incoming, fails, false)?;
+    let door = net.listen("localhost", 4100)?;
+    let Served {
+        door,
+        passes,
+        accepted,
+        failed,
+        starved,
+    } = serve_all(
+        rt,
+        alloc,
+        &lanes,
+        passes,
+        gate,
+        door,
+        workers,
+        connections,
+        9,
+    );
+    net.retire(door);
+    if starved || lanes.close(alloc, passes).is_err() {
+        return Err(Fail::from("no memory, or a stray"));
+    }
+    let whole = net
+        .talks()
+        .iter()
+        .filter(|talk| talk.ended && talk.taken.len() == 43)
+        .count();
+    Ok((accepted, failed, whole))
+}
+
+#[test]
+fn gate_two_objects(rt: HostRuntime) -> Result<(), Fail> {
+    let gate = OneAfterTheOther {
+        answered: AtomicBool::new(false),
+        seen: AtomicU64::new(0),
+    };
+    let served = serve_both(&rt, rt.alloc(), &gate, 2, 2, &[])?;
+    assert!(rt; served == (2, false, 2));
+    assert!(rt; gate.seen.load(Ordering::SeqCst) == 1);
+    Ok(())
+}
+
+#[test]
+fn a_failed_accept_ends_the_accepting(rt: HostRuntime) -> Result<(), Fail> {
+    let served = serve_both(&rt, rt.alloc(), &OpenGate, 4, 2, &[1])?;
+    assert!(rt; served == (1, true, 1));
+    Ok(())
+}
+
+/// One worker runs by the same code, and a listener that has no more links ends the accepting.
+#[test]
+fn one_worker_serves_until_no_link_is_to_come(rt: HostRuntime) -> Result<(), Fail> {
+    let served = serve_both(&rt, rt.alloc(), &OpenGate, 1, 3, &[])?;
+    assert!(rt; served == (2, false, 2));
+    Ok(())
+}
