@@ -1,0 +1,9 @@
+use Rattle.std.proofs.Common.{take}
+use Rattle.std.specs.Arc.{arc_value}
+use Rattle.object_adapter.specs.Objects.{no_objects}
+use Rattle.serve_command.specs.Words.{objects_of}
+use Rattle.serve_command.specs.Adapters.{MakeAll}
+use Rattle.serve_command.proofs.adapters.adapter_of.Given as goal
+
+abbrev pub invariant-loop-object : goal.invariant-loop-object
+invariant-loop-object l = MakeAll (arc_value l.schema) (objects_of l.objects) (objects_of (take l.object-index l.objects)) no_objects l.adapter
