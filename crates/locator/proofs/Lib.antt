@@ -1,0 +1,6 @@
+pub mod Made
+pub mod Bodies
+pub mod Questions
+pub mod Leading
+pub mod Routes
+pub mod Legs
