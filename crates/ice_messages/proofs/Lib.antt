@@ -3,12 +3,12 @@ mod Entries
 mod Sums
 mod Putting
 mod Called
-mod Whole
+pub mod Whole
 pub mod Streams
 pub mod Runs
-mod Orderly
+pub mod Orderly
 pub mod Writable
-mod Puts
+pub mod Puts
 mod Cuts
 mod Nexts
 mod Running

@@ -23,6 +23,15 @@ usage: ice COMMAND
                    ok: 2 types, 5 classes, 0 exceptions, 1 interfaces
   proxy TEXT       writes the proxy that TEXT stands for in its one form, and then its bytes in
                    hexadecimal, a line each
+  call [--retries R] [--times T] [--compact] FILE INTERFACE PROXY OPERATION
+                   reads the arguments of OPERATION as JSON from standard input, up to its end,
+                   calls it on the object of PROXY, and writes its results as a line of JSON; T times,
+                   one after the other, up to the first that does not succeed. Where PROXY is oneway
+                   or batch oneway no reply comes, and it writes sent 1 for each message, or sent T
+                   for all calls in one batch
+  serve [--workers W] [--connections C] FILE HOST PORT OBJECT..
+                   listens at HOST and PORT, writes listening PORT, serves C connections, W at once,
+                   each up to its end, and then writes served N, the number of those that it accepted
   messages         reads messages of protocol 1.0, one after the other, from standard input, and
                    writes a line for each as soon as it is there, as
                    request 1 \"hello\" \"\" \"ice_ping\" 1 0 6
@@ -46,6 +55,24 @@ FILE is the path of a Slice file. Included files are paths too, from the folder 
 TYPE is bool, byte, short, int, long, string, Object, Object*, a type id of FILE, as
 ::M::Q, or an interface's type id followed by *. A word has at most 8,192 bytes, in UTF-8.
 
+INTERFACE is the type id of an interface of FILE, OPERATION the name of one of its operations, of one
+of its bases, or of ice_ping, ice_isA, ice_id and ice_ids, and PROXY a TEXT as below. R is 0 to 10, 1
+where it is left out, T 1 to 1,000, likewise 1. HOST is a name or an address, PORT 0 to 65535, and
+0 lets the system choose; W is 1 to 64, 1 where it is left out, C 1 to 1,000,000, the most where it is
+left out. OBJECT is one of these, cut at its first and second =, which are all different:
+
+    store=IDENTITY=INTERFACE   an object that keeps a number and a value, both at first zero: add
+                               takes an int, adds it and gives the number, total gives it; put keeps
+                               its one argument, and get gives it. Those count that INTERFACE declares
+    echo=IDENTITY=INTERFACE    gives arguments as results, for operations where both are alike
+    locator=IDENTITY           a locator, which finds the places below
+    place=IDENTITY=PROXY       what locators answer for the object
+    adapter=ID=PROXY           what locators answer for the adapter
+
+A connection that stays open holds a worker, and Ice clients keep theirs open: W is the number of
+clients that are served at once. Others wait until one is free; an Ice client gives up after 60
+seconds where nothing else is set, and also where a reply takes longer: serve sends no heartbeats.
+
 CLIENT and SERVER are paths of files: a capture, which is all bytes that the client sent on one TCP
 connection, from its beginning on, and all that the server sent on it. A recorder that stands
 between both ends writes them, and so does Wireshark: follow the TCP stream, show the data of one
@@ -53,42 +80,67 @@ direction as raw, save it, and then so with the other direction.
 
 An encapsulation is a value's bytes with their size and version before them, of encoding 1.1: 6 to
 1,048,576 bytes, and nothing after it. At most one byte behind what it claims is read. check, proxy,
-audit and drill read nothing from standard input.
+audit, drill and serve read nothing from standard input.
 
 A command ends with one of these, and writes its line to standard error. The earlier step decides:
 the words, FILE and what it includes, TYPE, the input, the output; of audit the words, CLIENT,
-SERVER, the output.
+SERVER, the output; of call the words, FILE, INTERFACE, OPERATION, PROXY, the input, then the net
+and the output by turns; of serve the words, FILE, each INTERFACE, each IDENTITY and PROXY, the net.
 
   2  ice: usage                  the words are none of these commands, or one is not UTF-8 or too
                                  long
   3  ice: FILE:PLACE: KIND       a Slice file is refused: its name, the fault's first byte, counted
                                  from 0, and its kind
   2  ice: no such name WORD      no type of FILE has the name TYPE; of audit, no file is at the path
-                                 CLIENT or SERVER
+                                 CLIENT or SERVER; of call and serve, INTERFACE or OPERATION is none
+  2  ice: twoway only OPERATION  PROXY asks for no reply, and OPERATION has results or throws
   4  ice: input refused at PLACE: KIND
                                  the input is not one encapsulation of a value of TYPE, or of same
                                  not two, or a message is none: the first byte of the part with the
                                  first fault, counted from 0 through the whole input, and its kind
-  4  ice: text refused: KIND     the input of encode is refused, for the first of these reasons: it
-                                 has more than 16,777,216 bytes (TooLong); it is no JSON in UTF-8,
-                                 or nests more than 127 deep (NotJson); it lists more than 100,000
-                                 instances (TooMany); it tells no value of TYPE, or a proxy with an
-                                 endpoint of more than 1,048,576 bytes (Misfit)
+  4  ice: text refused: KIND     the input of encode or call is refused, for the first of these
+                                 reasons: it has more than 16,777,216 bytes (TooLong); it is no
+                                 JSON in UTF-8, or nests more than 127 deep (NotJson); it lists
+                                 more than 100,000 instances (TooMany); it tells no value of TYPE,
+                                 or not the arguments of OPERATION, or a proxy with an endpoint of
+                                 more than 1,048,576 bytes (Misfit)
   4  ice: kept slice needs sliced format
                                  with --compact, an instance has a slice of a class that FILE lacks
   4  ice: answer too long: LENGTH
                                  the canonical encapsulation has LENGTH bytes, more than 1,048,576,
-                                 or of same more than 2,147,483,647
-  4  ice: text refused at PLACE  TEXT is not that of a proxy: the first byte of the first word that
-                                 cannot stand, or its length where a word lacks
+                                 or of same more than 2,147,483,647; of call the arguments have more
+                                 than 1,000,000, or the message more than 1,048,576
+  4  ice: text refused at PLACE  TEXT, PROXY or IDENTITY is not that of a proxy or an identity: the
+                                 first byte of the first word that cannot stand, or its length where
+                                 a word lacks
   5  ice: read failed            a file or standard input could not be read
   6  ice: write failed           standard output could not be written
+  7  ice: network failed         of call, the last attempt got no connection, or lost it; of serve, HOST
+                                 and PORT could not be had, or accepting failed
+  8  ice: call ended: REASON     of call, no success came of the last attempt
   9  ice: no memory
   1  (no line)                   of same: different; of audit: no
   0  (no line)                   done
 
 After 2 to 5 and 9 nothing was written to standard output, and after 6 the first part of the answer;
-but messages has told what came before.
+but messages, call and serve have told what came before.
+
+REASON is one of these:
+
+  raised TYPEID              the operation raised a user exception of this type
+  missing STATUS             no such object (2), facet (3) or operation (4)
+  unknown STATUS \"TEXT\"     the server failed: a local (5), user (6) or other exception (7)
+  no endpoint                PROXY has no TCP endpoint
+  closed                     the server closed the connection, so the call was not dispatched
+  ended                      the server's stream ended before a reply
+  broke at PLACE: KIND       what the server sent is no message, not the one that may come, or no
+                             results of OPERATION: the place counts in the message, or in the
+                             encapsulation of the results
+
+A call is tried again, R times at most, at the next endpoint of PROXY, where it cannot have been
+dispatched: no connection was had, the message was not sent whole, or the server closed the
+connection. Where it was sent whole and no reply came, it may have been dispatched: then it is tried
+again only where OPERATION is idempotent.
 
 The JSON of dump and encode is {\"instances\":[I,..],\"roots\":{\"$value\":V}}. The instance at place
 k of the list, counted from 0, has the number k + 2; dump lists them in the order of their first
@@ -108,6 +160,13 @@ with the members that this class itself declares, and without optional ones that
 a class that FILE lacks, {\"bytes\":HEX,\"kept\":ID,\"optionals\":BOOL,\"table\":[{\"$\":N},..]}. An object
 has no other names; of a name that comes twice the last value counts. Instances that nothing refers
 to are not written.
+
+The JSON of call has the parameters by their names in place of $value, and what the operation
+returns as $return: {\"instances\":[],\"roots\":{\"n\":2}} for int add(int n), of which comes
+{\"instances\":[],\"roots\":{\"$return\":2}}. A first call of a server that listens on port 4061 is
+
+    echo '{\"instances\":[],\"roots\":{}}' |
+        ice call FILE INTERFACE 'NAME:tcp -h HOST -p 4061' ice_ping
 
 TEXT is an identity, options, and endpoints or an adapter:
 
