@@ -3,7 +3,7 @@
 
 use ice_audit::MOST_BYTES;
 use ice_node::{Outcome, node, report};
-use ice_ports::{FolderShelf, StdSink, StdSource};
+use ice_ports::{FolderShelf, StdSink, StdSource, TcpNet};
 use std::alloc::AllocError;
 use std::io::ErrorKind;
 use std::process::ExitCode;
@@ -34,14 +34,17 @@ fn main(rt: HostRuntime) -> io::Result<ExitCode> {
     let mut source = StdSource::input(&rt);
     let mut sink = StdSink::output(&rt);
     let alloc = rt.alloc();
-    let mut shelf = FolderShelf::new(rt, MOST_OF_A_FILE);
+    let mut net = TcpNet::new(&rt);
+    let mut shelf = FolderShelf::new(&rt, MOST_OF_A_FILE);
     let status = node(
+        &rt,
         alloc,
         words.as_slice(),
         &mut shelf,
         &mut source,
         &mut sink,
         &mut errors,
+        &mut net,
     );
     Ok(ExitCode::from(status))
 }

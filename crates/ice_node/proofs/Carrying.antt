@@ -1,5 +1,5 @@
 -- What is decided for `relay` is for each reader the graph that came in.
-use Rattle.std.proofs.Common.{◌≡◌, ◌≤◌, ◌∙◌, ℕ, List, [], ◌∷◌, length, Some, None, Option, refl, sym, subst, inl, inr, codes, arith}
+use Rattle.std.proofs.Common.{◌≡◌, ◌≤◌, ◌∙◌, ℕ, List, [], ◌∷◌, length, Some, None, Option, refl, sym, subst, inl, inr, codes}
 use Rattle.ice_types.specs.declared.kind.TypeRef.{TypeRef}
 use Rattle.ice_types.specs.Tables.{Tables}
 use Rattle.ice_prims.specs.Rest.{IsBytes}

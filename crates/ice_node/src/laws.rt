@@ -14,12 +14,17 @@ ghost use Rattle.ice_relay.specs.declared.drilling.TheConstants.{MOST_NODES};
 ghost use Rattle.message_dump.specs.declared.dump.TheConstants.{MOST_MESSAGES};
 ghost use Rattle.ice_audit.specs.declared.verdict.TheConstants.{MOST_BYTES as MOST_CAPTURED};
 ghost use Rattle.node_commands.specs.declared.words.TheConstants.{MOST_OF_A_WORD};
+ghost use Rattle.call_command.specs.declared.words.TheConstants.{MOST_RETRIES, MOST_TIMES};
+ghost use Rattle.call_command.specs.declared.arguments.TheConstants.{MOST_OF_ARGUMENTS};
+ghost use Rattle.serve_command.specs.declared.words.TheConstants.{MOST_WORDS};
+ghost use Rattle.serve_command.specs.declared.operands.TheConstants.{MOST_WORKERS, MOST_CONNECTIONS};
+ghost use Rattle.serve_command.specs.declared.serving.TheConstants.{MOST_MESSAGES as MOST_SERVED};
 
 pub use once_law::{once, successes_have_turns, turns_are_single};
 
 /// The limits that the definitions name, each by its number: of encapsulations and messages, types, reads, Slice
-/// files, instances, JSON texts, compared values, drilled nodes, messages of one input, each end of a capture, and
-/// words. (The listed forms of the command line have seven words at most.)
+/// files, instances, JSON texts, compared values, drilled nodes, messages of one input, each end of a capture, words,
+/// calls and their arguments, and of serving words, workers, connections and messages.
 pub fn limits_numbered()
     ensures encapsulation { (SMALLEST ≡ 6) × (LARGEST ≡ 1048576) }
     ensures types { (MOST_DEPTH ≡ 100) × (MOST_SMALLEST ≡ 1048576) × (MOST_BASES ≡ 1000) × (MOST_NUMBER ≡ 2147483647) }
@@ -32,4 +37,6 @@ pub fn limits_numbered()
     ensures messages { MOST_MESSAGES ≡ 1000000 }
     ensures captures { MOST_CAPTURED ≡ 16777216 }
     ensures word { MOST_OF_A_WORD ≡ 8192 }
+    ensures calls { (MOST_RETRIES ≡ 10) × (MOST_TIMES ≡ 1000) × (MOST_OF_ARGUMENTS ≡ 1000000) }
+    ensures serving { (MOST_WORDS ≡ 64) × (MOST_WORKERS ≡ 64) × (MOST_CONNECTIONS ≡ 1000000) × (MOST_SERVED ≡ 1000000) }
 {}

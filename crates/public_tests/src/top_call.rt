@@ -2,10 +2,12 @@
 //! failure. What comes of other words, texts and inputs, the cases show.
 
 use ice_node::node;
-use ice_ports::{MemSink, MemSource};
+use ice_ports::{MemNet, MemSink, MemSource};
 use ice_types::List;
 use std::alloc::{AllocError, Global};
+use std::sync::Wait;
 use std::test::Fail;
+use std::thread::Threads;
 use test_outside::{bytes, calls, shelf};
 
 /// The shelf: each file's name and text.
@@ -128,7 +130,8 @@ fn words_of(alloc: Global, texts: &[&str]) -> Result<List<String>, AllocError> {
 }
 
 /// Whether the call comes to the status, output and line.
-fn comes(
+fn comes<R: Threads + Wait + Sync>(
+    rt: &R,
     alloc: Global,
     words: &[&str],
     input: &[u8],
@@ -143,14 +146,23 @@ fn comes(
     let mut source = MemSource::new(bytes(alloc, input)?, (*piece).max(1), calls(alloc, reads)?);
     let mut sink = MemSink::new(alloc, (*room).min(99), calls(alloc, writes)?)?;
     let mut errors = MemSink::new(alloc, (*line_room).min(99), calls(alloc, &[])?)?;
+    let mut net = MemNet::new(
+        alloc,
+        List::new(alloc),
+        List::new(alloc),
+        List::new(alloc),
+        true,
+    )?;
     let words = words.as_slice();
     let ended = node(
+        rt,
         alloc,
         words,
         &mut shelf,
         &mut source,
         &mut sink,
         &mut errors,
+        &mut net,
     );
     Ok(ended == status && sink.taken() == output && errors.taken() == line.as_bytes())
 }
@@ -160,7 +172,7 @@ fn each_answer_has_its_status_and_line(rt: HostRuntime) -> Result<(), Fail> {
     for (at, (words, status, output, line)) in CALLS.iter().enumerate() {
         let output = output.as_bytes();
         assert!(rt;
-            comes(rt.alloc(), words, INPUT, &WELL, *status, output, line)?,
+            comes(&rt, rt.alloc(), words, INPUT, &WELL, *status, output, line)?,
             "in call {at}"
         );
     }
@@ -171,7 +183,16 @@ fn each_answer_has_its_status_and_line(rt: HostRuntime) -> Result<(), Fail> {
 fn each_failure_has_its_status(rt: HostRuntime) -> Result<(), Fail> {
     for (at, (outside, status, output, line)) in RUNS.iter().enumerate() {
         assert!(rt;
-            comes(rt.alloc(), RELAY, INPUT, outside, *status, output, line)?,
+            comes(
+                &rt,
+                rt.alloc(),
+                RELAY,
+                INPUT,
+                outside,
+                *status,
+                output,
+                line
+            )?,
             "in run {at}"
         );
     }
@@ -183,7 +204,7 @@ fn an_input_that_has_ended_is_not_read_again(rt: HostRuntime) -> Result<(), Fail
     for (at, (words, input, reads, output)) in ENDS.iter().enumerate() {
         let outside: Outside = (1, &[], *reads, &[], 99, 99);
         assert!(rt;
-            comes(rt.alloc(), words, input, &outside, 0, output, "")?,
+            comes(&rt, rt.alloc(), words, input, &outside, 0, output, "")?,
             "in call {at}"
         );
     }

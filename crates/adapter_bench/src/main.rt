@@ -1,0 +1,85 @@
+//! Looks for objects among a thousand, for bench/lookups.
+//!
+//! usage: adapter_bench [LOOKUPS]
+//!
+//! Every second look-up is of an object that is not there. The line has the number of objects and how many look-ups
+//! found one; with LOOKUPS also the nanoseconds that they took. Without words there are 200,000.
+#![tactic(auto)]
+
+use ice_types::{Identity, Name};
+use itoa::Buffer;
+use locator_types::locator_schema;
+use object_adapter::{Adapter, Found, MOST_OBJECTS, Servant};
+use std::alloc::{AllocError, Global};
+use std::sync::Arc;
+use std::time::Instant;
+use std::{env, io};
+
+/// The identity with this number as its name.
+fn identity_of(alloc: Global, number: u32) -> Result<Identity, AllocError> {
+    let mut digits = Buffer::new();
+    Ok(Identity {
+        name: Name::of(alloc, digits.format(number))?,
+        category: Name::of(alloc, "")?,
+    })
+}
+
+/// As many echoes as may be, whose names are the numbers from 0 on.
+fn filled(alloc: Global) -> Result<Adapter, AllocError> {
+    let schema = Arc::new(alloc, locator_schema(alloc)?)?;
+    let mut adapter = Adapter::new(alloc);
+    for number in 0..MOST_OBJECTS {
+        let echo = Servant::echo(Arc::clone(&schema)?, 0);
+        let added = adapter.add(identity_of(alloc, number)?, Name::of(alloc, "")?, echo);
+        if added.is_err() {
+            return Err(AllocError);
+        }
+    }
+    Ok(adapter)
+}
+
+/// Twice as many identities as there are objects.
+fn sought(alloc: Global) -> Result<Vec<Identity>, AllocError> {
+    let mut identities = Vec::new(alloc);
+    for number in 0..2 * MOST_OBJECTS {
+        identities.push(identity_of(alloc, number)?)?;
+    }
+    Ok(identities)
+}
+
+/// How many of so many look-ups find an object, where these identities come in turn.
+fn found_of(adapter: &Adapter, identities: &[Identity], lookups: u32) -> u32 {
+    let mut found: u32 = 0;
+    let mut next = 0;
+    for _ in 0..lookups {
+        if next >= identities.len() {
+            next = 0;
+        }
+        if let Some(identity) = identities.get(next) {
+            if let Found::At(_) = adapter.find(identity, "") {
+                found = found.saturating_add(1);
+            }
+            next += 1;
+        }
+    }
+    found
+}
+
+fn main(rt: HostRuntime) -> io::Result<()> {
+    let alloc = rt.alloc();
+    let words: Vec<String> = env::args(&rt)?.collect(alloc)?;
+    let adapter = filled(alloc)?;
+    let identities = sought(alloc)?;
+    let asked = words
+        .as_slice()
+        .get(1)
+        .and_then(|word| word.as_str().parse::<u32>().ok());
+    let start = Instant::now(&rt)?;
+    let found = found_of(&adapter, identities.as_slice(), asked.unwrap_or(200_000));
+    let nanoseconds = start.elapsed(&rt)?.as_nanos();
+    let objects = adapter.len();
+    match asked {
+        Some(_) => println!(rt; "objects {objects} found {found} nanoseconds {nanoseconds}"),
+        None => println!(rt; "objects {objects} found {found}"),
+    }
+}

@@ -1,0 +1,125 @@
+-- Options that are gathered from the words.
+use Rattle.std.proofs.Common.{◌≡◌, ◌≤◌, ◌<◌, ◌+◌, ◌-◌, ℕ, zero, suc, Bool, true, false, List, [], ◌∷◌, length, take, drop, get_or, String, string_bytes, Option, Some, None, refl, sym, ap, ap₂, subst, inl, inr, ◌∙◌, codes, arith, length-drop}
+use Rattle.std.specs.declared.alloc.Global.{Global}
+use Rattle.std.specs.List.{All}
+use Rattle.std.specs.Str.{bytes_eq}
+use Rattle.std.proofs.Math.Bool.{not}
+use Rattle.std.proofs.lemmas.Bool.{false≢true}
+use Rattle.std.proofs.lemmas.Fmt.{decimal_injective}
+use Rattle.std.proofs.lemmas.List.{drop-map, map_more, take_all}
+use Rattle.std.proofs.lemmas.List.Elements.{All-nil, All-cons, All-head, All-tail, All-append}
+use Rattle.std.proofs.lemmas.Slice.Eq.{bytes_eq-Decides}
+use Rattle.node_commands.specs.Words.{Word, IsWord, words_of}
+use Rattle.call_command.specs.declared.words.Options.{Options}
+use Rattle.call_command.specs.Words.{Gives, Gathers, Numbers, IsCompacted, IsNumbered}
+
+-- ---- words where they lie in memory
+
+abbrev pub rest_of : List (String Global) → List (String Global)
+rest_of words = take (length words - 1) (drop 1 words)
+
+-- the first word, and those behind it
+pub first_word : (words : List (String Global)) (first : String Global) → 1 ≤ length words → first ≡ get_or words 0 first → words_of words ≡ string_bytes first ∷ words_of (rest_of words)
+first_word [] first le is = absurd (omega (arith, le))
+first_word (v ∷ vs) first le is = ap₂ (λ (a : Word) (b : List (String Global)). a ∷ words_of b) (ap string_bytes (sym is)) (sym (take_all (length (v ∷ vs) - 1) vs (omega arith)))
+
+pub two_words : (words : List (String Global)) (first second : String Global) → 1 ≤ length words → first ≡ get_or words 0 first → 1 ≤ length (rest_of words) → second ≡ get_or (rest_of words) 0 second
+    → words_of words ≡ string_bytes first ∷ string_bytes second ∷ words_of (rest_of (rest_of words))
+two_words words first second le is more also = first_word words first le is ∙ ap (λ (l : List Word). string_bytes first ∷ l) (first_word (rest_of words) second more also)
+
+-- as many
+pub as_many : (words : List (String Global)) → length (words_of words) ≡ length words
+as_many [] = refl
+as_many (v ∷ vs) = ap suc (as_many vs)
+
+-- those behind the first so many
+pub behind : (n : ℕ) (words : List (String Global)) → words_of (take (length words - n) (drop n words)) ≡ drop n (words_of words)
+behind n words = ap words_of (take_all (length words - n) (drop n words) (omega (arith, length-drop n words))) ∙ sym (drop-map string_bytes n words)
+
+pub same_word : (x y : Word) (b : Bool) → b ≡ bytes_eq x y → b ≡ true → x ≡ y
+same_word x y b is on = (bytes_eq-Decides x y).0 (sym is ∙ on)
+
+pub other_word : (x y : Word) (b : Bool) → b ≡ bytes_eq x y → b ≡ false → x ≡ y → ⊥
+other_word x y b is off e = false≢true (sym off ∙ (is ∙ (bytes_eq-Decides x y).1 e))
+
+pub no_other_word : (x y : Word) (b : Bool) → b ≡ not (bytes_eq x y) → b ≡ false → x ≡ y
+no_other_word x y b is off = (bytes_eq-Decides x y).0 (turned (bytes_eq x y) (sym is ∙ off))
+  where
+    turned : (c : Bool) → not c ≡ false → c ≡ true
+    turned true e = refl
+    turned false e = absurd (false≢true (sym e))
+
+-- ---- words that are not too long
+
+-- one more of them
+pub short_more : (words : List (String Global)) (i : ℕ) (item : String Global) → i < length words → item ≡ get_or words i item → All IsWord (words_of (take i words)) → IsWord (string_bytes item)
+    → All IsWord (words_of (take (i + 1) words))
+short_more words i item lt is all one =
+    let last : IsWord (string_bytes (get_or words i item)) = subst (λ (w : String Global). IsWord (string_bytes w)) is one in
+    subst (All IsWord) (sym (map_more string_bytes words i item lt))
+    (All-append IsWord (words_of (take i words)) (string_bytes (get_or words i item) ∷ []) all (All-cons IsWord (string_bytes (get_or words i item)) [] last (All-nil IsWord)))
+
+-- all of them
+pub all_short : (words : List (String Global)) (i : ℕ) → length words ≤ i → All IsWord (words_of (take i words)) → All IsWord (words_of words)
+all_short words i le all = subst (λ (l : List (String Global)). All IsWord (words_of l)) (take_all i words le) all
+
+pub one_short : (words : List (String Global)) (i : ℕ) (item : String Global) → i < length words → item ≡ get_or words i item → All IsWord (words_of words) → IsWord (string_bytes item)
+one_short [] i item lt is all = absurd (omega (arith, lt))
+one_short (w ∷ ws) zero item lt is all = subst IsWord (ap string_bytes (sym is)) (All-head IsWord (string_bytes w) (words_of ws) all)
+one_short (w ∷ ws) (suc i) item lt is all = one_short ws i item (omega (arith, lt)) is (All-tail IsWord (string_bytes w) (words_of ws) all)
+
+-- ---- one option
+
+abbrev letter : ℕ → Word → ℕ
+letter n word = get_or word n 0
+
+-- an option with a number is not the one without
+pub number_of_none : (before after : Options) (name value : Word) → name ≡ codes "--compact" → IsNumbered before name value after → ⊥
+number_of_none before after name value is (inl (n, also, spelled, none, same)) = let e : 99 ≡ 114 = ap (letter 2) (sym is ∙ also) in omega (arith, e)
+number_of_none before after name value is (inr (n, also, spelled, none, same)) = let e : 99 ≡ 116 = ap (letter 2) (sym is ∙ also) in omega (arith, e)
+
+pub compacted_same : (before a b : Options) (name : Word) → IsCompacted before name a → IsCompacted before name b → a ≡ b
+compacted_same before a b name (is, none, same) (also, never, other) = same ∙ sym other
+
+numbers_differ : (name : Word) → name ≡ codes "--retries" → name ≡ codes "--times" → ⊥
+numbers_differ name is also = let e : 114 ≡ 116 = ap (letter 2) (sym is ∙ also) in omega (arith, e)
+
+pub numbered_same : (before a b : Options) (name value : Word) → IsNumbered before name value a → IsNumbered before name value b → a ≡ b
+numbered_same before a b name value (inl (n, is, (spelled, low, high), none, same)) (inl (m, also, (other, least, most), never, alike)) =
+    let e : n ≡ m = decimal_injective n m (omega (arith, high)) (omega (arith, most)) (sym spelled ∙ other) in
+    same ∙ (ap (λ (k : ℕ). record before { retries = Some k }) e ∙ sym alike)
+numbered_same before a b name value (inl (n, is, spelled, none, same)) (inr (m, also, other, never, alike)) = absurd (numbers_differ name is also)
+numbered_same before a b name value (inr (n, is, spelled, none, same)) (inl (m, also, other, never, alike)) = absurd (numbers_differ name also is)
+numbered_same before a b name value (inr (n, is, (spelled, low, high), none, same)) (inr (m, also, (other, least, most), never, alike)) =
+    let e : n ≡ m = decimal_injective n m (omega (arith, high)) (omega (arith, most)) (sym spelled ∙ other) in
+    same ∙ (ap (λ (k : ℕ). record before { times = Some k }) e ∙ sym alike)
+
+-- ---- one more, in front of those that follow
+
+pub compact_given : (before : Options) (name : Word) (words : List Word) (result : Option Options) → name ≡ codes "--compact" → before.compact ≡ false
+    → Gathers (record before { compact = true }) words result → Gathers before (name ∷ words) result
+compact_given before name [] None is off h = λ after g. h (record before { compact = true }) refl
+compact_given before name [] (Some after) is off h = (is, off, h)
+compact_given before name (value ∷ words) None is off h = back
+  where
+    back : (after : Options) → Gives before (name ∷ value ∷ words) after → ⊥
+    back after (inl (next, (also, none, same), more)) = h after (subst (λ (o : Options). Gives o (value ∷ words) after) same more)
+    back after (inr (next, numbered, more)) = number_of_none before next name value is numbered
+compact_given before name (value ∷ words) (Some after) is off h = inl (record before { compact = true }, (is, off, refl), h)
+
+module _ (before : Options) (name value : Word) (words : List Word) (other : name ≡ codes "--compact" → ⊥) where
+  -- what stands behind it is no number for it
+  pub number_refused : Numbers before name value None → Gathers before (name ∷ value ∷ words) None
+  number_refused h = back
+    where
+      back : (after : Options) → Gives before (name ∷ value ∷ words) after → ⊥
+      back after (inl (next, compacted, more)) = other compacted.0
+      back after (inr (next, numbered, more)) = h next numbered
+
+  pub number_given : (next : Options) (result : Option Options) → Numbers before name value (Some next) → Gathers next words result → Gathers before (name ∷ value ∷ words) result
+  number_given next None numbered h = back
+    where
+      back : (after : Options) → Gives before (name ∷ value ∷ words) after → ⊥
+      back after (inl (found, compacted, more)) = other compacted.0
+      back after (inr (found, also, more)) = h after (subst (λ (o : Options). Gives o words after) (numbered_same before found next name value also numbered) more)
+  number_given next (Some after) numbered h = inr (next, numbered, h)

@@ -1,0 +1,12 @@
+pub mod Declared
+pub mod Stepping
+pub mod Repeating
+pub mod Rounding
+pub mod Giving
+pub mod Wording
+pub mod Encoding
+pub mod OneForm
+pub mod Planned
+pub mod Listed
+pub mod Delivering
+pub mod Replying

@@ -1,0 +1,31 @@
+-- What the results of a call come to: a line, or what stops the call.
+use Rattle.std.proofs.Common.{◌≡◌, ℕ, List, ◌++◌, Ok, Err, refl, ap, subst, ◌∙◌, codes}
+use Rattle.ice_types.specs.declared.declarations.Shape.{Shape}
+use Rattle.ice_prims.specs.Rest.{whole, IsBytes}
+use Rattle.ice_prims.specs.Taking.{Fails}
+use Rattle.ice_prims.specs.declared.fault.ReadFault.{ReadFault}
+use Rattle.ice_prims.specs.declared.fault.ReadFault.TheVariants as read_faults
+use Rattle.ice_graphs.specs.Graph.{Graph}
+use Rattle.ice_graphs.specs.Flags.{all_slices}
+use Rattle.ice_graphs.specs.Instances.{numbered_at}
+use Rattle.ice_graphs.proofs.Graphs.{numbered_found}
+use Rattle.graph_json.specs.Texts.{graph_text}
+use Rattle.ice_messages.specs.declared.message.Answer.TheVariants as answers
+use Rattle.ice_client.specs.declared.outcome.Outcome.TheVariants as outcomes
+use Rattle.call_command.specs.Planning.{Plan}
+use Rattle.call_command.specs.Replies.{TellsResults}
+use Rattle.call_command.specs.Steps.{LacksLine, of_read}
+
+module _ (plan : Plan) (asked : Shape) (is : asked ≡ plan.results) (body : List ℕ) where
+  pub told_line : IsBytes body → (g : Graph) (line : List ℕ) → numbered_at plan.tables all_slices asked (whole body) ≡ Ok g
+      → line ≡ graph_text plan.tables asked g ++ codes "\n" → TellsResults plan body line
+  told_line fits g line read printed = (
+    g,
+    numbered_found plan.tables all_slices plan.results body g fits (subst (λ (x : Shape). numbered_at plan.tables all_slices x (whole body) ≡ Ok g) is read),
+    printed ∙ ap (λ (x : Shape). graph_text plan.tables x g ++ codes "\n") is,
+  )
+
+  pub told_fault : (fault : ReadFault) → Fails fault (numbered_at plan.tables all_slices asked (whole body))
+      → LacksLine plan (outcomes.Replied (answers.Done body)) (of_read fault)
+  told_fault (read_faults.Broken fault) read = (fault, subst (λ (x : Shape). numbered_at plan.tables all_slices x (whole body) ≡ Err fault) is read, refl)
+  told_fault read_faults.Memory read = tt

@@ -1,0 +1,182 @@
+-- What is decided by some of the steps is decided by all of them.
+use Rattle.std.proofs.Common.{◌≡◌, ◌≤◌, ◌⊎◌, ℕ, List, [], Option, Some, None, Result, Ok, Err, refl, sym, ap, subst, inl, inr, ◌∙◌}
+use Rattle.std.specs.Io.KnownBytes.{Keeps, Appends}
+use Rattle.std.proofs.KnownBytes.{Appends-nil}
+use Rattle.ice_types.specs.declared.proxy.Proxy.{Proxy}
+use Rattle.ice_types.specs.Tables.{Tables, HasId, interface_ids}
+use Rattle.ice_ports.specs.Failures.{one_more}
+use Rattle.ice_relay.specs.TextStreams.{TakesText}
+use Rattle.node_commands.specs.Words.{Word}
+use Rattle.node_commands.specs.Outside.{Files, Failures, counts}
+use Rattle.node_commands.specs.Answers.{Answer, done, different, usage, no_such_name, slice_refused, input_refused, json_refused, too_long, needs_sliced, text_refused, read_failed, write_failed, no_memory, refused_after, read_failed_after, no_memory_after}
+use Rattle.node_commands.specs.Decided.{IsSchema}
+use Rattle.node_commands.specs.Effects.{GetsText}
+use Rattle.node_commands.specs.Outcomes.{GivesNoSchema}
+use Rattle.node_commands.proofs.Keeping.{keeps_itself}
+use Rattle.proxy_text.specs.Grammar.{proxy_text}
+use Rattle.call_command.specs.declared.stop.Stop.{Stop}
+use Rattle.call_command.specs.Words.{CallWords}
+use Rattle.call_command.specs.Operations.{Operation, operation_of}
+use Rattle.call_command.specs.Planning.{Plan}
+use Rattle.call_command.specs.Endings.{Ended, finished, refused, twoway_only, stopped}
+use Rattle.call_command.specs.Decided.{IsListed, LacksReply, Reaches, Plans, Decides}
+use Rattle.call_command.specs.Rounds.{NetSeen, sink_seen, Finishes, Stops}
+use Rattle.call_command.specs.Called.{Steps, WantsInput, Comes, TakesInput}
+use Rattle.call_command.specs.Steps.{KnownDecides, KnownWants, SchemaDecides, SchemaWants, LacksPlan, LooksFor}
+
+abbrev answer_in : Ended → Answer
+answer_in finished = no_memory
+answer_in (refused answer) = answer
+answer_in (twoway_only word) = no_memory
+answer_in (stopped stop) = no_memory
+
+-- the same answer was refused
+same_answer : (a b : Answer) → refused a ≡ refused b → a ≡ b
+same_answer a b e = ap answer_in e
+
+-- ---- of the operation and the proxy
+
+module _ (c : CallWords) (input : Option (List ℕ)) (o : Operation) (p : Proxy) (came : Ended) (P Q : Plan → Type 0) (f : (plan : Plan) → P plan → Q plan) where
+  plans_then : Plans c input came P o p → Plans c input came Q o p
+  plans_then (inl refusal) = inl refusal
+  plans_then (inr (g, lists, inl needs)) = inr (g, lists, inl needs)
+  plans_then (inr (g, lists, inr (writable, inl long))) = inr (g, lists, inr (writable, inl long))
+  plans_then (inr (g, lists, inr (writable, inr (short, inl long)))) = inr (g, lists, inr (writable, inr (short, inl long)))
+  plans_then (inr (g, lists, inr (writable, inr (short, inr (fits, next))))) = inr (g, lists, inr (writable, inr (short, inr (fits, f _ next))))
+
+  pub known_then : KnownDecides c input o p came P → KnownDecides c input o p came Q
+  known_then (inl lacks) = inl lacks
+  known_then (inr (replies, plans)) = inr (replies, plans_then plans)
+
+-- ---- from some steps to all
+
+module _ (A B : Steps) (V W : Type 0) (chain : (came : Ended) (Next : Plan → Type 0) → A came Next → B came Next) (wants : V → W) (before after : Failures) (old new : Option (List ℕ)) (net now : NetSeen) where
+  pub comes_so : (came : Ended) → Comes A V before after old new net now came → Comes B W before after old new net now came
+  comes_so (refused answer) (inl (decided, none), kept, same) = (inl (chain (refused answer) (λ plan. ⊥) decided, none), kept, same)
+  comes_so (refused answer) (inr (inl (is, inl shelf)), kept, same) = (inr (inl (is, inl shelf)), kept, same)
+  comes_so (refused answer) (inr (inl (is, inr (wanted, source))), kept, same) = (inr (inl (is, inr (wants wanted, source))), kept, same)
+  comes_so (refused answer) (inr (inr memory), kept, same) = (inr (inr memory), kept, same)
+  comes_so (twoway_only word) (decided, none, kept, same) = (chain (twoway_only word) (λ plan. ⊥) decided, none, kept, same)
+  comes_so finished (decided, none) = (chain finished _ decided, none)
+  comes_so (stopped stop) (decided, none) = (chain (stopped stop) _ decided, none)
+
+pub takes_so : (V W : Type 0) → (V → W) → (old new : Option (List ℕ)) → TakesInput V old new → TakesInput W old new
+takes_so V W wants old new (inl kept) = inl kept
+takes_so V W wants old new (inr (wanted, taken)) = inr (wants wanted, taken)
+
+-- ---- where there is no plan
+
+module _ (c : CallWords) (input : Option (List ℕ)) (o : Operation) (p : Proxy) (shelf source now sink : ℕ) (old : Option (List ℕ)) (net : NetSeen) where
+  pub unplanned : (came : Ended) → LacksPlan c input o p source now came → Comes (KnownDecides c input o p) (KnownWants c o p) (counts shelf source sink) (counts shelf now sink) old old net net came
+  unplanned (refused answer) (inl (decided, same)) = (inl (decided, (refl, same, refl)), keeps_itself old, refl)
+  unplanned (refused answer) (inr (inl (is, wanted, rose))) = (inr (inl (same_answer answer read_failed is, inr (wanted, (refl, rose, refl)))), keeps_itself old, refl)
+  unplanned (refused answer) (inr (inr (is, same))) = (inr (inr (same_answer answer no_memory is, (refl, same, refl))), keeps_itself old, refl)
+  unplanned (twoway_only word) (inl (decided, same)) = (decided, (refl, same, refl), keeps_itself old, refl)
+  unplanned (twoway_only word) (inr (inl (is, wanted, rose))) = absurd cc
+  unplanned (twoway_only word) (inr (inr (is, same))) = absurd cc
+  unplanned finished (inl (decided, same)) = (known_then c input o p finished (λ plan. ⊥) (λ plan. Finishes plan (sink_seen old sink) (sink_seen old sink) net net) (λ plan never. absurd never) decided, (refl, same))
+  unplanned finished (inr (inl (is, wanted, rose))) = absurd cc
+  unplanned finished (inr (inr (is, same))) = absurd cc
+  unplanned (stopped stop) (inl (decided, same)) = (known_then c input o p (stopped stop) (λ plan. ⊥) (λ plan. Stops plan (sink_seen old sink) (sink_seen old sink) net net stop) (λ plan never. absurd never) decided, (refl, same))
+  unplanned (stopped stop) (inr (inl (is, wanted, rose))) = absurd cc
+  unplanned (stopped stop) (inr (inr (is, same))) = absurd cc
+
+-- the input is looked for where a reply can come
+pub looked_for : (c : CallWords) (o : Operation) (p : Proxy) (old new : Option (List ℕ)) → LooksFor (LacksReply p o.declared) old new → TakesInput (KnownWants c o p) old new
+looked_for c o p old new (inl kept) = inl kept
+looked_for c o p old new (inr (replies, taken)) = inr (inr (replies, tt), taken)
+
+-- ---- where there is no schema
+
+module _ (c : CallWords) (files : Option Files) (input : Option (List ℕ)) (shelf now source sink : ℕ) (old : Option (List ℕ)) (net : NetSeen) where
+  pub unloaded : IsListed (proxy_text c.proxy) → (answer : Answer) → GivesNoSchema files c.file shelf now answer
+      → Comes (Decides c files input) (WantsInput c files) (counts shelf source sink) (counts now source sink) old old net net (refused answer)
+  unloaded listed (slice_refused broken) h = (inl (inr (listed, inl (broken, h.0, refl)), (h.1, refl, refl)), keeps_itself old, refl)
+  unloaded listed read_failed h = (inr (inl (refl, inl (h, refl, refl))), keeps_itself old, refl)
+  unloaded listed no_memory h = (inr (inr (refl, (h, refl, refl))), keeps_itself old, refl)
+  unloaded listed (done bytes) h = absurd h
+  unloaded listed (different bytes) h = absurd h
+  unloaded listed usage h = absurd h
+  unloaded listed (no_such_name word) h = absurd h
+  unloaded listed (input_refused fault) h = absurd h
+  unloaded listed (json_refused why) h = absurd h
+  unloaded listed (too_long length) h = absurd h
+  unloaded listed needs_sliced h = absurd h
+  unloaded listed (text_refused place) h = absurd h
+  unloaded listed (write_failed bytes) h = absurd h
+  unloaded listed (refused_after written fault) h = absurd h
+  unloaded listed (read_failed_after written) h = absurd h
+  unloaded listed (no_memory_after written) h = absurd h
+
+  pub unlisted : (came : Ended) → ((IsListed (proxy_text c.proxy) → ⊥) × (came ≡ refused usage)) ⊎ (came ≡ refused no_memory)
+      → Comes (Decides c files input) (WantsInput c files) (counts shelf source sink) (counts shelf source sink) old old net net came
+  unlisted (refused answer) (inl (not, is)) = (inl (inl (not, is), (refl, refl, refl)), keeps_itself old, refl)
+  unlisted (refused answer) (inr is) = (inr (inr (same_answer answer no_memory is, (refl, refl, refl))), keeps_itself old, refl)
+  unlisted (twoway_only word) (inl (not, is)) = absurd cc
+  unlisted (twoway_only word) (inr is) = absurd cc
+  unlisted finished (inl (not, is)) = absurd cc
+  unlisted finished (inr is) = absurd cc
+  unlisted (stopped stop) (inl (not, is)) = absurd cc
+  unlisted (stopped stop) (inr is) = absurd cc
+
+-- ---- where there is a plan
+
+module _ (c : CallWords) (input : Option (List ℕ)) (o : Operation) (p : Proxy) (shelf source now sink after : ℕ) (old new : Option (List ℕ)) (net later : NetSeen) (plan : Plan)
+    (given : (came : Ended) → KnownDecides c input o p came (λ q. q ≡ plan)) (same : now ≡ source) where
+  pub finished_so : Finishes plan (sink_seen old sink) (sink_seen new after) net later
+      → Comes (KnownDecides c input o p) (KnownWants c o p) (counts shelf source sink) (counts shelf now after) old new net later finished
+  finished_so h = (
+    known_then c input o p finished (λ q. q ≡ plan) (λ q. Finishes q (sink_seen old sink) (sink_seen new after) net later)
+        (λ q is. subst (λ (x : Plan). Finishes x (sink_seen old sink) (sink_seen new after) net later) (sym is) h) (given finished),
+    (refl, same),
+  )
+
+  pub stopped_so : (stop : Stop) → Stops plan (sink_seen old sink) (sink_seen new after) net later stop
+      → Comes (KnownDecides c input o p) (KnownWants c o p) (counts shelf source sink) (counts shelf now after) old new net later (stopped stop)
+  stopped_so stop h = (
+    known_then c input o p (stopped stop) (λ q. q ≡ plan) (λ q. Stops q (sink_seen old sink) (sink_seen new after) net later stop)
+        (λ q is. subst (λ (x : Plan). Stops x (sink_seen old sink) (sink_seen new after) net later stop) (sym is) h) (given (stopped stop)),
+    (refl, same),
+  )
+
+-- ---- where a name or the proxy's text is refused
+
+module _ (c : CallWords) (input : Option (List ℕ)) (parsed : Result Proxy ℕ) (t : Tables) (shelf source sink : ℕ) (old : Option (List ℕ)) (net : NetSeen) where
+  abbrev pub RefusedHere : Answer → Type 0
+  RefusedHere answer = Comes (SchemaDecides c input parsed t) (SchemaWants c parsed t) (counts shelf source sink) (counts shelf source sink) old old net net (refused answer)
+
+  pub no_interface : ((at : ℕ) → HasId (interface_ids t) c.interface at → ⊥) → RefusedHere (no_such_name c.interface)
+  no_interface none = (inl (inl (none, refl), (refl, refl, refl)), keeps_itself old, refl)
+
+  pub out_of_memory : RefusedHere no_memory
+  out_of_memory = (inr (inr (refl, (refl, refl, refl))), keeps_itself old, refl)
+
+  module _ (at : ℕ) (has : HasId (interface_ids t) c.interface at) where
+    pub no_operation : operation_of t at c.operation ≡ None → RefusedHere (no_such_name c.operation)
+    no_operation none = (inl (inr (at, has, inl (none, refl)), (refl, refl, refl)), keeps_itself old, refl)
+
+    pub no_proxy : (o : Operation) → operation_of t at c.operation ≡ Some o → (place : ℕ) → parsed ≡ Err place → RefusedHere (text_refused place)
+    no_proxy o is place text = (inl (inr (at, has, inr (o, is, inl (place, text, refl))), (refl, refl, refl)), keeps_itself old, refl)
+
+-- ---- the steps before the operation and the proxy
+
+module _ (c : CallWords) (input : Option (List ℕ)) (parsed : Result Proxy ℕ) (t : Tables) (at : ℕ) (has : HasId (interface_ids t) c.interface at)
+    (o : Operation) (is : operation_of t at c.operation ≡ Some o) (p : Proxy) (text : parsed ≡ Ok p) where
+  pub schema_decides : (came : Ended) (Next : Plan → Type 0) → KnownDecides c input o p came Next → SchemaDecides c input parsed t came Next
+  schema_decides came Next h = inr (at, has, inr (o, is, inr (p, text, h)))
+
+  pub schema_wants : KnownWants c o p → SchemaWants c parsed t
+  schema_wants h = inr (at, has, inr (o, is, inr (p, text, h)))
+
+module _ (c : CallWords) (files : Option Files) (input : Option (List ℕ)) (parsed : Result Proxy ℕ) (t : Tables)
+    (text : proxy_text c.proxy ≡ parsed) (listed : IsListed (proxy_text c.proxy)) (means : IsSchema files c.file t) where
+  pub all_decide : (came : Ended) (Next : Plan → Type 0) → SchemaDecides c input parsed t came Next → Decides c files input came Next
+  all_decide came Next h = inr (listed, inr (t, means, subst (λ (x : Result Proxy ℕ). SchemaDecides c input x t came Next) (sym text) h))
+
+  pub all_want : SchemaWants c parsed t → WantsInput c files
+  all_want h = inr (listed, inr (t, means, subst (λ (x : Result Proxy ℕ). SchemaWants c x t) (sym text) h))
+
+-- ---- the line of a success is none
+
+pub no_line : (old : Option (List ℕ)) (n : ℕ) → GetsText old old n n []
+no_line old n = inl (Appends-nil old, refl)

@@ -1,0 +1,17 @@
+use Rattle.std.proofs.Common.{arith}
+use Rattle.call_command.specs.Planning.{seen}
+use Rattle.call_command.specs.Rounds.{net_seen}
+use Rattle.call_command.proofs.Delivering.{delivers, delivers_nothing}
+use Rattle.call_command.proofs.performing.deliver.Goals as goal
+
+pub returns-in-Ok : goal.returns-in-Ok
+returns-in-Ok g c =
+    let told = c.in-Ok.ensures.told in
+    delivers (seen c.args.plan.now) told.0 (net_seen (g.N.Net.told c.args.net.now) (g.N.Net.failures c.args.net.now) (g.N.Net.listen_failures c.args.net.now))
+    (net_seen (g.N.Net.told c.invoked.new.net) (g.N.Net.failures c.invoked.new.net) (g.N.Net.listen_failures c.invoked.new.net)) told.1 c.in-Ok.ensures.kept c.in-Ok.invoked told.2 c.in-Ok.ensures.fails
+
+pub returns-in-Err-Memory : goal.returns-in-Err-Memory
+returns-in-Err-Memory g c =
+    let told = c.in-Err-Memory.ensures.told in
+    delivers_nothing (seen c.args.plan.now) told.0 (net_seen (g.N.Net.told c.args.net.now) (g.N.Net.failures c.args.net.now) (g.N.Net.listen_failures c.args.net.now))
+    (net_seen (g.N.Net.told c.invoked.new.net) (g.N.Net.failures c.invoked.new.net) (g.N.Net.listen_failures c.invoked.new.net)) told.1 c.in-Err-Memory.ensures.kept

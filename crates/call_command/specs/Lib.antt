@@ -1,0 +1,10 @@
+pub mod Words
+pub mod Operations
+pub mod Messages
+pub mod Planning
+pub mod Replies
+pub mod Rounds
+pub mod Endings
+pub mod Decided
+pub mod Called
+pub mod Steps

@@ -1,0 +1,120 @@
+//! The message that is sent.
+
+ghost use Rattle.std.specs.Prelude.{◌≡◌, ◌<◌, [], IfOk, length, replicate};
+ghost use Rattle.ice_messages.specs.declared.message.Message.TheVariants.{Batch};
+ghost use Rattle.ice_messages.specs.Messages.{message_bytes};
+ghost use Rattle.ice_messages.specs.Written.{told};
+ghost use Rattle.call_command.specs.Messages.{call_of, message_of};
+ghost use Rattle.call_command.specs.Steps.{MakesMessage};
+
+use ice_encoding::LARGEST;
+use ice_messages::{Call, Message, request_length};
+use ice_relay::RelayFault;
+use ice_types::{Bytes, Identity, List, Name, Proxy};
+use std::alloc::{AllocError, Global};
+
+/// How many bytes a message of calls has beside them: its header, and the id or the count.
+const BESIDE_CALLS: u64 = 18;
+
+/// The call of the operation of the proxy's object, with these arguments.
+pub(crate) fn call_with(
+    alloc: Global,
+    proxy: &Proxy,
+    operation: &str,
+    mode: u8,
+    body: Bytes,
+) -> Result<Call, AllocError>
+    ensures { IfOk result (λ c. c ≡ call_of proxy.now operation.now mode body) }
+{
+    Ok(Call {
+        identity: Identity {
+            name: Name::of(alloc, proxy.identity.name.as_str())?,
+            category: Name::of(alloc, proxy.identity.category.as_str())?,
+        },
+        facet: Name::of(alloc, proxy.facet.as_str())?,
+        operation: Name::of(alloc, operation)?,
+        mode,
+        context: List::new(alloc),
+        body,
+    })
+}
+
+/// The message that a call goes in, by the mode of the proxy: a request that wants a reply, one that wants none, or so
+/// many of the call in a batch. One that is too long is refused with its length.
+pub(crate) fn message_of(
+    alloc: Global,
+    mode: u8,
+    call: Call,
+    times: u32,
+) -> Result<Message, RelayFault>
+    requires times { 0 < times }
+    requires context { call.context ≡ [] }
+    ensures { MakesMessage (message_of mode times call) result }
+{
+    let length = message_length(mode, &call, times);
+    if length > LARGEST as u64 {
+        return Err(RelayFault::TooLong(length));
+    }
+    match mode {
+        0 => Ok(Message::Request { id: 1, call }),
+        1 => Ok(Message::Request { id: 0, call }),
+        _ => Ok(Message::Batch {
+            calls: repeated(alloc, &call, times)?,
+        }),
+    }
+}
+
+/// How many bytes it has.
+fn message_length(mode: u8, call: &Call, times: u32) -> u64
+    requires { 0 < times }
+    ensures { result ≡ told (length (message_bytes (message_of mode times call.now))) }
+{
+    match mode {
+        0 => request_length(call),
+        1 => request_length(call),
+        _ => repeated_length(call, times),
+    }
+}
+
+/// How many bytes a batch of so many such calls has.
+fn repeated_length(call: &Call, times: u32) -> u64
+    requires { 0 < times }
+    ensures { result ≡ told (length (message_bytes (Batch (replicate times call.now)))) }
+{
+    request_length(call)
+        .saturating_sub(BESIDE_CALLS)
+        .saturating_mul(times as u64)
+        .saturating_add(BESIDE_CALLS)
+}
+
+/// So many of the call.
+fn repeated(alloc: Global, call: &Call, times: u32) -> Result<List<Call>, AllocError>
+    requires { call.now.context ≡ [] }
+    ensures { IfOk result (λ calls. calls ≡ replicate times call.now) }
+{
+    let mut calls = List::new(alloc);
+    for _ in 0..times {
+        calls.push(copy_of(alloc, call)?)?;
+    }
+    Ok(calls)
+}
+
+/// A copy of a call without a context.
+fn copy_of(alloc: Global, call: &Call) -> Result<Call, AllocError>
+    requires { call.now.context ≡ [] }
+    ensures { IfOk result (λ c. c ≡ call.now) }
+{
+    let mut body = Vec::new(alloc);
+    body.extend_from_slice(call.body.as_slice())?;
+    Ok(Call {
+        identity: Identity {
+            name: Name::of(alloc, call.identity.name.as_str())?,
+            category: Name::of(alloc, call.identity.category.as_str())?,
+        },
+        facet: Name::of(alloc, call.facet.as_str())?,
+        operation: Name::of(alloc, call.operation.as_str())?,
+        mode: call.mode,
+        context: List::new(alloc),
+        body: Bytes::from_vec(body),
+    })
+}

@@ -1,0 +1,104 @@
+//! All that is decided of the operation and the proxy before anything is connected.
+
+ghost use Rattle.std.specs.Prelude.{◌≡◌, ◌↔◌, ◌⊎◌, ◌≤◌, IfOk, IsTrue, length};
+ghost use Rattle.std.specs.Io.KnownBytes.{Keeps};
+ghost use Rattle.ice_relay.specs.TextStreams.{TakesText};
+ghost use Rattle.call_command.specs.Words.{IsWithin, seen as words_seen};
+ghost use Rattle.call_command.specs.Operations.{IsDeclared, seen as operation_seen};
+ghost use Rattle.call_command.specs.Decided.{LacksReply};
+ghost use Rattle.call_command.specs.Messages as spec;
+ghost use Rattle.call_command.specs.Steps.{CanBeSent, GivesPlan, LooksFor};
+
+use crate::arguments::body_of;
+use crate::ending::Ending;
+use crate::known::{Known, wants_reply};
+use crate::messages::{call_with, message_of};
+use crate::words::CallCommand;
+use ice_messages::Message;
+use ice_ports::Source;
+use ice_relay::read_text;
+use ice_types::{OpDecl, Proxy, Schema, Shape};
+use std::alloc::Global;
+
+/// What is sent, how often, and what its answer is read by.
+#[derive(Debug, Drop)]
+pub struct Plan<'a> {
+    pub schema: &'a Schema,
+    pub results: &'a Shape,
+    pub proxy: Proxy,
+    pub message: Message,
+    pub retries: u32,
+    /// How many messages there are, one after the other.
+    pub rounds: u32,
+    /// How many calls each has.
+    pub calls: u32,
+}
+
+/// The plan of a call of the operation, with arguments out of the source.
+pub(crate) fn plan_of<'a, 'b, S: Source>(
+    alloc: Global,
+    command: CallCommand<'b>,
+    known: Known<'a>,
+    proxy: Proxy,
+    source: &mut S,
+) -> Result<Plan<'a>, Ending<'b>>
+    requires within { IsWithin (words_seen command) }
+    requires listed { proxy.mode ≤ 2 }
+    requires declared { IsDeclared (operation_seen known) }
+    ensures plan { GivesPlan (words_seen command.entry) (S.left source.old) (operation_seen known.entry) proxy
+        (S.failures source.old) (S.failures source.new) result }
+    ensures sendable { IfOk result CanBeSent }
+    ensures taken { LooksFor (LacksReply proxy known.entry.operation.now) (S.left source.old) (S.left source.new) }
+{
+    if lacks_reply(&proxy, known.operation) {
+        return Err(Ending::TwowayOnly(command.operation));
+    }
+    let text = read_text(alloc, source)?;
+    let body = body_of(
+        alloc,
+        known.schema,
+        &known.operation.arguments,
+        command.format,
+        text.as_slice(),
+    )?;
+    let call = call_with(alloc, &proxy, command.operation, known.mode, body)?;
+    let message = message_of(alloc, proxy.mode, call, command.times)?;
+    Ok(Plan {
+        schema: known.schema,
+        results: &known.operation.results,
+        retries: command.retries,
+        rounds: rounds_of(proxy.mode, command.times),
+        calls: calls_of(proxy.mode, command.times),
+        proxy,
+        message,
+    })
+}
+
+/// Whether the proxy asks for no reply, and the operation wants one.
+fn lacks_reply(proxy: &Proxy, operation: &OpDecl) -> bool
+    ensures { IsTrue result ↔ LacksReply proxy.now operation.now }
+{
+    proxy.mode > 0 && wants_reply(operation)
+}
+
+/// How many messages there are: in batch mode one.
+fn rounds_of(mode: u8, times: u32) -> u32
+    ensures { result ≡ spec.rounds_of mode times }
+{
+    match mode {
+        0 => times,
+        1 => times,
+        _ => 1,
+    }
+}
+
+/// How many calls each message has.
+fn calls_of(mode: u8, times: u32) -> u32
+    ensures { result ≡ spec.calls_of mode times }
+{
+    match mode {
+        0 => 1,
+        1 => 1,
+        _ => times,
+    }
+}

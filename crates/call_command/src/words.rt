@@ -1,0 +1,166 @@
+//! The words of `call`.
+
+ghost use Rattle.std.specs.Prelude.{◌↔◌, IfSome, IsTrue};
+ghost use Rattle.node_commands.specs.Words.{IsWord, words_of};
+ghost use Rattle.call_command.specs.Words.{AsksCall, HasOneForm, IsApart, IsNamed, IsOption, IsWithin, Gathers, Numbers, seen};
+ghost use Rattle.std.specs.List.{All};
+
+use class_slices::Format;
+use node_commands::{MOST_OF_A_WORD, number_of};
+
+/// The most retries of a message.
+pub const MOST_RETRIES: u32 = 10;
+
+/// The most invocations of one command.
+pub const MOST_TIMES: u32 = 1000;
+
+/// The option for how often a message is tried again.
+const RETRIES: &str = "--retries";
+
+/// The option for the number of invocations.
+const TIMES: &str = "--times";
+
+/// The option for compact format.
+const COMPACT: &str = "--compact";
+
+/// `call [--retries R] [--times T] [--compact] FILE INTERFACE PROXY OPERATION`
+#[derive(Clone, Copy, Debug, PartialEq, Eq)]
+pub struct CallCommand<'a> {
+    /// How often a message is tried again, at most.
+    pub retries: u32,
+    /// How many invocations there are.
+    pub times: u32,
+    /// How the arguments are written.
+    pub format: Format,
+    pub file: &'a str,
+    pub interface: &'a str,
+    pub proxy: &'a str,
+    pub operation: &'a str,
+}
+
+/// The options that were given.
+#[derive(Clone, Copy, Debug, PartialEq, Eq)]
+pub struct Options {
+    pub retries: Option<u32>,
+    pub times: Option<u32>,
+    pub compact: bool,
+}
+
+/// The call that the words ask for, None where they are no form of it.
+pub fn call_of(words: &[String]) -> Option<CallCommand<'_>>
+    ensures asks { AsksCall (words_of words.now) result }
+    ensures within { IfSome result (λ c. IsWithin (seen c)) }
+{
+    let [command, words @ ..] = words else {
+        return None;
+    };
+    if command.as_str() != "call" {
+        return None;
+    }
+    let options = words.len().checked_sub(4)?;
+    let given = options_of(
+        &words[..options],
+        Options {
+            retries: None,
+            times: None,
+            compact: false,
+        },
+    )?;
+    named(given, &words[options..])
+}
+
+/// The call with these options, of the words behind them.
+fn named(given: Options, words: &[String]) -> Option<CallCommand<'_>>
+    ensures { IsNamed given (words_of words.now) result }
+{
+    let [file, interface, proxy, operation] = words else {
+        return None;
+    };
+    if is_option(file.as_str()) || !are_short(words) {
+        return None;
+    }
+    Some(CallCommand {
+        retries: given.retries.unwrap_or(1),
+        times: given.times.unwrap_or(1),
+        format: if given.compact {
+            Format::Compact
+        } else {
+            Format::Sliced
+        },
+        file: file.as_str(),
+        interface: interface.as_str(),
+        proxy: proxy.as_str(),
+        operation: operation.as_str(),
+    })
+}
+
+/// Whether the word is an option, which a file is not.
+fn is_option(word: &str) -> bool
+    ensures { IsTrue result ↔ IsOption word.now }
+{
+    matches!(word, RETRIES | TIMES | COMPACT)
+}
+
+/// Whether each word is within the limit of words.
+fn are_short(words: &[String]) -> bool
+    ensures { IsTrue result ↔ All IsWord (words_of words.now) }
+{
+    for word in words {
+        if word.len() > MOST_OF_A_WORD {
+            return false;
+        }
+    }
+    true
+}
+
+/// The options given so far, with those of the words: each at most once.
+fn options_of(words: &[String], given: Options) -> Option<Options>
+    ensures { Gathers given (words_of words.now) result }
+{
+    let [name, words @ ..] = words else {
+        return Some(given);
+    };
+    if name.as_str() == COMPACT {
+        if given.compact {
+            return None;
+        }
+        return options_of(
+            words,
+            Options {
+                compact: true,
+                ..given
+            },
+        );
+    }
+    let [value, words @ ..] = words else {
+        return None;
+    };
+    options_of(words, with_number(name.as_str(), value.as_str(), given)?)
+}
+
+/// The options with one more, which has a number.
+fn with_number(name: &str, value: &str, given: Options) -> Option<Options>
+    ensures { Numbers given name.now value.now result }
+{
+    match name {
+        RETRIES if given.retries.is_none() => Some(Options {
+            retries: Some(number_of(value, 0, MOST_RETRIES)?),
+            ..given
+        }),
+        TIMES if given.times.is_none() => Some(Options {
+            times: Some(number_of(value, 1, MOST_TIMES)?),
+            ..given
+        }),
+        _ => None,
+    }
+}
+
+/// No words ask for a call and for another command.
+pub fn calls_apart()
+    ensures { IsApart }
+{}
+
+/// Words ask for one call at most.
+pub fn one_form()
+    ensures { HasOneForm }
+{}

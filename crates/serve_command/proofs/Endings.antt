@@ -1,0 +1,114 @@
+-- How serving ends, from what its steps came to.
+use Rattle.std.proofs.Common.{◌≡◌, ◌⊎◌, ℕ, Bool, true, false, List, [], ◌++◌, Option, None, Some, refl, sym, ap, ◌∙◌, subst, inl, inr, append_assoc}
+use Rattle.std.specs.Prelude.{nat_lt}
+use Rattle.std.specs.Io.KnownBytes.{Keeps, Appends}
+use Rattle.std.proofs.KnownBytes.{Appends-trans}
+use Rattle.ice_ports.specs.Failures.{count_after}
+use Rattle.ice_ports.specs.Nets.{ToldNet, ToldListener, IsNewListener}
+use Rattle.object_adapter.specs.Objects.{Objects}
+use Rattle.dispatch_pool.specs.declared.lanes.Lanes.{Lanes}
+use Rattle.dispatch_pool.specs.declared.lanes.LanePasses.{LanePasses}
+use Rattle.node_commands.specs.declared.outcome.Outcome.{Outcome}
+use Rattle.node_commands.specs.Outside.{Outside, Files, outside, counts}
+use Rattle.serve_command.specs.declared.ending.Ending.{Ending}
+use Rattle.serve_command.specs.declared.ending.Ending.TheVariants as endings
+use Rattle.serve_command.specs.Words.{Serve}
+use Rattle.serve_command.specs.Ends.{answered, end_of}
+use Rattle.serve_command.specs.Served.{Network, network, Sets, IsPort, asked, listening, served, WritesEnd, Comes, refused, unread, starved, unheard, untold, ended}
+use Rattle.serve_command.specs.Steps.{AreLanes, MakesNone, Serves, Listens, Asks, EndsWith, answered_by}
+
+-- ---- counts of a net
+
+-- a listener whose accepts did not fail came back
+pub retired_unused : (old new n : ℕ) → new ≡ count_after old (nat_lt 0 n) → n ≡ 0 → new ≡ old
+retired_unused old new n is none = is ∙ ap (λ (z : ℕ). count_after old (nat_lt 0 z)) none
+
+-- one came back whose accept failed, or not
+pub retired : (old new n first : ℕ) (failed : Bool) → new ≡ count_after old (nat_lt 0 n) → n ≡ count_after first failed → first ≡ 0 → new ≡ count_after old failed
+retired old new n first true is counted none = is ∙ ap (λ (z : ℕ). count_after old (nat_lt 0 z)) (counted ∙ ap (λ (z : ℕ). count_after z true) none)
+retired old new n first false is counted none = is ∙ ap (λ (z : ℕ). count_after old (nat_lt 0 z)) (counted ∙ ap (λ (z : ℕ). count_after z false) none)
+
+-- as many as were asked for, or none is to come
+pub why_ended : {A B C D : Type 0} → (A × B) ⊎ (C × D) → A ⊎ D
+why_ended (inl h) = inl h.0
+why_ended (inr h) = inr h.1
+
+keeps : (o : Option (List ℕ)) → Keeps o o
+keeps None = tt
+keeps (Some xs) = refl
+
+-- ---- the words make no objects
+
+module _ (c : Serve) (files files' : Option Files) (input errors errors' out : Option (List ℕ)) (shelf shelf' source sink error error' : ℕ) (net : Network) where
+  abbrev before : Outside
+  before = outside files input out errors (counts shelf source sink) error
+
+  abbrev after : Outside
+  after = outside files' input out errors' (counts shelf' source sink) error'
+
+  pub none_made : (outcome : Outcome) → MakesNone c files shelf shelf' (answered_by outcome) → (bytes : List ℕ) × Comes c before after net net (end_of (endings.Known outcome) bytes)
+  none_made outcome (inl h) = ([], refused (answered_by outcome) refl h.0 (h.1, refl, refl) (keeps out) refl)
+  none_made outcome (inr (inl h)) = ([], unread (ap answered h.0) (h.1, refl, refl) (keeps out) refl)
+  none_made outcome (inr (inr h)) = ([], starved (ap answered h.0) (h.1, refl, refl) (keeps out) refl)
+
+-- ---- it was to listen
+
+module _ (c : Serve) (files files' : Option Files) (input errors errors' out out' : Option (List ℕ)) (shelf shelf' source sink sink' error error' : ℕ) (told : Option ToldNet) (failures : ℕ) (later : Network) (same : shelf' ≡ shelf) where
+  abbrev old : Outside
+  old = outside files input out errors (counts shelf source sink) error
+
+  abbrev new : Outside
+  new = outside files' input out' errors' (counts shelf' source sink') error'
+
+  -- the last line, behind the first
+  writes : (mid : Option (List ℕ)) (port count : ℕ) (failed lacked : Bool) (ending : Ending) → Appends out mid (listening port) → EndsWith mid out' sink sink' (served count) failed lacked ending
+      → (bytes : List ℕ) × WritesEnd old new (listening port ++ served count) (listening port) failed lacked (end_of ending bytes)
+  writes mid port count failed true ending first (e, o, n) = ([], rw e (refl, (same, refl, n), subst (λ (z : Option (List ℕ)). Appends out z (listening port)) (sym o) first))
+  writes mid port count true false ending first (e, o, n) = ([], rw e (refl, (same, refl, n), subst (λ (z : Option (List ℕ)). Appends out z (listening port)) (sym o) first))
+  writes mid port count false false ending first (inl (e, more, n)) =
+      (listening port ++ served count, rw e (inl (refl, (same, refl, n), Appends-trans out mid out' (listening port) (served count) first more)))
+  writes mid port count false false ending first (inr (e, more, n)) = (
+    listening port ++ served count,
+    rw e (inr (
+      refl,
+      (same, refl, n),
+      (listening port ++ more.0, more.1, ap (λ (z : List ℕ). listening port ++ z) more.2 ∙ simp append_assoc, Appends-trans out mid out' (listening port) more.0 first more.3),
+    )),
+  )
+
+  module _ (o : Objects) (lanes : Lanes) (begun : LanePasses) (sets : Sets c files o) (are : AreLanes o lanes begun) where
+    -- it served
+    has_served : (first : Option ToldListener) (port : ℕ) (mid : Option (List ℕ)) (ending : Ending) → IsNewListener told first → IsPort c port → Appends out mid (listening port)
+        → Serves c lanes begun first mid out' sink sink' (network (asked c told) failures) later ending → (bytes : List ℕ) × Comes c old new (network told failures) later (end_of ending bytes)
+    has_served first port mid ending fresh is_port line (count, failed, lacked, heard, ends) =
+        let w = writes mid port count failed lacked ending line ends in (
+          w.0,
+          ended o port count failed lacked sets is_port (record {
+            lanes = lanes;
+            keys = are.keys;
+            opens = are.opens;
+            begun = begun;
+            new = are.new;
+            first = first;
+            fresh = fresh;
+            heard = heard;
+          }) w.1,
+        )
+
+    -- it listened
+    listened : (first : Option ToldListener) (port : ℕ) (ending : Ending) → IsNewListener told first → IsPort c port
+        → Listens c lanes begun first port out out' sink sink' (network (asked c told) failures) later ending → (bytes : List ℕ) × Comes c old new (network told failures) later (end_of ending bytes)
+    listened first port ending fresh is_port (inl (e, prefix, n, back, count)) = (
+      listening port,
+      rw e (untold o port refl sets is_port (same, refl, n) prefix (record {
+        first = first;
+        fresh = fresh;
+        told = back;
+        counted = count;
+      })),
+    )
+    listened first port ending fresh is_port (inr (mid, line, serves)) = has_served first port mid ending fresh is_port line serves
+
+    pub has_asked : (ending : Ending) → Asks c lanes begun out out' sink sink' (network told failures) later ending → (bytes : List ℕ) × Comes c old new (network told failures) later (end_of ending bytes)
+    has_asked ending (inl (e, kept, n, asks, count)) = ([], rw e (unheard o refl sets (same, refl, n) (subst (λ (z : Option (List ℕ)). Keeps out z) (sym kept) (keeps out)) asks count))
+    has_asked ending (inr (first, port, fresh, is_port, listens)) = listened first port ending fresh is_port listens

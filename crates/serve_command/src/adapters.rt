@@ -1,0 +1,163 @@
+//! The objects of the words.
+
+ghost use Rattle.std.specs.Prelude.{◌≡◌, ◌<◌, ℕ, List, [], Some, Ok, Err, IfOk, OnOk, length};
+ghost use Rattle.std.specs.Arc.{arc_value};
+ghost use Rattle.ice_types.specs.declared.identity.Identity.{Identity};
+ghost use Rattle.proxy_text.specs.IdentityText.{identity_text};
+ghost use Rattle.object_adapter.specs.Adapters.{HasKey};
+ghost use Rattle.object_adapter.specs.declared.keys.TheConstants.{MOST_OBJECTS};
+ghost use Rattle.node_commands.specs.Words.{IsWord, Word};
+ghost use Rattle.serve_command.specs.declared.apart.Named.{Named};
+ghost use Rattle.serve_command.specs.ObjectWords.{AreShort, named_by, object_of};
+ghost use Rattle.serve_command.specs.Words.{ServeForm, command_of, objects_of};
+ghost use Rattle.serve_command.specs.Adapters.{AddsOne, Breaks, IsAdapter, LacksInterface, Makes, Never};
+ghost use Rattle.serve_command.specs.Adapters.{IsEchoOf, IsLocatorOf, IsStoreOf};
+ghost use Rattle.serve_command.specs.Steps.{AreSound, IsInterfaced, IsObjectOf, IsStarved, MakesLanes, NamesInterface};
+
+use crate::names::{interface_of, name_all};
+use crate::object_words::ObjectWord;
+use crate::places::{added, places_of};
+use crate::texts::{identity_of, read_all};
+use crate::words::ServeCommand;
+use dispatch_pool::{LanePasses, Lanes};
+use ice_ports::Shelf;
+use ice_types::{Name, Schema};
+use node_commands::{Outcome, load_schema};
+use object_adapter::{Adapter, Servant};
+use std::alloc::Global;
+use std::sync::Arc;
+
+/// The objects of the words, each in a lane of its own, and the first passes of them; or why there are none.
+pub(crate) fn lanes_of<'a, H: Shelf>(
+    alloc: Global,
+    command: &ServeCommand<'a>,
+    shelf: &mut H,
+) -> Result<(Lanes, LanePasses), Outcome<'a>>
+    requires { (words : List Word) × ServeForm words (command_of command.now) }
+    ensures { MakesLanes (command_of command.now) (H.files shelf.old)
+        (H.failures shelf.old) (H.failures shelf.new) result }
+{
+    let objects = command.objects.as_slice();
+    let schema = load_schema(alloc, command.file, shelf)?;
+    name_all(&schema, objects)?;
+    read_all(alloc, objects)?;
+    let adapter = adapter_of(alloc, schema, objects)?;
+    Ok(Lanes::new(alloc, adapter)?)
+}
+
+/// The adapter with the objects of the words.
+fn adapter_of<'a>(
+    alloc: Global,
+    schema: Schema,
+    objects: &[ObjectWord<'a>],
+) -> Result<Adapter, Outcome<'a>>
+    requires words { AreSound (objects_of objects.now) }
+    requires names { Never (LacksInterface schema) (objects_of objects.now) }
+    ensures ok { IfOk result (IsAdapter schema (objects_of objects.now)) }
+    ensures err { IsStarved result }
+{
+    let schema = match Arc::new(alloc, schema) {
+        Ok(schema) => schema,
+        Err(_) => return Err(Outcome::Memory),
+    };
+    let mut adapter = Adapter::new(alloc);
+    for object in objects {
+        put_object(alloc, &schema, objects, object, &mut adapter)?;
+    }
+    Ok(adapter)
+}
+
+/// Adds the object of the word, where it asks for one.
+fn put_object<'a>(
+    alloc: Global,
+    schema: &Arc<Schema>,
+    objects: &[ObjectWord<'a>],
+    object: &ObjectWord<'a>,
+    adapter: &mut Adapter,
+) -> Result<(), Outcome<'a>>
+    requires words { AreSound (objects_of objects.now) }
+    requires short { AreShort (object_of object.now) }
+    requires names { IsInterfaced (arc_value schema.now) (object_of object.now) }
+    requires reads { (at : ℕ) → Breaks (object_of object.now) at → ⊥ }
+    requires new { (name : Named) → named_by (object_of object.now) ≡ Some name → IsObjectOf adapter.old name → ⊥ }
+    requires room { length adapter.old.keys < MOST_OBJECTS }
+    ensures ok { OnOk result (Makes (arc_value schema.now) (objects_of objects.now) (object_of object.now)
+        adapter.old adapter.new) }
+    ensures err { IsStarved result }
+{
+    match object {
+        ObjectWord::Store {
+            identity,
+            interface,
+        } => {
+            let servant = store_of(alloc, schema, interface)?;
+            add_one(alloc, identity, servant, adapter)
+        }
+        ObjectWord::Echo {
+            identity,
+            interface,
+        } => {
+            let servant = echo_of(schema, interface)?;
+            add_one(alloc, identity, servant, adapter)
+        }
+        ObjectWord::Locator { identity } => {
+            let servant = locator_of(alloc, objects)?;
+            add_one(alloc, identity, servant, adapter)
+        }
+        ObjectWord::Place { .. } | ObjectWord::Adapter { .. } => Ok(()),
+    }
+}
+
+/// A store of the interface that the word names.
+fn store_of<'a>(
+    alloc: Global,
+    schema: &Arc<Schema>,
+    interface: &'a str,
+) -> Result<Servant, Outcome<'a>>
+    requires { NamesInterface (arc_value schema.now) interface.now }
+    ensures ok { IfOk result (IsStoreOf (arc_value schema.now) interface.now) }
+    ensures err { IsStarved result }
+{
+    let at = interface_of(schema, interface)?;
+    Ok(Servant::store(alloc, Arc::clone(schema)?, at)?)
+}
+
+/// An echo of the interface that the word names.
+fn echo_of<'a>(schema: &Arc<Schema>, interface: &'a str) -> Result<Servant, Outcome<'a>>
+    requires { NamesInterface (arc_value schema.now) interface.now }
+    ensures ok { IfOk result (IsEchoOf (arc_value schema.now) interface.now) }
+    ensures err { IsStarved result }
+{
+    let at = interface_of(schema, interface)?;
+    Ok(Servant::echo(Arc::clone(schema)?, at))
+}
+
+/// A locator that knows the places of the words.
+fn locator_of(alloc: Global, objects: &[ObjectWord<'_>]) -> Result<Servant, Outcome<'static>>
+    requires { AreSound (objects_of objects.now) }
+    ensures ok { IfOk result (IsLocatorOf (objects_of objects.now)) }
+    ensures err { IsStarved result }
+{
+    let places = places_of(alloc, objects)?;
+    Ok(Servant::locator(alloc, places)?)
+}
+
+/// Adds the object under the identity that the text stands for, and no facet.
+fn add_one(
+    alloc: Global,
+    text: &str,
+    servant: Servant,
+    adapter: &mut Adapter,
+) -> Result<(), Outcome<'static>>
+    requires short { IsWord text.now }
+    requires reads { (at : ℕ) → identity_text text.now ≡ Err at → ⊥ }
+    requires new { (identity : Identity) → identity_text text.now ≡ Ok identity
+        → HasKey adapter.old.keys (identity, []) → ⊥ }
+    requires room { length adapter.old.keys < MOST_OBJECTS }
+    ensures ok { OnOk result (AddsOne text.now (λ s. s ≡ servant) adapter.old adapter.new) }
+    ensures err { IsStarved result }
+{
+    let identity = identity_of(alloc, text)?;
+    let facet = Name::of(alloc, "")?;
+    added(adapter.add(identity, facet, servant))
+}

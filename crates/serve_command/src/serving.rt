@@ -1,0 +1,194 @@
+//! Listening, and serving.
+
+ghost use Rattle.std.specs.Prelude.{ℕ, ◌≡◌, ◌<◌, ◌++◌, List, Option, codes};
+ghost use Rattle.std.specs.Fmt.{decimal};
+ghost use Rattle.dispatch_pool.specs.Lanes.{AreOf, AreWhole};
+ghost use Rattle.node_commands.specs.Outside.{counts, outside};
+ghost use Rattle.node_commands.specs.Words.{Word};
+ghost use Rattle.serve_command.specs.Ends.{end_of};
+ghost use Rattle.serve_command.specs.Served.{Comes, Served, network, served};
+ghost use Rattle.serve_command.specs.Steps.{Asks, EndsWith, Listens, Serves, Tells};
+ghost use Rattle.serve_command.specs.Words.{ServeForm, command_of};
+
+use crate::adapters::lanes_of;
+use crate::ending::{Ending, report};
+use crate::words::ServeCommand;
+use dispatch_pool::{LanePasses, Lanes, OpenGate};
+use ice_ports::{Failed, Listener, Net, Shelf, Sink, write_pieces};
+use itoa::Buffer;
+use node_commands::Outcome;
+use std::alloc::Global;
+use std::sync::Wait;
+use std::thread::Threads;
+use worker_pool::serve_all;
+
+/// The most messages of one connection.
+pub const MOST_MESSAGES: u64 = 1_000_000;
+
+/// Serves the objects of the words, and answers the status to end with.
+pub fn serve<R: Threads + Wait + Sync, H: Shelf, K: Sink, E: Sink, N: Net>(
+    rt: &R,
+    alloc: Global,
+    command: ServeCommand<'_>,
+    shelf: &mut H,
+    sink: &mut K,
+    errors: &mut E,
+    net: &mut N,
+) -> u8
+    requires { (words : List Word) × ServeForm words (command_of command) }
+    ensures { (input : Option (List ℕ)) (source : ℕ) → Served (command_of command.entry)
+        (outside (H.files shelf.old) input (K.taken sink.old) (E.taken errors.old)
+        (counts (H.failures shelf.old) source (K.failures sink.old)) (E.failures errors.old))
+        (outside (H.files shelf.new) input (K.taken sink.new) (E.taken errors.new)
+        (counts (H.failures shelf.new) source (K.failures sink.new)) (E.failures errors.new))
+        (network (N.told net.old) (N.listen_failures net.old))
+        (network (N.told net.new) (N.listen_failures net.new)) result }
+{
+    let ending = end_of(rt, alloc, &command, shelf, sink, net);
+    report(ending, errors)
+}
+
+/// Serves the objects of the words.
+fn end_of<'a, R: Threads + Wait + Sync, H: Shelf, K: Sink, N: Net>(
+    rt: &R,
+    alloc: Global,
+    command: &ServeCommand<'a>,
+    shelf: &mut H,
+    sink: &mut K,
+    net: &mut N,
+) -> Ending<'a>
+    requires { (words : List Word) × ServeForm words (command_of command.now) }
+    ensures { (input before after : Option (List ℕ)) (source error later : ℕ)
+        → (bytes : List ℕ) × Comes (command_of command.now)
+        (outside (H.files shelf.old) input (K.taken sink.old) before
+        (counts (H.failures shelf.old) source (K.failures sink.old)) error)
+        (outside (H.files shelf.new) input (K.taken sink.new) after
+        (counts (H.failures shelf.new) source (K.failures sink.new)) later)
+        (network (N.told net.old) (N.listen_failures net.old))
+        (network (N.told net.new) (N.listen_failures net.new)) (end_of result bytes) }
+{
+    match lanes_of(alloc, command, shelf) {
+        Ok((lanes, passes)) => listen(rt, alloc, command, lanes, passes, sink, net),
+        Err(outcome) => Ending::Known(outcome),
+    }
+}
+
+/// Listens where the words say, and serves there.
+fn listen<R: Threads + Wait + Sync, K: Sink, N: Net>(
+    rt: &R,
+    alloc: Global,
+    command: &ServeCommand<'_>,
+    lanes: Lanes,
+    passes: LanePasses,
+    sink: &mut K,
+    net: &mut N,
+) -> Ending<'static>
+    requires of { AreOf lanes passes }
+    requires whole { AreWhole passes }
+    requires workers { 0 < command.now.workers }
+    ensures { Asks (command_of command.now) lanes passes
+        (K.taken sink.old) (K.taken sink.new) (K.failures sink.old) (K.failures sink.new)
+        (network (N.told net.old) (N.listen_failures net.old))
+        (network (N.told net.new) (N.listen_failures net.new)) result }
+{
+    match net.listen(command.host, command.port) {
+        Ok(listener) => serve_at(rt, alloc, command, lanes, passes, listener, sink, net),
+        Err(Failed) => Ending::NetworkFailed,
+    }
+}
+
+/// Tells where the listener listens, and serves its links. A line that cannot be written takes no link.
+fn serve_at<R: Threads + Wait + Sync, K: Sink, N: Net>(
+    rt: &R,
+    alloc: Global,
+    command: &ServeCommand<'_>,
+    lanes: Lanes,
+    passes: LanePasses,
+    listener: N::Listener,
+    sink: &mut K,
+    net: &mut N,
+) -> Ending<'static>
+    requires of { AreOf lanes passes }
+    requires whole { AreWhole passes }
+    requires workers { 0 < command.now.workers }
+    requires new { (N.Listener.failures listener ≡ 0) }
+    ensures { Listens (command_of command.now) lanes passes (N.Listener.told listener) (N.Listener.port listener)
+        (K.taken sink.old) (K.taken sink.new) (K.failures sink.old) (K.failures sink.new)
+        (network (N.told net.old) (N.listen_failures net.old))
+        (network (N.told net.new) (N.listen_failures net.new)) result }
+{
+    if tell(sink, "listening ", u64::from(listener.port())) {
+        return serve_links(rt, alloc, command, lanes, passes, listener, sink, net);
+    }
+    net.retire(listener);
+    Ending::Known(Outcome::WriteFailed)
+}
+
+/// Serves the links of the listener, and tells how many.
+fn serve_links<R: Threads + Wait + Sync, K: Sink, N: Net>(
+    rt: &R,
+    alloc: Global,
+    command: &ServeCommand<'_>,
+    lanes: Lanes,
+    passes: LanePasses,
+    listener: N::Listener,
+    sink: &mut K,
+    net: &mut N,
+) -> Ending<'static>
+    requires of { AreOf lanes passes }
+    requires whole { AreWhole passes }
+    requires workers { 0 < command.now.workers }
+    requires new { (N.Listener.failures listener ≡ 0) }
+    ensures { Serves (command_of command.now) lanes passes (N.Listener.told listener)
+        (K.taken sink.old) (K.taken sink.new) (K.failures sink.old) (K.failures sink.new)
+        (network (N.told net.old) (N.listen_failures net.old))
+        (network (N.told net.new) (N.listen_failures net.new)) result }
+{
+    let served = serve_all(
+        rt,
+        alloc,
+        &lanes,
+        passes,
+        &OpenGate,
+        listener,
+        command.workers,
+        u64::from(command.connections),
+        MOST_MESSAGES,
+    );
+    let worker_pool::Served {
+        door,
+        passes: _,
+        accepted,
+        failed,
+        starved,
+    } = served;
+    net.retire(door);
+    end_with(accepted, failed, starved, sink)
+}
+
+/// Tells how many links were served, where nothing failed and memory did not lack.
+fn end_with<K: Sink>(accepted: u64, failed: bool, starved: bool, sink: &mut K) -> Ending<'static>
+    ensures { EndsWith (K.taken sink.old) (K.taken sink.new) (K.failures sink.old) (K.failures sink.new)
+        (served accepted) failed starved result }
+{
+    if starved {
+        return Ending::Known(Outcome::Memory);
+    }
+    if failed {
+        return Ending::NetworkFailed;
+    }
+    if tell(sink, "served ", accepted) {
+        Ending::Known(Outcome::Done)
+    } else {
+        Ending::Known(Outcome::WriteFailed)
+    }
+}
+
+/// Writes a line: the words and a number. False where a write failed.
+fn tell<K: Sink>(sink: &mut K, words: &str, number: u64) -> bool
+    ensures { Tells (K.taken sink.old) (K.taken sink.new) (K.failures sink.old) (K.failures sink.new) result
+        (words.now ++ (decimal number ++ codes "\n")) }
+{
+    let mut digits = Buffer::new();
+    write_pieces(sink, &[words, digits.format(number), "\n"]).is_ok()
+}

@@ -1,0 +1,7 @@
+//! Tests of the command `serve`, over public calls.
+#![tactic(auto)]
+
+#[cfg(test)]
+mod meeting;
+#[cfg(test)]
+mod workers;
