@@ -64,6 +64,10 @@ class Walk:
 
     def whole(self, root, kind):
         noted = self.value(root, kind)
+        return {"instances": self.listing(), "roots": {"$value": noted}}
+
+    def listing(self):
+        """Returns the instances that the values so far lead to, and puts in their numbers."""
         open_ = [self.taken()]
         while open_:
             if not open_[-1]:
@@ -75,7 +79,7 @@ class Walk:
                 self.listed.append({"slices": self.slices(held)})
                 open_.append(self.taken())
             reference["$"] = self.numbers[id(held)]
-        return {"instances": self.listed, "roots": {"$value": noted}}
+        return self.listed
 
     def taken(self):
         waiting, self.waiting = self.waiting, []
