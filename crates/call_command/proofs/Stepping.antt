@@ -1,12 +1,8 @@
 -- What is decided by some of the steps is decided by all of them.
-use Rattle.std.proofs.Common.{◌≡◌, ◌≤◌, ◌⊎◌, ℕ, List, [], Option, Some, None, Result, Ok, Err, refl, sym, ap, subst, inl, inr, ◌∙◌}
-use Rattle.std.specs.Io.KnownBytes.{Keeps, Appends}
+use Rattle.std.proofs.Common.{◌≡◌, ◌⊎◌, ℕ, List, [], Option, Some, None, Result, Ok, Err, refl, sym, ap, subst, inl, inr}
 use Rattle.std.proofs.KnownBytes.{Appends-nil}
 use Rattle.ice_types.specs.declared.proxy.Proxy.{Proxy}
 use Rattle.ice_types.specs.Tables.{Tables, HasId, interface_ids}
-use Rattle.ice_ports.specs.Failures.{one_more}
-use Rattle.ice_relay.specs.TextStreams.{TakesText}
-use Rattle.node_commands.specs.Words.{Word}
 use Rattle.node_commands.specs.Outside.{Files, Failures, counts}
 use Rattle.node_commands.specs.Answers.{Answer, done, different, usage, no_such_name, slice_refused, input_refused, json_refused, too_long, needs_sliced, text_refused, read_failed, write_failed, no_memory, refused_after, read_failed_after, no_memory_after}
 use Rattle.node_commands.specs.Decided.{IsSchema}
@@ -19,7 +15,7 @@ use Rattle.call_command.specs.Words.{CallWords}
 use Rattle.call_command.specs.Operations.{Operation, operation_of}
 use Rattle.call_command.specs.Planning.{Plan}
 use Rattle.call_command.specs.Endings.{Ended, finished, refused, twoway_only, stopped}
-use Rattle.call_command.specs.Decided.{IsListed, LacksReply, Reaches, Plans, Decides}
+use Rattle.call_command.specs.Decided.{IsListed, LacksReply, Plans, Decides}
 use Rattle.call_command.specs.Rounds.{NetSeen, sink_seen, Finishes, Stops}
 use Rattle.call_command.specs.Called.{Steps, WantsInput, Comes, TakesInput}
 use Rattle.call_command.specs.Steps.{KnownDecides, KnownWants, SchemaDecides, SchemaWants, LacksPlan, LooksFor}

@@ -1,5 +1,5 @@
 -- The message that is sent. (Ice manual, "Oneway Invocations", "Batched Invocations" and "Protocol Messages".)
-use Rattle.std.specs.Prelude.{ℕ, zero, suc, pos, ◌≡◌, List, [], ◌++◌, codes, replicate}
+use Rattle.std.specs.Prelude.{ℕ, zero, suc, pos, List, [], ◌++◌, codes, replicate}
 use Rattle.std.specs.Fmt.{decimal}
 use Rattle.ice_types.specs.declared.proxy.Proxy.{Proxy}
 use Rattle.ice_messages.specs.declared.message.Call.{Call}

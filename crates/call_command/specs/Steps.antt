@@ -1,5 +1,5 @@
 -- What the parts of a call answer on the way.
-use Rattle.std.specs.Prelude.{ℕ, ℤ, pos, negsuc, zero, suc, ◌≡◌, ◌<◌, ◌≤◌, ◌⊎◌, ◌↔◌, Bool, true, false, List, [], ◌∷◌, length, Option, Some, None, Result, Ok, Err, Vec, if◌then◌else◌, unwrap_or}
+use Rattle.std.specs.Prelude.{ℕ, pos, negsuc, zero, suc, ◌≡◌, ◌<◌, ◌≤◌, ◌⊎◌, List, length, Option, Some, None, Result, Ok, Err, Vec}
 use Rattle.std.specs.declared.alloc.Global.{Global}
 use Rattle.std.specs.Io.KnownBytes.{Keeps, Appends}
 use Rattle.ice_types.specs.declared.proxy.Proxy.{Proxy}
@@ -28,7 +28,6 @@ use Rattle.ice_client.specs.ClientDid.{Tried, Made, Rises}
 use Rattle.ice_relay.specs.TextStreams.{TakesText}
 use Rattle.ice_relay.specs.declared.fault.RelayFault.{RelayFault}
 use Rattle.ice_relay.specs.declared.fault.RelayFault.TheVariants as faults
-use Rattle.node_commands.specs.Words.{Word}
 use Rattle.node_commands.specs.Answers.{usage, read_failed, no_memory}
 use Rattle.call_command.specs.declared.arguments.TheConstants.{MOST_OF_ARGUMENTS}
 use Rattle.call_command.specs.declared.preparing.Plan.{Plan as Written}
@@ -39,10 +38,10 @@ use Rattle.call_command.specs.declared.stop.Reason.{Reason}
 use Rattle.call_command.specs.declared.stop.Reason.TheVariants as reasons
 use Rattle.call_command.specs.Words.{CallWords}
 use Rattle.call_command.specs.Operations.{Operation}
-use Rattle.call_command.specs.Planning.{Plan, plan_of, seen}
-use Rattle.call_command.specs.Replies.{TellsResults, IsLine, IsReason}
+use Rattle.call_command.specs.Planning.{Plan, seen}
+use Rattle.call_command.specs.Replies.{IsLine, IsReason}
 use Rattle.call_command.specs.Endings.{Ended, refused, ending_seen}
-use Rattle.call_command.specs.Decided.{IsListed, LacksReply, WithInterface, WithOperation, WithProxy, WithReply, Plans}
+use Rattle.call_command.specs.Decided.{IsListed, WithInterface, WithOperation, WithProxy, WithReply, Plans}
 use Rattle.call_command.specs.Rounds.{Delivered, NetSeen, SinkSeen}
 
 -- ---- the proxy

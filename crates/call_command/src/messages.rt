@@ -27,15 +27,22 @@ pub(crate) fn call_with(
     ensures { IfOk result (λ c. c ≡ call_of proxy.now operation.now mode body) }
 {
     Ok(Call {
-        identity: Identity {
-            name: Name::of(alloc, proxy.identity.name.as_str())?,
-            category: Name::of(alloc, proxy.identity.category.as_str())?,
-        },
+        identity: identity_like(alloc, &proxy.identity)?,
         facet: Name::of(alloc, proxy.facet.as_str())?,
         operation: Name::of(alloc, operation)?,
         mode,
         context: List::new(alloc),
         body,
+    })
+}
+
+/// A copy of the identity.
+fn identity_like(alloc: Global, identity: &Identity) -> Result<Identity, AllocError>
+    ensures { IfOk result (λ copy. copy ≡ identity.now) }
+{
+    Ok(Identity {
+        name: Name::of(alloc, identity.name.as_str())?,
+        category: Name::of(alloc, identity.category.as_str())?,
     })
 }
 
@@ -107,10 +114,7 @@ fn copy_of(alloc: Global, call: &Call) -> Result<Call, AllocError>
     let mut body = Vec::new(alloc);
     body.extend_from_slice(call.body.as_slice())?;
     Ok(Call {
-        identity: Identity {
-            name: Name::of(alloc, call.identity.name.as_str())?,
-            category: Name::of(alloc, call.identity.category.as_str())?,
-        },
+        identity: identity_like(alloc, &call.identity)?,
         facet: Name::of(alloc, call.facet.as_str())?,
         operation: Name::of(alloc, call.operation.as_str())?,
         mode: call.mode,

@@ -2,7 +2,8 @@
 
 ghost use Rattle.std.specs.Prelude.{◌↔◌, IfSome, IsTrue};
 ghost use Rattle.node_commands.specs.Words.{IsWord, words_of};
-ghost use Rattle.call_command.specs.Words.{AsksCall, HasOneForm, IsApart, IsNamed, IsOption, IsWithin, Gathers, Numbers, seen};
+ghost use Rattle.call_command.specs.Words.{AsksCall, Gathers, HasOneForm, IsApart, IsNamed};
+ghost use Rattle.call_command.specs.Words.{IsOption, IsWithin, Numbers, seen};
 ghost use Rattle.std.specs.List.{All};
 
 use class_slices::Format;

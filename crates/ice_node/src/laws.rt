@@ -1,5 +1,5 @@
-//! Laws of the whole program: the numbers of the limits, so that none of them can change unseen; and that what both ends
-//! of calls say is one world (`once`).
+//! Laws of the whole program: the numbers of the limits, so that none of them can change unseen; and that what both
+//! ends of calls say is one world (`once`).
 
 ghost use Rattle.std.specs.Prelude.{◌≡◌};
 ghost use Rattle.ice_encoding.specs.declared.limits.TheConstants.{LARGEST, SMALLEST};

@@ -1,6 +1,5 @@
 use Rattle.std.proofs.Common.{ℕ, [], sym, subst, inl}
 use Rattle.std.proofs.lemmas.Result.{err_from_is_err_and}
-use Rattle.proxy_text.specs.Grammar.{proxy_text}
 use Rattle.node_commands.specs.Outside.{counts}
 use Rattle.node_commands.specs.Outcomes.{answer_of}
 use Rattle.node_commands.proofs.Keeping.{keeps_itself}

@@ -1,4 +1,4 @@
-use Rattle.std.proofs.Common.{Err, refl, sym, inl}
+use Rattle.std.proofs.Common.{sym, inl}
 use Rattle.std.proofs.lemmas.Result.{err_from_is_err_and}
 use Rattle.node_commands.specs.Outside.{counts}
 use Rattle.node_commands.proofs.Keeping.{keeps_itself}

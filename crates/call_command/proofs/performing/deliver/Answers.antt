@@ -1,4 +1,3 @@
-use Rattle.std.proofs.Common.{arith}
 use Rattle.call_command.specs.Planning.{seen}
 use Rattle.call_command.specs.Rounds.{net_seen}
 use Rattle.call_command.proofs.Delivering.{delivers, delivers_nothing}

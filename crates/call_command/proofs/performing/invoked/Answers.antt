@@ -1,4 +1,3 @@
-use Rattle.std.proofs.Common.{Some}
 use Rattle.call_command.proofs.Delivering.{writable_call, invokes_so, oneway_else}
 use Rattle.call_command.proofs.performing.invoked.Goals as goal
 
