@@ -10,3 +10,5 @@ pub mod Planned
 pub mod Listed
 pub mod Delivering
 pub mod Replying
+pub mod OneDecision
+pub mod Winning

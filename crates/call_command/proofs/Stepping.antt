@@ -2,8 +2,11 @@
 use Rattle.std.proofs.Common.{◌≡◌, ◌⊎◌, ℕ, List, [], Option, Some, None, Result, Ok, Err, refl, sym, ap, subst, inl, inr}
 use Rattle.std.proofs.KnownBytes.{Appends-nil}
 use Rattle.ice_types.specs.declared.proxy.Proxy.{Proxy}
+use Rattle.ice_types.specs.declared.kind.RowRef.TheVariants as rows
 use Rattle.ice_types.specs.Tables.{Tables, HasId, interface_ids}
+use Rattle.ice_types.specs.Rules.{IsSchema as KeepsRules}
 use Rattle.node_commands.specs.Outside.{Files, Failures, counts}
+use Rattle.node_commands.specs.Words.{Word}
 use Rattle.node_commands.specs.Answers.{Answer, done, different, usage, no_such_name, slice_refused, input_refused, json_refused, too_long, needs_sliced, text_refused, read_failed, write_failed, no_memory, refused_after, read_failed_after, no_memory_after}
 use Rattle.node_commands.specs.Decided.{IsSchema}
 use Rattle.node_commands.specs.Effects.{GetsText}
@@ -15,7 +18,7 @@ use Rattle.call_command.specs.Words.{CallWords}
 use Rattle.call_command.specs.Operations.{Operation, operation_of}
 use Rattle.call_command.specs.Planning.{Plan}
 use Rattle.call_command.specs.Endings.{Ended, finished, refused, twoway_only, stopped}
-use Rattle.call_command.specs.Decided.{IsListed, LacksReply, Plans, Decides}
+use Rattle.call_command.specs.Decided.{IsListed, IsInterface, LacksReply, Plans, Decides}
 use Rattle.call_command.specs.Rounds.{NetSeen, sink_seen, Finishes, Stops}
 use Rattle.call_command.specs.Called.{Steps, WantsInput, Comes, TakesInput}
 use Rattle.call_command.specs.Steps.{KnownDecides, KnownWants, SchemaDecides, SchemaWants, LacksPlan, LooksFor}
@@ -135,6 +138,15 @@ module _ (c : CallWords) (input : Option (List ℕ)) (o : Operation) (p : Proxy)
     (refl, same),
   )
 
+-- ---- the interface
+
+-- of a schema no two interfaces have one type id
+pub one_interface : (t : Tables) (word : Word) (at : ℕ) → KeepsRules t → HasId (interface_ids t) word at → IsInterface t word at
+one_interface t word at rules has = (has, λ other is. same_place other at (rules.apart word (rows.Interface other) (rows.Interface at) is has))
+  where
+    same_place : (a b : ℕ) → rows.Interface a ≡ rows.Interface b → a ≡ b
+    same_place a b e = cc e
+
 -- ---- where a name or the proxy's text is refused
 
 module _ (c : CallWords) (input : Option (List ℕ)) (parsed : Result Proxy ℕ) (t : Tables) (shelf source sink : ℕ) (old : Option (List ℕ)) (net : NetSeen) where
@@ -147,22 +159,22 @@ module _ (c : CallWords) (input : Option (List ℕ)) (parsed : Result Proxy ℕ)
   pub out_of_memory : RefusedHere no_memory
   out_of_memory = (inr (inr (refl, (refl, refl, refl))), keeps_itself old, refl)
 
-  module _ (at : ℕ) (has : HasId (interface_ids t) c.interface at) where
+  module _ (at : ℕ) (names : IsInterface t c.interface at) where
     pub no_operation : operation_of t at c.operation ≡ None → RefusedHere (no_such_name c.operation)
-    no_operation none = (inl (inr (at, has, inl (none, refl)), (refl, refl, refl)), keeps_itself old, refl)
+    no_operation none = (inl (inr (at, names, inl (none, refl)), (refl, refl, refl)), keeps_itself old, refl)
 
     pub no_proxy : (o : Operation) → operation_of t at c.operation ≡ Some o → (place : ℕ) → parsed ≡ Err place → RefusedHere (text_refused place)
-    no_proxy o is place text = (inl (inr (at, has, inr (o, is, inl (place, text, refl))), (refl, refl, refl)), keeps_itself old, refl)
+    no_proxy o is place text = (inl (inr (at, names, inr (o, is, inl (place, text, refl))), (refl, refl, refl)), keeps_itself old, refl)
 
 -- ---- the steps before the operation and the proxy
 
-module _ (c : CallWords) (input : Option (List ℕ)) (parsed : Result Proxy ℕ) (t : Tables) (at : ℕ) (has : HasId (interface_ids t) c.interface at)
+module _ (c : CallWords) (input : Option (List ℕ)) (parsed : Result Proxy ℕ) (t : Tables) (at : ℕ) (names : IsInterface t c.interface at)
     (o : Operation) (is : operation_of t at c.operation ≡ Some o) (p : Proxy) (text : parsed ≡ Ok p) where
   pub schema_decides : (came : Ended) (Next : Plan → Type 0) → KnownDecides c input o p came Next → SchemaDecides c input parsed t came Next
-  schema_decides came Next h = inr (at, has, inr (o, is, inr (p, text, h)))
+  schema_decides came Next h = inr (at, names, inr (o, is, inr (p, text, h)))
 
   pub schema_wants : KnownWants c o p → SchemaWants c parsed t
-  schema_wants h = inr (at, has, inr (o, is, inr (p, text, h)))
+  schema_wants h = inr (at, names, inr (o, is, inr (p, text, h)))
 
 module _ (c : CallWords) (files : Option Files) (input : Option (List ℕ)) (parsed : Result Proxy ℕ) (t : Tables)
     (text : proxy_text c.proxy ≡ parsed) (listed : IsListed (proxy_text c.proxy)) (means : IsSchema files c.file t) where

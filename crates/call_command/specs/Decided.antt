@@ -42,11 +42,15 @@ WithSchema files file came Next =
     ((broken : LoadBreak) × IsFault files file broken × (came ≡ refused (slice_refused broken)))
     ⊎ ((t : Tables) × IsSchema files file t × Next t)
 
+-- the word is the type id of this interface, and of no other
+abbrev pub IsInterface : Tables → Word → ℕ → Type 0
+IsInterface t word at = HasId (interface_ids t) word at × ((other : ℕ) → HasId (interface_ids t) word other → other ≡ at)
+
 -- INTERFACE names none, or an interface, from which it goes on
 abbrev pub WithInterface : Tables → Word → Ended → (ℕ → Type 0) → Type 0
 WithInterface t word came Next =
     (((at : ℕ) → HasId (interface_ids t) word at → ⊥) × (came ≡ refused (no_such_name word)))
-    ⊎ ((at : ℕ) × HasId (interface_ids t) word at × Next at)
+    ⊎ ((at : ℕ) × IsInterface t word at × Next at)
 
 -- OPERATION names none, or an operation that every object or the interface has
 abbrev pub WithOperation : Tables → (interface : ℕ) → Word → Ended → (Operation → Type 0) → Type 0

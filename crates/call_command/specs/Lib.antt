@@ -8,3 +8,4 @@ pub mod Endings
 pub mod Decided
 pub mod Called
 pub mod Steps
+pub mod Laws

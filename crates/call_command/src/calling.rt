@@ -121,6 +121,7 @@ fn under<'a, S: Source, K: Sink, N: Net>(
     ensures taken { TakesInput (SchemaWants (seen command.entry) parsed schema.now)
         (S.left source.old) (S.left source.new) }
 {
+    schema.rules();
     let Some(interface) = schema.interface(command.interface) else {
         return Err(Ending::Refused(Outcome::NoSuchName(command.interface)));
     };

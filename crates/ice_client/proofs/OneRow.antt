@@ -5,6 +5,7 @@ use Rattle.ice_prims.specs.declared.fault.Fault.{Fault}
 use Rattle.ice_prims.specs.Rest.{Rest}
 use Rattle.ice_ports.specs.declared.talk.Talk.{Talk}
 use Rattle.ice_messages.specs.declared.ends.TheConstants.{MOST_MESSAGES}
+use Rattle.ice_messages.specs.declared.message.Answer.{Answer}
 use Rattle.ice_messages.specs.declared.message.Message.{Message}
 use Rattle.ice_messages.specs.declared.message.Message.TheVariants.{Request, Batch, Reply, Validate, Close}
 use Rattle.ice_messages.specs.Streams.{Stream, StreamEnds, next_at}
@@ -16,7 +17,7 @@ use Rattle.retry_core.specs.declared.attempt.Attempt.TheVariants as tries
 use Rattle.ice_client.specs.declared.outcome.Outcome.{Outcome}
 use Rattle.ice_client.specs.declared.outgoing.Outgoing.{Outgoing}
 use Rattle.ice_client.specs.Rows.{Begins, IsGreeted, AreValidates, Reads, awaited, Meets, is_stale, Row}
-use Rattle.ice_client.specs.Laws.{TalksHaveOneRow}
+use Rattle.ice_client.specs.Laws.{TalksHaveOneRow, RepliesHaveOneAnswer}
 
 -- ---- what stands behind validates
 
@@ -238,3 +239,13 @@ one_sort o cached t a b (inr (inr one)) (inr (inr two)) = sym one.3 ∙ ap (atte
 
 pub one_row : TalksHaveOneRow
 one_row o cached t a b outcome other one two = one_sort o cached t a b (sort o cached t a outcome one) (sort o cached t b other two)
+
+-- ---- a talk has one answer
+
+same_answer : (a b : Answer) → Reply (pos 1) a ≡ Reply (pos 1) b → a ≡ b
+same_answer a b e = cc e
+
+pub one_answer : RepliesHaveOneAnswer
+unfolding Stops
+one_answer o cached t a b stale moved (ms, meet, is) (ns, others, so) =
+    same_answer a b (both_meet o t (Validate ∷ ms) (Validate ∷ ns) (Reply (pos 1) a) (Reply (pos 1) b) None None meet (λ e none. cc) others (λ e none. cc)).0

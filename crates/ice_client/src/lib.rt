@@ -24,6 +24,6 @@ mod phases;
 
 pub use attempting::attempt_once;
 pub use invoking::{invoke, send};
-pub use laws::one_row;
+pub use laws::{one_answer, one_row};
 pub use outcome::{Invoked, Once, Outcome};
 pub use outgoing::Outgoing;

@@ -16,3 +16,4 @@ pub mod NoOther
 pub mod Spelling
 pub mod OneRefusal
 pub mod Differing
+pub mod Ending

@@ -69,7 +69,7 @@ texts_apart c a b (inl p) (inl q) = p.2 ∙ ap text_refused (first_once Breaks o
 texts_apart c a b (inl p) (inr q) = absurd q.1
 texts_apart c a b (inr p) q = absurd p.1
 
-refused_once : (c : Serve) (files : Files) (a b : Answer) → Refuses c (Some files) a → Refuses c (Some files) b → a ≡ b
+pub refused_once : (c : Serve) (files : Files) (a b : Answer) → Refuses c (Some files) a → Refuses c (Some files) b → a ≡ b
 refused_once c files a b = schema_apart files c.file a b _ _ (λ t. interfaces_apart t c a b _ _ (texts_apart c a b))
 
 -- ---- what is refused makes no objects
@@ -82,7 +82,7 @@ words_or_objects : (t : Tables) (c : Serve) (a : Answer) → WithInterfaces t c 
 words_or_objects t c a (inl p) never reads = no_first (LacksInterface t) c.objects p.0 p.1 never
 words_or_objects t c a (inr p) never reads = texts_or_objects c a p.1 reads
 
-refused_or_set : (c : Serve) (files : Files) (a : Answer) (o : Objects) → Refuses c (Some files) a → Sets c (Some files) o → ⊥
+pub refused_or_set : (c : Serve) (files : Files) (a : Answer) (o : Objects) → Refuses c (Some files) a → Sets c (Some files) o → ⊥
 refused_or_set c files a o (inl p) s = never_both files c.file s.0 p.0 s.1 p.1
 refused_or_set c files a o (inr p) s =
     words_or_objects s.0 c a (subst (λ (t : Tables). WithInterfaces t c a (WithTexts c a ⊥)) (one_meaning files c.file p.0 s.0 p.1 s.1) p.2) s.2 s.3

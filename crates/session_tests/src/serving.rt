@@ -1,4 +1,4 @@
-//! Requests over one link, and what the objects are afterwards.
+//! What the objects are once a connection was served and the lanes are closed.
 
 ghost use Rattle.std.specs.Prelude.{◌≡◌, All, IfOk};
 ghost use Rattle.ice_ports.specs.MemLinks.{IsPlan};
@@ -13,12 +13,10 @@ use slice_check::load;
 use std::alloc::{AllocError, Global};
 use std::sync::{Arc, Wait};
 use std::test::Fail;
-use test_outside::{bytes, shelf};
+use test_outside::shelf;
 
 pub(crate) const COUNTER: &str =
     "module T { interface Counter { int add(int n); idempotent int total(); }; };";
-
-const LOG: &str = "module U { interface Log { void put(string s); idempotent string get(); }; };";
 
 /// An identity without a category.
 pub(crate) fn identity(alloc: Global, name: &str) -> Result<Identity, AllocError> {
@@ -87,53 +85,41 @@ pub(crate) fn serve<R: Wait>(
     }
 }
 
-/// What a peer sends to the object `c` of an interface, and what it takes, a validate message first: `ice_ping`; `add` of
-/// 2 and of 3; a batch of two `put` of `a` and then `get`.
-const TALKS: &[(&str, &str, &str)] = &[
-    (
-        COUNTER,
-        "49636550010001000000270000000100000001630000086963655f70696e670100060000000101",
-        "496365500100010003000e00000049636550010001000200190000000100000000060000000101",
-    ),
-    (
-        COUNTER,
-        "496365500100010000002600000001000000016300000361646400000a000000010102000000\
-         496365500100010000002600000002000000016300000361646400000a000000010103000000",
-        "496365500100010003000e000000496365500100010002001d00000001000000000a000000010102000000\
-         496365500100010002001d00000002000000000a000000010105000000",
-    ),
-    (
-        LOG,
-        "496365500100010001003600000002000000016300000370757400000800000001010161\
-         016300000370757400000800000001010161\
-         49636550010001000000220000000100000001630000036765740200060000000101",
-        "496365500100010003000e000000496365500100010002001b00000001000000000800000001010161",
-    ),
-];
-
-#[test]
-fn calls_of_a_connection_are_answered_in_order(rt: HostRuntime) -> Result<(), Fail> {
-    let alloc = rt.alloc();
-    for (text, gives, takes) in TALKS {
-        let (lanes, mut passes) = Lanes::new(alloc, stores(alloc, text, &["c"])?)?;
-        let (end, taken) = serve(&rt, alloc, &lanes, &mut passes, 9, gives)?;
-        assert!(rt; end == End::PeerEnded);
-        let due = decoded(alloc, takes)?;
-        assert!(rt; taken.as_slice() == due.as_slice());
-    }
-    Ok(())
-}
-
-/// A call without arguments.
-pub(crate) fn call(alloc: Global, name: &str, operation: &str) -> Result<Call, AllocError> {
+/// A call of an operation with arguments in this encapsulation.
+fn call(
+    alloc: Global,
+    name: &str,
+    operation: &str,
+    mode: u8,
+    arguments: &str,
+) -> Result<Call, Fail> {
     Ok(Call {
         identity: identity(alloc, name)?,
         facet: Name::of(alloc, "")?,
         operation: Name::of(alloc, operation)?,
-        mode: 2,
+        mode,
         context: List::new(alloc),
-        body: bytes(alloc, &[6, 0, 0, 0, 1, 1])?,
+        body: List::from_vec(decoded(alloc, arguments)?),
     })
+}
+
+/// An operation, its mode, the encapsulations of its arguments and of its results.
+const ANSWERS: &[(&str, u8, &str, &str)] = &[
+    ("add", 0, "0a000000010102000000", "0a000000010102000000"),
+    ("add", 0, "0a000000010103000000", "0a000000010105000000"),
+    ("total", 2, "060000000101", "0a000000010105000000"),
+];
+
+#[test]
+fn a_store_adds_up(rt: HostRuntime) -> Result<(), Fail> {
+    let alloc = rt.alloc();
+    let mut objects = stores(alloc, COUNTER, &["c"])?;
+    for (operation, mode, arguments, results) in ANSWERS {
+        let answer = objects.answer(alloc, &call(alloc, "c", operation, *mode, arguments)?)?;
+        let due = decoded(alloc, results)?;
+        assert!(rt; matches!(answer, Answer::Done(body) if body.as_slice() == due.as_slice()));
+    }
+    Ok(())
 }
 
 /// A ping leaves a store as it was.
@@ -145,7 +131,7 @@ fn lanes_close_with_the_objects_as_calls_left_them(rt: HostRuntime) -> Result<()
         "496365500100010000002b000000010000000568656c6c6f0000086963655f70696e670100060000000101";
     serve(&rt, alloc, &lanes, &mut passes, 1_000_000, ping)?;
     let mut objects = lanes.close(alloc, passes).ok().ok_or(Failed)?;
-    let total = objects.answer(alloc, &call(alloc, "hello", "total")?)?;
+    let total = objects.answer(alloc, &call(alloc, "hello", "total", 2, "060000000101")?)?;
     let zero = decoded(alloc, "0a000000010100000000")?;
     assert!(rt; matches!(total, Answer::Done(results) if results.as_slice() == zero.as_slice()));
     Ok(())

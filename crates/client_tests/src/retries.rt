@@ -1,0 +1,107 @@
+//! What is tried again where a connection took less than the whole message, or all of it, as no real one lets a peer
+//! choose.
+ghost use Rattle.std.specs.Prelude.{◌≤◌, All, IfOk};
+ghost use Rattle.ice_ports.specs.MemLinks.{IsPlan};
+ghost use Rattle.ice_messages.specs.Written.{IsWritableCall};
+
+use ice_client::{Invoked, invoke, send};
+use ice_messages::{Call, Message, read_message};
+use ice_ports::{MemNet, Plan};
+use ice_types::List;
+use proxy_text::parse_text;
+use retry_core::Attempt;
+use retry_core::Attempt::{Lost, NotWhole, Replied, Sent};
+use std::alloc::{AllocError, Global};
+use std::test::Fail;
+
+/// The request with id 0 of `put` with a text, which may not be tried again once it may have arrived: 36 bytes.
+const PUT: &[u8] = b"IceP\x01\x00\x01\x00\x00\x00\x24\x00\x00\x00\x00\x00\x00\x00\
+    \x01c\x00\x00\x03put\x00\x00\x08\x00\x00\x00\x01\x01\x01a";
+
+/// The same with id 1.
+const ASK: &[u8] = b"IceP\x01\x00\x01\x00\x00\x00\x24\x00\x00\x00\x01\x00\x00\x00\
+    \x01c\x00\x00\x03put\x00\x00\x08\x00\x00\x00\x01\x01\x01a";
+
+/// A validate message, and the reply with id 1 and no results.
+const GIVEN: &[u8] = b"IceP\x01\x00\x01\x00\x03\x00\x0E\x00\x00\x00\
+    IceP\x01\x00\x01\x00\x02\x00\x19\x00\x00\x00\x01\x00\x00\x00\x00\x06\x00\x00\x00\x01\x01";
+
+/// The message; how many bytes each link takes, whose reads fail behind the validate message or never; and how the
+/// attempts end.
+type Row = (&'static [u8], &'static [(u64, Option<u64>)], &'static [Attempt]);
+
+const ROWS: &[Row] = &[
+    (PUT, &[(35, None), (36, Some(14))], &[NotWhole, Sent]),
+    (PUT, &[(36, Some(14)), (36, None)], &[Sent]),
+    (ASK, &[(35, None), (36, None)], &[NotWhole, Replied]),
+    (ASK, &[(36, Some(14)), (36, None)], &[Lost]),
+];
+
+/// A link that takes so many bytes.
+fn plan(alloc: Global, takes: u64, fails: Option<u64>) -> Result<Plan, AllocError>
+    requires { takes ≤ 16777216 }
+    ensures { IfOk result IsPlan }
+{
+    Ok(Plan {
+        refuse: false,
+        gives: List::from_vec(Vec::from_slice(alloc, GIVEN)?),
+        piece: 14,
+        read_fails_at: fails,
+        takes,
+    })
+}
+
+/// Puts a plan behind those that are there.
+fn add(
+    alloc: Global,
+    plans: &mut List<Plan>,
+    takes: u64,
+    fails: Option<u64>,
+) -> Result<(), AllocError>
+    requires { All IsPlan plans.old }
+    ensures { All IsPlan plans.new }
+{
+    plans.push(plan(alloc, takes.min(16_777_216), fails)?)
+}
+
+/// A net of two links.
+fn net_of(alloc: Global, links: &[(u64, Option<u64>)]) -> Result<MemNet, AllocError> {
+    let mut plans = List::new(alloc);
+    if let [(takes, fails), (then, and_fails)] = links {
+        add(alloc, &mut plans, *takes, *fails)?;
+        add(alloc, &mut plans, *then, *and_fails)?;
+    }
+    MemNet::new(alloc, plans, List::new(alloc), List::new(alloc), false)
+}
+
+/// The id and the call of a request.
+fn call_of(alloc: Global, request: &[u8]) -> Result<(i32, Call), Fail>
+    ensures { IfOk result (λ r. IsWritableCall r.1) }
+{
+    match read_message(alloc, request)? {
+        Message::Request { id, call } => Ok((id, call)),
+        _ => Err(Fail::new("no request")),
+    }
+}
+
+/// Sends the request, or calls by it where it asks for a reply.
+fn tried(alloc: Global, net: &mut MemNet, request: &[u8]) -> Result<Invoked, Fail> {
+    let proxy = parse_text(alloc, "c:tcp -h localhost -p 4100")?;
+    let (id, call) = call_of(alloc, request)?;
+    if id == 0 {
+        let message = Message::Request { id: 0, call };
+        return Ok(send(alloc, net, &proxy, &message, 1)?);
+    }
+    Ok(invoke(alloc, net, &proxy, &call, 1)?)
+}
+
+#[test]
+fn what_was_not_taken_whole_is_tried_again(rt: HostRuntime) -> Result<(), Fail> {
+    let alloc = rt.alloc();
+    for (request, links, attempts) in ROWS {
+        let mut net = net_of(alloc, links)?;
+        let invoked = tried(alloc, &mut net, request)?;
+        assert!(rt; invoked.attempts.as_slice() == *attempts);
+    }
+    Ok(())
+}
