@@ -1,11 +1,10 @@
 -- Words, files and input decide one end, or one plan.
-use Rattle.std.proofs.Common.{◌≡◌, ◌<◌, ◌≤◌, ◌⊎◌, ℕ, List, [], ◌∷◌, Option, None, Some, Result, Ok, Err, refl, sym, ap, subst, ◌∙◌, inl, inr, arith, length}
+use Rattle.std.proofs.Common.{◌≡◌, ◌⊎◌, ℕ, List, [], ◌∷◌, Option, None, Some, Result, Ok, Err, refl, sym, ap, subst, ◌∙◌, inl, inr, arith, length}
 use Rattle.std.proofs.lemmas.Option.{same_Some}
 use Rattle.ice_types.specs.declared.proxy.Proxy.{Proxy}
 use Rattle.ice_types.specs.declared.declarations.OpDecl.{OpDecl}
 use Rattle.ice_types.specs.declared.declarations.Shape.{Shape}
 use Rattle.ice_types.specs.Tables.{Tables}
-use Rattle.ice_encoding.specs.declared.limits.TheConstants.{LARGEST}
 use Rattle.ice_graphs.specs.Graph.{Graph, Slice, known, unknown}
 use Rattle.ice_graphs.specs.Instances.{slices_of}
 use Rattle.ice_graphs.specs.Canonical.{Format, sliced, compact, Compact, IsWritable, graph_bytes}
@@ -18,21 +17,20 @@ use Rattle.ice_messages.specs.Written.{told}
 use Rattle.proxy_text.specs.Grammar.{proxy_text}
 use Rattle.slice_meaning.proofs.Loads.{one_meaning, one_break, never_both}
 use Rattle.node_commands.specs.Words.{Word}
-use Rattle.node_commands.specs.Outside.{Files, Outside, Failures}
-use Rattle.node_commands.specs.Answers.{Answer, usage, no_such_name, slice_refused, text_refused, json_refused, too_long, needs_sliced, read_failed, no_memory}
-use Rattle.call_command.specs.declared.arguments.TheConstants.{MOST_OF_ARGUMENTS}
+use Rattle.node_commands.specs.Outside.{Files, Failures}
+use Rattle.node_commands.specs.Answers.{Answer, usage, no_such_name, slice_refused, text_refused, json_refused, too_long, needs_sliced}
 use Rattle.call_command.specs.declared.stop.Stop.{Stop}
 use Rattle.call_command.specs.Words.{CallWords}
-use Rattle.call_command.specs.Operations.{Operation, operation_of}
+use Rattle.call_command.specs.Operations.{Operation}
 use Rattle.call_command.specs.Planning.{Plan, plan_of}
 use Rattle.call_command.specs.Endings.{Ended, finished, refused, twoway_only, stopped}
-use Rattle.call_command.specs.Decided.{WithListed, WithSchema, WithInterface, WithOperation, WithProxy, WithReply, WithArguments, WithBody, WithMessage, LacksReply, Plans, Decides}
+use Rattle.call_command.specs.Decided.{WithListed, WithSchema, WithInterface, WithOperation, WithProxy, WithReply, WithArguments, WithBody, WithMessage, Plans, Decides}
 use Rattle.call_command.specs.Rounds.{NetSeen, sink_seen, Finishes, Stops}
-use Rattle.call_command.specs.Called.{Called, Comes, Refuses, WantsInput}
-use Rattle.call_command.specs.Laws.{IsRefusedBy, IsPlanned, AreDecidedOnce, IsHindered, Follows, EndsAsDecided}
+use Rattle.call_command.specs.Called.{Comes, Refuses, WantsInput}
+use Rattle.call_command.specs.Laws.{IsRefusedBy, IsPlanned, AreDecidedOnce, IsHindered, EndsAsDecided}
 
 -- the end of a call that connects nothing
-IsRefusal : Ended → Type 0
+abbrev pub IsRefusal : Ended → Type 0
 IsRefusal finished = ⊥
 IsRefusal (refused answer) = Unit {0}
 IsRefusal (twoway_only word) = Unit {0}
@@ -194,22 +192,28 @@ module _ (c : CallWords) (files : Files) (input : List ℕ) where
 
     follows_so : (came : Ended) (plan : Plan) → CameSo came → IsPlanned c files input plan → FollowsSo plan came ⊎ IsHindered came
     follows_so finished plan h is =
-        inl (inl (refl, decides_apart finished finished (λ r refuses e f. absurd (refusal_no_finish r refuses e)) c files input (λ p. Finishes p (sink_seen old before.sink) (sink_seen new after.sink) net now) (λ p. p ≡ plan)
-        (λ p did same. subst (λ (x : Plan). Finishes x (sink_seen old before.sink) (sink_seen new after.sink) net now) same did) h.0 (is finished)))
+        inl (inl (
+          refl,
+          decides_apart finished finished (λ r refuses e f. absurd (refusal_no_finish r refuses e)) c files input (λ p. Finishes p (sink_seen old before.sink) (sink_seen new after.sink) net now) (λ p. p ≡ plan)
+              (λ p did same. subst (λ (x : Plan). Finishes x (sink_seen old before.sink) (sink_seen new after.sink) net now) same did) h.0 (is finished),
+        ))
     follows_so (refused answer) plan h is = elim (refused_so (WantsInput c (Some files)) before after answer h.0) [
       | inl decided ↦ absurd (never_planned c files input (refused answer) plan decided is)
       | inr hindered ↦ inr hindered
     ]
     follows_so (twoway_only word) plan h is = absurd (never_planned c files input (twoway_only word) plan h.0 is)
     follows_so (stopped stop) plan h is =
-        inl (inr (stop, refl, decides_apart (stopped stop) finished (λ r refuses e f. absurd (refusal_no_finish r refuses f)) c files input (λ p. Stops p (sink_seen old before.sink) (sink_seen new after.sink) net now stop) (λ p. p ≡ plan)
-        (λ p did same. subst (λ (x : Plan). Stops x (sink_seen old before.sink) (sink_seen new after.sink) net now stop) same did) h.0 (is finished)))
+        inl (inr (
+          stop,
+          refl,
+          decides_apart (stopped stop) finished (λ r refuses e f. absurd (refusal_no_finish r refuses f)) c files input (λ p. Stops p (sink_seen old before.sink) (sink_seen new after.sink) net now stop) (λ p. p ≡ plan)
+              (λ p did same. subst (λ (x : Plan). Stops x (sink_seen old before.sink) (sink_seen new after.sink) net now stop) same did) h.0 (is finished),
+        ))
 
 pub ends_as_decided : EndsAsDecided
-ends_as_decided c before after net now result files input known told called =
-    let came = subst (λ (x : Option (List ℕ)). Comes (Decides c (Some files) x) (WantsInput c (Some files)) before.failures after.failures before.output after.output net now called.ended) told
-    (subst (λ (x : Option Files). Comes (Decides c x before.input) (WantsInput c x) before.failures after.failures before.output after.output net now called.ended) known called.comes) in
-    (
+ends_as_decided c before after net now result files input of_files of_input called =
+    let came = subst (λ (x : Option (List ℕ)). Comes (Decides c (Some files) x) (WantsInput c (Some files)) before.failures after.failures before.output after.output net now called.ended) of_input
+    (subst (λ (x : Option Files). Comes (Decides c x before.input) (WantsInput c x) before.failures after.failures before.output after.output net now called.ended) of_files called.comes) in (
       λ end is. ends_so c files input before.failures after.failures before.output after.output net now called.ended end came is,
       λ plan is. follows_so c files input before.failures after.failures before.output after.output net now called.ended plan came is,
     )

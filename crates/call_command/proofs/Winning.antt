@@ -1,29 +1,23 @@
 -- Where the last attempt at a message wins, it does not stop the call.
-use Rattle.std.proofs.Common.{◌≡◌, ◌⊎◌, ℕ, List, [], ◌∷◌, ◌++◌, Bool, Option, None, Some, Result, Ok, Err, refl, sym, ap, subst, ◌∙◌, inl, inr}
-use Rattle.ice_prims.specs.declared.fault.Fault.{Fault}
-use Rattle.ice_prims.specs.Rest.{whole}
-use Rattle.ice_graphs.specs.Graph.{Graph}
+use Rattle.std.proofs.Common.{◌≡◌, ◌⊎◌, ℕ, List, [], ◌∷◌, ◌++◌, Bool, true, false, Option, None, Some, Ok, Err, refl, sym, ap, subst, ◌∙◌, inl, inr}
 use Rattle.ice_graphs.specs.Flags.{all_slices}
-use Rattle.ice_graphs.specs.Instances.{numbered_at}
 use Rattle.ice_graphs.proofs.Graphs.{numbered_only}
 use Rattle.ice_ports.specs.declared.talk.Talk.{Talk}
-use Rattle.ice_messages.specs.declared.message.Answer.{Answer}
 use Rattle.ice_messages.specs.declared.message.Answer.TheVariants as answers
 use Rattle.ice_client.specs.declared.outgoing.Outgoing.{Outgoing}
 use Rattle.ice_client.specs.declared.outcome.Outcome.{Outcome}
 use Rattle.ice_client.specs.declared.outcome.Outcome.TheVariants as outcomes
-use Rattle.ice_client.specs.Rows.{Row, IsReplied}
+use Rattle.ice_client.specs.Rows.{Row}
 use Rattle.ice_client.specs.Asking.{HasRow}
-use Rattle.ice_client.specs.ClientDid.{Tried, Ended, had}
+use Rattle.ice_client.specs.ClientDid.{Tried, Ended}
 use Rattle.ice_client.proofs.OneRow.{one_row, one_answer}
 use Rattle.retry_core.specs.declared.attempt.Attempt.{Attempt}
 use Rattle.retry_core.specs.declared.attempt.Attempt.TheVariants as tries
-use Rattle.call_command.specs.declared.stop.Stop.{Stop}
 use Rattle.call_command.specs.declared.stop.Stop.TheVariants as stops
 use Rattle.call_command.specs.declared.stop.Reason.{Reason}
 use Rattle.call_command.specs.Planning.{Plan}
 use Rattle.call_command.specs.Replies.{IsLine, IsReason}
-use Rattle.call_command.specs.Rounds.{NetSeen, SinkSeen, Delivered, Stops}
+use Rattle.call_command.specs.Rounds.{Delivered}
 use Rattle.call_command.specs.Laws.{IsWon, IsNotWon, StopsForCause}
 
 -- ---- a success has no reason

@@ -28,7 +28,11 @@ const GIVEN: &[u8] = b"IceP\x01\x00\x01\x00\x03\x00\x0E\x00\x00\x00\
 
 /// The message; how many bytes each link takes, whose reads fail behind the validate message or never; and how the
 /// attempts end.
-type Row = (&'static [u8], &'static [(u64, Option<u64>)], &'static [Attempt]);
+type Row = (
+    &'static [u8],
+    &'static [(u64, Option<u64>)],
+    &'static [Attempt],
+);
 
 const ROWS: &[Row] = &[
     (PUT, &[(35, None), (36, Some(14))], &[NotWhole, Sent]),

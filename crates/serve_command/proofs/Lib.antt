@@ -16,4 +16,4 @@ pub mod NoOther
 pub mod Spelling
 pub mod OneRefusal
 pub mod Differing
-pub mod Ending
+pub mod Caused

@@ -1,4 +1,4 @@
-use Rattle.serve_command.proofs.Ending.{ends_as_refused}
+use Rattle.serve_command.proofs.Caused.{ends_as_refused}
 use Rattle.serve_command.proofs.laws.serve_ends_as_refused.Goals as goal
 
 pub returns : goal.returns

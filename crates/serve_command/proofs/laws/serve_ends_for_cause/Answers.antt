@@ -1,4 +1,4 @@
-use Rattle.serve_command.proofs.Ending.{ends_for_cause}
+use Rattle.serve_command.proofs.Caused.{ends_for_cause}
 use Rattle.serve_command.proofs.laws.serve_ends_for_cause.Goals as goal
 
 pub returns : goal.returns
