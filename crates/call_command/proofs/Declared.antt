@@ -1,4 +1,4 @@
--- What a schema keeps of an operation that it finds by name.
+-- What a schema keeps of an interface and of an operation that it finds by name.
 use Rattle.std.proofs.Common.{◌≡◌, ◌≤◌, ◌<◌, ◌≢◌, ℕ, suc, Bool, true, false, cond, List, [], ◌∷◌, ◌++◌, Option, Some, None, refl, sym, ap, subst, ◌∙◌, append_assoc, arith}
 use Rattle.std.specs.Prelude.{All, find, slice_get, bytes_eq}
 use Rattle.std.specs.List.{flat_map}
@@ -10,7 +10,8 @@ use Rattle.ice_types.specs.declared.declarations.InterfaceDecl.{InterfaceDecl}
 use Rattle.ice_types.specs.declared.declarations.OpDecl.{OpDecl}
 use Rattle.ice_types.specs.declared.declarations.Shape.{Shape}
 use Rattle.ice_types.specs.declared.schema.TheConstants.{MOST_NUMBER}
-use Rattle.ice_types.specs.Tables.{Tables}
+use Rattle.ice_types.specs.declared.kind.RowRef.TheVariants as rows
+use Rattle.ice_types.specs.Tables.{Tables, HasId, interface_ids, Finds}
 use Rattle.ice_types.specs.Rules.{IsSchema}
 use Rattle.ice_types.specs.Names.{AreNew}
 use Rattle.ice_types.specs.Fits.{names_of, tags_of, AreRequired, AreRising, DifferFrom, ShapeFits, OpFits}
@@ -18,6 +19,17 @@ use Rattle.ice_types.specs.Inherited.{ops_in, bases_by_path, operations, first_n
 use Rattle.ice_values.specs.Shapes.{without_tag, with_tag, told_apart}
 use Rattle.graph_json.specs.Contents.{HasOwnNames}
 use Rattle.call_command.specs.Operations.{Operation, IsDeclared}
+use Rattle.call_command.specs.Steps.{FindsInterface}
+
+-- ---- the interface
+
+-- no two interfaces of a schema have one type id
+pub found_interface : (t : Tables) (id : List ℕ) (found : Option ℕ) → IsSchema t → Finds (HasId (interface_ids t) id) found → FindsInterface t id found
+found_interface t id (Some at) rules has = (has, λ other is. same_place other at (rules.apart id (rows.Interface other) (rows.Interface at) is has))
+  where
+    same_place : (a b : ℕ) → rows.Interface a ≡ rows.Interface b → a ≡ b
+    same_place a b e = cc e
+found_interface t id None rules none = none
 
 -- ---- the first that is found
 

@@ -2,11 +2,8 @@
 use Rattle.std.proofs.Common.{◌≡◌, ◌⊎◌, ℕ, List, [], Option, Some, None, Result, Ok, Err, refl, sym, ap, subst, inl, inr}
 use Rattle.std.proofs.KnownBytes.{Appends-nil}
 use Rattle.ice_types.specs.declared.proxy.Proxy.{Proxy}
-use Rattle.ice_types.specs.declared.kind.RowRef.TheVariants as rows
 use Rattle.ice_types.specs.Tables.{Tables, HasId, interface_ids}
-use Rattle.ice_types.specs.Rules.{IsSchema as KeepsRules}
 use Rattle.node_commands.specs.Outside.{Files, Failures, counts}
-use Rattle.node_commands.specs.Words.{Word}
 use Rattle.node_commands.specs.Answers.{Answer, done, different, usage, no_such_name, slice_refused, input_refused, json_refused, too_long, needs_sliced, text_refused, read_failed, write_failed, no_memory, refused_after, read_failed_after, no_memory_after}
 use Rattle.node_commands.specs.Decided.{IsSchema}
 use Rattle.node_commands.specs.Effects.{GetsText}
@@ -137,15 +134,6 @@ module _ (c : CallWords) (input : Option (List ℕ)) (o : Operation) (p : Proxy)
         (λ q is. subst (λ (x : Plan). Stops x (sink_seen old sink) (sink_seen new after) net later stop) (sym is) h) (given (stopped stop)),
     (refl, same),
   )
-
--- ---- the interface
-
--- of a schema no two interfaces have one type id
-pub one_interface : (t : Tables) (word : Word) (at : ℕ) → KeepsRules t → HasId (interface_ids t) word at → IsInterface t word at
-one_interface t word at rules has = (has, λ other is. same_place other at (rules.apart word (rows.Interface other) (rows.Interface at) is has))
-  where
-    same_place : (a b : ℕ) → rows.Interface a ≡ rows.Interface b → a ≡ b
-    same_place a b e = cc e
 
 -- ---- where a name or the proxy's text is refused
 

@@ -4,7 +4,7 @@ use Rattle.std.specs.declared.alloc.Global.{Global}
 use Rattle.std.specs.Io.KnownBytes.{Keeps, Appends}
 use Rattle.ice_types.specs.declared.proxy.Proxy.{Proxy}
 use Rattle.ice_types.specs.declared.declarations.Shape.{Shape}
-use Rattle.ice_types.specs.Tables.{Tables}
+use Rattle.ice_types.specs.Tables.{Tables, HasId, interface_ids}
 use Rattle.ice_types.specs.Fits.{ShapeFits}
 use Rattle.ice_prims.specs.declared.fault.ReadFault.{ReadFault}
 use Rattle.ice_prims.specs.declared.fault.ReadFault.TheVariants as read_faults
@@ -28,6 +28,7 @@ use Rattle.ice_client.specs.ClientDid.{Tried, Made, Rises}
 use Rattle.ice_relay.specs.TextStreams.{TakesText}
 use Rattle.ice_relay.specs.declared.fault.RelayFault.{RelayFault}
 use Rattle.ice_relay.specs.declared.fault.RelayFault.TheVariants as faults
+use Rattle.node_commands.specs.Words.{Word}
 use Rattle.node_commands.specs.Answers.{usage, read_failed, no_memory}
 use Rattle.call_command.specs.declared.arguments.TheConstants.{MOST_OF_ARGUMENTS}
 use Rattle.call_command.specs.declared.preparing.Plan.{Plan as Written}
@@ -41,7 +42,7 @@ use Rattle.call_command.specs.Operations.{Operation}
 use Rattle.call_command.specs.Planning.{Plan, seen}
 use Rattle.call_command.specs.Replies.{IsLine, IsReason}
 use Rattle.call_command.specs.Endings.{Ended, refused, ending_seen}
-use Rattle.call_command.specs.Decided.{IsListed, WithInterface, WithOperation, WithProxy, WithReply, Plans}
+use Rattle.call_command.specs.Decided.{IsListed, IsInterface, WithInterface, WithOperation, WithProxy, WithReply, Plans}
 use Rattle.call_command.specs.Rounds.{Delivered, NetSeen, SinkSeen}
 
 -- ---- the proxy
@@ -50,6 +51,13 @@ use Rattle.call_command.specs.Rounds.{Delivered, NetSeen, SinkSeen}
 abbrev pub Parses : Result Proxy ℕ → Result (Result Proxy ℕ) Ending → Type 0
 Parses parsed (Ok found) = (parsed ≡ found) × IsListed parsed
 Parses parsed (Err ending) = ((IsListed parsed → ⊥) × (ending_seen ending ≡ refused usage)) ⊎ (ending_seen ending ≡ refused no_memory)
+
+-- ---- the interface
+
+-- the one of this type id, or there is none
+abbrev pub FindsInterface : Tables → Word → Option ℕ → Type 0
+FindsInterface t id (Some at) = IsInterface t id at
+FindsInterface t id None = (at : ℕ) → HasId (interface_ids t) id at → ⊥
 
 -- ---- the steps that are left
 

@@ -13,7 +13,7 @@ ghost use Rattle.call_command.specs.Called.{Called, Comes, TakesInput, WantsInpu
 ghost use Rattle.call_command.specs.Steps.{KnownDecides, KnownWants, Parses, SchemaDecides, SchemaWants};
 
 use crate::ending::{Ending, report};
-use crate::known::{Known, known_of};
+use crate::known::{Known, interface_of, known_of};
 use crate::performing::perform;
 use crate::preparing::plan_of;
 use crate::words::CallCommand;
@@ -121,8 +121,7 @@ fn under<'a, S: Source, K: Sink, N: Net>(
     ensures taken { TakesInput (SchemaWants (seen command.entry) parsed schema.now)
         (S.left source.old) (S.left source.new) }
 {
-    schema.rules();
-    let Some(interface) = schema.interface(command.interface) else {
+    let Some(interface) = interface_of(schema, command.interface) else {
         return Err(Ending::Refused(Outcome::NoSuchName(command.interface)));
     };
     let object = object_schema(alloc)?;
