@@ -103,6 +103,14 @@ fn call(
     })
 }
 
+/// Whether the answer is a success with these results.
+fn has_results(answer: &Answer, due: &[u8]) -> bool {
+    match answer {
+        Answer::Done(results) => results.as_slice() == due,
+        _ => false,
+    }
+}
+
 /// An operation, its mode, the encapsulations of its arguments and of its results.
 const ANSWERS: &[(&str, u8, &str, &str)] = &[
     ("add", 0, "0a000000010102000000", "0a000000010102000000"),
@@ -117,7 +125,7 @@ fn a_store_adds_up(rt: HostRuntime) -> Result<(), Fail> {
     for (operation, mode, arguments, results) in ANSWERS {
         let answer = objects.answer(alloc, &call(alloc, "c", operation, *mode, arguments)?)?;
         let due = decoded(alloc, results)?;
-        assert!(rt; matches!(answer, Answer::Done(body) if body.as_slice() == due.as_slice()));
+        assert!(rt; has_results(&answer, due.as_slice()));
     }
     Ok(())
 }
@@ -133,6 +141,6 @@ fn lanes_close_with_the_objects_as_calls_left_them(rt: HostRuntime) -> Result<()
     let mut objects = lanes.close(alloc, passes).ok().ok_or(Failed)?;
     let total = objects.answer(alloc, &call(alloc, "hello", "total", 2, "060000000101")?)?;
     let zero = decoded(alloc, "0a000000010100000000")?;
-    assert!(rt; matches!(total, Answer::Done(results) if results.as_slice() == zero.as_slice()));
+    assert!(rt; has_results(&total, zero.as_slice()));
     Ok(())
 }

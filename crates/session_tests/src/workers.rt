@@ -1,6 +1,8 @@
 //! Two objects of a server are served at once: under one lock for all, or by one thread, the first call would wait in
 //! vain. And an accept that fails ends the accepting.
 
+ghost use Rattle.std.specs.Prelude.{◌<◌};
+
 use crate::serving::{COUNTER, plan, stores};
 use dispatch_pool::{Gate, Lanes, OpenGate};
 use ice_messages::Call;
