@@ -111,36 +111,61 @@ fn has_results(answer: &Answer, due: &[u8]) -> bool {
     }
 }
 
-/// An operation, its mode, the encapsulations of its arguments and of its results.
-const ANSWERS: &[(&str, u8, &str, &str)] = &[
+/// Has the object answer.
+fn asked(alloc: Global, objects: &mut Adapter, call: &Call) -> Result<Answer, AllocError> {
+    objects.answer(alloc, call)
+}
+
+/// An operation of a counter, its mode, the encapsulations of its arguments and of its results.
+type Row = (&'static str, u8, &'static str, &'static str);
+
+const ROWS: &[Row] = &[
     ("add", 0, "0a000000010102000000", "0a000000010102000000"),
     ("add", 0, "0a000000010103000000", "0a000000010105000000"),
     ("total", 2, "060000000101", "0a000000010105000000"),
 ];
 
+/// Whether the object `c` answers the row so.
+fn answers(alloc: Global, objects: &mut Adapter, row: &Row) -> Result<bool, Fail> {
+    let (operation, mode, arguments, results) = row;
+    let call = call(alloc, "c", operation, *mode, arguments)?;
+    let answer = asked(alloc, objects, &call)?;
+    Ok(has_results(&answer, decoded(alloc, results)?.as_slice()))
+}
+
 #[test]
 fn a_store_adds_up(rt: HostRuntime) -> Result<(), Fail> {
     let alloc = rt.alloc();
     let mut objects = stores(alloc, COUNTER, &["c"])?;
-    for (operation, mode, arguments, results) in ANSWERS {
-        let answer = objects.answer(alloc, &call(alloc, "c", operation, *mode, arguments)?)?;
-        let due = decoded(alloc, results)?;
-        assert!(rt; has_results(&answer, due.as_slice()));
+    for row in ROWS {
+        assert!(rt; answers(alloc, &mut objects, row)?);
     }
     Ok(())
+}
+
+/// Lanes of the objects, and the first passes.
+pub(crate) fn lanes_of(alloc: Global, objects: Adapter) -> Result<(Lanes, LanePasses), AllocError>
+    ensures { IfOk result (λ made. AreOf made.0 made.1) }
+{
+    Lanes::new(alloc, objects)
+}
+
+/// The objects, once the lanes are closed.
+fn closed(alloc: Global, lanes: Lanes, passes: LanePasses) -> Result<Adapter, Failed>
+    requires { AreOf lanes passes }
+{
+    lanes.close(alloc, passes).ok().ok_or(Failed)
 }
 
 /// A ping leaves a store as it was.
 #[test]
 fn lanes_close_with_the_objects_as_calls_left_them(rt: HostRuntime) -> Result<(), Fail> {
     let alloc = rt.alloc();
-    let (lanes, mut passes) = Lanes::new(alloc, stores(alloc, COUNTER, &["hello"])?)?;
-    let ping =
-        "496365500100010000002b000000010000000568656c6c6f0000086963655f70696e670100060000000101";
+    let (lanes, mut passes) = lanes_of(alloc, stores(alloc, COUNTER, &["c"])?)?;
+    let ping = "49636550010001000000270000000100000001630000086963655f70696e670100060000000101";
     serve(&rt, alloc, &lanes, &mut passes, 1_000_000, ping)?;
-    let mut objects = lanes.close(alloc, passes).ok().ok_or(Failed)?;
-    let total = objects.answer(alloc, &call(alloc, "hello", "total", 2, "060000000101")?)?;
-    let zero = decoded(alloc, "0a000000010100000000")?;
-    assert!(rt; has_results(&total, zero.as_slice()));
+    let mut objects = closed(alloc, lanes, passes)?;
+    let zero = ("total", 2, "060000000101", "0a000000010100000000");
+    assert!(rt; answers(alloc, &mut objects, &zero)?);
     Ok(())
 }

@@ -2,11 +2,12 @@
 //! vain. And an accept that fails ends the accepting.
 
 ghost use Rattle.std.specs.Prelude.{◌<◌};
+ghost use Rattle.dispatch_pool.specs.Lanes.{AreOf};
 
-use crate::serving::{COUNTER, plan, stores};
-use dispatch_pool::{Gate, Lanes, OpenGate};
+use crate::serving::{COUNTER, lanes_of, plan, stores};
+use dispatch_pool::{Gate, LanePasses, Lanes, OpenGate};
 use ice_messages::Call;
-use ice_ports::{MemNet, Net};
+use ice_ports::{Listener, MemNet, Net};
 use ice_types::List;
 use std::alloc::Global;
 use std::process::Abort;
@@ -50,25 +51,30 @@ const ADD_TO_A: &str =
 const ADD_TO_B: &str =
     "496365500100010000002600000001000000016200000361646400000a000000010101000000";
 
-/// How many links were accepted, whether an accept failed, and how many talks are over and have a reply, when so many
-/// workers serve at most so many links, of which there are two, where these accepts fail.
-fn serve_both<R: Threads + Wait + Sync, G: Gate>(
-    rt: &R,
-    alloc: Global,
-    gate: &G,
-    workers: u32,
-    connections: u64,
-    fails: &[u64],
-) -> Result<(u64, bool, usize), Fail>
-    requires { 0 < workers }
-{
-    let (lanes, passes) = Lanes::new(alloc, stores(alloc, COUNTER, &["a", "b"])?)?;
+/// A net with two links to come, whose accepts with these numbers fail.
+fn net_of(alloc: Global, fails: &[u64]) -> Result<MemNet, Fail> {
     let mut incoming = List::new(alloc);
     incoming.push(plan(alloc, ADD_TO_A)?)?;
     incoming.push(plan(alloc, ADD_TO_B)?)?;
     let fails = List::from_vec(Vec::from_slice(alloc, fails)?);
-    let mut net = MemNet::new(alloc, List::new(alloc), incoming, fails, false)?;
-    let door = net.listen("localhost", 4100)?;
+    Ok(MemNet::new(alloc, List::new(alloc), incoming, fails, false)?)
+}
+
+/// Serves what comes by the door, and closes the lanes. The door, how many links were accepted, whether an accept
+/// failed, and whether the lanes were closed.
+fn serve_door<D: Listener, G: Gate, R: Threads + Wait + Sync>(
+    rt: &R,
+    alloc: Global,
+    lanes: Lanes,
+    passes: LanePasses,
+    gate: &G,
+    door: D,
+    workers: u32,
+    connections: u64,
+) -> (D, u64, bool, bool)
+    requires of { AreOf lanes passes }
+    requires workers { 0 < workers }
+{
     let Served {
         door,
         passes,
@@ -86,16 +92,48 @@ fn serve_both<R: Threads + Wait + Sync, G: Gate>(
         connections,
         9,
     );
-    net.retire(door);
-    if starved || lanes.close(alloc, passes).is_err() {
-        return Err(Fail::from("no memory, or a stray"));
-    }
-    let whole = net
-        .talks()
+    let closed = lanes.close(alloc, passes).is_ok();
+    (door, accepted, failed, closed && !starved)
+}
+
+/// How many talks are over and have a reply.
+fn replied(net: &MemNet) -> usize {
+    net.talks()
         .iter()
         .filter(|talk| talk.ended && talk.taken.len() == 43)
-        .count();
-    Ok((accepted, failed, whole))
+        .count()
+}
+
+/// How many links were accepted, whether an accept failed, and how many talks are over and have a reply, when so many
+/// workers serve at most so many links, of which there are two, where these accepts fail.
+fn serve_both<R: Threads + Wait + Sync, G: Gate>(
+    rt: &R,
+    alloc: Global,
+    gate: &G,
+    workers: u32,
+    connections: u64,
+    fails: &[u64],
+) -> Result<(u64, bool, usize), Fail>
+    requires { 0 < workers }
+{
+    let (lanes, passes) = lanes_of(alloc, stores(alloc, COUNTER, &["a", "b"])?)?;
+    let mut net = net_of(alloc, fails)?;
+    let door = net.listen("localhost", 4100)?;
+    let (door, accepted, failed, closed) = serve_door(
+        rt,
+        alloc,
+        lanes,
+        passes,
+        gate,
+        door,
+        workers,
+        connections,
+    );
+    net.retire(door);
+    if !closed {
+        return Err(Fail::from("no memory, or a stray"));
+    }
+    Ok((accepted, failed, replied(&net)))
 }
 
 #[test]
@@ -114,13 +152,5 @@ fn gate_two_objects(rt: HostRuntime) -> Result<(), Fail> {
 fn a_failed_accept_ends_the_accepting(rt: HostRuntime) -> Result<(), Fail> {
     let served = serve_both(&rt, rt.alloc(), &OpenGate, 4, 2, &[1])?;
     assert!(rt; served == (1, true, 1));
-    Ok(())
-}
-
-/// One worker runs by the same code, and a listener that has no more links ends the accepting.
-#[test]
-fn one_worker_serves_until_no_link_is_to_come(rt: HostRuntime) -> Result<(), Fail> {
-    let served = serve_both(&rt, rt.alloc(), &OpenGate, 1, 3, &[])?;
-    assert!(rt; served == (2, false, 2));
     Ok(())
 }
