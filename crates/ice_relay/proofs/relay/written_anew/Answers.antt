@@ -2,7 +2,7 @@ use Rattle.std.proofs.Common.{arith}
 use Rattle.std.proofs.lemmas.Result.{err_from_is_err_and}
 use Rattle.instance_writing.specs.Formats.{view_format}
 use Rattle.ice_relay.proofs.Holding.{relayed, unwritten}
-use Rattle.ice_relay.proofs.relay.canonical_of.Goals as goal
+use Rattle.ice_relay.proofs.relay.written_anew.Goals as goal
 
 pub returns-in_err-encode_typed : goal.returns-in_err-encode_typed
 returns-in_err-encode_typed c =
