@@ -1,5 +1,5 @@
 -- Keys with parts: their members one after the other, and in order.
-use Rattle.std.proofs.Common.{◌≡◌, ℕ, zero, suc, ◌+◌, ◌-◌, ◌<◌, ◌≤◌, List, [], ◌∷◌, ◌++◌, length, take, drop, Option, None, Some, refl, sym, ap, ◌∙◌, subst, arith, append_assoc}
+use Rattle.std.proofs.Common.{◌≡◌, ℕ, zero, suc, true, ◌+◌, ◌-◌, ◌<◌, ◌≤◌, List, [], ◌∷◌, ◌++◌, length, take, drop, Option, None, Some, refl, sym, ap, ◌∙◌, subst, arith, append_assoc}
 use Rattle.std.specs.Prelude.{slice_get, IfSome}
 use Rattle.std.specs.declared.cmp.Ordering.{Ordering}
 use Rattle.std.specs.declared.cmp.Ordering.TheVariants.{Less, Equal}
@@ -7,6 +7,7 @@ use Rattle.std.specs.Ordering.{ordering_then}
 use Rattle.std.proofs.lemmas.List.{take-append-drop, length-take-le, drop_at, append-nil}
 use Rattle.ice_types.specs.declared.kind.TypeRef.{TypeRef}
 use Rattle.ice_types.specs.declared.kind.TypeRef.TheVariants as kinds
+use Rattle.ice_types.specs.declared.declarations.Member.{Member}
 use Rattle.ice_types.specs.declared.declarations.StructDecl.{StructDecl}
 use Rattle.ice_types.specs.Tables.{Tables}
 use Rattle.ice_encoding.specs.Tree.{Tree, Trees, none, tree, struct}
@@ -20,16 +21,38 @@ use Rattle.ice_encoding.specs.Order.{tree_cmp, trees_cmp}
 use Rattle.ice_encoding.proofs.Order.{equal_self}
 use Rattle.ice_encoding.proofs.Values.{value_lawful, spelled_apart, number_lawful}
 use Rattle.ice_encoding.proofs.Written.{value_written}
-use Rattle.canonical_values.specs.Standing.{kinds_of, members_of}
-use Rattle.canonical_values.specs.Keys.{KeyStands, KeysStand, AreRising, EachRising, HaveFront, each_bytes}
+use Rattle.canonical_values.specs.Standing.{LeafStands, kinds_of}
+use Rattle.canonical_values.specs.Keys.{KeyStands, KeysStand, AreRising, EachRising, HaveFront, each_bytes, is_simple}
 use Rattle.canonical_values.proofs.Fronts.{take_two}
 use Rattle.canonical_values.proofs.Rows.{each_less, struct_stands}
 
-past_all : {A : Type 0} (n : ℕ) (xs : List A) → length xs ≤ n → drop n xs ≡ []
-past_all zero [] le = refl
-past_all zero (x ∷ xs) le = absurd (omega (arith, le))
-past_all (suc n) [] le = refl
-past_all (suc n) (x ∷ xs) le = past_all n xs (omega (arith, le))
+past_kinds : (n : ℕ) (members : List Member) → length members ≤ n → drop n (kinds_of members) ≡ []
+past_kinds zero [] le = refl
+past_kinds zero (m ∷ ms) le = absurd (omega (arith, le))
+past_kinds (suc n) [] le = refl
+past_kinds (suc n) (m ∷ ms) le = past_kinds n ms (omega (arith, le))
+
+-- ---- without parts
+
+key_of : (t : Tables) (kind : TypeRef) (bytes : List ℕ) → is_simple kind ≡ true → LeafStands t kind bytes → (levels : ℕ) → KeyStands t (suc levels) kind bytes
+key_of t kinds.Bool bytes e h levels = h levels
+key_of t kinds.Byte bytes e h levels = h levels
+key_of t kinds.Short bytes e h levels = h levels
+key_of t kinds.Int bytes e h levels = h levels
+key_of t kinds.Long bytes e h levels = h levels
+key_of t kinds.Text bytes e h levels = h levels
+key_of t (kinds.Enum at) bytes e h levels = h levels
+key_of t (kinds.Seq at) bytes e h levels = absurd cc
+key_of t (kinds.Dict at) bytes e h levels = absurd cc
+key_of t (kinds.Struct at) bytes e h levels = absurd cc
+key_of t (kinds.Proxy at) bytes e h levels = absurd cc
+key_of t (kinds.Class at) bytes e h levels = absurd cc
+
+pub leaf_key : (t : Tables) (levels : ℕ) (kind : TypeRef) (bytes : List ℕ) (found : Option ℕ) → 0 < levels → is_simple kind ≡ true → IfSome found (λ n. LeafStands t kind (take n bytes))
+    → IfSome found (λ n. KeyStands t levels kind (take n bytes))
+leaf_key t zero kind bytes found lt e h = absurd (omega (arith, lt))
+leaf_key t (suc levels) kind bytes None lt e h = tt
+leaf_key t (suc levels) kind bytes (Some n) lt e h = key_of t kind (take n bytes) e h levels
 
 -- two keys that begin the same bytes are one
 key_apart : (t : Tables) (levels : ℕ) (kind : TypeRef) (k l : Tree) (x y : List ℕ) → HasType t no_reference levels kind k → HasType t no_reference levels kind l
@@ -58,9 +81,9 @@ module _ (t : Tables) (levels : ℕ) where
       let parts : take (at + n) bytes ++ more ≡ take at bytes ++ (one ++ more) = ap (λ (l : List ℕ). l ++ more) (take_two at n bytes) ∙ append_assoc (take at bytes) one more in
       subst (λ (l : List ℕ). KeysStand t levels kinds l) (sym parts) (had (one ++ more) (each_less t no_reference levels next kinds others kind is one more stands h))
 
-  pub keys_all : (kinds : List TypeRef) (bytes : List ℕ) (next at : ℕ) → length kinds ≤ next → KeysPassed kinds bytes next at → KeysStand t levels kinds (take at bytes)
-  keys_all kinds bytes next at le had =
-      subst (λ (l : List ℕ). KeysStand t levels kinds l) (append-nil (take at bytes)) (had [] (subst (λ (ks : List TypeRef). KeysStand t levels ks []) (sym (past_all next kinds le)) refl))
+  pub keys_all : (members : List Member) (bytes : List ℕ) (next at : ℕ) → length members ≤ next → KeysPassed (kinds_of members) bytes next at → KeysStand t levels (kinds_of members) (take at bytes)
+  keys_all members bytes next at le had =
+      subst (λ (l : List ℕ). KeysStand t levels (kinds_of members) l) (append-nil (take at bytes)) (had [] (subst (λ (ks : List TypeRef). KeysStand t levels ks []) (sym (past_kinds next members le)) refl))
 
   -- a struct, by its members
   pub struct_key : (place : ℕ) (d : StructDecl) (bytes : List ℕ) (found : Option ℕ) → slice_get t.structs place ≡ Some d → IfSome found (λ n. KeysStand t levels (kinds_of d.members) (take n bytes))
@@ -96,3 +119,15 @@ module _ (t : Tables) (levels : ℕ) where
       let right : drop n second ≡ each_bytes ls' ++ more = ap (drop n) other ∙ drop_at (canonical l) (each_bytes ls' ++ more) n (ap length (sym b.0) ∙ long) in
       let equal : tree_cmp k l ≡ Equal = (λ i. tree_cmp (sym a.1 i) (sym b.1 i)) ∙ equal_self m in
       (λ i. trees_cmp (e i) (f i)) ∙ ap (λ (o : Ordering). ordering_then o (trees_cmp ks' ls')) equal ∙ rise ks' ls' rest more hs gs left right
+
+  -- a struct, by its members
+  pub struct_below : (place : ℕ) (d : StructDecl) (first second : List ℕ) → slice_get t.structs place ≡ Some d → EachRising t levels (kinds_of d.members) first second → AreRising t (suc levels) (kinds.Struct place) first second
+  struct_below place d first second row rise k l rest more (e, at, ks, is, h) (f, there, ls, so, g) p q =
+      let one = same e at in
+      let other = same f there in
+      (λ i. tree_cmp (is i) (so i))
+      ∙ rise ks ls rest more (subst (λ (x : StructDecl). EachOf (HasType t no_reference levels) (kinds_of x.members) ks) one h) (subst (λ (x : StructDecl). EachOf (HasType t no_reference levels) (kinds_of x.members) ls) other g)
+      (p ∙ ap (λ (v : Tree). canonical v ++ rest) is) (q ∙ ap (λ (v : Tree). canonical v ++ more) so)
+    where
+      same : (x : StructDecl) → slice_get t.structs place ≡ Some x → x ≡ d
+      same x at = let e : Some x ≡ Some d = sym at ∙ row in cc
