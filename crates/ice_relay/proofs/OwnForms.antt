@@ -30,5 +30,5 @@ module _ (t : Tables) (kind : TypeRef) where
       let small : size_of t kind g ≤ MOST_COMPARED = omega (arith, ap length g_is, g_short) in
       let next : size_of t kind h ≤ MOST_COMPARED = omega (arith, ap length h_is, h_short) in
       let tell : (canonical_bytes t kind sliced g ≡ canonical_bytes t kind sliced h) ↔ Same g h =
-          read_equal_is_same t all_slices (one_value kind) sliced first second g h rules (IsBytes-front first second all) (IsBytes-rest first second all) one other (λ n lt. tt) (λ n lt. tt) (omega (arith, small)) in
+      read_equal_is_same t all_slices (one_value kind) sliced first second g h rules (IsBytes-front first second all) (IsBytes-rest first second all) one other (λ n lt. tt) (λ n lt. tt) (omega (arith, small)) in
       (g, h, (first, second, parts, one, other), (small, next), (λ yes. tell.0 (sym g_is ∙ test.0 yes ∙ h_is), λ s. test.1 (g_is ∙ tell.1 s ∙ sym h_is)))
