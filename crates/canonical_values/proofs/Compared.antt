@@ -1,5 +1,5 @@
 -- Keys by their bytes: what is found at the front of bytes that begin with a key is the key.
-use Rattle.std.proofs.Common.{◌≡◌, ◌<◌, ◌^◌, ◌-◌, ℕ, ℤ, Bool, zero, suc, true, false, List, [], ◌∷◌, ◌++◌, length, take, drop, Result, Ok, refl, sym, ap, ◌∙◌, subst, arith, to_z, of_z}
+use Rattle.std.proofs.Common.{◌≡◌, ◌<◌, ◌^◌, ℕ, ℤ, Bool, zero, suc, true, false, List, ◌++◌, length, drop, Result, Ok, refl, sym, ap, ◌∙◌, subst, arith, to_z, of_z}
 use Rattle.std.specs.Prelude.{FitsSigned, IsTrue, nat_lt, slice_index_or}
 use Rattle.std.specs.Int.Signed.{lt_z}
 use Rattle.std.proofs.lemmas.Int.{to_z-of_z}
@@ -17,9 +17,7 @@ use Rattle.ice_prims.specs.Number.{SpellsSigned, SpellsSize, SpellsText, signed_
 use Rattle.ice_prims.specs.Rest.{Rest, Took, whole}
 use Rattle.ice_prims.proofs.Spelled.{short_exact, int_exact, long_exact, size_exact, text_exact}
 use Rattle.ice_encoding.specs.Tree.{Tree}
-use Rattle.ice_encoding.specs.Typed.{HasType, no_reference}
 use Rattle.ice_encoding.specs.Canonical.{canonical}
-use Rattle.ice_encoding.specs.Order.{tree_cmp}
 use Rattle.canonical_values.specs.Fronts.{IsFront}
 use Rattle.canonical_values.specs.Keys.{AreRising}
 

@@ -1,5 +1,5 @@
 -- Keys with parts: their members one after the other, and in order.
-use Rattle.std.proofs.Common.{◌≡◌, ℕ, zero, suc, true, ◌+◌, ◌-◌, ◌<◌, ◌≤◌, List, [], ◌∷◌, ◌++◌, length, take, drop, Option, None, Some, refl, sym, ap, ◌∙◌, subst, arith, append_assoc}
+use Rattle.std.proofs.Common.{◌≡◌, ℕ, zero, suc, true, ◌+◌, ◌<◌, ◌≤◌, List, [], ◌∷◌, ◌++◌, length, take, drop, Option, None, Some, refl, sym, ap, ◌∙◌, subst, arith, append_assoc}
 use Rattle.std.specs.Prelude.{slice_get, IfSome}
 use Rattle.std.specs.declared.cmp.Ordering.{Ordering}
 use Rattle.std.specs.declared.cmp.Ordering.TheVariants.{Less, Equal}
@@ -10,7 +10,7 @@ use Rattle.ice_types.specs.declared.kind.TypeRef.TheVariants as kinds
 use Rattle.ice_types.specs.declared.declarations.Member.{Member}
 use Rattle.ice_types.specs.declared.declarations.StructDecl.{StructDecl}
 use Rattle.ice_types.specs.Tables.{Tables}
-use Rattle.ice_encoding.specs.Tree.{Tree, Trees, none, tree, struct}
+use Rattle.ice_encoding.specs.Tree.{Tree, Trees}
 use Rattle.ice_encoding.specs.Port.{by_number}
 use Rattle.ice_encoding.specs.Reading.{value_at}
 use Rattle.ice_encoding.specs.Spelling.{SpellsValue}

@@ -1,5 +1,5 @@
 -- Values without parts: what is found at the front is what is put for it.
-use Rattle.std.proofs.Common.{◌≡◌, ◌≤◌, ◌<◌, ◌^◌, ℕ, ℤ, Bool, List, [], ◌∷◌, length, take, Option, None, Some, refl, sym, ◌∙◌, arith}
+use Rattle.std.proofs.Common.{◌≡◌, ◌<◌, ◌^◌, ℕ, ℤ, Bool, List, [], ◌∷◌, length, take, Option, None, Some, refl, sym, ◌∙◌, arith}
 use Rattle.std.specs.Prelude.{slice_get, IfSome}
 use Rattle.std.specs.Int.{w16, w32, w64, cast_signed, from_le_bytes}
 use Rattle.ice_types.specs.declared.kind.TypeRef.TheVariants as kinds

@@ -9,7 +9,7 @@ use Rattle.canonical_values.specs.declared.frame.Left.TheVariants.{Items, Member
 use Rattle.canonical_values.specs.declared.frame.Frame.{Frame}
 use Rattle.canonical_values.specs.declared.frame.Step.TheVariants as steps
 use Rattle.canonical_values.specs.Standing.{Stands, StandEach, LeafStands, members_of, kinds_of, only_null}
-use Rattle.canonical_values.specs.Frames.{Fills, FillAll, Passes, Steps, ItemsPassed, MembersPassed}
+use Rattle.canonical_values.specs.Frames.{Fills, FillAll, Steps, ItemsPassed, MembersPassed}
 use Rattle.canonical_values.proofs.Joined.{passes_front, passes_then, items_less}
 use Rattle.canonical_values.proofs.Rows.{each_less}
 

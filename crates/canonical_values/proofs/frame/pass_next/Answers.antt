@@ -1,4 +1,4 @@
-use Rattle.std.proofs.Common.{◌≡◌, ℕ, List, sym, ap, subst}
+use Rattle.std.proofs.Common.{◌≡◌, ℕ, List, sym, subst}
 use Rattle.ice_types.specs.Tables.{Tables}
 use Rattle.canonical_values.specs.declared.frame.Left.{Left}
 use Rattle.canonical_values.specs.declared.frame.Left.TheVariants.{Items, Members, Pairs}
