@@ -4,6 +4,7 @@ pub mod Holding
 pub mod Twice
 pub mod TwoInputs
 pub mod Compared
+pub mod OwnForms
 pub mod Deciding
 pub mod Noted
 pub mod Dumped

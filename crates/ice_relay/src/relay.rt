@@ -5,6 +5,7 @@ ghost use Rattle.instance_writing.specs.Formats.{view_format};
 ghost use Rattle.ice_relay.specs.Relaying.{Canonicalizes, root_of};
 
 use crate::fault::RelayFault;
+use canonical_inputs::is_canonical_input;
 use class_slices::{Format, decode, encode_typed};
 use ice_encoding::LARGEST;
 use ice_types::{Member, Name, Schema, TypeRef};
@@ -16,6 +17,24 @@ use std::alloc::{AllocError, Global};
 /// and the format is compact; or the length of the encapsulation, where it is more than 1,048,576 bytes. (Ice
 /// manual, "Data Encoding for Class and Exception Types".)
 pub fn canonical_of(
+    alloc: Global,
+    schema: &Schema,
+    kind: TypeRef,
+    format: Format,
+    input: &[u8],
+) -> Result<Vec<u8>, RelayFault>
+    ensures { Canonicalizes schema.now kind (view_format format) input.now result }
+{
+    match format {
+        Format::Sliced if is_canonical_input(alloc, schema, kind, input) => {
+            Ok(Vec::from_slice(alloc, input)?)
+        }
+        _ => written_anew(alloc, schema, kind, format, input),
+    }
+}
+
+/// The same, by way of the graph.
+fn written_anew(
     alloc: Global,
     schema: &Schema,
     kind: TypeRef,

@@ -3,7 +3,7 @@ use Rattle.std.proofs.lemmas.Bool.Decides.{Decides-eqb}
 use Rattle.std.proofs.lemmas.Slice.Eq.{slice_eq-Decides}
 use Rattle.std.proofs.lemmas.Result.{err_from_is_err_and}
 use Rattle.ice_relay.proofs.Compared.{first_broken, second_broken, first_long, second_long, both_written}
-use Rattle.ice_relay.proofs.comparing.are_same.Goals as goal
+use Rattle.ice_relay.proofs.comparing.told_by_graphs.Goals as goal
 
 pub returns-in_err-first : goal.returns-in_err-first
 returns-in_err-first c =

@@ -1,0 +1,6 @@
+use Rattle.canonical_inputs.proofs.Alone.{canonical_stays}
+use Rattle.canonical_inputs.proofs.is_canonical_input.Goals as goal
+
+pub returns-in-Some : goal.returns-in-Some
+returns-in-Some c = λ yes name.
+    canonical_stays c.args.schema.now name c.args.kind c.args.input.now c.in-Some.content.now c.rules.ensures c.in-Some.ensures.encapsulated c.in-Some.ensures.short (c.is_canonical.ensures yes)

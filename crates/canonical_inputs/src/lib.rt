@@ -1,0 +1,48 @@
+//! Whether an input is the canonical encapsulation already of the graph that it holds. Then relaying leaves it as it
+//! is, and comparing it with another such input is comparing bytes.
+//!
+//! Forms, and why they are so:
+//!
+//! - Of what is written for some graph it is a law that it is read as that graph but for names, and that the same
+//!   graphs have the same bytes. So no code here reads, and no contract of `canonical_values` speaks of reading.
+//! - A value without instances is the graph whose only member it is; its bytes are those of the value by itself.
+//! - The member may have any name: bytes tell none.
+#![tactic(auto)]
+
+ghost use Rattle.std.specs.Prelude.{◌≡◌, ◌≤◌, ℕ, List, IsTrue, IfSome, length};
+ghost use Rattle.ice_encoding.specs.Opening.{encapsulated_bytes};
+ghost use Rattle.canonical_inputs.specs.Inputs.{IsOwnForm, one_member};
+
+use canonical_values::is_canonical;
+use ice_encoding::{LARGEST, SMALLEST};
+use ice_prims::Cursor;
+use ice_types::{Schema, TypeRef};
+use std::alloc::Global;
+
+/// Whether the whole input is the canonical encapsulation, in sliced format, of a value of the type that leads to no
+/// instance. Where the answer is `false`, it may be so all the same.
+/// (Ice manual, "Basic Data Encoding", "Encapsulations".)
+pub fn is_canonical_input(alloc: Global, schema: &Schema, kind: TypeRef, input: &[u8]) -> bool
+    ensures { IsTrue result → (name : List ℕ) → IsOwnForm schema.now (one_member name kind) input.now }
+{
+    // Its contract says what every schema keeps.
+    schema.rules();
+    match content_of(input) {
+        Some(content) => is_canonical(alloc, schema, kind, content),
+        None => false,
+    }
+}
+
+/// What the encapsulation holds that is the whole input. None where the input is none, or is longer than may be.
+fn content_of(input: &[u8]) -> Option<&[u8]>
+    ensures encapsulated { IfSome result (λ content. input.now ≡ encapsulated_bytes content.now) }
+    ensures short { IfSome result (λ content. length input.now ≤ LARGEST) }
+{
+    if input.len() < SMALLEST || input.len() > LARGEST || input[4] != 1 || input[5] != 1 {
+        return None;
+    }
+    match Cursor::new(input).take_int() {
+        Ok(size) if size == input.len() as i32 => Some(&input[SMALLEST..]),
+        _ => None,
+    }
+}

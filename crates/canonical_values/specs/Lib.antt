@@ -1,0 +1,4 @@
+pub mod Fronts
+pub mod Standing
+pub mod Keys
+pub mod Frames
