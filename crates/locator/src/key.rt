@@ -8,7 +8,9 @@ ghost use Rattle.std.specs.Cmp.Rules.{comparing, hashing};
 ghost use Rattle.std.specs.Hash as fed;
 ghost use Rattle.locator.specs.Keys as keys;
 
-use ice_types::{Identity, Name};
+use crate::copies::{copy_identity, copy_name};
+use ice_types::{Identity, Name, Proxy};
+use std::alloc::{AllocError, Global};
 use std::hash::{Hash, Hasher};
 
 /// What a place is kept by, and asked for. (Ice manual, "Locators".)
@@ -32,7 +34,7 @@ impl Key {
     }
 
     /// The name of the object, or the id.
-    fn name(&self) -> &str
+    pub(crate) fn name(&self) -> &str
         ensures { result.now ≡ keys.name self.now }
     {
         match self {
@@ -42,7 +44,7 @@ impl Key {
     }
 
     /// The category of the object; an adapter has none.
-    fn category(&self) -> &str
+    pub(crate) fn category(&self) -> &str
         ensures { result.now ≡ keys.category self.now }
     {
         match self {
@@ -76,5 +78,16 @@ impl Hash for Key {
         state.write_u8(self.sort());
         self.name().hash(state);
         self.category().hash(state);
+    }
+}
+
+/// What the place of a proxy without endpoints is kept by: its adapter, or else its object.
+pub(crate) fn key_of(alloc: Global, proxy: &Proxy) -> Result<Key, AllocError>
+    ensures { IfOk result (λ key. key ≡ keys.key_of proxy.now) }
+{
+    if proxy.adapter.as_str().is_empty() {
+        Ok(Key::Object(copy_identity(alloc, &proxy.identity)?))
+    } else {
+        Ok(Key::Adapter(copy_name(alloc, &proxy.adapter)?))
     }
 }

@@ -1,0 +1,5 @@
+pub mod Made
+pub mod Bodies
+pub mod Questions
+pub mod Leading
+pub mod Routes
