@@ -3,3 +3,6 @@ pub mod Bodies
 pub mod Questions
 pub mod Leading
 pub mod Routes
+pub mod Stepping
+pub mod Legs
+pub mod Delivering

@@ -5,3 +5,5 @@ pub mod Leads
 pub mod Rounds
 pub mod Asking
 pub mod Resolving
+pub mod Steps
+pub mod Through

@@ -1,6 +1,8 @@
-//! Where objects and adapters are, as a locator tells it. (Ice manual, "Locators".)
+//! Where objects and adapters are, as a locator tells it, and calls that go there. (Ice manual, "Locators".)
 //!
 //! - `resolve` finds the endpoints of a proxy that has none: in a `Cache`, or else by a locator, which is asked.
+//! - `call_through` and `send_through` are `invoke` and `send` of `ice_client` for any proxy: it is resolved anew
+//!   before each attempt, and a place of the cache that is no longer right is forgotten.
 //!
 //! Forms, and why they are so:
 //!
@@ -20,8 +22,11 @@ mod key;
 mod lead;
 mod question;
 mod resolving;
+mod step;
+mod through;
 
 pub use cache::{Cache, MOST_KEPT};
 pub use key::Key;
 pub use question::LONGEST;
 pub use resolving::{Resolved, resolve};
+pub use through::{Through, call_through, send_through};
