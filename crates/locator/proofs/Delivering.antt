@@ -1,5 +1,5 @@
 -- What attempts come to, each behind a resolution.
-use Rattle.std.proofs.Common.{◌≡◌, ℕ, ◌+◌, ◌<◌, ◌≤◌, inl, inr, Bool, true, false, List, [], ◌∷◌, ◌++◌, length, Option, None, Some, Result, Ok, Err, IsSome, refl, sym, ap, subst, ◌∙◌, arith, append-nil, append_assoc, length-append}
+use Rattle.std.proofs.Common.{◌≡◌, ℕ, ◌+◌, ◌<◌, ◌≤◌, inl, inr, Bool, true, false, List, [], ◌∷◌, ◌++◌, length, Option, None, Some, Ok, Err, IsSome, refl, sym, ap, subst, ◌∙◌, arith, append-nil}
 use Rattle.ice_types.specs.declared.proxy.Proxy.{Proxy}
 use Rattle.ice_encoding.specs.declared.limits.TheConstants.{LARGEST}
 use Rattle.ice_messages.specs.declared.fault.WriteFault.{WriteFault}
@@ -8,16 +8,15 @@ use Rattle.ice_messages.specs.declared.message.Message.{Message}
 use Rattle.ice_messages.specs.Messages.{message_bytes}
 use Rattle.ice_proxy.specs.Usable.{tcp_at}
 use Rattle.retry_core.specs.Client.{Invoking}
-use Rattle.ice_client.specs.Asking.{HasRow, IsOver}
+use Rattle.ice_client.specs.Asking.{HasRow}
 use Rattle.ice_client.specs.Sending.{IsOf, Prepares}
-use Rattle.ice_client.specs.ClientDid.{Tried, ClientDid, Ended, attempts_of, had, goes_again}
+use Rattle.ice_client.specs.ClientDid.{Tried, ClientDid, Ended, had, goes_again}
 use Rattle.ice_client.specs.declared.outcome.Once.{Once}
 use Rattle.ice_client.specs.declared.outcome.Invoked as invoking
 use Rattle.ice_client.specs.declared.outcome.Outcome.{Outcome}
 use Rattle.ice_client.specs.declared.outcome.Outcome.TheVariants as outcomes
 use Rattle.ice_client.specs.declared.outgoing.Outgoing.{Outgoing}
-use Rattle.locator.specs.declared.resolving.Resolved.{Resolved}
-use Rattle.locator.specs.declared.resolving.Resolved.TheVariants.{Direct, Unknown, Failed}
+use Rattle.locator.specs.declared.resolving.Resolved.TheVariants.{Direct}
 use Rattle.locator.specs.declared.step.Step.TheVariants.{Over, NoEndpoint, NotLocated, LocatorFailed}
 use Rattle.locator.specs.declared.through.Through.{Through}
 use Rattle.locator.specs.declared.through.Through.TheVariants as throughs

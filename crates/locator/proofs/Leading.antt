@@ -1,5 +1,5 @@
 -- Where values, proxies and exceptions lead.
-use Rattle.std.proofs.Common.{ℕ, ◌≡◌, ◌≤◌, List, [], ◌∷◌, length, Option, None, Some, Result, Ok, Err, refl, sym, subst, ap, ◌∙◌, arith}
+use Rattle.std.proofs.Common.{ℕ, ◌≡◌, ◌≤◌, List, [], ◌∷◌, length, Option, None, Result, Ok, Err, refl, sym, subst, ap, ◌∙◌, arith}
 use Rattle.std.specs.Prelude.{IfOk}
 use Rattle.ice_prims.specs.declared.fault.Fault.{Fault}
 use Rattle.ice_prims.specs.declared.fault.ReadFault.{ReadFault}
@@ -9,7 +9,6 @@ use Rattle.ice_prims.specs.Rest.{whole}
 use Rattle.ice_encoding.specs.Tree.{Trees}
 use Rattle.ice_types.specs.declared.declarations.Member.{Member}
 use Rattle.ice_types.specs.declared.proxy.Endpoint.{Endpoint}
-use Rattle.ice_types.specs.declared.proxy.Proxy.{Proxy}
 use Rattle.ice_types.specs.Tables.{Tables}
 use Rattle.ice_graphs.specs.Exceptions.{UserException, exception_at}
 use Rattle.ice_graphs.specs.Flags.{all_slices}
@@ -21,7 +20,7 @@ use Rattle.graph_arena.specs.View.{view_all}
 use Rattle.locator.specs.declared.lead.Lead.{Lead}
 use Rattle.locator.specs.declared.lead.Lead.TheVariants.{At, Behind, Nowhere}
 use Rattle.locator_types.specs.Locator.{find_object, locator_tables}
-use Rattle.locator.specs.Leads.{of_members, of_proxy, of_raised, of_results, of_slices, place_by, results_at, raised_at}
+use Rattle.locator.specs.Leads.{of_members, of_raised, of_results, of_slices, place_by, results_at, raised_at}
 
 -- several results are no answer
 pub several : (values : List Value) (all : Trees) → 2 ≤ length values → view_all values ≡ all → None ≡ of_members all

@@ -7,7 +7,6 @@ use Rattle.ice_encoding.specs.declared.limits.TheConstants.{LARGEST}
 use Rattle.ice_messages.specs.declared.fault.WriteFault.{WriteFault}
 use Rattle.ice_messages.specs.declared.fault.WriteFault.TheVariants.{TooLong}
 use Rattle.ice_messages.specs.declared.message.Call.{Call}
-use Rattle.ice_messages.specs.declared.message.Message.{Message}
 use Rattle.ice_messages.specs.declared.message.Message.TheVariants.{Request}
 use Rattle.ice_messages.specs.Messages.{message_bytes}
 use Rattle.ice_messages.specs.Written.{IsWritableCall}
@@ -28,7 +27,7 @@ use Rattle.locator.specs.declared.asking.Found.TheVariants as founds
 use Rattle.locator.specs.declared.question.TheConstants.{LONGEST}
 use Rattle.locator.specs.Asking.{Asked, Asks, Follows, FollowsOrEnds, Finds, FindsOrEnds, HasFailed, FindsFailure, IsNetFailure, told, told_by, told_by_invoked, found, next, next_of_object}
 use Rattle.locator.specs.Leads.{lead_of}
-use Rattle.locator.specs.Questions.{question, request, body, CanBeAsked}
+use Rattle.locator.specs.Questions.{question, request, body}
 use Rattle.locator.specs.Rounds.{Round, WereMade, round, AreAt}
 use Rattle.locator.proofs.Made.{at_both, made_rises}
 

@@ -3,12 +3,11 @@ use Rattle.std.proofs.Common.{ℕ, ◌≡◌, true, false, List, [], ◌∷◌, 
 use Rattle.std.specs.Prelude.{IfOk, IfSome, IsTrue, ◌↔◌}
 use Rattle.ice_types.specs.declared.proxy.Endpoint.{Endpoint}
 use Rattle.ice_types.specs.declared.proxy.Proxy.{Proxy}
-use Rattle.ice_client.specs.declared.outcome.Outcome.TheVariants.{NetFailed}
 use Rattle.locator.specs.declared.key.Key.{Key}
 use Rattle.locator.specs.declared.asking.Found.{Found}
 use Rattle.locator.specs.declared.asking.Found.TheVariants as founds
 use Rattle.locator.specs.declared.resolving.Resolved.{Resolved}
-use Rattle.locator.specs.declared.resolving.Resolved.TheVariants.{Direct, Unknown, Failed}
+use Rattle.locator.specs.declared.resolving.Resolved.TheVariants.{Direct}
 use Rattle.locator.specs.Asking.{Finds, FindsFailure}
 use Rattle.locator.specs.Caches.{Kept, kept_by}
 use Rattle.locator.specs.Keys.{key_of}

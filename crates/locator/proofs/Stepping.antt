@@ -1,5 +1,5 @@
 -- A resolution, and the attempt behind it.
-use Rattle.std.proofs.Common.{ℕ, suc, ◌≡◌, ◌-◌, length, arith, inl, inr, Bool, true, false, ◌&&◌, List, [], ◌∷◌, ◌++◌, Option, None, Some, IsSome, refl, sym, ap, subst, ◌∙◌, if◌then◌else◌}
+use Rattle.std.proofs.Common.{ℕ, suc, ◌≡◌, ◌-◌, length, arith, inr, Bool, true, false, List, [], ◌∷◌, ◌++◌, Option, None, Some, IsSome, refl, sym, ap, subst, ◌∙◌}
 use Rattle.std.specs.Prelude.{is_some, option_map, slice_get, Result, Ok, Err, IfOk}
 use Rattle.ice_types.specs.declared.proxy.Proxy.{Proxy}
 use Rattle.ice_ports.specs.declared.talk.Talk.{Talk}
@@ -8,7 +8,7 @@ use Rattle.ice_proxy.specs.Usable.{tcp_at}
 use Rattle.retry_core.specs.declared.attempt.Attempt.{Attempt}
 use Rattle.retry_core.specs.Client.{Invoking}
 use Rattle.ice_client.specs.Asking.{HasRow, IsOver}
-use Rattle.ice_client.specs.ClientDid.{Tried, Rises}
+use Rattle.ice_client.specs.ClientDid.{Rises}
 use Rattle.ice_client.specs.declared.outcome.Once.{Once}
 use Rattle.ice_client.specs.declared.outgoing.Outgoing.{Outgoing}
 use Rattle.locator.specs.declared.key.Key.{Key}
@@ -19,7 +19,7 @@ use Rattle.locator.specs.Caches.{Kept}
 use Rattle.locator.specs.Keys.{key_of}
 use Rattle.locator.specs.Resolving.{Resolves}
 use Rattle.locator.specs.Rounds.{Round, WereMade, attempt}
-use Rattle.locator.specs.Steps.{Target, AttemptsAt, GoesOn, Steps, ended_elsewhere, is_elsewhere, left_after, left_by, IsFailure}
+use Rattle.locator.specs.Steps.{Target, AttemptsAt, Steps, ended_elsewhere, is_elsewhere, left_after, left_by, IsFailure}
 use Rattle.locator.proofs.Made.{made_rises}
 
 -- ---- the last attempt

@@ -1,5 +1,5 @@
 -- Places that were found, and are kept: the oldest first.
-use Rattle.std.specs.Prelude.{ℕ, List, [], ◌∷◌, length, Option, nat_le, if◌then◌else◌}
+use Rattle.std.specs.Prelude.{List, [], ◌∷◌, length, Option, nat_le, if◌then◌else◌}
 use Rattle.std.specs.Map.{lookup, remove_entry}
 use Rattle.indexmap.specs.IndexMap.{insert_entry}
 use Rattle.ice_types.specs.declared.proxy.Endpoint.{Endpoint}

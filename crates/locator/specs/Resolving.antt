@@ -1,5 +1,5 @@
 -- The endpoints of a proxy: its own, those that are kept for it, or those that a locator tells. (Ice manual, "Locators".)
-use Rattle.std.specs.Prelude.{ℕ, ◌≡◌, Bool, true, false, List, [], ◌∷◌, Option, None, Some, IfSome, Result, Ok, Err}
+use Rattle.std.specs.Prelude.{ℕ, ◌≡◌, true, false, List, [], ◌∷◌, Option, None, Some, IfSome, Result, Ok, Err}
 use Rattle.ice_types.specs.declared.proxy.Endpoint.{Endpoint}
 use Rattle.ice_types.specs.declared.proxy.Proxy.{Proxy}
 use Rattle.ice_client.specs.declared.outcome.Outcome.TheVariants.{NetFailed}

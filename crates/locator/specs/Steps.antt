@@ -7,11 +7,9 @@ use Rattle.retry_core.specs.declared.attempt.Attempt.TheVariants as tries
 use Rattle.retry_core.specs.Client.{Invoking}
 use Rattle.ice_client.specs.Asking.{HasRow, IsOver}
 use Rattle.ice_client.specs.ClientDid.{Tried}
-use Rattle.ice_client.specs.declared.outcome.Once.{Once}
 use Rattle.ice_client.specs.declared.outcome.Outcome.TheVariants.{NetFailed}
 use Rattle.ice_client.specs.declared.outgoing.Outgoing.{Outgoing}
 use Rattle.locator.specs.declared.key.Key.{Key}
-use Rattle.locator.specs.declared.resolving.Resolved.{Resolved}
 use Rattle.locator.specs.declared.resolving.Resolved.TheVariants.{Direct, Unknown, Failed}
 use Rattle.locator.specs.declared.step.Step.{Step}
 use Rattle.locator.specs.declared.step.Step.TheVariants.{Over, NoEndpoint, NotLocated, LocatorFailed}

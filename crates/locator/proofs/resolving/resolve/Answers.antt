@@ -1,4 +1,4 @@
-use Rattle.std.proofs.Common.{◌≡◌, [], List, Some, None, true, subst, refl}
+use Rattle.std.proofs.Common.{◌≡◌, [], List, Some, None, true, subst}
 use Rattle.std.proofs.lemmas.Result.{err_from_is_err_and}
 use Rattle.std.specs.Prelude.{IfOk, option_copied}
 use Rattle.ice_types.specs.declared.proxy.Endpoint.{Endpoint}

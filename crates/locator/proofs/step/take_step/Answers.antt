@@ -1,5 +1,4 @@
-use Rattle.std.proofs.Common.{◌≡◌, ◌++◌, ◌∙◌, Option, Some, inl, refl, sym, ap, subst}
-use Rattle.std.specs.Prelude.{option_copied}
+use Rattle.std.proofs.Common.{◌++◌, Some, inl, refl, subst}
 use Rattle.std.proofs.lemmas.Result.{err_from_is_err_and}
 use Rattle.locator.specs.declared.key.Key.{Key}
 use Rattle.locator.specs.declared.resolving.Resolved.{Resolved}

@@ -1,7 +1,6 @@
-use Rattle.std.proofs.Common.{rules, ◌≡◌, ◌∷◌, ◌++◌, ◌∙◌, [], List, true, false, Some, refl, sym, ap, subst, arith}
-use Rattle.std.specs.Prelude.{option_copied}
+use Rattle.std.proofs.Common.{rules, ◌≡◌, ◌∷◌, ◌++◌, ◌∙◌, [], List, Some, refl, sym, subst}
 use Rattle.std.proofs.lemmas.Result.{err_from_is_err_and}
-use Rattle.ice_client.specs.ClientDid.{Rises, goes_again}
+use Rattle.ice_client.specs.ClientDid.{Rises}
 use Rattle.ice_client.specs.declared.outcome.Outcome.TheVariants as outcomes
 use Rattle.locator.specs.declared.step.Step.{Step}
 use Rattle.locator.specs.Rounds.{Round, WereMade}
