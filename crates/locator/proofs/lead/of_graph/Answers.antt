@@ -1,0 +1,10 @@
+use Rattle.std.proofs.Common.{ap, ◌∙◌}
+use Rattle.ice_graphs.specs.OptionalMembers.{Members}
+use Rattle.graph_arena.specs.View.{view_all}
+use Rattle.locator.proofs.Leading.{several}
+use Rattle.locator.proofs.lead.of_graph.Goals as goal
+
+pub returns-in-len2-up : goal.returns-in-len2-up
+returns-in-len2-up c =
+    several c.as_slice.result.now c.args.results.now.roots.required c.in-len2-up.len_at_least
+    (ap view_all c.as_slice.ensures ∙ ap (λ (m : Members). m.required) c.roots.ensures.roots)
