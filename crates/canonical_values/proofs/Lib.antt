@@ -1,5 +1,6 @@
 pub mod Fronts
 pub mod Leaves
+pub mod Proxied
 pub mod Compared
 pub mod Rows
 pub mod Keyed

@@ -5,6 +5,7 @@ ghost use Rattle.ice_encoding.specs.Enum.{HasNumber};
 ghost use Rattle.canonical_values.specs.Standing.{number_length, is_leaf, LeafStands};
 
 use crate::front::{bool_length, size_front, text_length};
+use crate::proxy::proxy_length;
 use ice_types::{Entry, Schema, TypeRef};
 
 /// Whether a value of the type has no parts.
@@ -61,6 +62,7 @@ fn other_length(schema: &Schema, kind: TypeRef, bytes: &[u8]) -> Option<usize>
                 _ => None,
             }
         }
+        TypeRef::Proxy(_) => proxy_length(bytes),
         TypeRef::Class(_) => match size_front(bytes) {
             Some((0, taken)) => Some(taken),
             _ => None,

@@ -17,6 +17,7 @@
 #![tactic(auto)]
 
 mod below;
+mod endpoint;
 mod frame;
 mod front;
 mod item;
@@ -26,6 +27,7 @@ mod member;
 mod order;
 mod pair;
 mod part;
+mod proxy;
 mod row;
 mod walk;
 

@@ -3,6 +3,7 @@ use Rattle.std.specs.Prelude.{IfSome}
 use Rattle.ice_types.specs.declared.kind.TypeRef.{TypeRef}
 use Rattle.canonical_values.specs.Standing.{LeafStands}
 use Rattle.canonical_values.proofs.Leaves.{bool_found, text_found, enum_stands, null_stands}
+use Rattle.canonical_values.proofs.Proxied.{proxy_found}
 use Rattle.canonical_values.proofs.leaf.other_length.Goals as goal
 
 pub returns-in-Bool-clause-stands : goal.returns-in-Bool-clause-stands
@@ -22,3 +23,7 @@ pub returns-in-Some-eq0-default-clause-stands : goal.returns-in-Some-eq0-default
 returns-in-Some-eq0-default-clause-stands c =
     subst (λ (k : TypeRef). LeafStands c.args.schema.now k (take c.in-Some-eq0-default.taken c.args.bytes.now)) (sym c.in-Class.is)
     (null_stands c.args.schema.now c.in-Class.field-0 c.args.bytes.now c.in-Some-eq0-default.taken (search rules))
+
+pub returns-in-Proxy-clause-stands : goal.returns-in-Proxy-clause-stands
+returns-in-Proxy-clause-stands c =
+    subst (λ (k : TypeRef). IfSome c.proxy_length.result (λ n. LeafStands c.args.schema.now k (take n c.args.bytes.now))) (sym c.in-Proxy.is) (proxy_found c.args.schema.now c.in-Proxy.field-0 c.args.bytes.now c.proxy_length.result c.proxy_length.ensures)
