@@ -264,7 +264,6 @@ KIND of an input is one of these:
                 long form
   BadFormat     an optional member stands in another format than that of its type
   BadFlags      the flags of a slice are none that may stand here
-  CompactId     the type id of a slice is a compact one
   BadLast       a slice is the last where its class has a base, or is not where it has none
   BadTypeId     the index of a type id is 0, or above the number of type ids so far
   WrongBase     the type id after a slice is not that of its class's base
