@@ -17,10 +17,10 @@ use Rattle.ice_types.specs.Fits.{SeqFits, DictFits, StructFits, EnumFits, IsOf, 
 use Rattle.ice_types.specs.Bases.{HasBases, HasBasesFrom, Lone, class_base, exception_base}
 use Rattle.ice_types.specs.Rules.{Beside, IsSchema, IsKept, defined}
 use Rattle.ice_types.specs.Kept.{tables_of, beside_of}
-use Rattle.ice_types.specs.Ids.{IsHeld}
+use Rattle.ice_types.specs.Ids.{AreNumbered, IsHeld}
 use Rattle.ice_types.proofs.Items.{slice_get-front, slice_get-push, slice_get-last}
 use Rattle.ice_types.proofs.Flags.{flag_front, defined_front}
-use Rattle.ice_types.proofs.CompactIds.{compact_of, compact_declared}
+use Rattle.ice_types.proofs.CompactIds.{compact_of, compact_declared, numbered_declared}
 use Rattle.ice_types.proofs.Levels.{Keeps}
 use Rattle.ice_types.proofs.Staying.{Grows}
 use Rattle.ice_types.proofs.BaseChains.{mapped_front, bases_grow, based_on, all_counted}
@@ -230,6 +230,14 @@ added_class old after t row_of now held view_is id row beside at end put room ty
       found = found_more t (with_class t id) id (rows.Class (length t.classes)) (last_class t id) row_of now was.found
           (subst (λ (at : ℕ). (other : List ℕ) → now other ≡ cond (bytes_eq id other) (Some (rows.Class at)) (row_of other)) (end ∙ ap (λ (t : Tables). length t.classes) view_is) put);
     }))
+
+-- and of its compact ids, where there is room for one more
+pub numbered_class : (old : TableRows) (after : Rows ClassDecl (Option ℕ)) (t : Tables) (class_of now : ℕ → Option ℕ) (was_room room : ℕ) → AreNumbered (tables_of old) class_of was_room → tables_of old ≡ t → (id : List ℕ)
+    → after.decls ≡ old.classes.decls ++ new_class id ∷ [] → after.beside ≡ old.classes.beside ++ None ∷ [] → (at : ℕ) → at ≡ length old.classes.decls
+    → ((number : ℕ) → now number ≡ class_of number) → at + 1 ≤ room → AreNumbered (tables_of (record old { classes = after })) now room
+numbered_class old after t class_of now was_room room was view_is id row beside at end same enough =
+    subst (λ (u : Tables). AreNumbered u now room) (view_class old after t view_is id row beside)
+    (numbered_declared t id class_of now was_room room (subst (λ (u : Tables). AreNumbered u class_of was_room) view_is was) same (omega (arith, enough, end, ap (λ (u : Tables). length u.classes) view_is)))
 
 -- ---- an interface that is only declared
 

@@ -29,6 +29,14 @@ fits_at t (Some own) fits number e = subst (λ (n : ℕ). (n ≤ 2147483647) × 
     some_is : (m n : ℕ) → Some m ≡ Some n → m ≡ n
     some_is m n e = cc
 
+-- of other rows it says nothing
+pub numbered_same : {t u : Tables} {class_of : ℕ → Option ℕ} {room : ℕ} → t.classes ≡ u.classes → t.defined_classes ≡ u.defined_classes → AreNumbered t class_of room → AreNumbered u class_of room
+numbered_same {t} {u} {class_of} {room} classes flags was = record {
+  found = rw (← classes) was.found;
+  declared = rw (← classes, ← flags) was.declared;
+  enough = rw (← classes, ← flags) was.enough;
+}
+
 -- ---- a class that is only declared
 
 among_old : (ids : List (Option ℕ)) (number at : ℕ) → slice_get (ids ++ None ∷ []) at ≡ Some (Some number) → slice_get ids at ≡ Some (Some number)

@@ -1,6 +1,6 @@
 -- What a schema keeps when a class or an interface is defined.
-use Rattle.std.proofs.Common.{◌≡◌, ◌≢◌, ℕ, zero, suc, ◌<◌, ◌≤◌, Bool, true, false, List, [], ◌∷◌, length, map, Option, Some, None, refl, sym, ap, subst, ◌∙◌, arith, inl, inr}
-use Rattle.std.specs.Prelude.{slice_get, slice_set, slice_index_or, is_some, All, IsTrue, unwrap_or}
+use Rattle.std.proofs.Common.{◌≡◌, ◌≢◌, ℕ, zero, suc, ◌+◌, ◌<◌, ◌≤◌, Bool, true, false, cond, List, [], ◌∷◌, length, map, Option, Some, None, refl, sym, ap, subst, ◌∙◌, arith, inl, inr}
+use Rattle.std.specs.Prelude.{slice_get, slice_set, slice_index_or, is_some, All, IsTrue, nat_eq, unwrap_or}
 use Rattle.std.specs.Option.{option_map}
 use Rattle.std.proofs.lemmas.List.{length-map}
 use Rattle.ice_types.specs.declared.declarations.ClassDecl.{ClassDecl}
@@ -16,10 +16,10 @@ use Rattle.ice_types.specs.Fits.{SeqFits, DictFits, StructFits, EnumFits, ClassB
 use Rattle.ice_types.specs.Bases.{HasBases, HasBasesFrom, class_base}
 use Rattle.ice_types.specs.Rules.{Beside, IsSchema, IsKept, defined}
 use Rattle.ice_types.specs.Kept.{tables_of, beside_of}
-use Rattle.ice_types.specs.Ids.{IsHeld}
+use Rattle.ice_types.specs.Ids.{AreNumbered, IsHeld}
 use Rattle.ice_types.proofs.Items.{set_to, length-changed, map-changed, map-kept, get_other, get_changed, where_from, still_there}
 use Rattle.ice_types.proofs.Flags.{flag_stays, defined_more, another}
-use Rattle.ice_types.proofs.CompactIds.{compact_of, compact_defined}
+use Rattle.ice_types.proofs.CompactIds.{compact_of, compact_defined, one_more, numbered_without, numbered_with}
 use Rattle.ice_types.proofs.Levels.{Keeps}
 use Rattle.ice_types.proofs.Staying.{Grows}
 use Rattle.ice_types.proofs.BaseChains.{based_on, row_of_base, bases_stay, all_counted}
@@ -166,6 +166,29 @@ defined_class old decls beside t row_of held view_is at base compact members bas
       kept = kept_class t (beside_of old) was.kept at base compact members there not_yet fits compact_fits bases from most;
       found = same_found t (define_class t at base compact members) (rows_class t at base compact members) row_of was.found;
     }))
+
+-- and of its compact ids
+module _ (old : TableRows) (decls : List ClassDecl) (beside : List (Option ℕ)) (t : Tables) (row_of : List ℕ → Option RowRef) (held : IsHeld (tables_of old) (beside_of old) row_of) (view_is : tables_of old ≡ t)
+    (class_of : ℕ → Option ℕ) (room : ℕ) (numbered : AreNumbered (tables_of old) class_of room) (at : ℕ) (base compact : Option ℕ) (members : List Member) (bases : ℕ)
+    (row : decls ≡ changed (filled_class base compact members) old.classes.decls at) (count : beside ≡ slice_set old.classes.beside at (Some bases))
+    (there : at < length t.classes) (not_yet : is_defined t.defined_classes at ≡ false) where
+  flags_are : length t.defined_classes ≡ length t.classes
+  flags_are = (subst (λ (t : Tables). IsHeld t (beside_of old) row_of) view_is held).kept.rules.class_flags
+
+  was_numbered : AreNumbered t class_of room
+  was_numbered = subst (λ (t : Tables). AreNumbered t class_of room) view_is numbered
+
+  pub room_for_one : 0 < room
+  room_for_one = one_more t at base compact members there not_yet flags_are class_of room was_numbered
+
+  pub filled_without : compact ≡ None → AreNumbered (tables_of (record old { classes = record { decls = decls; beside = beside } })) class_of room
+  filled_without none = subst (λ (u : Tables). AreNumbered u class_of room) (view_class old decls beside t view_is at base compact members bases row count)
+      (numbered_without t at base compact members there not_yet flags_are class_of room was_numbered none)
+
+  pub filled_with : (number : ℕ) → compact ≡ Some number → (now : ℕ → Option ℕ) (left : ℕ) → ((other : ℕ) → now other ≡ cond (nat_eq number other) (Some at) (class_of other)) → room ≤ left + 1
+      → AreNumbered (tables_of (record old { classes = record { decls = decls; beside = beside } })) now left
+  filled_with number is now left put spare = subst (λ (u : Tables). AreNumbered u now left) (view_class old decls beside t view_is at base compact members bases row count)
+      (numbered_with t at base compact members there not_yet flags_are class_of room was_numbered number is now left put spare)
 
 -- ---- an interface
 

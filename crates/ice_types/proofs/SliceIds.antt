@@ -1,6 +1,6 @@
 -- An id `#n` tells its number, and no other text tells one; and a class is told by its type id, and by its compact id.
-use Rattle.std.proofs.Common.{◌≡◌, ℕ, zero, suc, ◌<◌, ◌≤◌, Bool, true, false, ◌&&◌, List, [], ◌∷◌, map, Option, Some, None, refl, sym, ap, subst, ◌∙◌, arith, bytes_eq, codes}
-use Rattle.std.specs.Prelude.{slice_get, nat_le, if◌then◌else◌}
+use Rattle.std.proofs.Common.{◌≡◌, ℕ, zero, suc, ◌≤◌, Bool, true, false, not, ◌&&◌, List, [], ◌∷◌, map, Option, Some, None, refl, sym, ap, subst, ◌∙◌, arith, inl, inr, ◌↔◌, bytes_eq}
+use Rattle.std.specs.Prelude.{get_or, slice_get, nat_le, ◌==◌, if◌then◌else◌, IsTrue, is_some}
 use Rattle.std.specs.Fmt.{decimal}
 use Rattle.std.specs.Str.{IsUtf8, IsAscii}
 use Rattle.std.proofs.lemmas.Bool.{leb-true, le-leb}
@@ -8,8 +8,8 @@ use Rattle.std.proofs.lemmas.Fmt.{decimal_is_IsNumeral, decimal_injective, IsAsc
 use Rattle.std.proofs.lemmas.Slice.Eq.{bytes_eq-Decides}
 use Rattle.std.proofs.lemmas.Str.{IsUtf8-from_ascii}
 use Rattle.ice_types.specs.declared.kind.RowRef.TheVariants as rows
-use Rattle.ice_types.specs.Tables.{Tables, HasId, HasCompactId, IsTypeId, class_ids, compact_ids}
-use Rattle.ice_types.specs.CompactIds.{numbered_id, is_numbered, number_behind, number_in, compact_text, HasSliceId}
+use Rattle.ice_types.specs.Tables.{Tables, Finds, HasId, HasCompactId, IsTypeId, class_ids, compact_ids}
+use Rattle.ice_types.specs.CompactIds.{numbered_id, is_numbered, number_behind, number_in, compact_text, HasSliceId, IsKeptId}
 use Rattle.ice_types.specs.Rules.{IsSchema}
 
 some_is : {A : Type 0} (x y : A) → Some x ≡ Some y → x ≡ y
@@ -53,7 +53,7 @@ pub hashed : (n : ℕ) → is_numbered (numbered_id n) ≡ true
 hashed n = refl
 
 pub not_numbered : (id : List ℕ) → is_numbered id ≡ false → number_in id ≡ None
-not_numbered id no = number_nowhere id (λ n le is. clash (is_numbered id) (ap is_numbered is ∙ hashed n) no)
+not_numbered id plain = number_nowhere id (λ n le is. clash (is_numbered id) (ap is_numbered is ∙ hashed n) plain)
 
 -- the one number of an id
 pub one_number : (m n : ℕ) → m ≤ 2147483647 → n ≤ 2147483647 → numbered_id m ≡ numbered_id n → m ≡ n
@@ -105,12 +105,12 @@ number_text t n at h = mapped (compact_ids t) at h
 
 -- what a text that begins with `#` is, where a class has it
 pub number_of_class : (t : Tables) → IsSchema t → (id : List ℕ) (at : ℕ) → is_numbered id ≡ true → HasSliceId t id at → (n : ℕ) × (n ≤ 2147483647) × (id ≡ numbered_id n) × HasCompactId t n at
-number_of_class t rules id at yes h = by_row (compact_ids t) at (λ n is. rules.compact_ids n at is) (λ n is. is) (subst (λ (b : Bool). HasId (if b then map compact_text (compact_ids t) else class_ids t) id at) yes h)
+number_of_class t rules id at hash h = by_row (compact_ids t) at (λ n is. rules.compact_ids n at is) (λ n is. is) (subst (λ (b : Bool). HasId (if b then map compact_text (compact_ids t) else class_ids t) id at) hash h)
   where
     by_row : (os : List (Option ℕ)) (place : ℕ) → ((n : ℕ) → slice_get os place ≡ Some (Some n) → n ≤ 2147483647) → ((n : ℕ) → slice_get os place ≡ Some (Some n) → HasCompactId t n at)
         → slice_get (map compact_text os) place ≡ Some id → (n : ℕ) × (n ≤ 2147483647) × (id ≡ numbered_id n) × HasCompactId t n at
     by_row [] place most has e = absurd cc
-    by_row (None ∷ os) zero most has e = absurd (clash (is_numbered id) yes (ap is_numbered (sym (some_is [] id e))))
+    by_row (None ∷ os) zero most has e = absurd (clash (is_numbered id) hash (ap is_numbered (sym (some_is [] id e))))
     by_row (Some n ∷ os) zero most has e = (n, most n refl, sym (some_is (numbered_id n) id e), has n refl)
     by_row (o ∷ os) (suc place) most has e = by_row os place most has e
 
@@ -130,3 +130,53 @@ one_class t rules id a b h i = by_test (is_numbered id) refl
     by_test false is = class_is (rules.apart id (rows.Class a) (rows.Class b)
         (subst (λ (k : Bool). HasId (if k then map compact_text (compact_ids t) else class_ids t) id a) is h)
         (subst (λ (k : Bool). HasId (if k then map compact_text (compact_ids t) else class_ids t) id b) is i))
+
+-- ---- for `number_in`
+
+pub no_number : (id : List ℕ) → ((rest : List ℕ) → id ≡ 35 ∷ rest → ⊥) → number_in id ≡ None
+no_number id none = number_nowhere id (λ n le is. none (decimal n) is)
+
+-- the digits behind `#`
+pub other_digits : (id digits : List ℕ) → id ≡ 35 ∷ digits → ((n : ℕ) → n ≤ 2147483647 → digits ≡ decimal n → ⊥) → number_in id ≡ None
+other_digits id digits whole none = number_nowhere id (λ n le is. none n le (behind digits (decimal n) (sym whole ∙ is)))
+  where
+    behind : (a b : List ℕ) → 35 ∷ a ≡ 35 ∷ b → a ≡ b
+    behind a b e = cc
+
+pub its_digits : (id digits : List ℕ) (n : ℕ) → id ≡ 35 ∷ digits → n ≤ 2147483647 → digits ≡ decimal n → number_in id ≡ Some n
+its_digits id digits n whole le is = ap number_in (whole ∙ ap (λ (ds : List ℕ). 35 ∷ ds) is) ∙ number_there n le
+
+-- ---- for `kept_id`
+
+-- an id that tells a number may be kept where no class has it
+pub kept_number : (t : Tables) → IsSchema t → (id : List ℕ) (n : ℕ) → IsUtf8 id → number_in id ≡ Some n → (class : Option ℕ) → Finds (HasCompactId t n) class → (none : Bool) → is_some class ≡ not none → IsTrue none ↔ IsKeptId t id
+kept_number t rules id n utf8 is class finds none answer = by_class class finds none answer
+  where
+    found : (n ≤ 2147483647) × (id ≡ numbered_id n)
+    found = number_found id n is
+
+    by_class : (class : Option ℕ) → Finds (HasCompactId t n) class → (none : Bool) → is_some class ≡ not none → IsTrue none ↔ IsKeptId t id
+    by_class None nowhere true answer = (
+      λ h. ((utf8, inr (n, found.0, found.1)), λ at h. nowhere at (text_number t rules n at found.0 (subst (λ (id : List ℕ). HasSliceId t id at) found.1 h))),
+      λ h. refl,
+    )
+    by_class None nowhere false answer = absurd cc
+    by_class (Some at) there false answer = (
+      λ h. absurd cc,
+      λ h. absurd (h.1 at (subst (λ (id : List ℕ). HasSliceId t id at) (sym found.1) (number_text t n at there))),
+    )
+    by_class (Some at) there true answer = absurd cc
+
+-- one that begins with `#` and tells none may not
+pub no_kept : (t : Tables) (id : List ℕ) → get_or id 0 0 ≡ 35 → number_in id ≡ None → IsTrue false ↔ IsKeptId t id
+no_kept t id first none = (λ h. absurd cc, λ h. absurd (elim h.0.1 [
+  | inl plain ↦ clash (is_numbered id) (hash id first) plain
+  | inr number ↦ none_some number.0 (sym none ∙ ap number_in number.2 ∙ number_there number.0 number.1)
+]))
+  where
+    none_some : (n : ℕ) → None ≡ Some n → ⊥
+    none_some n e = cc
+
+    hash : (id : List ℕ) → get_or id 0 0 ≡ 35 → is_numbered id ≡ true
+    hash [] e = omega (arith, e)
+    hash (c ∷ cs) e = ap (λ (b : ℕ). b == 35) e

@@ -17,7 +17,7 @@ pub fn number_in(id: &str) -> Option<u32>
     let digits = id.strip_prefix('#')?;
     let number = digits.parse::<u32>().ok()?;
     let mut printed = Buffer::new();
-    if number <= MOST_NUMBER && printed.format(number) == digits {
+    if printed.format(number) == digits && number <= MOST_NUMBER {
         return Some(number);
     }
     None
