@@ -101,11 +101,11 @@ pub slice_row : (t : Tables) (id : List ℕ) (at : ℕ) → HasSliceId t id at �
 slice_row t id at h = by_test (is_numbered id) refl
   where
     by_test : (b : Bool) → is_numbered id ≡ b → IsRow t.classes at
-    by_test true yes =
-        let o = row_there compact_text (compact_ids t) at id (subst (λ (b : Bool). HasId (if b then map compact_text (compact_ids t) else class_ids t) id at) yes h) in
+    by_test true hash =
+        let o = row_there compact_text (compact_ids t) at id (subst (λ (b : Bool). HasId (if b then map compact_text (compact_ids t) else class_ids t) id at) hash h) in
         let r = row_of_base (λ (c : ClassDecl). c.compact) (slice_get t.classes at) o.0 (sym (slice_get-map (λ (c : ClassDecl). c.compact) t.classes at) ∙ o.1) in
         (r.0, r.1)
-    by_test false no = let r = row_there (λ (c : ClassDecl). c.id) t.classes at id (plain_id t id at no h) in (r.0, r.1)
+    by_test false plain = let r = row_there (λ (c : ClassDecl). c.id) t.classes at id (plain_id t id at plain h) in (r.0, r.1)
 
 pub row_by_id : (t : Tables) (id : List ℕ) (at : ℕ) → class_by_id t id ≡ Some at → IsRow t.classes at
 row_by_id t id at e = slice_row t id at (id_named t id at e)
@@ -136,8 +136,8 @@ pub is_slice_id : (t : Tables) → IsSchema t → (id : List ℕ) (at : ℕ) →
 is_slice_id t rules id at h = by_test (is_numbered id) refl
   where
     by_test : (b : Bool) → is_numbered id ≡ b → IsSliceId id
-    by_test true yes = let n = number_of_class t rules id at yes h in number_id n.0 id n.1 n.2
-    by_test false no = ((rules.type_ids id (rows.Class at) (plain_id t id at no h)).1, inl no)
+    by_test true hash = let n = number_of_class t rules id at hash h in number_id n.0 id n.1 n.2
+    by_test false plain = ((rules.type_ids id (rows.Class at) (plain_id t id at plain h)).1, inl plain)
 
 -- ---- the id under which a class is written
 

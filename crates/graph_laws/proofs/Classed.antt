@@ -41,21 +41,21 @@ module _ (t u : Tables) (both : Both t u) where
   carried_id id a b (other, here, there) h = by_test (is_numbered id) refl
     where
       by_test : (k : Bool) → is_numbered id ≡ k → HasSliceId u id b
-      by_test true yes =
-          let n = number_of_class t both.reader id a yes h in
+      by_test true hash =
+          let n = number_of_class t both.reader id a hash h in
           let r = (rows_agree t u both).classes a b (other, here, there) in
           subst (λ (i : List ℕ). HasSliceId u i b) (sym n.2) (number_text u n.0 b (compact_row u b r.1 r.3 ∙ ap Some (sym r.4.2 ∙ row_compact t a n.0 r.0 r.2 n.3)))
-      by_test false no = id_plain u id b no (subst (λ (i : List ℕ). HasId (class_ids u) i b) (one_id t (rows.Class a) other id here (plain_id t id a no h)) there)
+      by_test false plain = id_plain u id b plain (subst (λ (i : List ℕ). HasId (class_ids u) i b) (one_id t (rows.Class a) other id here (plain_id t id a plain h)) there)
 
   back_id : (id : List ℕ) (a b : ℕ) → SameClassId t u a b → HasSliceId u id b → HasSliceId t id a
   back_id id a b (other, here, there) h = by_test (is_numbered id) refl
     where
       by_test : (k : Bool) → is_numbered id ≡ k → HasSliceId t id a
-      by_test true yes =
-          let n = number_of_class u both.node id b yes h in
+      by_test true hash =
+          let n = number_of_class u both.node id b hash h in
           let r = (rows_agree t u both).classes a b (other, here, there) in
           subst (λ (i : List ℕ). HasSliceId t i a) (sym n.2) (number_text t n.0 a (compact_row t a r.0 r.2 ∙ ap Some (r.4.2 ∙ row_compact u b n.0 r.1 r.3 n.3)))
-      by_test false no = id_plain t id a no (subst (λ (i : List ℕ). HasId (class_ids t) i a) (one_id u (rows.Class b) other id there (plain_id u id b no h)) here)
+      by_test false plain = id_plain t id a plain (subst (λ (i : List ℕ). HasId (class_ids t) i a) (one_id u (rows.Class b) other id there (plain_id u id b plain h)) here)
 
   -- each class of the second schema is one of the first
   pub own_slice : (id : List ℕ) (b : ℕ) → HasSliceId u id b → (a : ℕ) × HasSliceId t id a × SameClassId t u a b

@@ -178,5 +178,8 @@ no_kept t id first none = (λ h. absurd cc, λ h. absurd (elim h.0.1 [
     none_some n e = cc
 
     hash : (id : List ℕ) → get_or id 0 0 ≡ 35 → is_numbered id ≡ true
-    hash [] e = omega (arith, e)
+    hash [] e = absurd (nothing e)
+      where
+        nothing : 0 ≡ 35 → ⊥
+        nothing e = omega (arith, e)
     hash (c ∷ cs) e = ap (λ (b : ℕ). b == 35) e
