@@ -259,7 +259,7 @@ class Rules:
         if item.fields is None:
             return
         if item.compact:
-            self.compact_id(item.compact)
+            declared.kind.class_.compact = self.compact_id(item.compact)
         base = self.found(item.base, names.Class) if item.base else None
         if base and not base.is_defined:
             self.faults.add(item.base.place, "BadBase")
@@ -271,6 +271,7 @@ class Rules:
         if number is None or not 0 <= number <= MOST_COMPACT_ID or number in self.compact_ids:
             self.faults.add(value.place, "BadCompactId")
         self.compact_ids.add(number)
+        return number
 
     def fill(self, row, item, base):
         """Looks at the members of a class or an exception, and gives the row what it has."""
