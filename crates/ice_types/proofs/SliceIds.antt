@@ -178,8 +178,8 @@ no_kept t id first none = (λ h. absurd cc, λ h. absurd (elim h.0.1 [
     none_some n e = cc
 
     hash : (id : List ℕ) → get_or id 0 0 ≡ 35 → is_numbered id ≡ true
-    hash [] e = absurd (nothing e)
+    hash [] e = absurd (nothing 0 refl e)
       where
-        nothing : 0 ≡ 35 → ⊥
-        nothing e = omega (arith, e)
+        nothing : (n : ℕ) → n ≡ 0 → n ≡ 35 → ⊥
+        nothing n none other = omega (arith, none, other)
     hash (c ∷ cs) e = ap (λ (b : ℕ). b == 35) e
