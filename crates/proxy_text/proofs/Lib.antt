@@ -35,3 +35,5 @@ pub mod PieceBreaks
 pub mod PieceText
 pub mod PieceBridge
 pub mod PieceFaults
+pub mod TextSamples
+pub mod PieceKinds

@@ -122,7 +122,7 @@ some_version v = Some v
 abbrev some_type : ℤ → Option ℤ
 some_type z = Some z
 
-abbrev with_piece : ℤ → Piece → Option (ℤ × Piece)
+abbrev pub with_piece : ℤ → Piece → Option (ℤ × Piece)
 with_piece z p = Some (z, p)
 
 named_type : (kind : ℤ × Piece) (ps : Pieces) (k : Piece) → blame_type kind ps ≡ Some k → Named kind ps k
@@ -139,7 +139,7 @@ named_type kind (v ∷ rest) k e = by (meant version v.token) refl e
     by None seen e = absurd cc
     by (Some w) seen e = tested (is_tcp kind.0 w) w refl seen e
 
-typed_is : (p : Piece) (o : Option ℤ) (kind : ℤ × Piece) → option_and_then (λ z. with_piece z p) o ≡ Some kind → (o ≡ Some kind.0) × (kind.1 ≡ p)
+pub typed_is : (p : Piece) (o : Option ℤ) (kind : ℤ × Piece) → option_and_then (λ z. with_piece z p) o ≡ Some kind → (o ≡ Some kind.0) × (kind.1 ≡ p)
 typed_is p None kind e = absurd cc
 typed_is p (Some z) kind e = let same : (z, p) ≡ kind = cc in (ap (λ (k : ℤ × Piece). some_type k.0) same, sym (ap (λ (k : ℤ × Piece). k.1) same))
 
@@ -365,7 +365,7 @@ proxy_named before left k n =
 
 -- ---- texts of proxies
 
-whole_stands : (text : List ℕ) (ps : Pieces) → HasPieces (whole text) ps → Stands (length text) (whole text) ps
+pub whole_stands : (text : List ℕ) (ps : Pieces) → HasPieces (whole text) ps → Stands (length text) (whole text) ps
 whole_stands text ps h = record { has = h; ends = zero-add (length text) }
 
 abbrev ok : {A : Type 0} → A → Parsed A
@@ -421,7 +421,7 @@ module _ {A : Type 0} (P : Pieces → A → Type 0) (r : Pieces → Reading A) (
           let b = pieces_break.breaks P r g ps stop is in
           (stop, b.0, is, same_err m place (told size stop) e (agree_err size m stop h), b.1)
 
-  fault_from : (before left : Pieces) → Breaks P ps before left → (stop : Stop) × (r ps ≡ Err stop) × (stop.behind ≡ left) × (m ≡ Err (told size stop))
+  pub fault_from : (before left : Pieces) → Breaks P ps before left → (stop : Stop) × (r ps ≡ Err stop) × (stop.behind ≡ left) × (m ≡ Err (told size stop))
   fault_from before left b =
       let k = pieces_break.refused P r g ps before left (λ x rest e. (agree_ok size m x rest (subst (Agree size m) e agree)).1) b in
       (k.0, k.1, k.2, agree_err size m k.0 (subst (Agree size m) k.1 agree))

@@ -46,7 +46,7 @@ module _ {O F : Type 0} (rows : List (List ℕ × F)) (given : F → O → Bool)
   abbrev valued : O → F × Pieces → Reading O
   valued o x = value x.0 o x.1
 
-  one_took_option : (o last : O) (ps rest : Pieces) → one o ps ≡ Ok (last, rest) → Took (AnOne o) (one o) ps last rest
+  pub one_took_option : (o last : O) (ps rest : Pieces) → one o ps ≡ Ok (last, rest) → Took (AnOne o) (one o) ps last rest
   one_took_option o last ps rest e = then_ok (Took (AnOne o) (one o) ps last rest) (begun o ps) (valued o) (last, rest) e (λ flag mid d f.
       took_both (Begun o) (begun o) (λ flag. Value flag o) (λ flag. value flag o) ps mid rest flag last (one_took (seen_as (fresh rows given o)) no_blame ps mid flag d) ((lawful flag o).found mid rest last f))
 
@@ -171,13 +171,13 @@ module _ {O F : Type 0} (rows : List (List ℕ × F)) (given : F → O → Bool)
           (λ x mid d f. more is (stopped_second (AnOne o) (one o) Options options ps mid x stop (one_took_option o x ps mid d) (later x mid d f)))
 
   -- an option begins with a word
-  option_word : (o last : O) (ps rest : Pieces) → AnOne o ps last → next_word (first (ps ++ rest)) ≡ true
+  pub option_word : (o last : O) (ps rest : Pieces) → AnOne o ps last → next_word (first (ps ++ rest)) ≡ true
   option_word o last ps rest h =
       let begins = h.4 in
       let whole : ps ≡ begins.0 ∷ h.2 = h.3 ∙ ap (λ (z : Pieces). z ++ h.2) begins.1 in
       ap (λ (z : Pieces). next_word (first (z ++ rest))) whole ∙ meant_word (fresh rows given o) begins.0.token h.0 begins.2
 
-  option_only : (o last : O) (ps rest : Pieces) → AnOne o ps last → one o (ps ++ rest) ≡ Ok (last, rest)
+  pub option_only : (o last : O) (ps rest : Pieces) → AnOne o ps last → one o (ps ++ rest) ≡ Ok (last, rest)
   option_only o last ps rest h = only_both (Begun o) (begun o) (λ flag. Value flag o) (λ flag. value flag o) ps rest last h (λ flag a b s t.
       (one_only (seen_as (fresh rows given o)) no_blame a (b ++ rest) flag s, (lawful flag o).only b rest last t tt))
 

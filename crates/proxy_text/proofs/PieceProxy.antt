@@ -174,13 +174,13 @@ OpaqueParts = Then (Word (this (codes "-t"))) (λ t. First)
 this_lawful : (known : List ℕ) → IsWord known → this known known ≡ Some tt → Lawful (Word (this known)) (word_as (this known)) Anything
 this_lawful known is e = word_lawful (this known) known tt is e
 
-x_lawful : Lawful (Word (this (codes "-x"))) (word_as (this (codes "-x"))) Anything
+pub x_lawful : Lawful (Word (this (codes "-x"))) (word_as (this (codes "-x"))) Anything
 x_lawful = this_lawful (codes "-x") (plain_word (codes "-x") (omega arith) refl) refl
 
-e_lawful : Lawful (Word (this (codes "-e"))) (word_as (this (codes "-e"))) Anything
+pub e_lawful : Lawful (Word (this (codes "-e"))) (word_as (this (codes "-e"))) Anything
 e_lawful = this_lawful (codes "-e") (plain_word (codes "-e") (omega arith) refl) refl
 
-t_lawful : Lawful (Word (this (codes "-t"))) (word_as (this (codes "-t"))) Anything
+pub t_lawful : Lawful (Word (this (codes "-t"))) (word_as (this (codes "-t"))) Anything
 t_lawful = this_lawful (codes "-t") (plain_word (codes "-t") (omega arith) refl) refl
 
 no_tcp_type : (z : ℤ) → is_tcp z (1, 0) ≡ false
@@ -194,11 +194,11 @@ no_tcp_type (negsuc n) = refl
 abbrev kept_version : Bool → Option (ℕ × ℕ)
 kept_version b = elim b [ true ↦ None | false ↦ Some (1, 0) ]
 
-versioned_lawful : (kind : ℤ × Piece) → Lawful (Versioned kind) (one_at (versioned kind) (blame_type kind)) Anything
+pub versioned_lawful : (kind : ℤ × Piece) → Lawful (Versioned kind) (one_at (versioned kind) (blame_type kind)) Anything
 versioned_lawful kind = lawful_one (versioned kind) (blame_type kind)
     (record { some = piece (word one_zero) ∷ []; real = (one_zero_stands, tt); value = (1, 0); spelled = (piece (word one_zero), refl, ap kept_version (no_tcp_type kind.0)) }) Anything
 
-typed_lawful : Lawful Typed (one_at typed no_blame) Anything
+pub typed_lawful : Lawful Typed (one_at typed no_blame) Anything
 typed_lawful = lawful_one typed no_blame (record { some = piece (word two) ∷ []; real = (two_stands, tt); value = (pos 2, piece (word two)); spelled = (piece (word two), refl, refl) }) Anything
 
 fourth_lawful : (kind : ℤ × Piece) (v : ℕ × ℕ) → Lawful (Fourth kind v) (fourth kind v) Anything
@@ -340,7 +340,7 @@ endpoint_by_lawful : (t : Transport) → Lawful (EndpointBy t) (endpoint_by t) N
 endpoint_by_lawful transport_kinds.Tcp = lawful_made tcp_of TcpParts tcp_parts NoWord tcp_parts_lawful
 endpoint_by_lawful transport_kinds.Opaque = lawful_before IsOpaque opaque_at Anything NoWord (λ o h. tt) opaque_lawful
 
-transport_lawful : Lawful (Word (listed transports)) (word_as (listed transports)) Anything
+pub transport_lawful : Lawful (Word (listed transports)) (word_as (listed transports)) Anything
 transport_lawful = word_lawful (listed transports) (codes "tcp") transport_kinds.Tcp (plain_word (codes "tcp") (omega arith) refl) refl
 
 pub endpoint_lawful : Lawful AnEndpoint endpoint_at NoWord

@@ -13,3 +13,4 @@ pub mod Laws
 pub mod Pieces
 pub mod Spelled
 pub mod Breaks
+pub mod Misplaced

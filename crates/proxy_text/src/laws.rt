@@ -1,13 +1,16 @@
 //! What the definitions promise of each other, one law a function.
 
-ghost use Rattle.std.specs.Prelude.{ℕ, ◌≡◌, ◌<◌, ◌^◌, ◌↔◌, ◌⊎◌, List, length, Some, Ok, Err};
+ghost use Rattle.std.specs.Prelude.{ℕ, ◌≡◌, ◌<◌, ◌^◌, ◌↔◌, ◌⊎◌, ◌++◌, List, length, Some, Ok, Err};
 ghost use Rattle.ice_types.specs.declared.proxy.Proxy.{Proxy};
 ghost use Rattle.ice_encoding.specs.Proxy.{HasProxySizes};
 ghost use Rattle.proxy_text.specs.Grammar.{proxy_text};
 ghost use Rattle.ice_types.specs.declared.identity.Identity.{Identity};
-ghost use Rattle.proxy_text.specs.Breaks.{IdentityBreaks, ProxyBreaks};
+ghost use Rattle.proxy_text.specs.Breaks.{Breaks, IdentityBreaks, ProxyBreaks};
+ghost use Rattle.proxy_text.specs.Misplaced.{NoProxy};
+ghost use Rattle.proxy_text.specs.Pieces.{HasPieces, Pieces};
+ghost use Rattle.ice_prims.specs.Rest.{whole};
 ghost use Rattle.proxy_text.specs.IdentityText.{identity_text};
-ghost use Rattle.proxy_text.specs.Spelled.{SpellsIdentity, SpellsProxy};
+ghost use Rattle.proxy_text.specs.Spelled.{IsProxy, SpellsIdentity, SpellsProxy};
 ghost use Rattle.proxy_text.specs.Printed.{printed_proxy, HasText};
 
 /// What is printed of a proxy is read as that proxy.
@@ -53,4 +56,11 @@ pub fn identities_or_breaks()
     ensures one_identity { (text : List ℕ) (i j : Identity) → SpellsIdentity text i → SpellsIdentity text j → i ≡ j }
     ensures one_place { (text : List ℕ) (a b : ℕ) → IdentityBreaks text a → IdentityBreaks text b → a ≡ b }
     ensures apart { (text : List ℕ) (i : Identity) (place : ℕ) → SpellsIdentity text i → ¬ IdentityBreaks text place }
+{}
+
+/// The pieces of a text break exactly before the one that is not of the kind that is due: an identity, an option that
+/// does not stand yet, its value, the name of a transport, each word of an opaque endpoint, an adapter, or the end.
+pub fn kinds_of_breaks()
+    ensures { (text : List ℕ) (ps before behind : Pieces) → HasPieces (whole text) ps
+        → Breaks IsProxy ps before behind ↔ ((ps ≡ before ++ behind) × NoProxy before behind) }
 {}
