@@ -34,6 +34,11 @@ two_modes : ProxyBreaks (codes "a -t -o") 5
 unfolding is_utf8 chars encode word_ahead at_ahead colon_at end_at place_at
 two_modes = breaks (codes "a -t -o") 5 refl
 
+-- whatever its value, which is not looked at
+two_facets : ProxyBreaks (codes "a -f b -f") 7
+unfolding is_utf8 chars encode word_ahead at_ahead colon_at end_at place_at
+two_facets = breaks (codes "a -f b -f") 7 refl
+
 -- what an option lacks, or what stands in its place
 no_facet : ProxyBreaks (codes "a -f:tcp") 4
 unfolding is_utf8 chars encode word_ahead at_ahead colon_at end_at place_at
