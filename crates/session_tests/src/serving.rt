@@ -6,8 +6,8 @@ ghost use Rattle.dispatch_pool.specs.Lanes.{AreOf};
 
 use dispatch_pool::{End, LanePasses, Lanes, OpenGate, serve_connection};
 use ice_messages::{Answer, Call};
-use ice_ports::{Failed, MemNet, Net, Plan};
-use ice_types::{Identity, List, Name};
+use ice_ports::{Failed, MemLink, MemNet, Net, Plan};
+use ice_types::{Identity, List, Name, Schema};
 use object_adapter::{Adapter, Servant};
 use slice_check::load;
 use std::alloc::{AllocError, Global};
@@ -15,33 +15,44 @@ use std::sync::{Arc, Wait};
 use std::test::Fail;
 use test_outside::shelf;
 
-pub(crate) const COUNTER: &str =
+const COUNTER: &str =
     "module T { interface Counter { int add(int n); idempotent int total(); }; };";
 
 /// An identity without a category.
-pub(crate) fn identity(alloc: Global, name: &str) -> Result<Identity, AllocError> {
+fn identity(alloc: Global, name: &str) -> Result<Identity, AllocError> {
     Ok(Identity {
         name: Name::of(alloc, name)?,
         category: Name::of(alloc, "")?,
     })
 }
 
-/// Stores of the one interface of a text, under these names and the default facet.
-pub(crate) fn stores(alloc: Global, text: &str, names: &[&str]) -> Result<Adapter, Fail> {
-    let mut files = shelf(alloc, &[("t.ice", text)], &[])?;
+/// The schema of a counter.
+fn counter(alloc: Global) -> Result<Schema, Fail> {
+    let mut files = shelf(alloc, &[("t.ice", COUNTER)], &[])?;
     let types = load(alloc, &mut files, "t.ice").ok().ok_or(Failed)?;
-    let types = Arc::new(alloc, types)?;
+    Ok(types)
+}
+
+/// Adds a counter under this name and the default facet.
+fn add(alloc: Global, objects: &mut Adapter, types: &Arc<Schema>, name: &str) -> Result<(), Fail> {
+    let store = Servant::store(alloc, types.clone()?, 0)?;
+    let added = objects.add(identity(alloc, name)?, Name::of(alloc, "")?, store);
+    added.ok().ok_or(Failed)?;
+    Ok(())
+}
+
+/// Counters under these names.
+pub(crate) fn counters(alloc: Global, names: &[&str]) -> Result<Adapter, Fail> {
+    let types = Arc::new(alloc, counter(alloc)?)?;
     let mut objects = Adapter::new(alloc);
     for name in names {
-        let store = Servant::store(alloc, types.clone()?, 0)?;
-        let added = objects.add(identity(alloc, name)?, Name::of(alloc, "")?, store);
-        added.ok().ok_or(Failed)?;
+        add(alloc, &mut objects, &types, name)?;
     }
     Ok(objects)
 }
 
 /// The bytes of a text in hexadecimal.
-pub(crate) fn decoded(alloc: Global, text: &str) -> Result<Vec<u8>, Fail> {
+fn decoded(alloc: Global, text: &str) -> Result<Vec<u8>, Fail> {
     match hex::decode(alloc, text.as_bytes()) {
         Ok(bytes) => Ok(bytes),
         Err(_) => Err(Fail::from("no hexadecimal text")),
@@ -61,28 +72,30 @@ pub(crate) fn plan(alloc: Global, gives: &str) -> Result<Plan, Fail>
     })
 }
 
-/// How a connection ends that gives these bytes, and what it takes.
-pub(crate) fn serve<R: Wait>(
+/// A link that gives these bytes, and the net that it is of.
+fn link_of(alloc: Global, gives: &str) -> Result<(MemNet, MemLink), Fail> {
+    let mut plans = List::new(alloc);
+    plans.push(plan(alloc, gives)?)?;
+    let mut net = MemNet::new(alloc, plans, List::new(alloc), List::new(alloc), false)?;
+    let link = net.connect("localhost", 4100)?;
+    Ok((net, link))
+}
+
+/// Serves a link that gives these bytes.
+fn serve<R: Wait>(
     rt: &R,
     alloc: Global,
     lanes: &Lanes,
     passes: &mut LanePasses,
-    messages: u64,
     gives: &str,
-) -> Result<(End, Vec<u8>), Fail>
+) -> Result<End, Fail>
     requires { AreOf lanes.now passes.old }
     ensures { AreOf lanes.now passes.new }
 {
-    let mut plans = List::new(alloc);
-    plans.push(plan(alloc, gives)?)?;
-    let mut net = MemNet::new(alloc, plans, List::new(alloc), List::new(alloc), false)?;
-    let mut link = net.connect("localhost", 4100)?;
-    let end = serve_connection(rt, alloc, lanes, passes, &OpenGate, &mut link, messages)?;
+    let (mut net, mut link) = link_of(alloc, gives)?;
+    let end = serve_connection(rt, alloc, lanes, passes, &OpenGate, &mut link, 1_000_000);
     net.hang_up(link);
-    match net.talks().iter().next() {
-        Some(talk) => Ok((end, Vec::from_slice(alloc, talk.taken.as_slice())?)),
-        None => Err(Fail::from("no talk")),
-    }
+    Ok(end?)
 }
 
 /// A call of an operation with arguments in this encapsulation.
@@ -136,7 +149,7 @@ fn answers(alloc: Global, objects: &mut Adapter, row: &Row) -> Result<bool, Fail
 #[test]
 fn a_store_adds_up(rt: HostRuntime) -> Result<(), Fail> {
     let alloc = rt.alloc();
-    let mut objects = stores(alloc, COUNTER, &["c"])?;
+    let mut objects = counters(alloc, &["c"])?;
     for row in ROWS {
         assert!(rt; answers(alloc, &mut objects, row)?);
     }
@@ -161,9 +174,10 @@ fn closed(alloc: Global, lanes: Lanes, passes: LanePasses) -> Result<Adapter, Fa
 #[test]
 fn lanes_close_with_the_objects_as_calls_left_them(rt: HostRuntime) -> Result<(), Fail> {
     let alloc = rt.alloc();
-    let (lanes, mut passes) = lanes_of(alloc, stores(alloc, COUNTER, &["c"])?)?;
+    let (lanes, mut passes) = lanes_of(alloc, counters(alloc, &["c"])?)?;
     let ping = "49636550010001000000270000000100000001630000086963655f70696e670100060000000101";
-    serve(&rt, alloc, &lanes, &mut passes, 1_000_000, ping)?;
+    let end = serve(&rt, alloc, &lanes, &mut passes, ping)?;
+    assert!(rt; end == End::PeerEnded);
     let mut objects = closed(alloc, lanes, passes)?;
     let zero = ("total", 2, "060000000101", "0a000000010100000000");
     assert!(rt; answers(alloc, &mut objects, &zero)?);

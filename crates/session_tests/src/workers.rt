@@ -4,7 +4,7 @@
 ghost use Rattle.std.specs.Prelude.{◌<◌};
 ghost use Rattle.dispatch_pool.specs.Lanes.{AreOf};
 
-use crate::serving::{COUNTER, lanes_of, plan, stores};
+use crate::serving::{counters, lanes_of, plan};
 use dispatch_pool::{Gate, LanePasses, Lanes, OpenGate};
 use ice_messages::Call;
 use ice_ports::{Listener, MemNet, Net};
@@ -116,7 +116,7 @@ fn serve_both<R: Threads + Wait + Sync, G: Gate>(
 ) -> Result<(u64, bool, usize), Fail>
     requires { 0 < workers }
 {
-    let (lanes, passes) = lanes_of(alloc, stores(alloc, COUNTER, &["a", "b"])?)?;
+    let (lanes, passes) = lanes_of(alloc, counters(alloc, &["a", "b"])?)?;
     let mut net = net_of(alloc, fails)?;
     let door = net.listen("localhost", 4100)?;
     let (door, accepted, failed, closed) = serve_door(
