@@ -1,7 +1,7 @@
 """The other end of a case's connections over 127.0.0.1: it gives and takes the bytes that the case says, step by step.
 
-A peer that listens has a port that the system chooses; the Nth connection does what the Nth link says. One that connects goes to the
-port that the program tells, once for each link.
+A peer that listens has ports that the system chooses; the Nth connection does what the Nth link says, and comes at its port. One that
+connects goes to the port that the program tells, once for each link.
 """
 import re
 import socket
@@ -13,6 +13,8 @@ HERE = "127.0.0.1"
 SECONDS = 10
 VALIDATE, CLOSE = (b"IceP\1\0\1\0" + bytes((kind, 0)) + (14).to_bytes(4, "little") for kind in (3, 4))
 KNOWN = {"validate": VALIDATE, "close": CLOSE}
+# A line that begins a link, or ends the listening at a port: at which of the ports, the first one where none is told.
+LINK = re.compile(r"(?:(?P<beside>beside)|(?P<refused>refused)?(?:(?:^| )at (?P<door>[2-9]))?)")
 # The lines of a link, and which of them have a value: bytes, a number, or none.
 OF_BYTES, OF_NUMBERS, ALONE = ("gives", "gives-apart", "takes"), ("takes-any", "waits"), ("closes", "dies", "ends")
 STEPS = (*OF_BYTES, *OF_NUMBERS, *ALONE)
@@ -25,9 +27,10 @@ class BadPeer(Exception):
 
 
 def step_of(key, value, bytes_of):
-    """Returns one step of a link, by its line; `bytes_of` reads the notation of bytes."""
+    """Returns one step of a link, by its line; `bytes_of` reads the notation of bytes, with a function that tells a port by its number."""
     if key in OF_BYTES:
-        return key, KNOWN[value] if value in KNOWN else bytes_of(value)
+        bytes_of(value, lambda door: 0) if value not in KNOWN else None  # what is no notation is told at once
+        return key, lambda port_of: KNOWN[value] if value in KNOWN else bytes_of(value, port_of)
     if key in OF_NUMBERS and value.isdecimal():
         return key, int(value)
     if key in ALONE and not value:
@@ -36,30 +39,37 @@ def step_of(key, value, bytes_of):
 
 
 class Link:
-    def __init__(self, beside):
-        self.beside, self.steps = beside, []
+    """A connection: at which port, its steps, and the ports at which nobody listens any more once it has begun."""
+
+    def __init__(self, beside=False, door=1):
+        self.beside, self.door, self.steps, self.refused = beside, door, [], set()
 
 
 def links_of(lines):
-    """Returns the links of a case by their lines, and whether nobody listens behind the last of them."""
-    links, is_refused = [], False
+    """Returns the links of a case by their lines, behind one that only says at which ports nobody listens from the beginning."""
+    links, refused, is_open = [Link()], set(), False
     for key, value in lines:
-        if is_refused:
-            raise BadPeer("a link behind one that is refused")
         if key != "link":
-            if not links:
-                raise BadPeer(f"{key} before any link")
+            if not is_open:
+                raise BadPeer(f"{key} behind no link")
             links[-1].steps.append((key, value))
-        elif value == "refused":
-            is_refused = True
-        elif value in ("", "beside"):
-            links.append(Link(value == "beside"))
-        else:
+            continue
+        found = LINK.fullmatch(value)
+        if not found:
             raise BadPeer(f"no such link: {value}")
-    for link in links:
+        door = int(found["door"] or 1)
+        if door in refused:
+            raise BadPeer("a link behind one that is refused")
+        is_open = not found["refused"]
+        if is_open:
+            links.append(Link(bool(found["beside"]), door))
+        else:
+            refused.add(door)
+            links[-1].refused.add(door)
+    for link in links[1:]:
         if not link.steps or link.steps[-1][0] not in ENDS:
             link.steps.append(("ends", None))
-    return links, is_refused or not links
+    return links
 
 
 def shown(data):
@@ -85,15 +95,21 @@ class Peer:
     """One peer for one run. `faults` tells what came otherwise than it was wanted."""
 
     def __init__(self, lines):
-        self.links, self.is_refused = links_of(lines)
+        self.first, *self.links = links_of(lines)
         self.faults, self.threads, self.port = [], [], None
+
+    def port_of(self, door):
+        """Returns the port with this number."""
+        if door != 1 or self.port is None:
+            raise BadPeer(f"no port {door}")
+        return self.port
 
     def do(self, number, stream):
         """Makes the steps of a link over its connection."""
         stream.settimeout(SECONDS)
         try:
             for key, value in self.links[number].steps:
-                fault = self.step(stream, key, value)
+                fault = self.step(stream, key, value(self.port_of) if key in OF_BYTES else value)
                 if fault:
                     self.faults.append(f"link {number + 1}, {key}: {fault}")
                     break
@@ -101,6 +117,8 @@ class Peer:
             self.faults.append(f"link {number + 1}, {key}: nothing for {SECONDS} seconds")
         except OSError as error:
             self.faults.append(f"link {number + 1}, {key}: {error.strerror}")
+        except BadPeer as fault:
+            self.faults.append(f"link {number + 1}, {key}: {fault}")
         finally:
             stream.close()
 
@@ -148,31 +166,53 @@ class Peer:
 class Listening(Peer):
     def __init__(self, lines):
         super().__init__(lines)
-        self.door = socket.create_server((HERE, 0))
-        self.port = self.door.getsockname()[1]
-        self.taken, self.over = 0, False
-        if self.links:
-            self.begin(self.accept)
-        else:
-            self.door.close()
+        self.doors = {it: socket.create_server((HERE, 0)) for it in {1, *(each.door for each in self.links)}}
+        self.ports = {door: it.getsockname()[1] for door, it in self.doors.items()}
+        self.port, self.lock, self.taken, self.over = self.ports[1], threading.Lock(), 0, False
+        self.refuse(self.first.refused if self.links else {1})
+        for door, listener in list(self.doors.items()):
+            self.begin(self.accept, door, listener)
 
-    def accept(self):
-        """Takes connections, each for its link. One too many is closed."""
-        self.door.settimeout(0.05)
-        while not self.over:
+    def port_of(self, door):
+        """Returns the port with this number: one at which nobody listens, where no link is at it."""
+        if door not in self.ports:
+            with socket.create_server((HERE, 0)) as free:
+                self.ports[door] = free.getsockname()[1]
+        return self.ports[door]
+
+    def refuse(self, doors):
+        """Nobody listens any more at these ports, from now on: a thread that still waits there would keep one that is only closed."""
+        for door in doors & self.doors.keys():
+            with self.doors.pop(door) as listener:
+                listener.shutdown(socket.SHUT_RDWR)
+
+    def accept(self, door, listener):
+        """Takes connections at a port, up to the end of the run."""
+        is_last = False
+        while not is_last and door in self.doors:
+            is_last = self.over
             try:
-                stream, _ = self.door.accept()
-            except TimeoutError:
-                continue
-            self.taken += 1
-            if self.taken > len(self.links):
-                stream.close()
-                continue
-            if self.taken == len(self.links) and self.is_refused:
-                self.over = True
-                self.door.close()
-            self.begin(self.do, self.taken - 1, stream)
-        self.door.close()
+                listener.settimeout(0.05)
+                stream, _ = listener.accept()
+            except OSError:
+                continue  # none has come, or the port was closed
+            with self.lock:
+                self.take(door, stream)
+        listener.close()
+
+    def take(self, door, stream):
+        """Gives a connection its link, which has to be at this port. One too many is closed."""
+        self.taken += 1
+        if self.taken > len(self.links):
+            stream.close()
+            return
+        link = self.links[self.taken - 1]
+        if link.door != door:
+            self.faults.append(f"link {self.taken}: wanted at port {link.door}, came at port {door}")
+            stream.close()
+            return
+        self.refuse(link.refused)
+        self.begin(self.do, self.taken - 1, stream)
 
     def finish(self):
         self.over = True

@@ -1,11 +1,15 @@
 #!/usr/bin/env python3
 """Calls an operation as `ice call` has to: a second answer, in Python, written from the rules alone.
 
-usage: tests/independent/calling.py call [--retries R] [--times T] [--compact] FILE INTERFACE PROXY OPERATION
+usage: tests/independent/calling.py call [--retries R] [--times T] [--compact] [--locator PROXY] FILE INTERFACE PROXY OPERATION
 
 Only what comes behind well formed words is here. An attempt has a connection of its own: the server's validate message, one message of
 the client, and where a reply is asked for, that. An attempt that did not connect, that ended before the message was handed over whole,
 or in which a close was read is made again, while retries are left; one that was lost behind that only where the operation is idempotent.
+
+A proxy without endpoints is looked for before each attempt: in what is kept, by its adapter or else its identity, and else at the
+locator, whose answer is kept. What was kept is forgotten where an attempt at it did not connect or the object was not there, and the
+second of these is tried again too.
 """
 import os
 import socket
@@ -13,6 +17,7 @@ import sys
 
 sys.dont_write_bytecode = True
 sys.path.append(os.path.dirname(os.path.realpath(__file__)))
+import exceptions
 import graphs
 import grammar
 import json_notation
@@ -29,8 +34,12 @@ MOST_OF_A_BODY = 1_000_000
 HEADER = 14
 OWN = b"""module Ice { sequence<string> StringSeq; interface \\Object {
     idempotent void ice_ping(); idempotent bool ice_isA(string id); idempotent string ice_id(); idempotent StringSeq ice_ids(); }; };"""
-# The modes of these four, and of other idempotent operations.
+LOCATOR = b"""module Ice { struct Identity { string name; string category; };
+    exception AdapterNotFoundException { }; exception ObjectNotFoundException { };
+    interface Locator { idempotent Object* findObjectById(Identity id); idempotent Object* findAdapterById(string id); }; };"""
+# The modes of these four and of a locator's operations, and of other idempotent operations.
 OWN_MODE, IDEMPOTENT = 1, 2
+MOST_KEPT = 1000
 SECONDS = 30
 
 
@@ -193,19 +202,28 @@ def arguments_of(schema, operation, text, is_compact):
     return written
 
 
-def line_of(schema, operation, body):
-    """Returns the line for a reply's encapsulation, or raises its first `Fault`."""
-    classes = [it.kind.class_ for it in schema.rules.classes]
+def results_of(schema, operation, body):
+    """Returns what a reply's encapsulation has, or raises its first `Fault`."""
     inside = values.Cursor(body, 0, len(body)).encapsulation()
     first = inside.at
     if inside.version() != values.VERSION:
         raise values.Fault(first, "BadVersion")
-    reader = Reader(classes)
+    reader = Reader([it.kind.class_ for it in schema.rules.classes])
     root = graphs.finished(reader.content(inside, operation.results), reader.instance)
     misfits = list(reader.misfits())
     if misfits:
         raise values.Fault(min(misfits), "WrongClass")
-    return json_texts.written(Noter(graphs.Graph(root, reader.instances), operation.results).whole()) + b"\n"
+    return graphs.Graph(root, reader.instances)
+
+
+def line_of(schema, operation, body):
+    """Returns the line for a reply's encapsulation, or raises its first `Fault`."""
+    return json_texts.written(Noter(results_of(schema, operation, body), operation.results).whole()) + b"\n"
+
+
+def raised_by(schema, body):
+    """Returns the first slice of the exception that a reply's encapsulation is, or raises its first `Fault`."""
+    return exceptions.decode(body, schema.rules.exceptions, [it.kind.class_ for it in schema.rules.classes]).slices[0]
 
 
 # Connections
@@ -256,7 +274,7 @@ class Link:
             messages.taken_line(cursor, held[8], len(held))
         except values.Fault as fault:
             raise broke(fault) from None
-        if held[8] == messages.CLOSE and wanted != "validate":
+        if held[8] == messages.CLOSE:
             raise Over("closed", 8, "call ended: closed")
         if wanted == "validate" and held[8] != messages.VALIDATE:
             raise broke(values.Fault(0, "NotValidated"))
@@ -287,81 +305,159 @@ def attempt(endpoint, message, is_asked):
     return None
 
 
-def made(proxy, message, is_asked, is_idempotent, retries):
-    places = [it for it in proxy.endpoints if isinstance(it, values.Tcp)]
-    if not places:
-        raise Ends(8, "call ended: no endpoint")
+def usable(endpoints):
+    return [it for it in endpoints if isinstance(it, values.Tcp) and it.host and 0 < it.port < 65536]
+
+
+def made(places, message, is_asked, is_idempotent, retries):
+    """Makes attempts at what `places` tells before each: endpoints, and whether they were kept. `places.forget` forgets those."""
     for number in range(retries + 1):
+        endpoints, is_kept = places.found()
+        there = usable(endpoints)
+        if not there:
+            raise Ends(8, "call ended: no endpoint")
+        reply, ends = None, None
         try:
-            return attempt(places[number % len(places)], message, is_asked)
+            reply = attempt(there[number % len(there)], message, is_asked)
+            how = "stale" if is_kept and is_asked and reply[0] == 2 else "done"
         except Over as over:
-            may = over.how in ("not connected", "not whole", "closed") or over.how == "lost" and is_idempotent
-            if number == retries or not may:
-                raise Ends(over.status, over.line) from None
-    return None
+            how, ends = over.how, Ends(over.status, over.line)
+        if is_kept and how in ("not connected", "stale"):
+            places.forget()
+        may = how in ("not connected", "not whole", "closed", "stale") or how == "lost" and is_idempotent
+        if number == retries or not may:
+            break
+    if ends is not None:
+        raise ends
+    return reply
+
+
+class Place:
+    """The endpoints that a proxy itself has."""
+
+    def __init__(self, proxy):
+        self.proxy = proxy
+
+    def found(self):
+        return self.proxy.endpoints, False
+
+
+class Places(Place):
+    """Those, or what is kept for it, or what a locator tells of it."""
+
+    def __init__(self, proxy, locator, retries):
+        super().__init__(proxy)
+        self.locator, self.retries, self.kept = locator, retries, {}
+        self.key = ("adapter", proxy.adapter) if proxy.adapter else ("object", (proxy.name, proxy.category))
+        self.schema, found = operations_of({"own": LOCATOR}, "own")
+        (self.operations,) = found.values()
+
+    def found(self):
+        if self.proxy.endpoints:
+            return super().found()
+        if self.key in self.kept:
+            return self.kept[self.key], True
+        endpoints = self.told(*self.key) if self.locator else ()
+        if not endpoints:
+            raise Ends(8, "call ended: not located")
+        if len(self.kept) == MOST_KEPT:
+            del self.kept[next(iter(self.kept))]
+        self.kept[self.key] = endpoints
+        return endpoints, False
+
+    def forget(self):
+        del self.kept[self.key]
+
+    def told(self, sort, name):
+        """Returns the endpoints that the locator tells, none where it tells none."""
+        proxy = self.asked("findAdapterById" if sort == "adapter" else "findObjectById", *([name] if sort == "adapter" else name))
+        if proxy and not proxy.endpoints and proxy.adapter and sort == "object":
+            proxy = self.asked("findAdapterById", proxy.adapter)
+        return proxy.endpoints if proxy else ()
+
+    def asked(self, name, *texts):
+        """Returns the proxy that the locator tells, None where that is the null one or none is found."""
+        operation = self.operations[name]
+        body = values.encapsulated(b"".join(map(values.spelled_string, texts)))
+        message = message_of(messages.REQUEST, (1).to_bytes(4, "little") + called(self.locator, operation, body, OWN_MODE))
+        if len(body) > MOST_OF_A_BODY or len(message) > values.MOST_BYTES:
+            return None
+        reply = made(Place(self.locator), message, True, True, self.retries)
+        try:
+            if reply[0] == 0:
+                return results_of(self.schema, operation, reply[1:]).root[0][0]
+            if reply[0] == 1 and isinstance(raised_by(self.schema, reply[1:]), graphs.Known):
+                return None
+        except values.Fault as fault:
+            raise Ends(8, f"call ended: broke at {fault.place}: {fault.kind}") from None
+        return refuse(self.schema, reply)
 
 
 def message_of(kind, rest):
     return b"IceP\1\0\1\0" + bytes([kind, 0]) + (HEADER + len(rest)).to_bytes(4, "little") + rest
 
 
-def called(proxy, operation, body):
-    """Returns the bytes of a call."""
+def called(proxy, operation, body, mode=None):
+    """Returns the bytes of a call, of the operation's own mode where none is told."""
     facet = b"\1" + values.spelled_string(proxy.facet) if proxy.facet else b"\0"
     identity = values.spelled_string(proxy.name) + values.spelled_string(proxy.category)
-    return identity + facet + values.spelled_string(operation.name.encode()) + bytes([operation.mode]) + b"\0" + body
+    mode = operation.mode if mode is None else mode
+    return identity + facet + values.spelled_string(operation.name.encode()) + bytes([mode]) + b"\0" + body
 
 
-def refuse(reply):
+def refuse(schema, reply):
     """Raises what a reply other than a success comes to."""
     status, body = reply[0], reply[1:]
-    cursor = values.Cursor(body, 0, len(body))
     if status == 1:
-        inside = cursor.encapsulation()
-        inside.version(), inside.number(1, False)
-        raise Ends(8, f"call ended: raised {inside.string().decode()}")
+        raise Ends(8, f"call ended: raised {graphs.id_of(raised_by(schema, body)).decode()}")
     if status < 5:
         raise Ends(8, f"call ended: missing {status}")
-    raise Ends(8, f'call ended: unknown {status} "{proxies.escaped(cursor.string()).decode()}"')
+    raise Ends(8, f'call ended: unknown {status} "{proxies.escaped(values.Cursor(body, 0, len(body)).string()).decode()}"')
+
+
+def read_proxy(words):
+    try:
+        return proxies.read(words.encode())
+    except proxies.Refused as why:
+        raise Ends(4, f"text refused at {why.place}") from None
 
 
 def answer(shelf, options, file, interface, words, name, text, say):
     """Makes the calls, and says each line. Raises `Ends` where one does not succeed."""
     schema, operation = found_operation(shelf, file, interface, name)
-    try:
-        proxy = proxies.read(words.encode())
-    except proxies.Refused as why:
-        raise Ends(4, f"text refused at {why.place}") from None
+    locator = None if options["--locator"] is None else read_proxy(options["--locator"])
+    proxy = read_proxy(words)
     if proxy.mode and operation.is_twoway:
         raise Ends(2, f"twoway only {name}")
-    body = arguments_of(schema, operation, text, options["--compact"])
+    body = arguments_of(schema, operation, text(), options["--compact"])
     call, times, retries = called(proxy, operation, body), options["--times"], options["--retries"]
+    places = Places(proxy, locator, retries)
     if proxy.mode == 2:
         message = message_of(messages.BATCH, times.to_bytes(4, "little") + call * times)
         if len(message) > values.MOST_BYTES:
             raise Ends(4, f"answer too long: {len(message)}")
-        made(proxy, message, False, operation.is_idempotent, retries)
+        made(places, message, False, operation.is_idempotent, retries)
         say(b"sent %d\n" % times)
         return
     for _ in range(times):
         number = 0 if proxy.mode else 1
-        reply = made(proxy, message_of(messages.REQUEST, number.to_bytes(4, "little") + call), number, operation.is_idempotent, retries)
+        reply = made(places, message_of(messages.REQUEST, number.to_bytes(4, "little") + call), number, operation.is_idempotent, retries)
         if reply is None:
             say(b"sent 1\n")
             continue
-        if reply[0] != 0:
-            refuse(reply)
         try:
+            if reply[0] != 0:
+                refuse(schema, reply)
             say(line_of(schema, operation, reply[1:]))
         except values.Fault as fault:
             raise Ends(8, f"call ended: broke at {fault.place}: {fault.kind}") from None
 
 
 def main():
-    words, options = sys.argv[2:], {"--retries": 1, "--times": 1, "--compact": False}
+    words, options = sys.argv[2:], {"--retries": 1, "--times": 1, "--compact": False, "--locator": None}
     while words and words[0] in options:
         option = words.pop(0)
-        options[option] = True if option == "--compact" else int(words.pop(0))
+        options[option] = option == "--compact" or (words.pop(0) if option == "--locator" else int(words.pop(0)))
     file, interface, proxy, operation = words
     with open(file, "rb") as source:
         shelf = {file: source.read()}
@@ -371,7 +467,7 @@ def main():
         sys.stdout.buffer.flush()
 
     try:
-        answer(shelf, options, file, interface, proxy, operation, sys.stdin.buffer.read(), say)
+        answer(shelf, options, file, interface, proxy, operation, sys.stdin.buffer.read, say)
     except Ends as ends:
         status, line = ends.args
         sys.stderr.write(f"ice: {line}\n")
