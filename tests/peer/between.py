@@ -10,7 +10,8 @@ VALIDATE = 14
 class Between:
     """Does to the Nth connection what the Nth act says: `("hand on",)`; `("cut", N, is_reset)` ends it once N bytes behind the server's
     validate message were handed on and the server has answered whole, by a reset or not; `("hold", done)` keeps what the client sends,
-    calls `done` once that has come, and hands on what the server sends; `("refuse",)` ends it at once. Beyond them it listens no more."""
+    calls `done` once that has come, and hands on what the server sends; `("lose", done)` keeps the client's call, calls `done`, and resets the
+    connection; `("refuse",)` ends it at once. Beyond them it listens no more."""
 
     def __init__(self, port, *acts):
         self.target, self.acts, self.count = port, acts, 0
@@ -70,6 +71,14 @@ class Between:
             received(client, int.from_bytes(request[10:], "little") - VALIDATE)
             done()
             copy(server, client)
+
+    def lose(self, client, done):
+        with self.to_server() as server:
+            client.sendall(received(server, VALIDATE))
+            request = received(client, VALIDATE)
+            received(client, int.from_bytes(request[10:], "little") - VALIDATE)
+            done()
+            end(client, True)
 
     def refuse(self, client):
         end(client, False)

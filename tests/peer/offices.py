@@ -4,6 +4,8 @@ import contextlib
 import importlib
 import json
 import os
+import shutil
+import socket
 import subprocess
 import sys
 import time
@@ -240,8 +242,8 @@ def built(folder, program, mapping, *options, place=OFFICE):
 class Server:
     """A server of real Ice in a process of its own, which ends with this one."""
 
-    def __init__(self, name, folder, *words, options=()):
-        command = [sys.executable, f"{OFFICE}/server.py"] if name == "python" else [built(folder, "server", name, *options)]
+    def __init__(self, name, folder, *words, options=(), program="server"):
+        command = [sys.executable, f"{OFFICE}/{program}.py"] if name == "python" else [built(folder, program, name, *options)]
         self.process = subprocess.Popen([*command, *QUIET, *words], stdin=subprocess.PIPE, stdout=subprocess.PIPE)
         self.port = int(self.process.stdout.readline())
 
@@ -251,6 +253,34 @@ class Server:
     def end(self):
         self.process.stdin.close()
         self.process.stdout.close()
+        self.process.wait(20)
+
+
+def free_port():
+    with socket.create_server(("127.0.0.1", 0)) as free:
+        return free.getsockname()[1]
+
+
+class Registry:
+    """The registry of IceGrid in a process of its own. Servers tell it their adapters."""
+
+    def __init__(self, folder):
+        os.mkdir(folder)
+        port = free_port()
+        options = {f"Registry.{it}.Endpoints": "tcp -h 127.0.0.1" for it in ("Server", "Internal")} | {"InstanceName": "IceGrid"}
+        options |= {"Registry.Client.Endpoints": f"tcp -h 127.0.0.1 -p {port}", "Registry.LMDB.Path": folder}
+        options |= {"Registry.DynamicRegistration": "1", "Registry.AdminPermissionsVerifier": "IceGrid/NullPermissionsVerifier"}
+        words = (f"--IceGrid.{name}={it}" for name, it in options.items())
+        self.process = subprocess.Popen(["icegridregistry", *words], stderr=subprocess.DEVNULL)
+        self.port, self.words = port, f"IceGrid/Locator:tcp -h 127.0.0.1 -p {port}"
+        self.option = f"--Ice.Default.Locator={self.words}"
+
+    @staticmethod
+    def is_there():
+        return shutil.which("icegridregistry") is not None
+
+    def end(self):
+        self.process.terminate()
         self.process.wait(20)
 
 

@@ -1,5 +1,5 @@
 // A server of real Ice: the interfaces of Office.ice. It prints its port, and ends where its standard input ends. Its words are
-// properties of Ice; --Office.Port=N has it listen there.
+// properties of Ice, and of its adapter, `Objects`; --Office.Port=N has it listen there.
 #include "mapping.h"
 #include <cstdio>
 #include <stdexcept>
@@ -216,10 +216,12 @@ int main(int argc, char** argv)
     {
         Ice::InitializationData data;
         data.properties = Ice::createProperties(argc, argv);
-        data.properties->parseCommandLineOptions("Office", std::vector<std::string>(argv + 1, argv + argc));
+        const std::vector<std::string> words(argv + 1, argv + argc);
+        data.properties->parseCommandLineOptions("Office", words);
+        data.properties->parseCommandLineOptions("Objects", words);
         Ice::CommunicatorHolder holder(data);
         const std::string port = holder->getProperties()->getPropertyWithDefault("Office.Port", "0");
-        Ice::ObjectAdapterPtr adapter = holder->createObjectAdapterWithEndpoints("office", "tcp -h 127.0.0.1 -p " + port);
+        Ice::ObjectAdapterPtr adapter = holder->createObjectAdapterWithEndpoints("Objects", "tcp -h 127.0.0.1 -p " + port);
         adapter->add(made<DeskServant>(), Ice::stringToIdentity("desk"));
         adapter->add(made<CounterServant>(), Ice::stringToIdentity("counter"));
         adapter->add(made<ForestServant>(), Ice::stringToIdentity("forest"));

@@ -1,6 +1,6 @@
 #!/usr/bin/env python3
 """A server of Ice for Python: the interfaces of Office.ice, as server.cpp has them for C++. It prints its port, and ends where its
-standard input ends. Its words are properties of Ice; --Office.Port=N has it listen there."""
+standard input ends. Its words are properties of Ice, and of its adapter, `Objects`; --Office.Port=N has it listen there."""
 import os
 import sys
 import threading
@@ -129,9 +129,9 @@ class Log(Kept, Office.Log):
     kept = ""
 
 
-def opened(communicator, endpoints):
+def opened(communicator, endpoints, name=""):
     """Returns an adapter with an object of each interface."""
-    adapter = communicator.createObjectAdapterWithEndpoints("", endpoints)
+    adapter = communicator.createObjectAdapterWithEndpoints(name, endpoints)
     for name, servant in {"desk": Desk, "counter": Counter, "forest": Forest, "log": Log}.items():
         adapter.add(servant(), Ice.Identity(name, ""))
     adapter.addFacet(Counter(), Ice.Identity("desk", ""), "back")
@@ -142,10 +142,11 @@ def opened(communicator, endpoints):
 def main():
     data = Ice.InitializationData()
     data.properties = Ice.createProperties(sys.argv)
-    data.properties.parseCommandLineOptions("Office", sys.argv)
+    for name in ("Office", "Objects"):
+        data.properties.parseCommandLineOptions(name, sys.argv)
     with Ice.initialize(sys.argv, data) as communicator:
         port = communicator.getProperties().getPropertyWithDefault("Office.Port", "0")
-        adapter = opened(communicator, f"tcp -h 127.0.0.1 -p {port}")
+        adapter = opened(communicator, f"tcp -h 127.0.0.1 -p {port}", "Objects")
         print(adapter.getEndpoints()[0].getInfo().port, flush=True)
         sys.stdin.read()
 
