@@ -49,10 +49,7 @@ fn parsed(alloc: Global, text: &str) -> Result<Result<Proxy, u32>, Ending<'stati
 }
 
 /// The same of a locator, where one is given.
-fn located(
-    alloc: Global,
-    text: Option<&str>,
-) -> Result<Option<Result<Proxy, u32>>, Ending<'static>>
+fn located(alloc: Global, text: Option<&str>) -> Result<Option<Result<Proxy, u32>>, Ending<'static>>
     requires { IfSome (option_copied text) IsWord }
     ensures { Parses (option_map proxy_text (option_copied text)) result }
 {

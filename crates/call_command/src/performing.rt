@@ -89,7 +89,15 @@ fn go_through<N: Net>(
     let proxy = &plan.callee.proxy;
     match twoway_of(&plan.message) {
         Some(call) => call_through(alloc, net, cache, locator, proxy, call, plan.retries),
-        None => send_through(alloc, net, cache, locator, proxy, &plan.message, plan.retries),
+        None => send_through(
+            alloc,
+            net,
+            cache,
+            locator,
+            proxy,
+            &plan.message,
+            plan.retries,
+        ),
     }
 }
 
