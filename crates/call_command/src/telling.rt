@@ -31,9 +31,6 @@ use locator_types::locator_schema;
 use proxy_text::quote;
 use std::alloc::{AllocError, Global};
 
-/// The operation that a locator is asked for an object by; its results are those of the one for an adapter.
-const FIND_OBJECT: &str = "findObjectById";
-
 /// The line on a message that succeeded, or what stops the call.
 pub(crate) fn line_of(alloc: Global, plan: &Plan<'_>, through: Through) -> Result<Vec<u8>, Stop>
     requires fits { ShapeFits plan.now.expected.schema.now plan.now.expected.results.now }
@@ -58,13 +55,14 @@ fn locator_stop(alloc: Global, outcome: Outcome) -> Stop
     }
 }
 
-/// The line on what a question to a locator came to, if it was a success.
+/// The line on what a question to a locator came to, if it was a success. Both operations of a locator have the same
+/// results.
 fn locator_line(alloc: Global, outcome: Outcome) -> Result<Vec<u8>, Stop>
     ensures { TellsOutcome of_locator outcome result }
 {
     let schema = locator_schema(alloc)?;
     schema.rules();
-    let Some(operation) = schema.operation(0, FIND_OBJECT) else {
+    let Some(operation) = schema.operation(0, "findObjectById") else {
         unreachable!()
     };
     let expected = Expected {
