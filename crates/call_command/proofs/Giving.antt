@@ -11,7 +11,7 @@ use Rattle.std.proofs.lemmas.List.Elements.{All-nil, All-cons, All-head, All-tai
 use Rattle.std.proofs.lemmas.Slice.Eq.{bytes_eq-Decides}
 use Rattle.node_commands.specs.Words.{Word, IsWord, words_of}
 use Rattle.call_command.specs.declared.words.Options.{Options}
-use Rattle.call_command.specs.Words.{Gives, Gathers, Numbers, IsCompacted, IsNumbered}
+use Rattle.call_command.specs.Words.{Given, Gives, Gathers, Takes, IsCompacted, IsNumbered, IsValued, given_of}
 
 -- ---- words where they lie in memory
 
@@ -73,18 +73,19 @@ one_short (w ∷ ws) (suc i) item lt is all = one_short ws i item (omega (arith,
 abbrev letter : ℕ → Word → ℕ
 letter n word = get_or word n 0
 
--- an option with a number is not the one without
-pub number_of_none : (before after : Options) (name value : Word) → name ≡ codes "--compact" → IsNumbered before name value after → ⊥
-number_of_none before after name value is (inl (n, also, spelled, none, same)) = let e : 99 ≡ 114 = ap (letter 2) (sym is ∙ also) in omega (arith, e)
-number_of_none before after name value is (inr (n, also, spelled, none, same)) = let e : 99 ≡ 116 = ap (letter 2) (sym is ∙ also) in omega (arith, e)
+-- an option with a value is not the one without
+pub value_of_none : (before after : Given) (name value : Word) → name ≡ codes "--compact" → IsValued before name value after → ⊥
+value_of_none before after name value is (inl (inl (n, also, spelled, none, same))) = let e : 99 ≡ 114 = ap (letter 2) (sym is ∙ also) in omega (arith, e)
+value_of_none before after name value is (inl (inr (n, also, spelled, none, same))) = let e : 99 ≡ 116 = ap (letter 2) (sym is ∙ also) in omega (arith, e)
+value_of_none before after name value is (inr (also, short, none, same)) = let e : 99 ≡ 108 = ap (letter 2) (sym is ∙ also) in omega (arith, e)
 
-pub compacted_same : (before a b : Options) (name : Word) → IsCompacted before name a → IsCompacted before name b → a ≡ b
+pub compacted_same : (before a b : Given) (name : Word) → IsCompacted before name a → IsCompacted before name b → a ≡ b
 compacted_same before a b name (is, none, same) (also, never, other) = same ∙ sym other
 
 numbers_differ : (name : Word) → name ≡ codes "--retries" → name ≡ codes "--times" → ⊥
 numbers_differ name is also = let e : 114 ≡ 116 = ap (letter 2) (sym is ∙ also) in omega (arith, e)
 
-pub numbered_same : (before a b : Options) (name value : Word) → IsNumbered before name value a → IsNumbered before name value b → a ≡ b
+numbered_same : (before a b : Given) (name value : Word) → IsNumbered before name value a → IsNumbered before name value b → a ≡ b
 numbered_same before a b name value (inl (n, is, (spelled, low, high), none, same)) (inl (m, also, (other, least, most), never, alike)) =
     let e : n ≡ m = decimal_injective n m (omega (arith, high)) (omega (arith, most)) (sym spelled ∙ other) in
     same ∙ (ap (λ (k : ℕ). record before { retries = Some k }) e ∙ sym alike)
@@ -94,32 +95,42 @@ numbered_same before a b name value (inr (n, is, (spelled, low, high), none, sam
     let e : n ≡ m = decimal_injective n m (omega (arith, high)) (omega (arith, most)) (sym spelled ∙ other) in
     same ∙ (ap (λ (k : ℕ). record before { times = Some k }) e ∙ sym alike)
 
+number_no_locator : (before a : Given) (name value : Word) → IsNumbered before name value a → name ≡ codes "--locator" → ⊥
+number_no_locator before a name value (inl (n, is, spelled, none, same)) also = let e : 114 ≡ 108 = ap (letter 2) (sym is ∙ also) in omega (arith, e)
+number_no_locator before a name value (inr (n, is, spelled, none, same)) also = let e : 116 ≡ 108 = ap (letter 2) (sym is ∙ also) in omega (arith, e)
+
+pub valued_same : (before a b : Given) (name value : Word) → IsValued before name value a → IsValued before name value b → a ≡ b
+valued_same before a b name value (inl p) (inl q) = numbered_same before a b name value p q
+valued_same before a b name value (inl p) (inr (also, short, none, same)) = absurd (number_no_locator before a name value p also)
+valued_same before a b name value (inr (is, short, none, same)) (inl q) = absurd (number_no_locator before b name value q is)
+valued_same before a b name value (inr (is, short, none, same)) (inr (also, fits, never, alike)) = same ∙ sym alike
+
 -- ---- one more, in front of those that follow
 
-pub compact_given : (before : Options) (name : Word) (words : List Word) (result : Option Options) → name ≡ codes "--compact" → before.compact ≡ false
+pub compact_given : (before : Given) (name : Word) (words : List Word) (result : Option Options) → name ≡ codes "--compact" → before.compact ≡ false
     → Gathers (record before { compact = true }) words result → Gathers before (name ∷ words) result
 compact_given before name [] None is off h = λ after g. h (record before { compact = true }) refl
 compact_given before name [] (Some after) is off h = (is, off, h)
 compact_given before name (value ∷ words) None is off h = back
   where
-    back : (after : Options) → Gives before (name ∷ value ∷ words) after → ⊥
-    back after (inl (next, (also, none, same), more)) = h after (subst (λ (o : Options). Gives o (value ∷ words) after) same more)
-    back after (inr (next, numbered, more)) = number_of_none before next name value is numbered
+    back : (after : Given) → Gives before (name ∷ value ∷ words) after → ⊥
+    back after (inl (next, (also, none, same), more)) = h after (subst (λ (o : Given). Gives o (value ∷ words) after) same more)
+    back after (inr (next, valued, more)) = value_of_none before next name value is valued
 compact_given before name (value ∷ words) (Some after) is off h = inl (record before { compact = true }, (is, off, refl), h)
 
-module _ (before : Options) (name value : Word) (words : List Word) (other : name ≡ codes "--compact" → ⊥) where
-  -- what stands behind it is no number for it
-  pub number_refused : Numbers before name value None → Gathers before (name ∷ value ∷ words) None
-  number_refused h = back
+module _ (before : Given) (name value : Word) (words : List Word) (other : name ≡ codes "--compact" → ⊥) where
+  -- what stands behind it is no value for it
+  pub value_refused : Takes before name value None → Gathers before (name ∷ value ∷ words) None
+  value_refused h = back
     where
-      back : (after : Options) → Gives before (name ∷ value ∷ words) after → ⊥
+      back : (after : Given) → Gives before (name ∷ value ∷ words) after → ⊥
       back after (inl (next, compacted, more)) = other compacted.0
-      back after (inr (next, numbered, more)) = h next numbered
+      back after (inr (next, valued, more)) = h next valued
 
-  pub number_given : (next : Options) (result : Option Options) → Numbers before name value (Some next) → Gathers next words result → Gathers before (name ∷ value ∷ words) result
-  number_given next None numbered h = back
+  pub value_given : (next : Options) (result : Option Options) → Takes before name value (Some next) → Gathers (given_of next) words result → Gathers before (name ∷ value ∷ words) result
+  value_given next None valued h = back
     where
-      back : (after : Options) → Gives before (name ∷ value ∷ words) after → ⊥
+      back : (after : Given) → Gives before (name ∷ value ∷ words) after → ⊥
       back after (inl (found, compacted, more)) = other compacted.0
-      back after (inr (found, also, more)) = h after (subst (λ (o : Options). Gives o words after) (numbered_same before found next name value also numbered) more)
-  number_given next (Some after) numbered h = inr (next, numbered, h)
+      back after (inr (found, also, more)) = h after (subst (λ (o : Given). Gives o words after) (valued_same before found (given_of next) name value also valued) more)
+  value_given next (Some after) valued h = inr (given_of next, valued, h)

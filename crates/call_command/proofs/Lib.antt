@@ -9,6 +9,7 @@ pub mod OneForm
 pub mod Planned
 pub mod Listed
 pub mod Delivering
+pub mod InVain
 pub mod Replying
 pub mod OneDecision
 pub mod Winning

@@ -2,7 +2,7 @@
 use Rattle.std.proofs.Common.{◌≡◌, ◌≤◌, ◌<◌, ℕ, List, [], length, Option, None, Some, Ok, Err, refl, sym, ap, subst, inl, inr}
 use Rattle.std.specs.Prelude.{IfSome}
 use Rattle.ice_types.specs.declared.declarations.Shape.{Shape}
-use Rattle.ice_types.specs.declared.proxy.Proxy.{Proxy}
+use Rattle.call_command.specs.declared.callee.Callee.{Callee}
 use Rattle.ice_types.specs.Tables.{Tables}
 use Rattle.ice_encoding.specs.declared.limits.TheConstants.{LARGEST}
 use Rattle.ice_graphs.specs.Graph.{Graph}
@@ -36,13 +36,13 @@ all_refused : (t : Tables) (s : Shape) (input now : Option (List ℕ)) (got : Li
 all_refused t s None now got why read refusal = tt
 all_refused t s (Some known) now got why read refusal = refused_whole t s known got now why read refusal
 
-module _ (c : CallWords) (input : Option (List ℕ)) (o : Operation) (p : Proxy) (before after : ℕ) where
+module _ (c : CallWords) (input : Option (List ℕ)) (o : Operation) (callee : Callee) (before after : ℕ) where
   -- ---- where there is no plan
 
-  module _ (replies : LacksReply p o.declared → ⊥) where
+  module _ (replies : LacksReply callee.proxy o.declared → ⊥) where
     module _ (now : Option (List ℕ)) (got : List ℕ) (read : ReadsText input now got) where
       pub unlisted : (fault : RelayFault) → EncodesArguments o.tables o.declared.arguments (view_format c.format) got (Err fault) → after ≡ before
-          → LacksPlan c input o p before after (refused (answer_of (of_relay fault) []))
+          → LacksPlan c input o callee before after (refused (answer_of (of_relay fault) []))
       unlisted (faults.Broken fault) never same = absurd never
       unlisted (faults.TextRefused why) refusal same = inl (inr (replies, inl (why, all_refused o.tables o.declared.arguments input now got why read refusal, refl)), same)
       unlisted faults.NeedsSliced (g, lists, needs) same = inl (inr (replies, inr (g, all_listed o.tables o.declared.arguments input now got g read lists, inl (needs, refl))), same)
@@ -64,7 +64,7 @@ module _ (c : CallWords) (input : Option (List ℕ)) (o : Operation) (p : Proxy)
 
       module _ (body : List ℕ) where
         decided : (came : Ended) (Next : Plan → Type 0) → EncodesArguments o.tables o.declared.arguments (view_format c.format) got (Ok body)
-            → WithMessage (plan_of c o p body).message came (Next (plan_of c o p body)) → KnownDecides c input o p came Next
+            → WithMessage (plan_of c o callee body).message came (Next (plan_of c o callee body)) → KnownDecides c input o callee came Next
         decided came Next (g, lists, writable, is, short) next =
             inr (
               replies,
@@ -75,15 +75,15 @@ module _ (c : CallWords) (input : Option (List ℕ)) (o : Operation) (p : Proxy)
                   writable,
                   inr (
                     subst (λ (b : List ℕ). length b ≤ MOST_OF_ARGUMENTS) is short,
-                    subst (λ (b : List ℕ). WithMessage (plan_of c o p b).message came (Next (plan_of c o p b))) is next,
+                    subst (λ (b : List ℕ). WithMessage (plan_of c o callee b).message came (Next (plan_of c o callee b))) is next,
                   ),
                 ),
               ),
             )
 
         module _ (encoded : EncodesArguments o.tables o.declared.arguments (view_format c.format) got (Ok body)) where
-          pub unsent : (fault : RelayFault) → MakesMessage (message_of p.mode c.times (call_of p c.operation o.mode body)) (Err fault) → after ≡ before
-              → LacksPlan c input o p before after (refused (answer_of (of_relay fault) []))
+          pub unsent : (fault : RelayFault) → MakesMessage (message_of callee.proxy.mode c.times (call_of callee.proxy c.operation o.mode body)) (Err fault) → after ≡ before
+              → LacksPlan c input o callee before after (refused (answer_of (of_relay fault) []))
           unsent (faults.Broken fault) never same = absurd never
           unsent (faults.TextRefused why) never same = absurd never
           unsent faults.NeedsSliced never same = absurd never
@@ -92,10 +92,10 @@ module _ (c : CallWords) (input : Option (List ℕ)) (o : Operation) (p : Proxy)
 
           -- ---- the plan
 
-          pub planned : (m : Message) (rounds calls : ℕ) → m ≡ message_of p.mode c.times (call_of p c.operation o.mode body) → length (message_bytes m) ≤ LARGEST
-              → rounds ≡ rounds_of p.mode c.times → calls ≡ calls_of p.mode c.times → (came : Ended)
-              → KnownDecides c input o p came (λ q. q ≡ record { tables = o.tables; results = o.declared.results; endpoints = p.endpoints; message = m; retries = c.retries; rounds = rounds; calls = calls })
+          pub planned : (m : Message) (rounds calls : ℕ) → m ≡ message_of callee.proxy.mode c.times (call_of callee.proxy c.operation o.mode body) → length (message_bytes m) ≤ LARGEST
+              → rounds ≡ rounds_of callee.proxy.mode c.times → calls ≡ calls_of callee.proxy.mode c.times → (came : Ended)
+              → KnownDecides c input o callee came (λ q. q ≡ record { expected = record { tables = o.tables; results = o.declared.results; calls = calls }; callee = callee; message = m; retries = c.retries; rounds = rounds })
           planned m rounds calls is short many each came =
-              let whole : Plan = record { tables = o.tables; results = o.declared.results; endpoints = p.endpoints; message = m; retries = c.retries; rounds = rounds; calls = calls } in
-              let same : plan_of c o p body ≡ whole = (λ i. record { tables = o.tables; results = o.declared.results; endpoints = p.endpoints; message = sym is i; retries = c.retries; rounds = sym many i; calls = sym each i }) in
+              let whole : Plan = record { expected = record { tables = o.tables; results = o.declared.results; calls = calls }; callee = callee; message = m; retries = c.retries; rounds = rounds } in
+              let same : plan_of c o callee body ≡ whole = (λ i. record { expected = record { tables = o.tables; results = o.declared.results; calls = sym each i }; callee = callee; message = sym is i; retries = c.retries; rounds = sym many i }) in
               decided came (λ q. q ≡ whole) encoded (inr (subst (λ (x : Message). length (message_bytes x) ≤ LARGEST) is short, same))

@@ -2,6 +2,7 @@
 use Rattle.std.proofs.Common.{◌≡◌, ◌⊎◌, ℕ, List, [], ◌∷◌, Option, None, Some, Result, Ok, Err, refl, sym, ap, subst, ◌∙◌, inl, inr, arith, length}
 use Rattle.std.proofs.lemmas.Option.{same_Some}
 use Rattle.ice_types.specs.declared.proxy.Proxy.{Proxy}
+use Rattle.call_command.specs.declared.callee.Callee.{Callee}
 use Rattle.ice_types.specs.declared.declarations.OpDecl.{OpDecl}
 use Rattle.ice_types.specs.declared.declarations.Shape.{Shape}
 use Rattle.ice_types.specs.Tables.{Tables}
@@ -24,7 +25,7 @@ use Rattle.call_command.specs.Words.{CallWords}
 use Rattle.call_command.specs.Operations.{Operation}
 use Rattle.call_command.specs.Planning.{Plan, plan_of}
 use Rattle.call_command.specs.Endings.{Ended, finished, refused, twoway_only, stopped}
-use Rattle.call_command.specs.Decided.{WithListed, WithSchema, WithInterface, WithOperation, WithProxy, WithReply, WithArguments, WithBody, WithMessage, Plans, Decides}
+use Rattle.call_command.specs.Decided.{WithListed, WithSchema, WithInterface, WithOperation, WithCallee, WithReply, WithArguments, WithBody, WithMessage, Plans, Decides, callee_named}
 use Rattle.call_command.specs.Rounds.{NetSeen, sink_seen, Finishes, Stops}
 use Rattle.call_command.specs.Called.{Comes, Refuses, WantsInput}
 use Rattle.call_command.specs.Laws.{IsRefusedBy, IsPlanned, AreDecidedOnce, IsHindered, EndsAsDecided}
@@ -53,10 +54,10 @@ err_ok : {X E : Type 0} {x : X} {e : E} → Err e ≡ Ok x → ⊥
 err_ok e = cc
 
 -- of what was parsed
-one_proxy : (parsed : Result Proxy ℕ) (p q : Proxy) → parsed ≡ Ok p → parsed ≡ Ok q → p ≡ q
-one_proxy parsed p q e f = cc (e, f)
+one_callee : (parsed : Result Callee ℕ) (p q : Callee) → parsed ≡ Ok p → parsed ≡ Ok q → p ≡ q
+one_callee parsed p q e f = cc (e, f)
 
-one_fault : (parsed : Result Proxy ℕ) (p q : ℕ) → parsed ≡ Err p → parsed ≡ Err q → p ≡ q
+one_fault : (parsed : Result Callee ℕ) (p q : ℕ) → parsed ≡ Err p → parsed ≡ Err q → p ≡ q
 one_fault parsed p q e f = cc (e, f)
 
 -- ---- a step of two ends: both are refused by it alike, or both go on alike
@@ -87,11 +88,11 @@ module _ {G : Type 0} (a b : Ended) (alike : (r : Ended) → IsRefusal r → a �
   operation_apart t at word Next Other one (inr p) (inl q) = absurd (none_some (sym q.0 ∙ p.1))
   operation_apart t at word Next Other one (inr p) (inr q) = one q.0 (subst Next (same_Some p.0 q.0 (sym p.1 ∙ q.1)) p.2) q.2
 
-  proxy_apart : (parsed : Result Proxy ℕ) (Next Other : Proxy → Type 0) → ((p : Proxy) → Next p → Other p → G) → WithProxy parsed a Next → WithProxy parsed b Other → G
-  proxy_apart parsed Next Other one (inl p) (inl q) = alike (refused (text_refused q.0)) tt (p.2 ∙ ap (λ x. refused (text_refused x)) (one_fault parsed p.0 q.0 p.1 q.1)) q.2
-  proxy_apart parsed Next Other one (inl p) (inr q) = absurd (err_ok (sym p.1 ∙ q.1))
-  proxy_apart parsed Next Other one (inr p) (inl q) = absurd (err_ok (sym q.1 ∙ p.1))
-  proxy_apart parsed Next Other one (inr p) (inr q) = one q.0 (subst Next (one_proxy parsed p.0 q.0 p.1 q.1) p.2) q.2
+  callee_apart : (parsed : Result Callee ℕ) (Next Other : Callee → Type 0) → ((callee : Callee) → Next callee → Other callee → G) → WithCallee parsed a Next → WithCallee parsed b Other → G
+  callee_apart parsed Next Other one (inl p) (inl q) = alike (refused (text_refused q.0)) tt (p.2 ∙ ap (λ x. refused (text_refused x)) (one_fault parsed p.0 q.0 p.1 q.1)) q.2
+  callee_apart parsed Next Other one (inl p) (inr q) = absurd (err_ok (sym p.1 ∙ q.1))
+  callee_apart parsed Next Other one (inr p) (inl q) = absurd (err_ok (sym q.1 ∙ p.1))
+  callee_apart parsed Next Other one (inr p) (inr q) = one q.0 (subst Next (one_callee parsed p.0 q.0 p.1 q.1) p.2) q.2
 
   reply_apart : (p : Proxy) (op : OpDecl) (word : Word) (Next Other : Type 0) → (Next → Other → G) → WithReply p op word a Next → WithReply p op word b Other → G
   reply_apart p op word Next Other one (inl x) (inl y) = alike (twoway_only word) tt x.1 y.1
@@ -122,11 +123,11 @@ module _ {G : Type 0} (a b : Ended) (alike : (r : Ended) → IsRefusal r → a �
 
   -- ---- all steps
 
-  plans_apart : (c : CallWords) (input : List ℕ) (o : Operation) (p : Proxy) (Next Other : Plan → Type 0) → ((plan : Plan) → Next plan → Other plan → G) → Plans c (Some input) a Next o p → Plans c (Some input) b Other o p → G
-  plans_apart c input o p Next Other one =
+  plans_apart : (c : CallWords) (input : List ℕ) (o : Operation) (callee : Callee) (Next Other : Plan → Type 0) → ((plan : Plan) → Next plan → Other plan → G) → Plans c (Some input) a Next o callee → Plans c (Some input) b Other o callee → G
+  plans_apart c input o callee Next Other one =
       arguments_apart input o.tables o.declared.arguments _ _ (λ g.
       body_apart (view_format c.format) o.tables o.declared.arguments g _ _ (λ body.
-      message_apart (plan_of c o p body).message _ _ (one (plan_of c o p body))))
+      message_apart (plan_of c o callee body).message _ _ (one (plan_of c o callee body))))
 
   pub decides_apart : (c : CallWords) (files : Files) (input : List ℕ) (Next Other : Plan → Type 0) → ((plan : Plan) → Next plan → Other plan → G) → Decides c (Some files) (Some input) a Next → Decides c (Some files) (Some input) b Other → G
   decides_apart c files input Next Other one =
@@ -134,8 +135,8 @@ module _ {G : Type 0} (a b : Ended) (alike : (r : Ended) → IsRefusal r → a �
       schema_apart files c.file _ _ (λ t.
       interface_apart t c.interface _ _ (λ at.
       operation_apart t at c.operation _ _ (λ o.
-      proxy_apart (proxy_text c.proxy) _ _ (λ p.
-      reply_apart p o.declared c.operation _ _ (plans_apart c input o p Next Other one))))))
+      callee_apart (callee_named c) _ _ (λ callee.
+      reply_apart callee.proxy o.declared c.operation _ _ (plans_apart c input o callee Next Other one))))))
 
 -- ---- one end, or one plan
 

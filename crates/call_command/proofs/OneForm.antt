@@ -4,22 +4,21 @@ use Rattle.std.specs.Prelude.{unwrap_or, if◌then◌else◌}
 use Rattle.std.proofs.lemmas.List.{length-append}
 use Rattle.instance_writing.specs.declared.format.Format.TheVariants.{Sliced, Compact}
 use Rattle.node_commands.specs.Words.{Word}
-use Rattle.call_command.specs.declared.words.Options.{Options}
-use Rattle.call_command.specs.Words.{CallWords, CallForm, Gives, no_options}
-use Rattle.call_command.proofs.Giving.{compacted_same, numbered_same, number_of_none}
+use Rattle.call_command.specs.Words.{CallWords, CallForm, Given, Gives, no_options}
+use Rattle.call_command.proofs.Giving.{compacted_same, valued_same, value_of_none}
 use Rattle.call_command.proofs.Wording.{parted}
 
 -- ---- options
 
-gives_same : (before : Options) (words : List Word) (a b : Options) → Gives before words a → Gives before words b → a ≡ b
+gives_same : (before : Given) (words : List Word) (a b : Given) → Gives before words a → Gives before words b → a ≡ b
 gives_same before [] a b p q = p ∙ sym q
 gives_same before (name ∷ []) a b p q = compacted_same before a b name p q
 gives_same before (name ∷ value ∷ words) a b (inl (next, is, more)) (inl (other, also, rest)) =
-    gives_same next (value ∷ words) a b more (subst (λ (o : Options). Gives o (value ∷ words) b) (compacted_same before other next name also is) rest)
-gives_same before (name ∷ value ∷ words) a b (inl (next, is, more)) (inr (other, also, rest)) = absurd (number_of_none before other name value is.0 also)
-gives_same before (name ∷ value ∷ words) a b (inr (next, is, more)) (inl (other, also, rest)) = absurd (number_of_none before next name value also.0 is)
+    gives_same next (value ∷ words) a b more (subst (λ (o : Given). Gives o (value ∷ words) b) (compacted_same before other next name also is) rest)
+gives_same before (name ∷ value ∷ words) a b (inl (next, is, more)) (inr (other, also, rest)) = absurd (value_of_none before other name value is.0 also)
+gives_same before (name ∷ value ∷ words) a b (inr (next, is, more)) (inl (other, also, rest)) = absurd (value_of_none before next name value also.0 is)
 gives_same before (name ∷ value ∷ words) a b (inr (next, is, more)) (inr (other, also, rest)) =
-    gives_same next words a b more (subst (λ (o : Options). Gives o words b) (numbered_same before other next name value also is) rest)
+    gives_same next words a b more (subst (λ (o : Given). Gives o words b) (valued_same before other next name value also is) rest)
 
 -- ---- the form
 
@@ -48,9 +47,10 @@ module _ (words : List Word) (c d : CallWords) (form : CallForm words c) (other 
 
   pub one_form : c ≡ d
   one_form =
-      let retries : c.retries ≡ d.retries = form.set_by.retries ∙ (ap (λ (o : Options). unwrap_or o.retries 1) given_same ∙ sym other.set_by.retries) in
-      let times : c.times ≡ d.times = form.set_by.times ∙ (ap (λ (o : Options). unwrap_or o.times 1) given_same ∙ sym other.set_by.times) in
-      let format : c.format ≡ d.format = form.set_by.format ∙ (ap (λ (o : Options). if o.compact then Compact else Sliced) given_same ∙ sym other.set_by.format) in
+      let retries : c.retries ≡ d.retries = form.set_by.retries ∙ (ap (λ (o : Given). unwrap_or o.retries 1) given_same ∙ sym other.set_by.retries) in
+      let times : c.times ≡ d.times = form.set_by.times ∙ (ap (λ (o : Given). unwrap_or o.times 1) given_same ∙ sym other.set_by.times) in
+      let format : c.format ≡ d.format = form.set_by.format ∙ (ap (λ (o : Given). if o.compact then Compact else Sliced) given_same ∙ sym other.set_by.format) in
+      let locator : c.locator ≡ d.locator = form.set_by.locator ∙ (ap (λ (o : Given). o.locator) given_same ∙ sym other.set_by.locator) in
       let file : c.file ≡ d.file = ap (word_at 0) names_same in
       let interface : c.interface ≡ d.interface = ap (word_at 1) names_same in
       let proxy : c.proxy ≡ d.proxy = ap (word_at 2) names_same in
@@ -59,6 +59,7 @@ module _ (words : List Word) (c d : CallWords) (form : CallForm words c) (other 
         retries = retries i;
         times = times i;
         format = format i;
+        locator = locator i;
         file = file i;
         interface = interface i;
         proxy = proxy i;

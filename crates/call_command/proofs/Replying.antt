@@ -7,25 +7,27 @@ use Rattle.ice_prims.specs.declared.fault.ReadFault.{ReadFault}
 use Rattle.ice_prims.specs.declared.fault.ReadFault.TheVariants as read_faults
 use Rattle.ice_graphs.specs.Graph.{Graph}
 use Rattle.ice_graphs.specs.Flags.{all_slices}
+use Rattle.ice_graphs.specs.Typed.{OfType}
 use Rattle.ice_graphs.specs.Instances.{numbered_at}
 use Rattle.ice_graphs.proofs.Graphs.{numbered_found}
 use Rattle.graph_json.specs.Texts.{graph_text}
 use Rattle.ice_messages.specs.declared.message.Answer.TheVariants as answers
 use Rattle.ice_client.specs.declared.outcome.Outcome.TheVariants as outcomes
-use Rattle.call_command.specs.Planning.{Plan}
+use Rattle.call_command.specs.Planning.{Expected}
 use Rattle.call_command.specs.Replies.{TellsResults}
 use Rattle.call_command.specs.Steps.{LacksLine, of_read}
 
-module _ (plan : Plan) (asked : Shape) (is : asked ≡ plan.results) (body : List ℕ) where
-  pub told_line : IsBytes body → (g : Graph) (line : List ℕ) → numbered_at plan.tables all_slices asked (whole body) ≡ Ok g
-      → line ≡ graph_text plan.tables asked g ++ codes "\n" → TellsResults plan body line
-  told_line fits g line read printed = (
+module _ (e : Expected) (asked : Shape) (is : asked ≡ e.results) (body : List ℕ) where
+  pub told_line : IsBytes body → (g : Graph) (line : List ℕ) → numbered_at e.tables all_slices asked (whole body) ≡ Ok g → OfType e.tables asked g
+      → line ≡ graph_text e.tables asked g ++ codes "\n" → TellsResults e body line
+  told_line fits g line read typed printed = (
     g,
-    numbered_found plan.tables all_slices plan.results body g fits (subst (λ (x : Shape). numbered_at plan.tables all_slices x (whole body) ≡ Ok g) is read),
-    printed ∙ ap (λ (x : Shape). graph_text plan.tables x g ++ codes "\n") is,
+    numbered_found e.tables all_slices e.results body g fits (subst (λ (x : Shape). numbered_at e.tables all_slices x (whole body) ≡ Ok g) is read),
+    subst (λ (x : Shape). OfType e.tables x g) is typed,
+    printed ∙ ap (λ (x : Shape). graph_text e.tables x g ++ codes "\n") is,
   )
 
-  pub told_fault : (fault : ReadFault) → Fails fault (numbered_at plan.tables all_slices asked (whole body))
-      → LacksLine plan (outcomes.Replied (answers.Done body)) (of_read fault)
-  told_fault (read_faults.Broken fault) read = (fault, subst (λ (x : Shape). numbered_at plan.tables all_slices x (whole body) ≡ Err fault) is read, refl)
+  pub told_fault : (fault : ReadFault) → Fails fault (numbered_at e.tables all_slices asked (whole body))
+      → LacksLine e (outcomes.Replied (answers.Done body)) (of_read fault)
+  told_fault (read_faults.Broken fault) read = (fault, subst (λ (x : Shape). numbered_at e.tables all_slices x (whole body) ≡ Err fault) is read, refl)
   told_fault read_faults.Memory read = tt

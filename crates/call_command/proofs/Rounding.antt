@@ -2,112 +2,103 @@
 use Rattle.std.proofs.Common.{◌≡◌, ◌<◌, ◌+◌, ℕ, List, [], ◌∷◌, ◌++◌, length, Option, Ok, Err, refl, sym, ap, subst, ◌∙◌, append_assoc, append-nil, arith}
 use Rattle.std.specs.Io.KnownBytes.{Appends}
 use Rattle.std.proofs.KnownBytes.{Appends-nil, Appends-trans}
-use Rattle.std.proofs.lemmas.List.{map-append, length-append}
-use Rattle.ice_types.specs.declared.proxy.Endpoint.{Endpoint}
-use Rattle.ice_encoding.specs.Parts.{Each}
+use Rattle.std.proofs.lemmas.List.{length-append}
 use Rattle.ice_ports.specs.Failures.{one_more}
-use Rattle.ice_ports.specs.Nets.{ToldNet}
 use Rattle.ice_ports.specs.Writing.{AppendsPrefix}
-use Rattle.ice_client.specs.declared.outcome.Outcome.{Outcome}
-use Rattle.ice_client.specs.ClientDid.{Tried, Rises, attempted_all, failures_after}
+use Rattle.ice_client.specs.ClientDid.{Rises}
+use Rattle.locator.specs.declared.through.Through.{Through}
+use Rattle.locator.specs.Caches.{Kept}
+use Rattle.locator.specs.Rounds.{Round}
+use Rattle.locator.proofs.Made.{made_nothing, made_then}
 use Rattle.call_command.specs.declared.stop.Stop.{Stop}
 use Rattle.call_command.specs.declared.stop.Stop.TheVariants as stops
 use Rattle.call_command.specs.Planning.{Plan}
-use Rattle.call_command.specs.Replies.{IsLine}
-use Rattle.call_command.specs.Rounds.{NetSeen, SinkSeen, Round, Delivered, Succeeds, IsUsed, Printed, Stops, told_after_all, failed_after_all, tried_of, lines_of}
-use Rattle.call_command.specs.Steps.{NetMade, DeliversOnce, LacksLine}
+use Rattle.call_command.specs.Replies.{HasLine}
+use Rattle.call_command.specs.Rounds.{NetSeen, SinkSeen, Delivered, Delivery, Succeeded, IsUsed, Printed, Stops, rounds_of, lines_of}
+use Rattle.call_command.specs.Steps.{DeliversOnce, StopsCall}
 
 -- ---- the net
 
-told_more : (endpoints : List Endpoint) (ts : List (List Tried)) (t : List Tried) (told : Option ToldNet)
-    → told_after_all endpoints (ts ++ t ∷ []) told ≡ attempted_all endpoints 0 t (told_after_all endpoints ts told)
-told_more endpoints [] t told = refl
-told_more endpoints (u ∷ ts) t told = told_more endpoints ts t (attempted_all endpoints 0 u told)
+pub used_none : (net : NetSeen) → IsUsed [] net net
+used_none net = record { made = made_nothing net.told net.failures; listens = refl }
 
-failed_more : (ts : List (List Tried)) (t : List Tried) (n : ℕ) → failed_after_all (ts ++ t ∷ []) n ≡ failures_after t (failed_after_all ts n)
-failed_more [] t n = refl
-failed_more (u ∷ ts) t n = failed_more ts t (failures_after u n)
-
-pub used_none : (plan : Plan) (net : NetSeen) → IsUsed plan [] net net
-used_none plan net = record { told = refl; failures = refl; listens = refl }
-
-pub used_more : (plan : Plan) (ts : List (List Tried)) (t : List Tried) (a b c : NetSeen) → IsUsed plan ts a b → NetMade plan t b c → IsUsed plan (ts ++ t ∷ []) a c
-used_more plan ts t a b c used made = record {
-  told = made.made.net ∙ ap (attempted_all plan.endpoints 0 t) used.told ∙ sym (told_more plan.endpoints ts t a.told);
-  failures = made.made.failures ∙ ap (failures_after t) used.failures ∙ sym (failed_more ts t a.failures);
-  listens = made.listens ∙ used.listens;
+pub used_more : (xs ys : List Round) (a b c : NetSeen) → IsUsed xs a b → IsUsed ys b c → IsUsed (xs ++ ys) a c
+used_more xs ys a b c one two = record {
+  made = made_then xs ys a.told b.told c.told a.failures b.failures c.failures one.made two.made;
+  listens = two.listens ∙ one.listens;
 }
+
+rounds_more : (ds : List Delivery) (d : Delivery) → rounds_of (ds ++ d ∷ []) ≡ rounds_of ds ++ d.rounds
+rounds_more [] d = append-nil d.rounds
+rounds_more (x ∷ ds) d = ap (λ (l : List Round). x.rounds ++ l) (rounds_more ds d) ∙ sym (append_assoc x.rounds (rounds_of ds) d.rounds)
 
 -- ---- what was printed
 
-each_more : {A : Type 0} (P : A → Type 0) (xs : List A) (x : A) → Each P xs → P x → Each P (xs ++ x ∷ [])
-each_more P [] x h p = (p, tt)
-each_more P (y ∷ ys) x h p = (h.0, each_more P ys x h.1 p)
+succeeded_more : (plan : Plan) (old mid : Kept) (ds : List Delivery) (d : Delivery) → Succeeded plan old ds mid → Delivered plan mid d.rounds d.places d.through → HasLine plan d.through d.line
+    → Succeeded plan old (ds ++ d ∷ []) d.places
+succeeded_more plan old mid [] d is did tells = (subst (λ (k : Kept). Delivered plan k d.rounds d.places d.through) is did, tells, refl)
+succeeded_more plan old mid (x ∷ ds) d (first, told, more) did tells = (first, told, succeeded_more plan x.places mid ds d more did tells)
 
-pub lines_more : (rs : List Round) (r : Round) → lines_of (rs ++ r ∷ []) ≡ lines_of rs ++ r.line
-lines_more [] r = append-nil r.line
-lines_more (s ∷ rs) r = ap (λ (l : List ℕ). s.line ++ l) (lines_more rs r) ∙ sym (append_assoc s.line (lines_of rs) r.line)
+lines_more : (ds : List Delivery) (d : Delivery) → lines_of (ds ++ d ∷ []) ≡ lines_of ds ++ d.line
+lines_more [] d = append-nil d.line
+lines_more (x ∷ ds) d = ap (λ (l : List ℕ). x.line ++ l) (lines_more ds d) ∙ sym (append_assoc x.line (lines_of ds) d.line)
 
-pub tried_more : (rs : List Round) (r : Round) → tried_of (rs ++ r ∷ []) ≡ tried_of rs ++ r.tried ∷ []
-tried_more rs r = map-append (λ (x : Round). x.tried) rs (r ∷ [])
+pub printed_none : (plan : Plan) (sink : SinkSeen) → Printed plan [] [] sink sink
+printed_none plan sink = record { succeeded = refl; lines = Appends-nil sink.taken; kept = refl }
 
-pub printed_none : (plan : Plan) (sink : SinkSeen) → Printed plan [] sink sink
-printed_none plan sink = record { succeeded = tt; lines = Appends-nil sink.taken; kept = refl }
-
-pub printed_more : (plan : Plan) (rs : List Round) (r : Round) (a b c : SinkSeen) → Printed plan rs a b → Succeeds plan r → Appends b.taken c.taken r.line → c.failures ≡ b.failures → Printed plan (rs ++ r ∷ []) a c
-printed_more plan rs r a b c printed succeeds appends kept = record {
-  succeeded = each_more (Succeeds plan) rs r printed.succeeded succeeds;
-  lines = subst (Appends a.taken c.taken) (sym (lines_more rs r)) (Appends-trans a.taken b.taken c.taken (lines_of rs) r.line printed.lines appends);
+printed_more : (plan : Plan) (ds : List Delivery) (d : Delivery) (places : Kept) (a b c : SinkSeen) → Printed plan ds places a b
+    → Delivered plan places d.rounds d.places d.through → HasLine plan d.through d.line → Appends b.taken c.taken d.line → c.failures ≡ b.failures → Printed plan (ds ++ d ∷ []) d.places a c
+printed_more plan ds d places a b c printed did tells appends kept = record {
+  succeeded = succeeded_more plan [] places ds d printed.succeeded did tells;
+  lines = subst (Appends a.taken c.taken) (sym (lines_more ds d)) (Appends-trans a.taken b.taken c.taken (lines_of ds) d.line printed.lines appends);
   kept = kept ∙ printed.kept;
 }
 
 -- a prefix behind other bytes
-pub prefix_behind : (a b c : Option (List ℕ)) (lines line : List ℕ) → Appends a b lines → AppendsPrefix b c line → AppendsPrefix a c (lines ++ line)
+prefix_behind : (a b c : Option (List ℕ)) (lines line : List ℕ) → Appends a b lines → AppendsPrefix b c line → AppendsPrefix a c (lines ++ line)
 prefix_behind a b c lines line p (front, rest, is, q) =
     (lines ++ front, rest, ap (λ (l : List ℕ). lines ++ l) is ∙ sym (append_assoc lines front rest), Appends-trans a b c lines front p q)
 
 -- ---- one message more, or what stops it
 
-module _ (plan : Plan) (rs : List Round) (sink here : SinkSeen) (net at now : NetSeen) (printed : Printed plan rs sink here) (used : IsUsed plan (tried_of rs) net at) where
+module _ (plan : Plan) (ds : List Delivery) (places : Kept) (sink here : SinkSeen) (net at now : NetSeen) (printed : Printed plan ds places sink here) (used : IsUsed (rounds_of ds) net at) where
+  used_then : (rounds : List Round) → IsUsed rounds at now → IsUsed (rounds_of ds ++ rounds) net now
+  used_then rounds more = used_more (rounds_of ds) rounds net at now used more
+
   -- memory ran out while it was sent
-  pub undelivered : (stop : Stop) → length rs < plan.rounds → DeliversOnce plan at now (Err stop) → Stops plan sink here net now stop
-  undelivered stop less (tried, made, is) =
-      subst (Stops plan sink here net now) (sym is) (rs, tried, less, used_more plan (tried_of rs) tried net at now used made, printed)
+  pub undelivered : (later : Kept) (stop : Stop) → length ds < plan.rounds → DeliversOnce plan places at now later (Err stop) → Stops plan sink here net now stop
+  undelivered later stop less (rounds, more, (came, went), is) =
+      subst (Stops plan sink here net now) (sym is) (ds, places, rounds, less, used_then rounds more, (came, later, went, printed))
 
   -- what it came to is no success
-  pub without_line : (outcome : Outcome) (stop : Stop) → length rs < plan.rounds → DeliversOnce plan at now (Ok outcome) → LacksLine plan outcome stop → Stops plan sink here net now stop
-  without_line outcome stops.WriteFailed less d lacks = absurd lacks
-  without_line outcome stops.NetFailed less (tried, made, delivered, rises) lacks = (
-    rs,
-    tried,
-    less,
-    used_more plan (tried_of rs) tried net at now used made,
-    (subst (λ (o : Outcome). Delivered plan tried o) lacks delivered, printed, subst (λ (n : ℕ). Rises n now.failures) used.failures (rises lacks)),
-  )
-  without_line outcome (stops.Ended reason) less (tried, made, delivered, rises) lacks =
-      (rs, tried, less, used_more plan (tried_of rs) tried net at now used made, (outcome, delivered, lacks, printed))
-  without_line outcome stops.Memory less (tried, made, delivered, rises) lacks = (rs, tried, less, used_more plan (tried_of rs) tried net at now used made, printed)
+  pub without_line : (later : Kept) (through : Through) (stop : Stop) → length ds < plan.rounds → DeliversOnce plan places at now later (Ok through) → StopsCall plan through stop → Stops plan sink here net now stop
+  without_line later through stops.WriteFailed less d lacks = absurd lacks
+  without_line later through stops.NetFailed less (rounds, more, delivered, rises) lacks =
+      (ds, places, rounds, less, used_then rounds more, (through, later, delivered, lacks, printed, subst (λ (n : ℕ). Rises n now.failures) used.made.failures (rises lacks)))
+  without_line later through (stops.Ended reason) less (rounds, more, delivered, rises) lacks = (ds, places, rounds, less, used_then rounds more, (through, later, delivered, lacks, printed))
+  without_line later through stops.Memory less (rounds, more, delivered, rises) lacks = (ds, places, rounds, less, used_then rounds more, (Ok through, later, delivered, printed))
 
-  module _ (new : SinkSeen) (outcome : Outcome) (line : List ℕ) (d : DeliversOnce plan at now (Ok outcome)) (tells : IsLine plan outcome line) where
+  module _ (new : SinkSeen) (later : Kept) (through : Through) (line : List ℕ) (d : DeliversOnce plan places at now later (Ok through)) (tells : HasLine plan through line) where
     -- its line was not taken whole
-    pub unprinted : (stop : Stop) → length rs < plan.rounds → stop ≡ stops.WriteFailed → AppendsPrefix here.taken new.taken line → new.failures ≡ one_more here.failures → Stops plan sink new net now stop
+    pub unprinted : (stop : Stop) → length ds < plan.rounds → stop ≡ stops.WriteFailed → AppendsPrefix here.taken new.taken line → new.failures ≡ one_more here.failures → Stops plan sink new net now stop
     unprinted stop less is prefix failed = subst (Stops plan sink new net now) (sym is) (
-      rs,
+      ds,
+      places,
       d.0,
       less,
-      used_more plan (tried_of rs) d.0 net at now used d.1,
-      (outcome, line, d.2, tells, printed.succeeded, prefix_behind sink.taken here.taken new.taken (lines_of rs) line printed.lines prefix, failed ∙ ap one_more printed.kept),
+      used_then d.0 d.1,
+      (through, later, line, d.2, tells, printed.succeeded, prefix_behind sink.taken here.taken new.taken (lines_of ds) line printed.lines prefix, failed ∙ ap one_more printed.kept),
     )
 
     -- it succeeded
-    abbrev pub this_round : Round
-    this_round = record { tried = d.0; outcome = outcome; line = line }
+    abbrev pub this_delivery : Delivery
+    this_delivery = record { rounds = d.0; through = through; places = later; line = line }
 
-    pub printed_so : Appends here.taken new.taken line → new.failures ≡ here.failures → Printed plan (rs ++ this_round ∷ []) sink new
-    printed_so appends kept = printed_more plan rs this_round sink here new printed (d.2, tells) appends kept
+    pub printed_so : Appends here.taken new.taken line → new.failures ≡ here.failures → Printed plan (ds ++ this_delivery ∷ []) later sink new
+    printed_so appends kept = printed_more plan ds this_delivery places sink here new printed d.2 tells appends kept
 
-    pub used_so : IsUsed plan (tried_of (rs ++ this_round ∷ [])) net now
-    used_so = subst (λ (ts : List (List Tried)). IsUsed plan ts net now) (sym (tried_more rs this_round)) (used_more plan (tried_of rs) d.0 net at now used d.1)
+    pub used_so : IsUsed (rounds_of (ds ++ this_delivery ∷ [])) net now
+    used_so = subst (λ (rs : List Round). IsUsed rs net now) (sym (rounds_more ds this_delivery)) (used_then d.0 d.1)
 
-    pub counted_so : (n : ℕ) → length rs ≡ n → length (rs ++ this_round ∷ []) ≡ n + 1
-    counted_so n e = omega (arith, e, length-append rs (this_round ∷ []))
+    pub counted_so : (n : ℕ) → length ds ≡ n → length (ds ++ this_delivery ∷ []) ≡ n + 1
+    counted_so n e = omega (arith, e, length-append ds (this_delivery ∷ []))

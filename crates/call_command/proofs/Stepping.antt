@@ -1,5 +1,6 @@
 -- What is decided by some of the steps is decided by all of them.
 use Rattle.std.proofs.Common.{◌≡◌, ◌⊎◌, ℕ, List, [], Option, Some, None, Result, Ok, Err, refl, sym, ap, subst, inl, inr}
+use Rattle.std.specs.Prelude.{option_map}
 use Rattle.std.proofs.KnownBytes.{Appends-nil}
 use Rattle.ice_types.specs.declared.proxy.Proxy.{Proxy}
 use Rattle.ice_types.specs.Tables.{Tables, HasId, interface_ids}
@@ -10,12 +11,13 @@ use Rattle.node_commands.specs.Effects.{GetsText}
 use Rattle.node_commands.specs.Outcomes.{GivesNoSchema}
 use Rattle.node_commands.proofs.Keeping.{keeps_itself}
 use Rattle.proxy_text.specs.Grammar.{proxy_text}
+use Rattle.call_command.specs.declared.callee.Callee.{Callee}
 use Rattle.call_command.specs.declared.stop.Stop.{Stop}
 use Rattle.call_command.specs.Words.{CallWords}
 use Rattle.call_command.specs.Operations.{Operation, operation_of}
-use Rattle.call_command.specs.Planning.{Plan}
+use Rattle.call_command.specs.Planning.{Plan, callee_of, with_proxy}
 use Rattle.call_command.specs.Endings.{Ended, finished, refused, twoway_only, stopped}
-use Rattle.call_command.specs.Decided.{IsListed, IsInterface, LacksReply, Plans, Decides}
+use Rattle.call_command.specs.Decided.{IsListed, IsListedCallee, IsInterface, LacksReply, Plans, Decides, callee_named}
 use Rattle.call_command.specs.Rounds.{NetSeen, sink_seen, Finishes, Stops}
 use Rattle.call_command.specs.Called.{Steps, WantsInput, Comes, TakesInput}
 use Rattle.call_command.specs.Steps.{KnownDecides, KnownWants, SchemaDecides, SchemaWants, LacksPlan, LooksFor}
@@ -30,17 +32,17 @@ answer_in (stopped stop) = no_memory
 same_answer : (a b : Answer) → refused a ≡ refused b → a ≡ b
 same_answer a b e = ap answer_in e
 
--- ---- of the operation and the proxy
+-- ---- of the operation and the object
 
-module _ (c : CallWords) (input : Option (List ℕ)) (o : Operation) (p : Proxy) (came : Ended) (P Q : Plan → Type 0) (f : (plan : Plan) → P plan → Q plan) where
-  plans_then : Plans c input came P o p → Plans c input came Q o p
+module _ (c : CallWords) (input : Option (List ℕ)) (o : Operation) (callee : Callee) (came : Ended) (P Q : Plan → Type 0) (f : (plan : Plan) → P plan → Q plan) where
+  plans_then : Plans c input came P o callee → Plans c input came Q o callee
   plans_then (inl refusal) = inl refusal
   plans_then (inr (g, lists, inl needs)) = inr (g, lists, inl needs)
   plans_then (inr (g, lists, inr (writable, inl long))) = inr (g, lists, inr (writable, inl long))
   plans_then (inr (g, lists, inr (writable, inr (short, inl long)))) = inr (g, lists, inr (writable, inr (short, inl long)))
   plans_then (inr (g, lists, inr (writable, inr (short, inr (fits, next))))) = inr (g, lists, inr (writable, inr (short, inr (fits, f _ next))))
 
-  pub known_then : KnownDecides c input o p came P → KnownDecides c input o p came Q
+  pub known_then : KnownDecides c input o callee came P → KnownDecides c input o callee came Q
   known_then (inl lacks) = inl lacks
   known_then (inr (replies, plans)) = inr (replies, plans_then plans)
 
@@ -62,25 +64,25 @@ takes_so V W wants old new (inr (wanted, taken)) = inr (wants wanted, taken)
 
 -- ---- where there is no plan
 
-module _ (c : CallWords) (input : Option (List ℕ)) (o : Operation) (p : Proxy) (shelf source now sink : ℕ) (old : Option (List ℕ)) (net : NetSeen) where
-  pub unplanned : (came : Ended) → LacksPlan c input o p source now came → Comes (KnownDecides c input o p) (KnownWants c o p) (counts shelf source sink) (counts shelf now sink) old old net net came
+module _ (c : CallWords) (input : Option (List ℕ)) (o : Operation) (callee : Callee) (shelf source now sink : ℕ) (old : Option (List ℕ)) (net : NetSeen) where
+  pub unplanned : (came : Ended) → LacksPlan c input o callee source now came → Comes (KnownDecides c input o callee) (KnownWants c o callee) (counts shelf source sink) (counts shelf now sink) old old net net came
   unplanned (refused answer) (inl (decided, same)) = (inl (decided, (refl, same, refl)), keeps_itself old, refl)
   unplanned (refused answer) (inr (inl (is, wanted, rose))) = (inr (inl (same_answer answer read_failed is, inr (wanted, (refl, rose, refl)))), keeps_itself old, refl)
   unplanned (refused answer) (inr (inr (is, same))) = (inr (inr (same_answer answer no_memory is, (refl, same, refl))), keeps_itself old, refl)
   unplanned (twoway_only word) (inl (decided, same)) = (decided, (refl, same, refl), keeps_itself old, refl)
   unplanned (twoway_only word) (inr (inl (is, wanted, rose))) = absurd cc
   unplanned (twoway_only word) (inr (inr (is, same))) = absurd cc
-  unplanned finished (inl (decided, same)) = (known_then c input o p finished (λ plan. ⊥) (λ plan. Finishes plan (sink_seen old sink) (sink_seen old sink) net net) (λ plan never. absurd never) decided, (refl, same))
+  unplanned finished (inl (decided, same)) = (known_then c input o callee finished (λ plan. ⊥) (λ plan. Finishes plan (sink_seen old sink) (sink_seen old sink) net net) (λ plan never. absurd never) decided, (refl, same))
   unplanned finished (inr (inl (is, wanted, rose))) = absurd cc
   unplanned finished (inr (inr (is, same))) = absurd cc
-  unplanned (stopped stop) (inl (decided, same)) = (known_then c input o p (stopped stop) (λ plan. ⊥) (λ plan. Stops plan (sink_seen old sink) (sink_seen old sink) net net stop) (λ plan never. absurd never) decided, (refl, same))
+  unplanned (stopped stop) (inl (decided, same)) = (known_then c input o callee (stopped stop) (λ plan. ⊥) (λ plan. Stops plan (sink_seen old sink) (sink_seen old sink) net net stop) (λ plan never. absurd never) decided, (refl, same))
   unplanned (stopped stop) (inr (inl (is, wanted, rose))) = absurd cc
   unplanned (stopped stop) (inr (inr (is, same))) = absurd cc
 
 -- the input is looked for where a reply can come
-pub looked_for : (c : CallWords) (o : Operation) (p : Proxy) (old new : Option (List ℕ)) → LooksFor (LacksReply p o.declared) old new → TakesInput (KnownWants c o p) old new
-looked_for c o p old new (inl kept) = inl kept
-looked_for c o p old new (inr (replies, taken)) = inr (inr (replies, tt), taken)
+pub looked_for : (c : CallWords) (o : Operation) (callee : Callee) (old new : Option (List ℕ)) → LooksFor (LacksReply callee.proxy o.declared) old new → TakesInput (KnownWants c o callee) old new
+looked_for c o callee old new (inl kept) = inl kept
+looked_for c o callee old new (inr (replies, taken)) = inr (inr (replies, tt), taken)
 
 -- ---- where there is no schema
 
@@ -117,27 +119,27 @@ module _ (c : CallWords) (files : Option Files) (input : Option (List ℕ)) (she
 
 -- ---- where there is a plan
 
-module _ (c : CallWords) (input : Option (List ℕ)) (o : Operation) (p : Proxy) (shelf source now sink after : ℕ) (old new : Option (List ℕ)) (net later : NetSeen) (plan : Plan)
-    (given : (came : Ended) → KnownDecides c input o p came (λ q. q ≡ plan)) (same : now ≡ source) where
+module _ (c : CallWords) (input : Option (List ℕ)) (o : Operation) (callee : Callee) (shelf source now sink after : ℕ) (old new : Option (List ℕ)) (net later : NetSeen) (plan : Plan)
+    (given : (came : Ended) → KnownDecides c input o callee came (λ q. q ≡ plan)) (same : now ≡ source) where
   pub finished_so : Finishes plan (sink_seen old sink) (sink_seen new after) net later
-      → Comes (KnownDecides c input o p) (KnownWants c o p) (counts shelf source sink) (counts shelf now after) old new net later finished
+      → Comes (KnownDecides c input o callee) (KnownWants c o callee) (counts shelf source sink) (counts shelf now after) old new net later finished
   finished_so h = (
-    known_then c input o p finished (λ q. q ≡ plan) (λ q. Finishes q (sink_seen old sink) (sink_seen new after) net later)
+    known_then c input o callee finished (λ q. q ≡ plan) (λ q. Finishes q (sink_seen old sink) (sink_seen new after) net later)
         (λ q is. subst (λ (x : Plan). Finishes x (sink_seen old sink) (sink_seen new after) net later) (sym is) h) (given finished),
     (refl, same),
   )
 
   pub stopped_so : (stop : Stop) → Stops plan (sink_seen old sink) (sink_seen new after) net later stop
-      → Comes (KnownDecides c input o p) (KnownWants c o p) (counts shelf source sink) (counts shelf now after) old new net later (stopped stop)
+      → Comes (KnownDecides c input o callee) (KnownWants c o callee) (counts shelf source sink) (counts shelf now after) old new net later (stopped stop)
   stopped_so stop h = (
-    known_then c input o p (stopped stop) (λ q. q ≡ plan) (λ q. Stops q (sink_seen old sink) (sink_seen new after) net later stop)
+    known_then c input o callee (stopped stop) (λ q. q ≡ plan) (λ q. Stops q (sink_seen old sink) (sink_seen new after) net later stop)
         (λ q is. subst (λ (x : Plan). Stops x (sink_seen old sink) (sink_seen new after) net later stop) (sym is) h) (given (stopped stop)),
     (refl, same),
   )
 
--- ---- where a name or the proxy's text is refused
+-- ---- where a name or the text of a proxy is refused
 
-module _ (c : CallWords) (input : Option (List ℕ)) (parsed : Result Proxy ℕ) (t : Tables) (shelf source sink : ℕ) (old : Option (List ℕ)) (net : NetSeen) where
+module _ (c : CallWords) (input : Option (List ℕ)) (parsed : Result Callee ℕ) (t : Tables) (shelf source sink : ℕ) (old : Option (List ℕ)) (net : NetSeen) where
   abbrev pub RefusedHere : Answer → Type 0
   RefusedHere answer = Comes (SchemaDecides c input parsed t) (SchemaWants c parsed t) (counts shelf source sink) (counts shelf source sink) old old net net (refused answer)
 
@@ -151,28 +153,42 @@ module _ (c : CallWords) (input : Option (List ℕ)) (parsed : Result Proxy ℕ)
     pub no_operation : operation_of t at c.operation ≡ None → RefusedHere (no_such_name c.operation)
     no_operation none = (inl (inr (at, names, inl (none, refl)), (refl, refl, refl)), keeps_itself old, refl)
 
-    pub no_proxy : (o : Operation) → operation_of t at c.operation ≡ Some o → (place : ℕ) → parsed ≡ Err place → RefusedHere (text_refused place)
-    no_proxy o is place text = (inl (inr (at, names, inr (o, is, inl (place, text, refl))), (refl, refl, refl)), keeps_itself old, refl)
+    pub no_callee : (o : Operation) → operation_of t at c.operation ≡ Some o → (place : ℕ) → parsed ≡ Err place → RefusedHere (text_refused place)
+    no_callee o is place text = (inl (inr (at, names, inr (o, is, inl (place, text, refl))), (refl, refl, refl)), keeps_itself old, refl)
 
--- ---- the steps before the operation and the proxy
+-- ---- the steps before the operation and the object
 
-module _ (c : CallWords) (input : Option (List ℕ)) (parsed : Result Proxy ℕ) (t : Tables) (at : ℕ) (names : IsInterface t c.interface at)
-    (o : Operation) (is : operation_of t at c.operation ≡ Some o) (p : Proxy) (text : parsed ≡ Ok p) where
-  pub schema_decides : (came : Ended) (Next : Plan → Type 0) → KnownDecides c input o p came Next → SchemaDecides c input parsed t came Next
-  schema_decides came Next h = inr (at, names, inr (o, is, inr (p, text, h)))
+module _ (c : CallWords) (input : Option (List ℕ)) (parsed : Result Callee ℕ) (t : Tables) (at : ℕ) (names : IsInterface t c.interface at)
+    (o : Operation) (is : operation_of t at c.operation ≡ Some o) (callee : Callee) (text : parsed ≡ Ok callee) where
+  pub schema_decides : (came : Ended) (Next : Plan → Type 0) → KnownDecides c input o callee came Next → SchemaDecides c input parsed t came Next
+  schema_decides came Next h = inr (at, names, inr (o, is, inr (callee, text, h)))
 
-  pub schema_wants : KnownWants c o p → SchemaWants c parsed t
-  schema_wants h = inr (at, names, inr (o, is, inr (p, text, h)))
+  pub schema_wants : KnownWants c o callee → SchemaWants c parsed t
+  schema_wants h = inr (at, names, inr (o, is, inr (callee, text, h)))
 
-module _ (c : CallWords) (files : Option Files) (input : Option (List ℕ)) (parsed : Result Proxy ℕ) (t : Tables)
-    (text : proxy_text c.proxy ≡ parsed) (listed : IsListed (proxy_text c.proxy)) (means : IsSchema files c.file t) where
+module _ (c : CallWords) (files : Option Files) (input : Option (List ℕ)) (parsed : Result Callee ℕ) (t : Tables)
+    (text : callee_named c ≡ parsed) (listed : IsListed (proxy_text c.proxy)) (means : IsSchema files c.file t) where
   pub all_decide : (came : Ended) (Next : Plan → Type 0) → SchemaDecides c input parsed t came Next → Decides c files input came Next
-  all_decide came Next h = inr (listed, inr (t, means, subst (λ (x : Result Proxy ℕ). SchemaDecides c input x t came Next) (sym text) h))
+  all_decide came Next h = inr (listed, inr (t, means, subst (λ (x : Result Callee ℕ). SchemaDecides c input x t came Next) (sym text) h))
 
   pub all_want : SchemaWants c parsed t → WantsInput c files
-  all_want h = inr (listed, inr (t, means, subst (λ (x : Result Proxy ℕ). SchemaWants c x t) (sym text) h))
+  all_want h = inr (listed, inr (t, means, subst (λ (x : Result Callee ℕ). SchemaWants c x t) (sym text) h))
 
 -- ---- the line of a success is none
 
 pub no_line : (old : Option (List ℕ)) (n : ℕ) → GetsText old old n n []
 no_line old n = inl (Appends-nil old, refl)
+
+-- ---- the mode of the callee's proxy
+
+by_proxy : (locator : Option Proxy) (proxy : Result Proxy ℕ) → IsListed proxy → IsListedCallee (with_proxy locator proxy)
+by_proxy locator (Ok p) listed = listed
+by_proxy locator (Err place) listed = tt
+
+listed_so : (located : Option (Result Proxy ℕ)) (proxy : Result Proxy ℕ) → IsListed proxy → IsListedCallee (callee_of located proxy)
+listed_so (Some (Ok locator)) proxy listed = by_proxy (Some locator) proxy listed
+listed_so (Some (Err place)) proxy listed = tt
+listed_so None proxy listed = by_proxy None proxy listed
+
+pub listed_callee : (c : CallWords) (found : Result Callee ℕ) → callee_named c ≡ found → IsListed (proxy_text c.proxy) → IsListedCallee found
+listed_callee c found is listed = subst IsListedCallee is (listed_so (option_map proxy_text c.locator) (proxy_text c.proxy) listed)

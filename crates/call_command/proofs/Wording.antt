@@ -8,10 +8,10 @@ use Rattle.instance_writing.specs.declared.format.Format.TheVariants as formats
 use Rattle.node_commands.specs.declared.words.Task.TheVariants as tasks
 use Rattle.node_commands.specs.Words.{Word, Command, IsWord, values, check, proxy, audit, drill, messages, help, version, Form, task_words}
 use Rattle.call_command.specs.declared.words.CallCommand.{CallCommand}
-use Rattle.call_command.specs.declared.words.Options.{Options}
 use Rattle.std.specs.Prelude.{IfSome, unwrap_or}
 use Rattle.call_command.specs.declared.words.TheConstants.{MOST_RETRIES, MOST_TIMES}
-use Rattle.call_command.specs.Words.{CallWords, CallForm, AreNamed, AsksCall, Gathers, Gives, IsNamed, IsNoOption, IsNumbered, IsOption, IsWithin, no_options, seen}
+use Rattle.call_command.specs.declared.words.Options.{Options}
+use Rattle.call_command.specs.Words.{CallWords, CallForm, AreNamed, AsksCall, Gathers, Given, Gives, IsNamed, IsNoOption, IsNumbered, IsOption, IsValued, IsWithin, given_of, no_options, seen}
 
 -- the first word, and a number that tells those of all commands apart
 abbrev first_word : List Word → Word
@@ -44,18 +44,19 @@ apart words c version form other = let e : 11565 ≡ 25441 = sym (ap mark other)
 
 -- ---- the limits of options
 
-abbrev AreWithin : Options → Type 0
-AreWithin o = IfSome o.retries (λ n. n ≤ MOST_RETRIES) × IfSome o.times (λ n. (1 ≤ n) × (n ≤ MOST_TIMES))
+abbrev AreWithin : Given → Type 0
+AreWithin o = IfSome o.retries (λ n. n ≤ MOST_RETRIES) × IfSome o.times (λ n. (1 ≤ n) × (n ≤ MOST_TIMES)) × IfSome o.locator IsWord
 
-numbered_within : (before after : Options) (name value : Word) → AreWithin before → IsNumbered before name value after → AreWithin after
-numbered_within before after name value w (inl (n, is, spelled, none, same)) = subst AreWithin (sym same) (spelled.2, w.1)
-numbered_within before after name value w (inr (n, is, spelled, none, same)) = subst AreWithin (sym same) (w.0, (spelled.1, spelled.2))
+valued_within : (before after : Given) (name value : Word) → AreWithin before → IsValued before name value after → AreWithin after
+valued_within before after name value w (inl (inl (n, is, spelled, none, same))) = subst AreWithin (sym same) (spelled.2, w.1, w.2)
+valued_within before after name value w (inl (inr (n, is, spelled, none, same))) = subst AreWithin (sym same) (w.0, (spelled.1, spelled.2), w.2)
+valued_within before after name value w (inr (is, short, none, same)) = subst AreWithin (sym same) (w.0, w.1, short)
 
-gives_within : (before : Options) (words : List Word) (after : Options) → AreWithin before → Gives before words after → AreWithin after
+gives_within : (before : Given) (words : List Word) (after : Given) → AreWithin before → Gives before words after → AreWithin after
 gives_within before [] after w same = subst AreWithin (sym same) w
 gives_within before (name ∷ []) after w (is, none, same) = subst AreWithin (sym same) w
 gives_within before (name ∷ value ∷ words) after w (inl (next, (is, none, same), more)) = gives_within next (value ∷ words) after (subst AreWithin (sym same) w) more
-gives_within before (name ∷ value ∷ words) after w (inr (next, numbered, more)) = gives_within next words after (numbered_within before next name value w numbered) more
+gives_within before (name ∷ value ∷ words) after w (inr (next, valued, more)) = gives_within next words after (valued_within before next name value w valued) more
 
 retries_within : (o : Option ℕ) → IfSome o (λ n. n ≤ MOST_RETRIES) → unwrap_or o 1 ≤ MOST_RETRIES
 retries_within None h = omega arith
@@ -67,10 +68,11 @@ times_within (Some n) h = h
 
 pub within : (words : List Word) (c : CallWords) → CallForm words c → IsWithin c
 within words c form =
-    let w = gives_within no_options form.options form.given (tt, tt) form.gives in
+    let w = gives_within no_options form.options form.given (tt, tt, tt) form.gives in
     let times = subst (λ (n : ℕ). (1 ≤ n) × (n ≤ MOST_TIMES)) (sym form.set_by.times) (times_within form.given.times w.1) in
     record {
       proxy = form.names.words_short.2;
+      locator = subst (λ (o : Option Word). IfSome o IsWord) (sym form.set_by.locator) w.2;
       retries = subst (λ (n : ℕ). n ≤ MOST_RETRIES) (sym form.set_by.retries) (retries_within form.given.retries w.0);
       least = times.0;
       times = times.1;
@@ -111,12 +113,12 @@ module _ (words rest : List Word) (n : ℕ) (are : words ≡ codes "call" ∷ re
   pub none_given : Gathers no_options (take n rest) None → (c : CallWords) → CallForm words c → ⊥
   none_given none c form = none form.given (subst (λ (l : List Word). Gives no_options l form.given) (sym (parted words rest c n form are long).0) form.gives)
 
-  pub asked : (given : Options) (result : Option CallCommand) → Gathers no_options (take n rest) (Some given) → IsNamed given (drop n rest) result → AsksCall words result
+  pub asked : (given : Options) (result : Option CallCommand) → Gathers no_options (take n rest) (Some given) → IsNamed (given_of given) (drop n rest) result → AsksCall words result
   asked given None gives named = λ c form. named c (subst (λ (l : List Word). AreNamed l c) (sym (parted words rest c n form are long).1) form.names)
   asked given (Some c) gives named = record {
     options = take n rest;
     named = drop n rest;
-    given = given;
+    given = given_of given;
     words_are = are ∙ ap (λ (l : List Word). codes "call" ∷ l) (front_back n rest);
     gives = gives;
     set_by = named.1;
@@ -131,7 +133,7 @@ within_asked words (Some c) h = within words (seen c) h
 -- ---- the last four words
 
 no_option : (word : Word) → (IsOption word → ⊥) → IsNoOption word
-no_option word h = (λ e. h (inl e), λ e. h (inr (inl e)), λ e. h (inr (inr e)))
+no_option word h = (λ e. h (inl e), λ e. h (inr (inl e)), λ e. h (inr (inr (inl e))), λ e. h (inr (inr (inr e))))
 
 pub are_named : (words : List Word) (c : CallWords) → words ≡ c.file ∷ c.interface ∷ c.proxy ∷ c.operation ∷ [] → (IsOption c.file → ⊥) → All IsWord words → AreNamed words c
 are_named words c are not short =

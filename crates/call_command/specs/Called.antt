@@ -17,7 +17,7 @@ Steps = Ended → (Plan → Type 0) → Type 0
 
 -- only where FILE, the names, PROXY and its mode are right is the input read
 abbrev pub WantsInput : CallWords → Option Files → Type 0
-WantsInput c files = Reaches c files (refused read_failed) (λ o p. Unit {0})
+WantsInput c files = Reaches c files (refused read_failed) (λ o callee. Unit {0})
 
 -- a refusal is decided, and no call failed; a read failed: of FILE or a file that it includes, or of the input, where it is wanted;
 -- or memory ran out, and no call failed

@@ -1,5 +1,5 @@
 -- What is decided before anything is connected, step by step: each step decides only what those before it let through.
-use Rattle.std.specs.Prelude.{ℕ, ◌≡◌, ◌<◌, ◌≤◌, ◌⊎◌, List, length, Option, Some, None, IfSome, Result, Ok, Err}
+use Rattle.std.specs.Prelude.{ℕ, ◌≡◌, ◌<◌, ◌≤◌, ◌⊎◌, List, length, Option, Some, None, IfSome, Result, Ok, Err, option_map}
 use Rattle.ice_types.specs.declared.proxy.Proxy.{Proxy}
 use Rattle.ice_types.specs.declared.declarations.OpDecl.{OpDecl}
 use Rattle.ice_types.specs.declared.declarations.Shape.{Shape}
@@ -21,9 +21,10 @@ use Rattle.node_commands.specs.Outside.{Files}
 use Rattle.node_commands.specs.Answers.{usage, no_such_name, slice_refused, text_refused, json_refused, too_long, needs_sliced}
 use Rattle.node_commands.specs.Decided.{IsSchema, IsFault}
 use Rattle.call_command.specs.declared.arguments.TheConstants.{MOST_OF_ARGUMENTS}
+use Rattle.call_command.specs.declared.callee.Callee.{Callee}
 use Rattle.call_command.specs.Words.{CallWords}
 use Rattle.call_command.specs.Operations.{Operation, operation_of, WantsReply}
-use Rattle.call_command.specs.Planning.{Plan, plan_of}
+use Rattle.call_command.specs.Planning.{Plan, plan_of, callee_of}
 use Rattle.call_command.specs.Endings.{Ended, refused, twoway_only}
 
 -- ---- the steps
@@ -32,6 +33,11 @@ use Rattle.call_command.specs.Endings.{Ended, refused, twoway_only}
 abbrev pub IsListed : Result Proxy ℕ → Type 0
 IsListed (Ok p) = p.mode ≤ 2
 IsListed (Err place) = Unit {0}
+
+-- the same of what both texts say
+abbrev pub IsListedCallee : Result Callee ℕ → Type 0
+IsListedCallee (Ok callee) = callee.proxy.mode ≤ 2
+IsListedCallee (Err place) = Unit {0}
 
 abbrev pub WithListed : Result Proxy ℕ → Ended → Type 0 → Type 0
 WithListed parsed came Next = ((IsListed parsed → ⊥) × (came ≡ refused usage)) ⊎ (IsListed parsed × Next)
@@ -58,11 +64,15 @@ WithOperation t interface word came Next =
     ((operation_of t interface word ≡ None) × (came ≡ refused (no_such_name word)))
     ⊎ ((o : Operation) × (operation_of t interface word ≡ Some o) × Next o)
 
--- PROXY is the text of none, or of a proxy
-abbrev pub WithProxy : Result Proxy ℕ → Ended → (Proxy → Type 0) → Type 0
-WithProxy parsed came Next =
+-- what the texts of the locator and of PROXY say
+abbrev pub callee_named : CallWords → Result Callee ℕ
+callee_named c = callee_of (option_map proxy_text c.locator) (proxy_text c.proxy)
+
+-- one of them is the text of no proxy, or both are
+abbrev pub WithCallee : Result Callee ℕ → Ended → (Callee → Type 0) → Type 0
+WithCallee parsed came Next =
     ((place : ℕ) × (parsed ≡ Err place) × (came ≡ refused (text_refused place)))
-    ⊎ ((p : Proxy) × (parsed ≡ Ok p) × Next p)
+    ⊎ ((callee : Callee) × (parsed ≡ Ok callee) × Next callee)
 
 -- the proxy asks for no reply, and the operation wants one
 abbrev pub LacksReply : Proxy → OpDecl → Type 0
@@ -93,21 +103,21 @@ WithMessage m came Next =
 -- ---- all of them
 
 -- before the input is read
-abbrev pub Reaches : CallWords → Option Files → Ended → (Operation → Proxy → Type 0) → Type 0
+abbrev pub Reaches : CallWords → Option Files → Ended → (Operation → Callee → Type 0) → Type 0
 Reaches c files came Next =
     WithListed (proxy_text c.proxy) came (
     WithSchema files c.file came (λ t.
     WithInterface t c.interface came (λ at.
     WithOperation t at c.operation came (λ o.
-    WithProxy (proxy_text c.proxy) came (λ p.
-    WithReply p o.declared c.operation came (Next o p))))))
+    WithCallee (callee_named c) came (λ callee.
+    WithReply callee.proxy o.declared c.operation came (Next o callee))))))
 
--- of the operation and the proxy
-abbrev pub Plans : CallWords → Option (List ℕ) → Ended → (Plan → Type 0) → Operation → Proxy → Type 0
-Plans c input came Next o p =
+-- of the operation and the object
+abbrev pub Plans : CallWords → Option (List ℕ) → Ended → (Plan → Type 0) → Operation → Callee → Type 0
+Plans c input came Next o callee =
     WithArguments input o.tables o.declared.arguments came (λ g.
     WithBody (view_format c.format) o.tables o.declared.arguments g came (λ body.
-    WithMessage (plan_of c o p body).message came (Next (plan_of c o p body))))
+    WithMessage (plan_of c o callee body).message came (Next (plan_of c o callee body))))
 
 -- up to the plan of what is sent
 abbrev pub Decides : CallWords → Option Files → Option (List ℕ) → Ended → (Plan → Type 0) → Type 0

@@ -39,6 +39,7 @@ reason_text (reasons.Raised id) = codes "raised " ++ id
 reason_text (reasons.Missing status) = codes "missing " ++ decimal status
 reason_text (reasons.Unknown status text) = codes "unknown " ++ (decimal status ++ (codes " " ++ text))
 reason_text reasons.NoEndpoint = codes "no endpoint"
+reason_text reasons.NotLocated = codes "not located"
 reason_text reasons.Closed = codes "closed"
 reason_text reasons.Ended = codes "ended"
 reason_text (reasons.Broke fault) = codes "broke at " ++ input_text fault

@@ -5,17 +5,22 @@ use Rattle.ice_client.specs.declared.outcome.Outcome.{Outcome}
 use Rattle.ice_client.specs.ClientDid.{Tried}
 use Rattle.ice_client.specs.Asking.{HasRow}
 use Rattle.ice_ports.specs.Failures.{one_more}
+use Rattle.locator.specs.declared.through.Through.{Through}
+use Rattle.locator.specs.declared.through.Through.TheVariants.{Invoked, NotLocated, LocatorFailed}
+use Rattle.locator.specs.Caches.{Kept}
+use Rattle.locator.specs.Rounds.{Round}
+use Rattle.locator.specs.Through.{tried_of}
 use Rattle.retry_core.specs.declared.attempt.Attempt.{Attempt}
 use Rattle.node_commands.specs.Outside.{Files, Outside}
 use Rattle.node_commands.specs.Answers.{read_failed, no_memory}
 use Rattle.call_command.specs.declared.stop.Stop.{Stop}
 use Rattle.call_command.specs.declared.stop.Stop.TheVariants as stops
 use Rattle.call_command.specs.Words.{CallWords}
-use Rattle.call_command.specs.Planning.{Plan}
+use Rattle.call_command.specs.Planning.{Expected, Plan}
 use Rattle.call_command.specs.Endings.{Ended, finished, refused, stopped}
 use Rattle.call_command.specs.Decided.{Decides}
 use Rattle.call_command.specs.Replies.{IsLine}
-use Rattle.call_command.specs.Rounds.{NetSeen, SinkSeen, sink_seen, Round, Delivered, IsUsed, Finishes, Stops, tried_of}
+use Rattle.call_command.specs.Rounds.{NetSeen, SinkSeen, sink_seen, Delivered, Delivery, IsUsed, Succeeded, Finishes, Stops, rounds_of}
 use Rattle.call_command.specs.Called.{Called}
 
 -- ---- what words, files and input decide
@@ -56,16 +61,22 @@ EndsAsDecided = (c : CallWords) (before after : Outside) (net now : NetSeen) (re
 -- ---- what stops a call
 
 -- over the connection of the last attempt came a success: results of the operation; or all was taken, and no reply is due
-abbrev pub IsWon : Plan → Outgoing → List Tried → Type 0
-IsWon plan o tried = (before : List Tried) × (last : Tried) × (tried ≡ before ++ last ∷ [])
-    × ((attempt : Attempt) × (outcome : Outcome) × (line : List ℕ) × HasRow o last.cached attempt outcome last.talk × IsLine plan outcome line)
+abbrev pub IsWon : Expected → Outgoing → List Tried → Type 0
+IsWon e o tried = (before : List Tried) × (last : Tried) × (tried ≡ before ++ last ∷ [])
+    × ((attempt : Attempt) × (outcome : Outcome) × (line : List ℕ) × HasRow o last.cached attempt outcome last.talk × IsLine e outcome line)
 
--- it came to something else
-abbrev pub IsNotWon : Plan → List Tried → Type 0
-IsNotWon plan tried = (outcome : Outcome) × (did : Delivered plan tried outcome) × (IsWon plan did.0.outgoing tried → ⊥)
+-- the last of the attempts that were made at the target is none such; a message may end without any
+abbrev pub LastLost : (plan : Plan) (old : Kept) (rounds : List Round) (new : Kept) (through : Through) → Delivered plan old rounds new through → Type 0
+LastLost plan old rounds new (Invoked r) went = IsWon plan.expected went.0.2.did.outgoing (tried_of went.0.0) → ⊥
+LastLost plan old rounds new NotLocated went = IsWon plan.expected went.0.1.did.outgoing (tried_of went.0.0) → ⊥
+LastLost plan old rounds new (LocatorFailed r) went = IsWon plan.expected went.0.1.did.outgoing (tried_of went.0.0) → ⊥
+
+-- the message came to something else
+abbrev pub IsNotWon : Plan → Kept → List Round → Type 0
+IsNotWon plan old rounds = (through : Through) × (new : Kept) × (went : Delivered plan old rounds new through) × LastLost plan old rounds new through went
 
 -- a call is stopped by want of memory, by a line that could not be written, or by a message that did not succeed
 abbrev pub StopsForCause : Type 0
 StopsForCause = (plan : Plan) (before after : SinkSeen) (net now : NetSeen) (stop : Stop) → Stops plan before after net now stop
     → (stop ≡ stops.Memory) ⊎ (((stop ≡ stops.WriteFailed) × (after.failures ≡ one_more before.failures))
-    ⊎ ((rounds : List Round) × (last : List Tried) × IsUsed plan (tried_of rounds ++ last ∷ []) net now × IsNotWon plan last))
+    ⊎ ((deliveries : List Delivery) × (places : Kept) × (last : List Round) × Succeeded plan [] deliveries places × IsUsed (rounds_of deliveries ++ last) net now × IsNotWon plan places last))

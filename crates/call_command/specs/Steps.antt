@@ -15,6 +15,7 @@ use Rattle.ice_graphs.specs.Graph.{Graph}
 use Rattle.ice_graphs.specs.Canonical.{Format, IsWritable, graph_bytes}
 use Rattle.class_slices.specs.Encoding.{NeedsSliced}
 use Rattle.graph_json.specs.Texts.{IsRefused, Lists}
+use Rattle.ice_messages.specs.declared.fault.WriteFault.{WriteFault}
 use Rattle.ice_messages.specs.declared.message.Call.{Call}
 use Rattle.ice_messages.specs.declared.message.Answer.TheVariants as answers
 use Rattle.ice_messages.specs.declared.message.Message.{Message}
@@ -24,13 +25,19 @@ use Rattle.ice_messages.specs.Written.{told, IsWritable as CanBeWritten}
 use Rattle.ice_client.specs.declared.outcome.Outcome.{Outcome}
 use Rattle.ice_client.specs.declared.outcome.Outcome.TheVariants as outcomes
 use Rattle.ice_client.specs.Sending.{IsOneway}
-use Rattle.ice_client.specs.ClientDid.{Tried, Made, Rises}
+use Rattle.ice_client.specs.ClientDid.{Rises}
+use Rattle.locator.specs.declared.through.Through.{Through}
+use Rattle.locator.specs.declared.through.Through.TheVariants.{Invoked, NotLocated, LocatorFailed}
+use Rattle.locator.specs.Caches.{Kept}
+use Rattle.locator.specs.Rounds.{Round}
+use Rattle.locator.specs.Through.{GoesThrough, IsFailure}
 use Rattle.ice_relay.specs.TextStreams.{TakesText}
 use Rattle.ice_relay.specs.declared.fault.RelayFault.{RelayFault}
 use Rattle.ice_relay.specs.declared.fault.RelayFault.TheVariants as faults
 use Rattle.node_commands.specs.Words.{Word}
 use Rattle.node_commands.specs.Answers.{usage, read_failed, no_memory}
 use Rattle.call_command.specs.declared.arguments.TheConstants.{MOST_OF_ARGUMENTS}
+use Rattle.call_command.specs.declared.callee.Callee.{Callee}
 use Rattle.call_command.specs.declared.preparing.Plan.{Plan as Written}
 use Rattle.call_command.specs.declared.ending.Ending.{Ending}
 use Rattle.call_command.specs.declared.stop.Stop.{Stop}
@@ -39,18 +46,23 @@ use Rattle.call_command.specs.declared.stop.Reason.{Reason}
 use Rattle.call_command.specs.declared.stop.Reason.TheVariants as reasons
 use Rattle.call_command.specs.Words.{CallWords}
 use Rattle.call_command.specs.Operations.{Operation}
-use Rattle.call_command.specs.Planning.{Plan, seen}
-use Rattle.call_command.specs.Replies.{IsLine, IsReason}
+use Rattle.call_command.specs.Planning.{Expected, Plan, of_locator, seen, target_of}
+use Rattle.call_command.specs.Replies.{HasLine, HasReason, IsLine, IsReason}
 use Rattle.call_command.specs.Endings.{Ended, refused, ending_seen}
-use Rattle.call_command.specs.Decided.{IsListed, IsInterface, WithInterface, WithOperation, WithProxy, WithReply, Plans}
-use Rattle.call_command.specs.Rounds.{Delivered, NetSeen, SinkSeen}
+use Rattle.call_command.specs.Decided.{IsListed, IsInterface, WithInterface, WithOperation, WithCallee, WithReply, Plans}
+use Rattle.call_command.specs.Rounds.{Delivered, IsUsed, NetSeen, SinkSeen}
 
--- ---- the proxy
+-- ---- the proxies
 
--- it was read, or the place of the first word that cannot stand was found, and it is none for datagrams
-abbrev pub Parses : Result Proxy ℕ → Result (Result Proxy ℕ) Ending → Type 0
-Parses parsed (Ok found) = (parsed ≡ found) × IsListed parsed
-Parses parsed (Err ending) = ((IsListed parsed → ⊥) × (ending_seen ending ≡ refused usage)) ⊎ (ending_seen ending ≡ refused no_memory)
+-- what a text says was found, or memory ran out
+abbrev pub Parses : {X : Type 0} → X → Result X Ending → Type 0
+Parses said (Ok found) = said ≡ found
+Parses said (Err ending) = ending_seen ending ≡ refused no_memory
+
+-- the same, where PROXY's text is of none for datagrams
+abbrev pub ParsesListed : {X : Type 0} → Result Proxy ℕ → X → Result X Ending → Type 0
+ParsesListed parsed said (Ok found) = (said ≡ found) × IsListed parsed
+ParsesListed parsed said (Err ending) = ((IsListed parsed → ⊥) × (ending_seen ending ≡ refused usage)) ⊎ (ending_seen ending ≡ refused no_memory)
 
 -- ---- the interface
 
@@ -61,25 +73,25 @@ FindsInterface t id None = (at : ℕ) → HasId (interface_ids t) id at → ⊥
 
 -- ---- the steps that are left
 
--- of the operation and the proxy
-abbrev pub KnownDecides : CallWords → Option (List ℕ) → Operation → Proxy → Ended → (Plan → Type 0) → Type 0
-KnownDecides c input o p came Next = WithReply p o.declared c.operation came (Plans c input came Next o p)
+-- of the operation and the object
+abbrev pub KnownDecides : CallWords → Option (List ℕ) → Operation → Callee → Ended → (Plan → Type 0) → Type 0
+KnownDecides c input o callee came Next = WithReply callee.proxy o.declared c.operation came (Plans c input came Next o callee)
 
-abbrev pub KnownWants : CallWords → Operation → Proxy → Type 0
-KnownWants c o p = WithReply p o.declared c.operation (refused read_failed) (Unit {0})
+abbrev pub KnownWants : CallWords → Operation → Callee → Type 0
+KnownWants c o callee = WithReply callee.proxy o.declared c.operation (refused read_failed) (Unit {0})
 
 -- of the schema
-abbrev pub SchemaDecides : CallWords → Option (List ℕ) → Result Proxy ℕ → Tables → Ended → (Plan → Type 0) → Type 0
+abbrev pub SchemaDecides : CallWords → Option (List ℕ) → Result Callee ℕ → Tables → Ended → (Plan → Type 0) → Type 0
 SchemaDecides c input parsed t came Next =
     WithInterface t c.interface came (λ at.
     WithOperation t at c.operation came (λ o.
-    WithProxy parsed came (λ p. KnownDecides c input o p came Next)))
+    WithCallee parsed came (λ callee. KnownDecides c input o callee came Next)))
 
-abbrev pub SchemaWants : CallWords → Result Proxy ℕ → Tables → Type 0
+abbrev pub SchemaWants : CallWords → Result Callee ℕ → Tables → Type 0
 SchemaWants c parsed t =
     WithInterface t c.interface (refused read_failed) (λ at.
     WithOperation t at c.operation (refused read_failed) (λ o.
-    WithProxy parsed (refused read_failed) (λ p. KnownWants c o p)))
+    WithCallee parsed (refused read_failed) (λ callee. KnownWants c o callee)))
 
 -- ---- the arguments
 
@@ -114,18 +126,18 @@ pub record CanBeSent (plan : Written) : Type 0 where
   pub writable : CanBeWritten plan.message
   pub sent : IsSent plan.message
   pub short : length (message_bytes plan.message) ≤ LARGEST
-  pub results : ShapeFits plan.schema.now plan.results.now
+  pub results : ShapeFits plan.expected.schema.now plan.expected.results.now
 
 -- why there is none, with the source's count before and after: a refusal is decided, a read failed, or memory ran out
-abbrev pub LacksPlan : CallWords → Option (List ℕ) → Operation → Proxy → (before after : ℕ) → Ended → Type 0
-LacksPlan c input o p before after came = (KnownDecides c input o p came (λ plan. ⊥) × (after ≡ before))
-    ⊎ (((came ≡ refused read_failed) × KnownWants c o p × (after ≡ one_more before))
+abbrev pub LacksPlan : CallWords → Option (List ℕ) → Operation → Callee → (before after : ℕ) → Ended → Type 0
+LacksPlan c input o callee before after came = (KnownDecides c input o callee came (λ plan. ⊥) × (after ≡ before))
+    ⊎ (((came ≡ refused read_failed) × KnownWants c o callee × (after ≡ one_more before))
     ⊎ ((came ≡ refused no_memory) × (after ≡ before)))
 
 -- the plan that is decided, whatever comes of it
-abbrev pub GivesPlan : CallWords → Option (List ℕ) → Operation → Proxy → (before after : ℕ) → Result Written Ending → Type 0
-GivesPlan c input o p before after (Ok plan) = ((came : Ended) → KnownDecides c input o p came (λ q. q ≡ seen plan)) × (after ≡ before)
-GivesPlan c input o p before after (Err ending) = LacksPlan c input o p before after (ending_seen ending)
+abbrev pub GivesPlan : CallWords → Option (List ℕ) → Operation → Callee → (before after : ℕ) → Result Written Ending → Type 0
+GivesPlan c input o callee before after (Ok plan) = ((came : Ended) → KnownDecides c input o callee came (λ q. q ≡ seen plan)) × (after ≡ before)
+GivesPlan c input o callee before after (Err ending) = LacksPlan c input o callee before after (ending_seen ending)
 
 -- the input is as it was, or was read where a reply can come
 abbrev pub LooksFor : (Lacks : Type 0) → Option (List ℕ) → Option (List ℕ) → Type 0
@@ -143,20 +155,38 @@ of_read (read_faults.Broken fault) = stops.Ended (reasons.Broke fault)
 of_read read_faults.Memory = stops.Memory
 
 -- why an outcome has no line
-abbrev pub LacksLine : Plan → Outcome → Stop → Type 0
-LacksLine plan outcome stops.WriteFailed = ⊥
-LacksLine plan outcome stops.NetFailed = outcome ≡ outcomes.NetFailed
-LacksLine plan outcome (stops.Ended reason) = IsReason plan outcome reason
-LacksLine plan outcome stops.Memory = Unit {0}
+abbrev pub LacksLine : Expected → Outcome → Stop → Type 0
+LacksLine e outcome stops.WriteFailed = ⊥
+LacksLine e outcome stops.NetFailed = outcome ≡ outcomes.NetFailed
+LacksLine e outcome (stops.Ended reason) = IsReason e outcome reason
+LacksLine e outcome stops.Memory = Unit {0}
 
 -- the line on an outcome, or what stops the call
-abbrev pub Tells : Plan → Outcome → Result (Vec ℕ Global) Stop → Type 0
-Tells plan outcome (Ok line) = IsLine plan outcome line.items
-Tells plan outcome (Err stop) = LacksLine plan outcome stop
+abbrev pub TellsOutcome : Expected → Outcome → Result (Vec ℕ Global) Stop → Type 0
+TellsOutcome e outcome (Ok line) = IsLine e outcome line.items
+TellsOutcome e outcome (Err stop) = LacksLine e outcome stop
 
 -- the same of results in this encapsulation
-abbrev pub TellsBody : Plan → List ℕ → Result (Vec ℕ Global) Stop → Type 0
-TellsBody plan body result = Tells plan (outcomes.Replied (answers.Done body)) result
+abbrev pub TellsBody : Expected → List ℕ → Result (Vec ℕ Global) Stop → Type 0
+TellsBody e body result = TellsOutcome e (outcomes.Replied (answers.Done body)) result
+
+-- why a message has no line
+abbrev pub StopsCall : Plan → Through → Stop → Type 0
+StopsCall plan through stops.WriteFailed = ⊥
+StopsCall plan through stops.NetFailed = IsFailure through
+StopsCall plan through (stops.Ended reason) = HasReason plan through reason
+StopsCall plan through stops.Memory = Unit {0}
+
+-- the line on a message, or what stops the call
+abbrev pub Tells : Plan → Through → Result (Vec ℕ Global) Stop → Type 0
+Tells plan through (Ok line) = HasLine plan through line.items
+Tells plan through (Err stop) = StopsCall plan through stop
+
+-- a locator that failed gave no results
+abbrev pub IsInVain : Through → Type 0
+IsInVain (Invoked r) = Unit {0}
+IsInVain NotLocated = Unit {0}
+IsInVain (LocatorFailed r) = (line : List ℕ) → IsLine of_locator r.outcome line → ⊥
 
 -- ---- a message
 
@@ -171,16 +201,12 @@ twoway_of (Reply id answer) = None
 twoway_of Validate = None
 twoway_of Close = None
 
--- the net has made these attempts
-pub record NetMade (plan : Plan) (tried : List Tried) (before after : NetSeen) : Type 0 where
-  pub made : Made plan.endpoints tried before.told after.told before.failures after.failures
-  pub listens : after.listen_failures ≡ before.listen_failures
-
--- what a message came to by its attempts, or memory ran out
-abbrev pub DeliversOnce : Plan → (before after : NetSeen) → Result Outcome Stop → Type 0
-DeliversOnce plan before after (Ok outcome) = (tried : List Tried) × NetMade plan tried before after × Delivered plan tried outcome
-    × (outcome ≡ outcomes.NetFailed → Rises before.failures after.failures)
-DeliversOnce plan before after (Err stop) = (tried : List Tried) × NetMade plan tried before after × (stop ≡ stops.Memory)
+-- what a message came to, from these places to those, or memory ran out
+abbrev pub DeliversOnce : Plan → Kept → (before after : NetSeen) → Kept → Result Through Stop → Type 0
+DeliversOnce plan old before after new (Ok through) = (rounds : List Round) × IsUsed rounds before after × Delivered plan old rounds new through
+    × (IsFailure through → Rises before.failures after.failures)
+DeliversOnce plan old before after new (Err stop) = (rounds : List Round) × IsUsed rounds before after
+    × ((came : Result Through WriteFault) × GoesThrough plan.message (target_of plan) old rounds new came) × (stop ≡ stops.Memory)
 
 -- the line was written, or a prefix of it
 abbrev pub PrintsLine : {X : Type 0} → (before after : SinkSeen) → List ℕ → Result X Stop → Type 0

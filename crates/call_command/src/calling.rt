@@ -1,26 +1,24 @@
-//! `call [--retries R] [--times T] [--compact] FILE INTERFACE PROXY OPERATION`
+//! `call [--retries R] [--times T] [--compact] [--locator PROXY] FILE INTERFACE PROXY OPERATION`
 
-ghost use Rattle.std.specs.Prelude.{◌≤◌, ℕ, Ok};
-ghost use Rattle.proxy_text.specs.Grammar.{proxy_text};
-ghost use Rattle.node_commands.specs.Words.{IsWord};
+ghost use Rattle.std.specs.Prelude.{◌≤◌, ℕ};
 ghost use Rattle.node_commands.specs.Outside.{counts, outside};
 ghost use Rattle.call_command.specs.Words.{IsWithin, seen};
 ghost use Rattle.call_command.specs.Operations.{IsDeclared, seen as operation_seen};
 ghost use Rattle.call_command.specs.Endings.{ended_of};
-ghost use Rattle.call_command.specs.Decided.{Decides, IsListed};
+ghost use Rattle.call_command.specs.Decided.{Decides, IsListedCallee};
 ghost use Rattle.call_command.specs.Rounds.{net_seen};
 ghost use Rattle.call_command.specs.Called.{Called, Comes, TakesInput, WantsInput};
-ghost use Rattle.call_command.specs.Steps.{KnownDecides, KnownWants, Parses, SchemaDecides, SchemaWants};
+ghost use Rattle.call_command.specs.Steps.{KnownDecides, KnownWants, SchemaDecides, SchemaWants};
 
+use crate::callee::{Callee, callee_of};
 use crate::ending::{Ending, report};
 use crate::known::{Known, interface_of, known_of};
 use crate::performing::perform;
 use crate::preparing::plan_of;
 use crate::words::CallCommand;
 use ice_ports::{Net, Shelf, Sink, Source};
-use ice_types::{Proxy, Schema, object_schema};
+use ice_types::{Schema, object_schema};
 use node_commands::{Outcome, load_schema};
-use proxy_text::{TextFault, parse_text};
 use std::alloc::Global;
 
 /// Calls the operation of the proxy's object with arguments in JSON out of the source, and writes the results in JSON
@@ -71,54 +69,32 @@ fn run<'a, H: Shelf, S: Source, K: Sink, N: Net>(
     ensures taken { TakesInput (WantsInput (seen command.entry) (H.files shelf.old))
         (S.left source.old) (S.left source.new) }
 {
-    let parsed = parsed_of(alloc, command.proxy)?;
+    let callee = callee_of(alloc, command.locator, command.proxy)?;
     let schema = load_schema(alloc, command.file, shelf)?;
-    under(alloc, command, parsed, &schema, source, sink, net)
-}
-
-/// The proxy of the text, or the place of the first word that cannot stand. One for datagrams is in no form of `call`.
-fn parsed_of(alloc: Global, text: &str) -> Result<Result<Proxy, u32>, Ending<'static>>
-    requires { IsWord text.now }
-    ensures { Parses (proxy_text text.now) result }
-{
-    match parse_text(alloc, text) {
-        Ok(proxy) => listed(proxy),
-        Err(TextFault::Broken { place }) => Ok(Err(place)),
-        Err(TextFault::Memory) => Err(Ending::Refused(Outcome::Memory)),
-    }
-}
-
-/// The proxy, where it is none for datagrams.
-fn listed(proxy: Proxy) -> Result<Result<Proxy, u32>, Ending<'static>>
-    ensures { Parses (Ok proxy) result }
-{
-    if proxy.mode > 2 {
-        return Err(Ending::Refused(Outcome::Usage));
-    }
-    Ok(Ok(proxy))
+    under(alloc, command, callee, &schema, source, sink, net)
 }
 
 /// Goes on where FILE means this schema.
 fn under<'a, S: Source, K: Sink, N: Net>(
     alloc: Global,
     command: CallCommand<'a>,
-    parsed: Result<Proxy, u32>,
+    callee: Result<Callee, u32>,
     schema: &Schema,
     source: &mut S,
     sink: &mut K,
     net: &mut N,
 ) -> Result<(), Ending<'a>>
     requires within { IsWithin (seen command) }
-    requires listed { IsListed parsed }
+    requires listed { IsListedCallee callee }
     ensures comes { (shelf : ℕ)
-        → Comes (SchemaDecides (seen command.entry) (S.left source.old) parsed schema.now)
-        (SchemaWants (seen command.entry) parsed schema.now)
+        → Comes (SchemaDecides (seen command.entry) (S.left source.old) callee schema.now)
+        (SchemaWants (seen command.entry) callee schema.now)
         (counts shelf (S.failures source.old) (K.failures sink.old))
         (counts shelf (S.failures source.new) (K.failures sink.new))
         (K.taken sink.old) (K.taken sink.new)
         (net_seen (N.told net.old) (N.failures net.old) (N.listen_failures net.old))
         (net_seen (N.told net.new) (N.failures net.new) (N.listen_failures net.new)) (ended_of result) }
-    ensures taken { TakesInput (SchemaWants (seen command.entry) parsed schema.now)
+    ensures taken { TakesInput (SchemaWants (seen command.entry) callee schema.now)
         (S.left source.old) (S.left source.new) }
 {
     let Some(interface) = interface_of(schema, command.interface) else {
@@ -128,36 +104,36 @@ fn under<'a, S: Source, K: Sink, N: Net>(
     let Some(known) = known_of(&object, schema, interface, command.operation) else {
         return Err(Ending::Refused(Outcome::NoSuchName(command.operation)));
     };
-    match parsed {
-        Ok(proxy) => of_known(alloc, command, known, proxy, source, sink, net),
+    match callee {
+        Ok(callee) => of_known(alloc, command, known, callee, source, sink, net),
         Err(place) => Err(Ending::Refused(Outcome::TextRefused(place))),
     }
 }
 
-/// Goes on where this operation of the proxy's object is called.
+/// Goes on where this operation of the object is called.
 fn of_known<'a, S: Source, K: Sink, N: Net>(
     alloc: Global,
     command: CallCommand<'a>,
     known: Known<'_>,
-    proxy: Proxy,
+    callee: Callee,
     source: &mut S,
     sink: &mut K,
     net: &mut N,
 ) -> Result<(), Ending<'a>>
     requires within { IsWithin (seen command) }
-    requires listed { proxy.mode ≤ 2 }
+    requires listed { callee.proxy.mode ≤ 2 }
     requires declared { IsDeclared (operation_seen known) }
     ensures comes { (shelf : ℕ)
-        → Comes (KnownDecides (seen command.entry) (S.left source.old) (operation_seen known.entry) proxy)
-        (KnownWants (seen command.entry) (operation_seen known.entry) proxy)
+        → Comes (KnownDecides (seen command.entry) (S.left source.old) (operation_seen known.entry) callee)
+        (KnownWants (seen command.entry) (operation_seen known.entry) callee)
         (counts shelf (S.failures source.old) (K.failures sink.old))
         (counts shelf (S.failures source.new) (K.failures sink.new))
         (K.taken sink.old) (K.taken sink.new)
         (net_seen (N.told net.old) (N.failures net.old) (N.listen_failures net.old))
         (net_seen (N.told net.new) (N.failures net.new) (N.listen_failures net.new)) (ended_of result) }
-    ensures taken { TakesInput (KnownWants (seen command.entry) (operation_seen known.entry) proxy)
+    ensures taken { TakesInput (KnownWants (seen command.entry) (operation_seen known.entry) callee)
         (S.left source.old) (S.left source.new) }
 {
-    let plan = plan_of(alloc, command, known, proxy, source)?;
+    let plan = plan_of(alloc, command, known, callee, source)?;
     Ok(perform(alloc, &plan, sink, net)?)
 }

@@ -93,6 +93,7 @@ fn line_of_reason<'a>(reason: &'a Reason, digits: &'a mut Buffer) -> Line<'a>
             ]
         }
         Reason::NoEndpoint => of_word("no endpoint", ""),
+        Reason::NotLocated => of_word("not located", ""),
         Reason::Closed => of_word("closed", ""),
         Reason::Ended => of_word("ended", ""),
         Reason::Broke(fault) => {

@@ -13,6 +13,7 @@
 #![tactic(auto)]
 
 mod arguments;
+mod callee;
 mod calling;
 mod ending;
 mod known;

@@ -2,22 +2,23 @@
 
 ghost use Rattle.std.specs.Prelude.{◌≡◌, IfOk, List};
 ghost use Rattle.std.specs.Option.{option_copied};
-ghost use Rattle.ice_client.specs.ClientDid.{Invokes, Made, Rises, Tried};
-ghost use Rattle.ice_client.specs.declared.outcome.Outcome.TheVariants as outcomes;
-ghost use Rattle.call_command.specs.Planning.{seen};
+ghost use Rattle.ice_client.specs.ClientDid.{Rises};
+ghost use Rattle.locator.specs.Rounds.{Round, WereMade};
+ghost use Rattle.locator.specs.Through.{GoesThrough, IsFailure};
+ghost use Rattle.call_command.specs.Planning.{seen, target_of};
 ghost use Rattle.call_command.specs.Rounds.{Performs, net_seen, sink_seen};
 ghost use Rattle.call_command.specs.Steps.{CanBeSent, DeliversOnce, PrintsLine, twoway_of};
 
 use crate::preparing::Plan;
 use crate::stop::Stop;
 use crate::telling::line_of;
-use ice_client::{Invoked, Outcome, invoke, send};
 use ice_messages::{Call, Message, WriteFault};
 use ice_ports::{Failed, Net, Sink, write_all};
+use locator::{Cache, Through, call_through, send_through};
 use std::alloc::Global;
 
 /// Sends the message as often as the plan says, and prints a line for each that succeeds, up to the first that does
-/// not.
+/// not. Places that a locator told are kept from message to message.
 pub(crate) fn perform<K: Sink, N: Net>(
     alloc: Global,
     plan: &Plan<'_>,
@@ -30,9 +31,10 @@ pub(crate) fn perform<K: Sink, N: Net>(
         (net_seen (N.told net.old) (N.failures net.old) (N.listen_failures net.old))
         (net_seen (N.told net.new) (N.failures net.new) (N.listen_failures net.new)) result }
 {
+    let mut cache = Cache::new(alloc);
     for _ in 0..plan.rounds {
-        let outcome = deliver(alloc, plan, net)?;
-        let line = line_of(alloc, plan, outcome)?;
+        let through = deliver(alloc, plan, &mut cache, net)?;
+        let line = line_of(alloc, plan, through)?;
         print(line.as_slice(), sink)?;
     }
     Ok(())
@@ -50,32 +52,52 @@ fn print<K: Sink>(line: &[u8], sink: &mut K) -> Result<(), Stop>
 }
 
 /// Sends the message once, and reads its reply where it wants one.
-fn deliver<N: Net>(alloc: Global, plan: &Plan<'_>, net: &mut N) -> Result<Outcome, Stop>
+fn deliver<N: Net>(
+    alloc: Global,
+    plan: &Plan<'_>,
+    cache: &mut Cache,
+    net: &mut N,
+) -> Result<Through, Stop>
     requires { CanBeSent plan.now }
-    ensures { DeliversOnce (seen plan.now) (net_seen (N.told net.old) (N.failures net.old) (N.listen_failures net.old))
-        (net_seen (N.told net.new) (N.failures net.new) (N.listen_failures net.new)) result }
+    ensures { DeliversOnce (seen plan.now) cache.old
+        (net_seen (N.told net.old) (N.failures net.old) (N.listen_failures net.old))
+        (net_seen (N.told net.new) (N.failures net.new) (N.listen_failures net.new)) cache.new result }
 {
-    match invoked(alloc, plan, net) {
-        Ok(invoked) => Ok(invoked.outcome),
+    match go_through(alloc, plan, cache, net) {
+        Ok(through) => Ok(through),
         Err(WriteFault::Memory) => Err(Stop::Memory),
         Err(WriteFault::TooLong(_)) => unreachable!(),
     }
 }
 
-/// Sends the message once by `invoke`, where it wants a reply, and else by `send`.
-fn invoked<N: Net>(alloc: Global, plan: &Plan<'_>, net: &mut N) -> Result<Invoked, WriteFault>
+/// Sends the message once, wherever the proxy leads: by `call_through` where it wants a reply, and else by
+/// `send_through`.
+fn go_through<N: Net>(
+    alloc: Global,
+    plan: &Plan<'_>,
+    cache: &mut Cache,
+    net: &mut N,
+) -> Result<Through, WriteFault>
     requires { CanBeSent plan.now }
-    ensures told { (tried : List Tried)
-        × Made plan.now.proxy.endpoints tried (N.told net.old) (N.told net.new)
-        (N.failures net.old) (N.failures net.new)
-        × Invokes plan.now.message plan.now.proxy.endpoints plan.now.retries tried result }
-    ensures fails { IfOk result (λ r. r.outcome ≡ outcomes.NetFailed
-        → Rises (N.failures net.old) (N.failures net.new)) }
+    ensures told { (rounds : List Round)
+        × WereMade rounds (N.told net.old) (N.told net.new) (N.failures net.old) (N.failures net.new)
+        × GoesThrough plan.now.message (target_of (seen plan.now)) cache.old rounds cache.new result }
+    ensures fails { IfOk result (λ t. IsFailure t → Rises (N.failures net.old) (N.failures net.new)) }
     ensures kept { N.listen_failures net.new ≡ N.listen_failures net.old }
 {
+    let locator = plan.callee.locator.as_ref();
+    let proxy = &plan.callee.proxy;
     match twoway_of(&plan.message) {
-        Some(call) => invoke(alloc, net, &plan.proxy, call, plan.retries),
-        None => send(alloc, net, &plan.proxy, &plan.message, plan.retries),
+        Some(call) => call_through(alloc, net, cache, locator, proxy, call, plan.retries),
+        None => send_through(
+            alloc,
+            net,
+            cache,
+            locator,
+            proxy,
+            &plan.message,
+            plan.retries,
+        ),
     }
 }
 

@@ -1,4 +1,4 @@
-//! All that is decided of the operation and the proxy before anything is connected.
+//! All that is decided of the operation and the object before anything is connected.
 
 ghost use Rattle.std.specs.Prelude.{◌≡◌, ◌↔◌, ◌⊎◌, ◌≤◌, IfOk, IsTrue, length};
 ghost use Rattle.std.specs.Io.KnownBytes.{Keeps};
@@ -10,6 +10,7 @@ ghost use Rattle.call_command.specs.Messages as spec;
 ghost use Rattle.call_command.specs.Steps.{CanBeSent, GivesPlan, LooksFor};
 
 use crate::arguments::body_of;
+use crate::callee::Callee;
 use crate::ending::Ending;
 use crate::known::{Known, wants_reply};
 use crate::messages::{call_with, message_of};
@@ -20,18 +21,24 @@ use ice_relay::read_text;
 use ice_types::{OpDecl, Proxy, Schema, Shape};
 use std::alloc::Global;
 
-/// What is sent, how often, and what its answer is read by.
-#[derive(Debug, Drop)]
-pub struct Plan<'a> {
+/// By what it is told what a message came to.
+#[derive(Clone, Copy, Debug)]
+pub struct Expected<'a> {
     pub schema: &'a Schema,
     pub results: &'a Shape,
-    pub proxy: Proxy,
+    /// How many calls the message has.
+    pub calls: u32,
+}
+
+/// What is sent to whom, how often, and by what it is told what it came to.
+#[derive(Debug, Drop)]
+pub struct Plan<'a> {
+    pub expected: Expected<'a>,
+    pub callee: Callee,
     pub message: Message,
     pub retries: u32,
     /// How many messages there are, one after the other.
     pub rounds: u32,
-    /// How many calls each has.
-    pub calls: u32,
 }
 
 /// The plan of a call of the operation, with arguments out of the source.
@@ -39,18 +46,18 @@ pub(crate) fn plan_of<'a, 'b, S: Source>(
     alloc: Global,
     command: CallCommand<'b>,
     known: Known<'a>,
-    proxy: Proxy,
+    callee: Callee,
     source: &mut S,
 ) -> Result<Plan<'a>, Ending<'b>>
     requires within { IsWithin (words_seen command) }
-    requires listed { proxy.mode ≤ 2 }
+    requires listed { callee.proxy.mode ≤ 2 }
     requires declared { IsDeclared (operation_seen known) }
-    ensures plan { GivesPlan (words_seen command.entry) (S.left source.old) (operation_seen known.entry) proxy
+    ensures plan { GivesPlan (words_seen command.entry) (S.left source.old) (operation_seen known.entry) callee
         (S.failures source.old) (S.failures source.new) result }
     ensures sendable { IfOk result CanBeSent }
-    ensures taken { LooksFor (LacksReply proxy known.entry.operation.now) (S.left source.old) (S.left source.new) }
+    ensures taken { LooksFor (LacksReply callee.proxy known.entry.operation.now) (S.left source.old) (S.left source.new) }
 {
-    if lacks_reply(&proxy, known.operation) {
+    if lacks_reply(&callee.proxy, known.operation) {
         return Err(Ending::TwowayOnly(command.operation));
     }
     let text = read_text(alloc, source)?;
@@ -61,15 +68,18 @@ pub(crate) fn plan_of<'a, 'b, S: Source>(
         command.format,
         text.as_slice(),
     )?;
-    let call = call_with(alloc, &proxy, command.operation, known.mode, body)?;
-    let message = message_of(alloc, proxy.mode, call, command.times)?;
+    let call = call_with(alloc, &callee.proxy, command.operation, known.mode, body)?;
+    let mode = callee.proxy.mode;
+    let message = message_of(alloc, mode, call, command.times)?;
     Ok(Plan {
-        schema: known.schema,
-        results: &known.operation.results,
+        expected: Expected {
+            schema: known.schema,
+            results: &known.operation.results,
+            calls: calls_of(mode, command.times),
+        },
         retries: command.retries,
-        rounds: rounds_of(proxy.mode, command.times),
-        calls: calls_of(proxy.mode, command.times),
-        proxy,
+        rounds: rounds_of(mode, command.times),
+        callee,
         message,
     })
 }

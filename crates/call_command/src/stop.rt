@@ -18,6 +18,8 @@ pub enum Reason {
     Unknown { status: u8, text: Name },
     /// The proxy has no endpoint that can be used.
     NoEndpoint,
+    /// The proxy has no endpoints, and none were found.
+    NotLocated,
     /// The server closed the connection.
     Closed,
     /// The server's stream ended before a reply.

@@ -1,6 +1,6 @@
 //! What a message came to, as a line or as a reason.
 
-ghost use Rattle.std.specs.Prelude.{◌≡◌, ◌++◌, IfOk, Ok, codes, slice_get};
+ghost use Rattle.std.specs.Prelude.{◌≡◌, ◌++◌, ⊥, IfOk, List, Ok, codes, slice_get, ℕ};
 ghost use Rattle.ice_types.specs.Fits.{ShapeFits};
 ghost use Rattle.ice_prims.specs.Rest.{whole};
 ghost use Rattle.ice_graphs.specs.Exceptions.{exception_at};
@@ -11,11 +11,11 @@ ghost use Rattle.graph_json.specs.Texts.{graph_text};
 ghost use Rattle.class_slices.specs.Seen.{view_user_exception};
 ghost use Rattle.ice_client.specs.declared.outcome.Outcome.TheVariants as outcomes;
 ghost use Rattle.call_command.specs.Messages as spec;
-ghost use Rattle.call_command.specs.Planning.{seen};
+ghost use Rattle.call_command.specs.Planning.{expected_of, of_locator, seen};
 ghost use Rattle.call_command.specs.Replies as replies;
-ghost use Rattle.call_command.specs.Steps.{StopsOrMemory, Tells, TellsBody, of_read};
+ghost use Rattle.call_command.specs.Steps.{IsInVain, LacksLine, StopsOrMemory, Tells, TellsBody, TellsOutcome, of_read};
 
-use crate::preparing::Plan;
+use crate::preparing::{Expected, Plan};
 use crate::stop::{Reason, Stop};
 use class_slices::{UserException, decode, read_exception};
 use graph_arena::{Graph, Slice};
@@ -26,17 +26,61 @@ use ice_prims::ReadFault;
 use ice_types::{Name, Schema};
 use ice_values::DeclaredMembers;
 use itoa::Buffer;
+use locator::Through;
+use locator_types::locator_schema;
 use proxy_text::quote;
 use std::alloc::{AllocError, Global};
 
 /// The line on a message that succeeded, or what stops the call.
-pub(crate) fn line_of(alloc: Global, plan: &Plan<'_>, outcome: Outcome) -> Result<Vec<u8>, Stop>
-    requires { ShapeFits plan.now.schema.now plan.now.results.now }
-    ensures { Tells (seen plan.now) outcome result }
+pub(crate) fn line_of(alloc: Global, plan: &Plan<'_>, through: Through) -> Result<Vec<u8>, Stop>
+    requires fits { ShapeFits plan.now.expected.schema.now plan.now.expected.results.now }
+    requires in_vain { IsInVain through }
+    ensures { Tells (seen plan.now) through result }
+{
+    match through {
+        Through::Invoked(invoked) => outcome_line(alloc, plan.expected, invoked.outcome),
+        Through::NotLocated => Err(Stop::Ended(Reason::NotLocated)),
+        Through::LocatorFailed(invoked) => Err(locator_stop(alloc, invoked.outcome)),
+    }
+}
+
+/// What stops a call for which a locator was asked in vain, by what that came to.
+fn locator_stop(alloc: Global, outcome: Outcome) -> Stop
+    requires { (line : List ℕ) → replies.IsLine of_locator outcome line → ⊥ }
+    ensures { LacksLine of_locator outcome result }
+{
+    match locator_line(alloc, outcome) {
+        Ok(_) => unreachable!(),
+        Err(stop) => stop,
+    }
+}
+
+/// The line on what a question to a locator came to, if it was a success. Both operations of a locator have the same
+/// results.
+fn locator_line(alloc: Global, outcome: Outcome) -> Result<Vec<u8>, Stop>
+    ensures { TellsOutcome of_locator outcome result }
+{
+    let schema = locator_schema(alloc)?;
+    schema.rules();
+    let Some(operation) = schema.operation(0, "findObjectById") else {
+        unreachable!()
+    };
+    let expected = Expected {
+        schema: &schema,
+        results: &operation.results,
+        calls: 1,
+    };
+    outcome_line(alloc, expected, outcome)
+}
+
+/// The line on an outcome that is a success, or what stops the call.
+fn outcome_line(alloc: Global, expected: Expected<'_>, outcome: Outcome) -> Result<Vec<u8>, Stop>
+    requires { ShapeFits expected.schema.now expected.results.now }
+    ensures { TellsOutcome (expected_of expected.entry) outcome result }
 {
     match outcome {
-        Outcome::Replied(answer) => answer_line(alloc, plan, answer),
-        Outcome::Sent => Ok(sent_line(alloc, plan.calls)?),
+        Outcome::Replied(answer) => answer_line(alloc, expected, answer),
+        Outcome::Sent => Ok(sent_line(alloc, expected.calls)?),
         Outcome::NetFailed => Err(Stop::NetFailed),
         Outcome::Ended => Err(Stop::Ended(Reason::Ended)),
         Outcome::Closed => Err(Stop::Ended(Reason::Closed)),
@@ -58,13 +102,13 @@ fn sent_line(alloc: Global, calls: u32) -> Result<Vec<u8>, AllocError>
 }
 
 /// The line on an answer, or what stops the call.
-fn answer_line(alloc: Global, plan: &Plan<'_>, answer: Answer) -> Result<Vec<u8>, Stop>
-    requires { ShapeFits plan.now.schema.now plan.now.results.now }
-    ensures { Tells (seen plan.now) (outcomes.Replied answer) result }
+fn answer_line(alloc: Global, expected: Expected<'_>, answer: Answer) -> Result<Vec<u8>, Stop>
+    requires { ShapeFits expected.schema.now expected.results.now }
+    ensures { TellsOutcome (expected_of expected.entry) (outcomes.Replied answer) result }
 {
     match answer {
-        Answer::Done(body) => results_line(alloc, plan, body.as_slice()),
-        Answer::Raised(body) => Err(raised(alloc, plan.schema, body.as_slice())),
+        Answer::Done(body) => results_line(alloc, expected, body.as_slice()),
+        Answer::Raised(body) => Err(raised(alloc, expected.schema, body.as_slice())),
         Answer::Missing { status, .. } => Err(Stop::Ended(Reason::Missing(status))),
         Answer::Unknown { status, text } => {
             let text = quote(alloc, text.as_str())?;
@@ -74,16 +118,16 @@ fn answer_line(alloc: Global, plan: &Plan<'_>, answer: Answer) -> Result<Vec<u8>
 }
 
 /// The results in JSON, on a line, or what stops the call.
-fn results_line(alloc: Global, plan: &Plan<'_>, body: &[u8]) -> Result<Vec<u8>, Stop>
-    requires { ShapeFits plan.now.schema.now plan.now.results.now }
-    ensures { TellsBody (seen plan.now) body.now result }
+fn results_line(alloc: Global, expected: Expected<'_>, body: &[u8]) -> Result<Vec<u8>, Stop>
+    requires { ShapeFits expected.schema.now expected.results.now }
+    ensures { TellsBody (expected_of expected.entry) body.now result }
 {
     let fields = DeclaredMembers {
-        required: plan.results.required.as_slice(),
-        optional: plan.results.optional.as_slice(),
+        required: expected.results.required.as_slice(),
+        optional: expected.results.optional.as_slice(),
     };
-    match decode(alloc, plan.schema, fields, body) {
-        Ok(graph) => Ok(graph_line(alloc, plan.schema, fields, graph)?),
+    match decode(alloc, expected.schema, fields, body) {
+        Ok(graph) => Ok(graph_line(alloc, expected.schema, fields, graph)?),
         Err(fault) => Err(unread(fault)),
     }
 }

@@ -3,7 +3,7 @@
 ghost use Rattle.std.specs.Prelude.{◌↔◌, IfSome, IsTrue};
 ghost use Rattle.node_commands.specs.Words.{IsWord, words_of};
 ghost use Rattle.call_command.specs.Words.{AsksCall, Gathers, HasOneForm, IsApart, IsNamed};
-ghost use Rattle.call_command.specs.Words.{IsOption, IsWithin, Numbers, seen};
+ghost use Rattle.call_command.specs.Words.{IsOption, IsWithin, Takes, given_of, seen};
 ghost use Rattle.std.specs.List.{All};
 
 use class_slices::Format;
@@ -24,7 +24,10 @@ const TIMES: &str = "--times";
 /// The option for compact format.
 const COMPACT: &str = "--compact";
 
-/// `call [--retries R] [--times T] [--compact] FILE INTERFACE PROXY OPERATION`
+/// The option for a locator, which finds the endpoints of a proxy that has none.
+const LOCATOR: &str = "--locator";
+
+/// `call [--retries R] [--times T] [--compact] [--locator PROXY] FILE INTERFACE PROXY OPERATION`
 #[derive(Clone, Copy, Debug, PartialEq, Eq)]
 pub struct CallCommand<'a> {
     /// How often a message is tried again, at most.
@@ -33,6 +36,8 @@ pub struct CallCommand<'a> {
     pub times: u32,
     /// How the arguments are written.
     pub format: Format,
+    /// The text of the locator's proxy.
+    pub locator: Option<&'a str>,
     pub file: &'a str,
     pub interface: &'a str,
     pub proxy: &'a str,
@@ -41,10 +46,11 @@ pub struct CallCommand<'a> {
 
 /// The options that were given.
 #[derive(Clone, Copy, Debug, PartialEq, Eq)]
-pub struct Options {
+pub struct Options<'a> {
     pub retries: Option<u32>,
     pub times: Option<u32>,
     pub compact: bool,
+    pub locator: Option<&'a str>,
 }
 
 /// The call that the words ask for, None where they are no form of it.
@@ -65,14 +71,15 @@ pub fn call_of(words: &[String]) -> Option<CallCommand<'_>>
             retries: None,
             times: None,
             compact: false,
+            locator: None,
         },
     )?;
     named(given, &words[options..])
 }
 
 /// The call with these options, of the words behind them.
-fn named(given: Options, words: &[String]) -> Option<CallCommand<'_>>
-    ensures { IsNamed given (words_of words.now) result }
+fn named<'a>(given: Options<'a>, words: &'a [String]) -> Option<CallCommand<'a>>
+    ensures { IsNamed (given_of given) (words_of words.now) result }
 {
     let [file, interface, proxy, operation] = words else {
         return None;
@@ -88,6 +95,7 @@ fn named(given: Options, words: &[String]) -> Option<CallCommand<'_>>
         } else {
             Format::Sliced
         },
+        locator: given.locator,
         file: file.as_str(),
         interface: interface.as_str(),
         proxy: proxy.as_str(),
@@ -99,7 +107,7 @@ fn named(given: Options, words: &[String]) -> Option<CallCommand<'_>>
 fn is_option(word: &str) -> bool
     ensures { IsTrue result ↔ IsOption word.now }
 {
-    matches!(word, RETRIES | TIMES | COMPACT)
+    matches!(word, RETRIES | TIMES | COMPACT | LOCATOR)
 }
 
 /// Whether each word is within the limit of words.
@@ -115,8 +123,8 @@ fn are_short(words: &[String]) -> bool
 }
 
 /// The options given so far, with those of the words: each at most once.
-fn options_of(words: &[String], given: Options) -> Option<Options>
-    ensures { Gathers given (words_of words.now) result }
+fn options_of<'a>(words: &'a [String], given: Options<'a>) -> Option<Options<'a>>
+    ensures { Gathers (given_of given) (words_of words.now) result }
 {
     let [name, words @ ..] = words else {
         return Some(given);
@@ -136,12 +144,12 @@ fn options_of(words: &[String], given: Options) -> Option<Options>
     let [value, words @ ..] = words else {
         return None;
     };
-    options_of(words, with_number(name.as_str(), value.as_str(), given)?)
+    options_of(words, with_value(name.as_str(), value.as_str(), given)?)
 }
 
-/// The options with one more, which has a number.
-fn with_number(name: &str, value: &str, given: Options) -> Option<Options>
-    ensures { Numbers given name.now value.now result }
+/// The options with one more, which has a value.
+fn with_value<'a>(name: &str, value: &'a str, given: Options<'a>) -> Option<Options<'a>>
+    ensures { Takes (given_of given) name.now value.now result }
 {
     match name {
         RETRIES if given.retries.is_none() => Some(Options {
@@ -150,6 +158,10 @@ fn with_number(name: &str, value: &str, given: Options) -> Option<Options>
         }),
         TIMES if given.times.is_none() => Some(Options {
             times: Some(number_of(value, 1, MOST_TIMES)?),
+            ..given
+        }),
+        LOCATOR if given.locator.is_none() && value.len() <= MOST_OF_A_WORD => Some(Options {
+            locator: Some(value),
             ..given
         }),
         _ => None,

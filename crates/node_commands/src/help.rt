@@ -23,12 +23,14 @@ usage: ice COMMAND
                    ok: 2 types, 5 classes, 0 exceptions, 1 interfaces
   proxy TEXT       writes the proxy that TEXT stands for in its one form, and then its bytes in
                    hexadecimal, a line each
-  call [--retries R] [--times T] [--compact] FILE INTERFACE PROXY OPERATION
+  call [--retries R] [--times T] [--compact] [--locator PROXY] FILE INTERFACE PROXY OPERATION
                    reads the arguments of OPERATION as JSON from standard input, up to its end,
                    calls it on the object of PROXY, and writes its results as a line of JSON; T times,
                    one after the other, up to the first that does not succeed. Where PROXY is oneway
                    or batch oneway no reply comes, and it writes sent 1 for each message, or sent T
-                   for all calls in one batch
+                   for all calls in one batch. Where PROXY has no endpoints, the locator of the proxy
+                   behind --locator is asked for those of its adapter, or of its object where it has
+                   none, and what it told is kept for the invocations that follow
   serve [--workers W] [--connections C] FILE HOST PORT OBJECT..
                    listens at HOST and PORT, writes listening PORT, serves C connections, W at once,
                    each up to its end, and then writes served N, the number of those that it accepted

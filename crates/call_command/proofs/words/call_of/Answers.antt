@@ -1,7 +1,7 @@
 use Rattle.std.proofs.Common.{◌≡◌, ◌+◌, length, List, ◌∷◌, string_bytes, Some, None, sym, ap, subst, ◌∙◌, codes, arith}
 use Rattle.std.proofs.lemmas.List.{take-map}
 use Rattle.node_commands.specs.Words.{Word, words_of}
-use Rattle.call_command.specs.Words.{Gathers, IsNamed, no_options}
+use Rattle.call_command.specs.Words.{Gathers, IsNamed, given_of, no_options}
 use Rattle.call_command.proofs.Giving.{rest_of, first_word, as_many, behind, no_other_word}
 use Rattle.call_command.proofs.Wording.{asked, none_given, within_asked}
 use Rattle.call_command.proofs.words.call_of.Goals as goal
@@ -25,7 +25,7 @@ returns-clause-asks c =
     let long : n + 4 ≡ length (words_of rest) = omega (arith, as_many rest, c.in_ok-options.ensures) in
     asked (words_of c.args.words.now) (words_of rest) n are long c.in_ok-given.given c.named.result
     (subst (λ (l : List Word). Gathers no_options l (Some c.in_ok-given.given)) (sym (take-map string_bytes n rest)) c.in_ok-given.ensures)
-    (subst (λ (l : List Word). IsNamed c.in_ok-given.given l c.named.result) (behind n rest) c.named.ensures)
+    (subst (λ (l : List Word). IsNamed (given_of c.in_ok-given.given) l c.named.result) (behind n rest) c.named.ensures)
 
 pub returns-clause-within : goal.returns-clause-within
 returns-clause-within c = within_asked (words_of c.args.words.now) c.named.result (returns-clause-asks c)

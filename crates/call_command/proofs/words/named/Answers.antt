@@ -1,4 +1,4 @@
-use Rattle.std.proofs.Common.{Bool, [], ◌∷◌, sym, ap, subst, ◌∙◌, arith}
+use Rattle.std.proofs.Common.{Bool, [], ◌∷◌, refl, sym, ap, subst, ◌∙◌, arith}
 use Rattle.std.specs.Prelude.{if◌then◌else◌}
 use Rattle.std.proofs.lemmas.Bool.{false≢true}
 use Rattle.instance_writing.specs.declared.format.Format.TheVariants.{Sliced, Compact}
@@ -19,6 +19,7 @@ returns c =
         retries = c.unwrap_or.result;
         times = c.unwrap_or-2.result;
         format = c.if-given.result;
+        locator = c.args.given.locator;
         file = c.as_str-2.result;
         interface = c.as_str-3.result;
         proxy = c.as_str-4.result;
@@ -35,5 +36,6 @@ returns c =
           | then-given w ↦ w.result-is ∙ ap (λ (x : Bool). if x then Compact else Sliced) (sym w.if-given.true)
           | else-given w ↦ w.result-is ∙ ap (λ (x : Bool). if x then Compact else Sliced) (sym w.if-given.false)
         ];
+        locator = refl;
       },
     )
