@@ -270,6 +270,7 @@ class Registry:
         options = {f"Registry.{it}.Endpoints": "tcp -h 127.0.0.1" for it in ("Server", "Internal")} | {"InstanceName": "IceGrid"}
         options |= {"Registry.Client.Endpoints": f"tcp -h 127.0.0.1 -p {port}", "Registry.LMDB.Path": folder}
         options |= {"Registry.DynamicRegistration": "1", "Registry.AdminPermissionsVerifier": "IceGrid/NullPermissionsVerifier"}
+        options |= {"Registry.SessionTimeout": "600"}  # on a busy machine all takes long
         words = (f"--IceGrid.{name}={it}" for name, it in options.items())
         self.process = subprocess.Popen(["icegridregistry", *words], stderr=subprocess.DEVNULL)
         self.port, self.words = port, f"IceGrid/Locator:tcp -h 127.0.0.1 -p {port}"
