@@ -10,6 +10,7 @@ pub mod Planned
 pub mod Listed
 pub mod Delivering
 pub mod InVain
+pub mod Locating
 pub mod Replying
 pub mod OneDecision
 pub mod Winning
