@@ -1,13 +1,12 @@
 //! Places that a locator tells, and calls that go there, where a connection fails as no real one lets a peer choose.
-ghost use Rattle.std.specs.Prelude.{◌≤◌, All, IfOk};
+ghost use Rattle.std.specs.Prelude.{All, IfOk};
 ghost use Rattle.ice_ports.specs.MemLinks.{IsPlan};
 ghost use Rattle.ice_messages.specs.Written.{IsWritableCall};
 
 use ice_client::{Invoked, Outcome};
 use ice_messages::{Answer, Call, Message, read_message};
 use ice_ports::{MemNet, Plan};
-
-use ice_types::{Endpoint, Identity, List, Name, Proxy};
+use ice_types::{Identity, List, Name};
 use locator::{Cache, Key, MOST_KEPT, Resolved, Through, call_through, resolve};
 use proxy_text::parse_text;
 use retry_core::Attempt;
@@ -141,15 +140,7 @@ fn called(
     let locator = parse_text(alloc, "loc -O:tcp -h localhost -p 4061")?;
     let proxy = parse_text(alloc, text)?;
     let call = total(alloc)?;
-    Ok(call_through(
-        alloc,
-        net,
-        cache,
-        Some(&locator),
-        &proxy,
-        &call,
-        retries,
-    )?)
+    Ok(call_through(alloc, net, cache, Some(&locator), &proxy, &call, retries)?)
 }
 
 fn is_replied(through: &Through, attempts: &[Attempt]) -> bool {
@@ -296,10 +287,7 @@ fn without_a_locator_a_proxy_has_its_own_endpoints_alone(rt: HostRuntime) -> Res
 
 /// The adapter whose id is this number.
 fn adapter(alloc: Global, number: usize) -> Result<Key, Fail> {
-    Ok(Key::Adapter(Name::of(
-        alloc,
-        format!(in alloc; "{number}")?.as_str(),
-    )?))
+    Ok(Key::Adapter(Name::of(alloc, format!(in alloc; "{number}")?.as_str())?))
 }
 
 #[test]
