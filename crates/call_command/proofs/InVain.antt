@@ -1,15 +1,15 @@
 -- A locator that failed gave no results.
-use Rattle.std.proofs.Common.{◌≡◌, ℕ, Bool, true, false, List, [], ◌∷◌, ◌++◌, Option, None, Some, Ok, refl, sym, ap, subst, ◌∙◌, inl, inr}
+use Rattle.std.proofs.Common.{◌≡◌, ℕ, Bool, false, List, [], ◌∷◌, Option, None, Some, Ok, refl, sym, ap, subst, ◌∙◌, inl, inr}
 use Rattle.std.proofs.lemmas.Bool.{false≢true}
 use Rattle.ice_types.specs.declared.proxy.Proxy.{Proxy}
 use Rattle.ice_types.specs.declared.kind.TypeRef.TheVariants as kinds
 use Rattle.ice_types.specs.declared.schema.TheConstants.{MOST_DEPTH}
-use Rattle.ice_encoding.specs.Tree.{Tree, Trees, none, tree, proxy}
+use Rattle.ice_encoding.specs.Tree.{Trees, none, tree, proxy}
 use Rattle.ice_encoding.specs.Typed.{HasType, EachOf, Refers}
 use Rattle.ice_graphs.specs.Flags.{all_slices}
 use Rattle.ice_graphs.specs.Graph.{Graph}
 use Rattle.ice_graphs.specs.Instances.{SpellsNumbered}
-use Rattle.ice_graphs.specs.Typed.{OfType}
+use Rattle.ice_graphs.specs.Typed.{RefersIn}
 use Rattle.ice_graphs.proofs.Graphs.{numbered_only}
 use Rattle.ice_ports.specs.declared.talk.Talk.{Talk}
 use Rattle.ice_messages.specs.declared.message.Answer.TheVariants as answers
@@ -37,7 +37,7 @@ use Rattle.locator.specs.declared.through.Through.{Through}
 use Rattle.locator.specs.declared.through.Through.TheVariants.{Invoked, NotLocated, LocatorFailed}
 use Rattle.locator.specs.Caches.{Kept}
 use Rattle.locator.specs.Keys.{key_of}
-use Rattle.locator.specs.Leads.{lead_of, of_members, of_results, of_value, of_pointer, results_at}
+use Rattle.locator.specs.Leads.{lead_of, of_members, of_results, results_at}
 use Rattle.locator.specs.Questions.{request}
 use Rattle.locator.specs.Asking.{Asked, Finds, Follows, found, next, told, told_by}
 use Rattle.locator.specs.Resolving.{By, Route, by_itself, from_cache, by_locator, no_route, route}
@@ -53,9 +53,9 @@ none_some : {X : Type 0} {x : X} → None ≡ Some x → ⊥
 none_some e = cc
 
 results_lead : (Refer : Refers) (roots : Trees) → EachOf (HasType locator_tables Refer MOST_DEPTH) (kinds.Proxy None ∷ []) roots → None ≡ of_members roots → ⊥
-results_lead Refer none each e = absurd each
-results_lead Refer (tree v none) ((p, is, same), rest) e = none_some (e ∙ ap of_value same)
-results_lead Refer (tree v (tree w vs)) (first, rest) e = absurd rest
+results_lead Refer roots (v, vs, is, (p, fine, same), rest) e =
+    let there : roots ≡ tree (proxy p) none = is ∙ (λ i. tree (same i) (rest i)) in
+    none_some (e ∙ ap of_members there)
 
 led : (body : List ℕ) (g : Graph) → SpellsNumbered locator_tables all_slices find_object.results body g → results_at body ≡ Ok g
 unfolding results_at
@@ -87,17 +87,17 @@ module _ (locator : Proxy) (retries : ℕ) (key : Key) where
       false≢true (sym (unanswered did.outgoing ended.1.cached ended.1.attempt ended.1.talk ended.4) ∙ did.is_of.replies)
 
   no_line : (outcome : Outcome) (line : List ℕ) → lead_of outcome ≡ None → (outcome ≡ outcomes.Sent → ⊥) → IsLine of_locator outcome line → ⊥
-  no_line (outcomes.Replied (answers.Done body)) line none unsent (g, spelled, typed, is) =
-      results_lead _ g.roots.required typed.roots.required (sym none ∙ ap of_results (led body g spelled))
-  no_line (outcomes.Replied (answers.Raised body)) line none unsent won = won
-  no_line (outcomes.Replied (answers.Missing status i f o)) line none unsent won = won
-  no_line (outcomes.Replied (answers.Unknown status what)) line none unsent won = won
-  no_line outcomes.Sent line none unsent won = unsent refl
-  no_line outcomes.NetFailed line none unsent won = won
-  no_line outcomes.Ended line none unsent won = won
-  no_line outcomes.Closed line none unsent won = won
-  no_line (outcomes.Broke fault) line none unsent won = won
-  no_line outcomes.NoEndpoint line none unsent won = won
+  no_line (outcomes.Replied (answers.Done body)) line nowhere unsent (g, spelled, typed, is) =
+      results_lead (RefersIn locator_tables g.instances) g.roots.required typed.roots.required (sym nowhere ∙ ap of_results (led body g spelled))
+  no_line (outcomes.Replied (answers.Raised body)) line nowhere unsent won = won
+  no_line (outcomes.Replied (answers.Missing status i f o)) line nowhere unsent won = won
+  no_line (outcomes.Replied (answers.Unknown status what)) line nowhere unsent won = won
+  no_line outcomes.Sent line nowhere unsent won = unsent refl
+  no_line outcomes.NetFailed line nowhere unsent won = won
+  no_line outcomes.Ended line nowhere unsent won = won
+  no_line outcomes.Closed line nowhere unsent won = won
+  no_line (outcomes.Broke fault) line nowhere unsent won = won
+  no_line outcomes.NoEndpoint line nowhere unsent won = won
 
   abbrev IsVain : Came → Type 0
   IsVain r = (line : List ℕ) → IsLine of_locator r.outcome line → ⊥
@@ -132,7 +132,7 @@ module _ (locator : Proxy) (retries : ℕ) (key : Key) (r : Came) where
   follows_in_vain : (answer : Option Came) (first second : List Round) → Asked locator retries key first answer → (n : Next) → next key (told answer) ≡ n → Follows locator retries n second (founds.Failed r)
       → (line : List ℕ) → IsLine of_locator r.outcome line → ⊥
   follows_in_vain answer first second asked (Ask id) is (other, also, f) = asked_in_vain locator retries (Adapter id) other r second also (found_failed (told other) r (sym f))
-  follows_in_vain answer first second asked (Over end) is (none, f) = asked_in_vain locator retries key answer r first asked (next_failed key (told answer) r (is ∙ sym (ap Over f)))
+  follows_in_vain answer first second asked (Over end) is (nothing, f) = asked_in_vain locator retries key answer r first asked (next_failed key (told answer) r (is ∙ sym (ap Over f)))
 
   finds_in_vain : (rounds : List Round) → Finds locator retries key rounds (founds.Failed r) → (line : List ℕ) → IsLine of_locator r.outcome line → ⊥
   finds_in_vain rounds (first, second, answer, are, asked, follows) = follows_in_vain answer first second asked (next key (told answer)) refl follows
@@ -141,14 +141,14 @@ module _ (locator : Proxy) (retries : ℕ) (key : Key) (r : Came) where
 
 module _ (old : Kept) (p : Proxy) (retries : ℕ) (rounds : List Round) (new : Kept) (r : Came) where
   resolves_in_vain : (w : Route) → By w old p retries rounds new (Some (Failed r)) → (line : List ℕ) → IsLine of_locator r.outcome line → ⊥
-  resolves_in_vain by_itself (none, same, is) = absurd cc
-  resolves_in_vain (from_cache endpoints) (none, same, is) = absurd cc
+  resolves_in_vain by_itself (nothing, unchanged, is) = absurd cc
+  resolves_in_vain (from_cache endpoints) (nothing, unchanged, is) = absurd cc
   resolves_in_vain (by_locator locator) (founds.At endpoints, finds, (kept, is)) = absurd cc
   resolves_in_vain (by_locator locator) (founds.Nowhere, finds, (kept, is)) = absurd cc
   resolves_in_vain (by_locator locator) (founds.Failed s, finds, (kept, is)) =
       let same : s ≡ r = cc (sym is) in
       finds_in_vain locator retries (key_of p) r rounds (subst (λ (x : Came). Finds locator retries (key_of p) rounds (founds.Failed x)) same finds)
-  resolves_in_vain no_route (none, same, is) = absurd cc
+  resolves_in_vain no_route (nothing, unchanged, is) = absurd cc
 
 pub in_vain : (plan : Plan) (old : Kept) (rounds : List Round) (new : Kept) (through : Through) → Delivered plan old rounds new through → IsInVain through
 in_vain plan old rounds new (Invoked r) went = tt

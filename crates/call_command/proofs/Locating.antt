@@ -1,5 +1,5 @@
 -- The results of a locator's operation.
-use Rattle.std.proofs.Common.{◌≡◌, ℕ, Option, None, Some, Result, Vec, refl, sym, ap, subst, ◌∙◌, codes}
+use Rattle.std.proofs.Common.{◌≡◌, ℕ, None, Some, Result, Vec, refl, sym, ap, subst, ◌∙◌, codes}
 use Rattle.std.specs.declared.alloc.Global.{Global}
 use Rattle.std.proofs.lemmas.Option.{same_Some}
 use Rattle.ice_types.specs.declared.declarations.OpDecl.{OpDecl}

@@ -68,27 +68,35 @@ module _ (plan : Plan) (ds : List Delivery) (places : Kept) (sink here : SinkSee
   -- memory ran out while it was sent
   pub undelivered : (later : Kept) (stop : Stop) → length ds < plan.rounds → DeliversOnce plan places at now later (Err stop) → Stops plan sink here net now stop
   undelivered later stop less (rounds, more, (came, went), is) =
-      subst (Stops plan sink here net now) (sym is) (ds, places, rounds, less, used_then rounds more, (came, later, went, printed))
+      subst (Stops plan sink here net now) (sym is) record { deliveries = ds; places = places; last = rounds; few = less; used = used_then rounds more; stopped = (came, later, went, printed) }
 
   -- what it came to is no success
   pub without_line : (later : Kept) (through : Through) (stop : Stop) → length ds < plan.rounds → DeliversOnce plan places at now later (Ok through) → StopsCall plan through stop → Stops plan sink here net now stop
   without_line later through stops.WriteFailed less d lacks = absurd lacks
-  without_line later through stops.NetFailed less (rounds, more, delivered, rises) lacks =
-      (ds, places, rounds, less, used_then rounds more, (through, later, delivered, lacks, printed, subst (λ (n : ℕ). Rises n now.failures) used.made.failures (rises lacks)))
-  without_line later through (stops.Ended reason) less (rounds, more, delivered, rises) lacks = (ds, places, rounds, less, used_then rounds more, (through, later, delivered, lacks, printed))
-  without_line later through stops.Memory less (rounds, more, delivered, rises) lacks = (ds, places, rounds, less, used_then rounds more, (Ok through, later, delivered, printed))
+  without_line later through stops.NetFailed less (rounds, more, delivered, rises) lacks = record {
+    deliveries = ds;
+    places = places;
+    last = rounds;
+    few = less;
+    used = used_then rounds more;
+    stopped = (through, later, delivered, lacks, printed, subst (λ (n : ℕ). Rises n now.failures) used.made.failures (rises lacks));
+  }
+  without_line later through (stops.Ended reason) less (rounds, more, delivered, rises) lacks =
+      record { deliveries = ds; places = places; last = rounds; few = less; used = used_then rounds more; stopped = (through, later, delivered, lacks, printed) }
+  without_line later through stops.Memory less (rounds, more, delivered, rises) lacks =
+      record { deliveries = ds; places = places; last = rounds; few = less; used = used_then rounds more; stopped = (Ok through, later, delivered, printed) }
 
   module _ (new : SinkSeen) (later : Kept) (through : Through) (line : List ℕ) (d : DeliversOnce plan places at now later (Ok through)) (tells : HasLine plan through line) where
     -- its line was not taken whole
     pub unprinted : (stop : Stop) → length ds < plan.rounds → stop ≡ stops.WriteFailed → AppendsPrefix here.taken new.taken line → new.failures ≡ one_more here.failures → Stops plan sink new net now stop
-    unprinted stop less is prefix failed = subst (Stops plan sink new net now) (sym is) (
-      ds,
-      places,
-      d.0,
-      less,
-      used_then d.0 d.1,
-      (through, later, line, d.2, tells, printed.succeeded, prefix_behind sink.taken here.taken new.taken (lines_of ds) line printed.lines prefix, failed ∙ ap one_more printed.kept),
-    )
+    unprinted stop less is prefix failed = subst (Stops plan sink new net now) (sym is) record {
+      deliveries = ds;
+      places = places;
+      last = d.0;
+      few = less;
+      used = used_then d.0 d.1;
+      stopped = (through, later, line, d.2, tells, printed.succeeded, prefix_behind sink.taken here.taken new.taken (lines_of ds) line printed.lines prefix, failed ∙ ap one_more printed.kept);
+    }
 
     -- it succeeded
     abbrev pub this_delivery : Delivery

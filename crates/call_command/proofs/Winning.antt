@@ -26,8 +26,9 @@ use Rattle.call_command.specs.declared.stop.Stop.TheVariants as stops
 use Rattle.call_command.specs.declared.stop.Reason.{Reason}
 use Rattle.call_command.specs.Planning.{Expected, Plan}
 use Rattle.call_command.specs.Replies.{HasReason, IsLine, IsReason}
-use Rattle.call_command.specs.Rounds.{Delivered}
-use Rattle.call_command.specs.Laws.{IsWon, IsNotWon, StopsForCause}
+use Rattle.call_command.specs.declared.stop.Stop.{Stop}
+use Rattle.call_command.specs.Rounds.{NetSeen, SinkSeen, Delivered, Delivery, IsUsed, StopsAt, rounds_of}
+use Rattle.call_command.specs.Laws.{IsCaused, IsNotWon, IsWon, StopsForCause}
 
 -- ---- a success has no reason
 
@@ -155,10 +156,14 @@ module _ (plan : Plan) (places : Kept) (last : List Round) (later : Kept) where
   not_ended NotLocated reason went why = (NotLocated, later, went, none_won plan.expected went.0.1.did.outgoing (tried_of went.0.0) went.0.1.did.ended.0)
   not_ended (LocatorFailed r) reason went why = (LocatorFailed r, later, went, none_won plan.expected went.0.1.did.outgoing (tried_of went.0.0) went.0.1.did.ended.0)
 
-pub stops_for_cause : StopsForCause
-stops_for_cause plan before after net now stops.Memory h = inl refl
-stops_for_cause plan before after net now stops.WriteFailed (ds, places, last, few, used, (through, later, line, did, tells, each, prefix, failed)) = inr (inl (refl, failed))
-stops_for_cause plan before after net now stops.NetFailed (ds, places, last, few, used, (through, later, did, fails, printed, rises)) =
+by_cause : (plan : Plan) (before after : SinkSeen) (net now : NetSeen) (stop : Stop) (ds : List Delivery) (places : Kept) (last : List Round) → IsUsed (rounds_of ds ++ last) net now
+    → StopsAt plan ds places last before after net now stop → IsCaused plan before after net now stop
+by_cause plan before after net now stops.Memory ds places last used h = inl refl
+by_cause plan before after net now stops.WriteFailed ds places last used (through, later, line, did, tells, each, prefix, failed) = inr (inl (refl, failed))
+by_cause plan before after net now stops.NetFailed ds places last used (through, later, did, fails, printed, rises) =
     inr (inr (ds, places, last, printed.succeeded, used, not_failed plan places last later through did fails))
-stops_for_cause plan before after net now (stops.Ended reason) (ds, places, last, few, used, (through, later, did, why, printed)) =
+by_cause plan before after net now (stops.Ended reason) ds places last used (through, later, did, why, printed) =
     inr (inr (ds, places, last, printed.succeeded, used, not_ended plan places last later through reason did why))
+
+pub stops_for_cause : StopsForCause
+stops_for_cause plan before after net now stop h = by_cause plan before after net now stop h.deliveries h.places h.last h.used h.stopped

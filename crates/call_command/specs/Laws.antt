@@ -75,8 +75,11 @@ LastLost plan old rounds new (LocatorFailed r) went = IsWon plan.expected went.0
 abbrev pub IsNotWon : Plan → Kept → List Round → Type 0
 IsNotWon plan old rounds = (through : Through) × (new : Kept) × (went : Delivered plan old rounds new through) × LastLost plan old rounds new through went
 
--- a call is stopped by want of memory, by a line that could not be written, or by a message that did not succeed
-abbrev pub StopsForCause : Type 0
-StopsForCause = (plan : Plan) (before after : SinkSeen) (net now : NetSeen) (stop : Stop) → Stops plan before after net now stop
-    → (stop ≡ stops.Memory) ⊎ (((stop ≡ stops.WriteFailed) × (after.failures ≡ one_more before.failures))
+-- by want of memory, by a line that could not be written, or by a message that did not succeed
+abbrev pub IsCaused : Plan → (before after : SinkSeen) → (net now : NetSeen) → Stop → Type 0
+IsCaused plan before after net now stop = (stop ≡ stops.Memory) ⊎ (((stop ≡ stops.WriteFailed) × (after.failures ≡ one_more before.failures))
     ⊎ ((deliveries : List Delivery) × (places : Kept) × (last : List Round) × Succeeded plan [] deliveries places × IsUsed (rounds_of deliveries ++ last) net now × IsNotWon plan places last))
+
+-- what stops a call has a cause
+abbrev pub StopsForCause : Type 0
+StopsForCause = (plan : Plan) (before after : SinkSeen) (net now : NetSeen) (stop : Stop) → Stops plan before after net now stop → IsCaused plan before after net now stop

@@ -1,7 +1,6 @@
 -- The operation that is called. (Ice manual, "The Object Base Interface" and "Operations".)
-use Rattle.std.specs.Prelude.{ℕ, ◌≡◌, ◌≤◌, ◌⊎◌, ◌≢◌, List, [], Option, Some, None, option_map, if◌then◌else◌}
+use Rattle.std.specs.Prelude.{ℕ, ◌≤◌, ◌⊎◌, ◌≢◌, [], Option, Some, None, option_map, if◌then◌else◌}
 use Rattle.ice_types.specs.declared.declarations.OpDecl.{OpDecl}
-use Rattle.ice_types.specs.declared.declarations.Shape.{Shape}
 use Rattle.ice_types.specs.Tables.{Tables}
 use Rattle.ice_types.specs.Fits.{ShapeFits}
 use Rattle.ice_types.specs.Inherited.{first_named, operations}

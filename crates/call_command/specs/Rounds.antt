@@ -77,9 +77,12 @@ pub record Printed (plan : Plan) (deliveries : List Delivery) (places : Kept) (b
   pub kept : after.failures ≡ before.failures
 
 -- All messages succeeded, one after the other.
-abbrev pub Finishes : Plan → (before after : SinkSeen) → (net new : NetSeen) → Type 0
-Finishes plan before after net new =
-    (deliveries : List Delivery) × (places : Kept) × Printed plan deliveries places before after × IsUsed (rounds_of deliveries) net new × (length deliveries ≡ plan.rounds)
+pub record Finishes (plan : Plan) (before after : SinkSeen) (net new : NetSeen) : Type 0 where
+  pub deliveries : List Delivery
+  pub places : Kept
+  pub printed : Printed plan deliveries places before after
+  pub used : IsUsed (rounds_of deliveries) net new
+  pub all : length deliveries ≡ plan.rounds
 
 -- What stopped a message behind others that succeeded, with what went over connections for it: its line was not taken whole;
 -- the net failed its last attempt, and no other may follow, or a question to the locator; what it came to is no success; or
@@ -96,9 +99,13 @@ StopsAt plan deliveries places last before after net new stops.Memory = (came : 
     × Printed plan deliveries places before after
 
 -- Some messages succeeded, one after the other, and the next one stopped them.
-abbrev pub Stops : Plan → (before after : SinkSeen) → (net new : NetSeen) → Stop → Type 0
-Stops plan before after net new stop = (deliveries : List Delivery) × (places : Kept) × (last : List Round) × (length deliveries < plan.rounds)
-    × IsUsed (rounds_of deliveries ++ last) net new × StopsAt plan deliveries places last before after net new stop
+pub record Stops (plan : Plan) (before after : SinkSeen) (net new : NetSeen) (stop : Stop) : Type 0 where
+  pub deliveries : List Delivery
+  pub places : Kept
+  pub last : List Round
+  pub few : length deliveries < plan.rounds
+  pub used : IsUsed (rounds_of deliveries ++ last) net new
+  pub stopped : StopsAt plan deliveries places last before after net new stop
 
 -- what sending comes to
 abbrev pub Performs : {X : Type 0} → Plan → (before after : SinkSeen) → (net new : NetSeen) → Result X Stop → Type 0

@@ -29,7 +29,7 @@ pub(crate) fn callee_of(
     requires proxy { IsWord proxy.now }
     requires locator { IfSome (option_copied locator) IsWord }
     ensures { ParsesListed (proxy_text proxy.now)
-        (spec.callee_of (option_map proxy_text (option_copied locator)) (proxy_text proxy.now)) result }
+        (spec.callee_of (option_map proxy_text (option_copied locator.entry)) (proxy_text proxy.now)) result }
 {
     let proxy = listed(parsed(alloc, proxy)?)?;
     let locator = located(alloc, locator)?;
@@ -51,7 +51,7 @@ fn parsed(alloc: Global, text: &str) -> Result<Result<Proxy, u32>, Ending<'stati
 /// The same of a locator, where one is given.
 fn located(alloc: Global, text: Option<&str>) -> Result<Option<Result<Proxy, u32>>, Ending<'static>>
     requires { IfSome (option_copied text) IsWord }
-    ensures { Parses (option_map proxy_text (option_copied text)) result }
+    ensures { Parses (option_map proxy_text (option_copied text.entry)) result }
 {
     match text {
         Some(text) => Ok(Some(parsed(alloc, text)?)),

@@ -1,6 +1,6 @@
 //! What a message came to, as a line or as a reason.
 
-ghost use Rattle.std.specs.Prelude.{◌≡◌, ◌++◌, ⊥, IfOk, List, Ok, codes, slice_get, ℕ};
+ghost use Rattle.std.specs.Prelude.{◌≡◌, ◌++◌, IfOk, List, Ok, codes, slice_get, ℕ};
 ghost use Rattle.ice_types.specs.Fits.{ShapeFits};
 ghost use Rattle.ice_prims.specs.Rest.{whole};
 ghost use Rattle.ice_graphs.specs.Exceptions.{exception_at};

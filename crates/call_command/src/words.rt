@@ -79,7 +79,7 @@ pub fn call_of(words: &[String]) -> Option<CallCommand<'_>>
 
 /// The call with these options, of the words behind them.
 fn named<'a>(given: Options<'a>, words: &'a [String]) -> Option<CallCommand<'a>>
-    ensures { IsNamed (given_of given) (words_of words.now) result }
+    ensures { IsNamed (given_of given.entry) (words_of words.now) result }
 {
     let [file, interface, proxy, operation] = words else {
         return None;
@@ -124,7 +124,7 @@ fn are_short(words: &[String]) -> bool
 
 /// The options given so far, with those of the words: each at most once.
 fn options_of<'a>(words: &'a [String], given: Options<'a>) -> Option<Options<'a>>
-    ensures { Gathers (given_of given) (words_of words.now) result }
+    ensures { Gathers (given_of given.entry) (words_of words.now) result }
 {
     let [name, words @ ..] = words else {
         return Some(given);
@@ -149,7 +149,7 @@ fn options_of<'a>(words: &'a [String], given: Options<'a>) -> Option<Options<'a>
 
 /// The options with one more, which has a value.
 fn with_value<'a>(name: &str, value: &'a str, given: Options<'a>) -> Option<Options<'a>>
-    ensures { Takes (given_of given) name.now value.now result }
+    ensures { Takes (given_of given.entry) name.now value.now result }
 {
     match name {
         RETRIES if given.retries.is_none() => Some(Options {

@@ -12,7 +12,7 @@ loop-init g c =
     let sink = sink_seen (g.K.Sink.taken c.args.sink.now) (g.K.Sink.failures c.args.sink.now) in
     record {
       deliveries = [];
-      printed = subst (λ (places : Kept). Printed (seen c.args.plan.now) [] places sink sink) (sym c.new.ensures) (printed_none (seen c.args.plan.now) sink);
+      printed = subst (λ (places : Kept). Printed (seen c.args.plan.now) [] places sink sink) (sym c.new-cache.ensures) (printed_none (seen c.args.plan.now) sink);
       used = used_none (net_seen (g.N.Net.told c.args.net.now) (g.N.Net.failures c.args.net.now) (g.N.Net.listen_failures c.args.net.now));
       counted = refl;
     }
@@ -28,7 +28,7 @@ returns-in_err-through g c =
     i.printed i.used c.deliver.new.cache c.in_err-through.field-0.0 less c.in_err-through.ensures)
 
 pub line_of-requires-clause-in_vain : goal.line_of-requires-clause-in_vain
-line_of-requires-clause-in_vain g c κs within =
+line_of-requires-clause-in_vain g c =
     in_vain (seen c.args.plan.now) c.loop.cache c.in_ok-through.ensures.0 c.deliver.new.cache c.in_ok-through.through c.in_ok-through.ensures.2
 
 pub returns-in_err-line : goal.returns-in_err-line
@@ -73,4 +73,4 @@ loop-preserved g c =
 pub returns : goal.returns
 returns g c =
     let i = c.loop.invariant in
-    (i.deliveries, c.loop.cache, i.printed, i.used, omega (arith, i.counted))
+    record { deliveries = i.deliveries; places = c.loop.cache; printed = i.printed; used = i.used; all = omega (arith, i.counted) }

@@ -1,4 +1,4 @@
-use Rattle.std.proofs.Common.{ℕ, ◌≡◌, ◌≤◌, ◌<◌, List, length, Ok, Err, sym, ap, subst, ◌∙◌, arith}
+use Rattle.std.proofs.Common.{ℕ, ◌≡◌, ◌≤◌, ◌<◌, List, length, Ok, Err, sym, ap, subst, ◌∙◌, inr, arith}
 use Rattle.std.proofs.lemmas.Bool.{false≢true}
 use Rattle.std.proofs.lemmas.Result.{err_from_is_err_and}
 use Rattle.ice_encoding.specs.declared.limits.TheConstants.{LARGEST}
@@ -24,6 +24,9 @@ returns-in_err-body-clause-plan g c =
     subst (λ (x : List ℕ). EncodesArguments c.args.known.schema.now c.args.known.operation.now.arguments (view_format c.args.command.format) x (Err c.in_err-body.field-0.0)) c.as_slice.ensures.value c.in_err-body.ensures in
     rw (failed.1, failed.2) (unlisted (words_seen c.args.command) (g.S.Source.left c.args.source.now) (operation_seen c.args.known) c.args.callee (g.S.Source.failures c.args.source.now) (g.S.Source.failures c.read_text.new.source) replies
     (g.S.Source.left c.read_text.new.source) c.in_ok-text.text.items c.in_ok-text.ensures.read c.in_err-body.field-0.0 encoded c.in_ok-text.ensures.count)
+
+pub returns-in_err-message-clause-taken : goal.returns-in_err-message-clause-taken
+returns-in_err-message-clause-taken g c = inr (λ lacks. false≢true (sym c.if-lacks_reply.false ∙ c.lacks_reply.ensures.1 lacks), c.in_ok-text.ensures.taken)
 
 pub returns-in_err-message-clause-plan : goal.returns-in_err-message-clause-plan
 returns-in_err-message-clause-plan g c =
