@@ -11,7 +11,7 @@ use Rattle.call_command.specs.declared.words.CallCommand.{CallCommand}
 use Rattle.std.specs.Prelude.{IfSome, unwrap_or}
 use Rattle.call_command.specs.declared.words.TheConstants.{MOST_RETRIES, MOST_TIMES}
 use Rattle.call_command.specs.declared.words.Options.{Options}
-use Rattle.call_command.specs.Words.{CallWords, CallForm, AreNamed, AsksCall, Gathers, Given, Gives, IsNamed, IsNoOption, IsNumbered, IsOption, IsValued, IsWithin, given_of, no_options, seen}
+use Rattle.call_command.specs.Words.{CallWords, CallForm, AreNamed, AsksCall, Gathers, Given, Gives, IsNamed, IsNoOption, IsOption, IsValued, IsWithin, given_of, no_options, seen}
 
 -- the first word, and a number that tells those of all commands apart
 abbrev first_word : List Word → Word
