@@ -1,5 +1,6 @@
 """Real Ice with the interfaces of office/Office.ice: servers of Ice for Python and for C++, and what a generated client of Ice for
 Python makes of a call whose arguments are noted in JSON, as `ice call` has to tell it."""
+import atexit
 import contextlib
 import importlib
 import json
@@ -273,6 +274,7 @@ class Registry:
         options |= {"Registry.SessionTimeout": "600"}  # on a busy machine all takes long
         words = (f"--IceGrid.{name}={it}" for name, it in options.items())
         self.process = subprocess.Popen(["icegridregistry", *words], stderr=subprocess.DEVNULL)
+        atexit.register(self.process.kill)
         self.port, self.words = port, f"IceGrid/Locator:tcp -h 127.0.0.1 -p {port}"
         self.option = f"--Ice.Default.Locator={self.words}"
 
