@@ -141,14 +141,11 @@ def integer(it, least, most):
 
 
 def proxy(it):
-    """Returns the proxy of a text, of which each endpoint has room in an encapsulation."""
+    """Returns the proxy of a text."""
     try:
-        found = proxies.read(text(it))
+        return proxies.read(text(it))
     except proxies.Refused as why:
         raise Misfit(f"no proxy: {why}") from None
-    # Two bytes of its type stand before an endpoint's encapsulation.
-    demand(all(len(values.spelled_endpoint(it)) - 2 <= values.MOST_BYTES for it in found.endpoints), "a long endpoint")
-    return found
 
 
 class Reader:
