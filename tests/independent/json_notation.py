@@ -17,7 +17,6 @@ import graphs
 import json_texts
 import kinds
 import proxies
-import values
 from graphs import Graph, Kept, Known, Ref
 
 # The name of the one root, the number of the first instance, and how many may be listed.

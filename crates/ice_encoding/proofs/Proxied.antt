@@ -5,7 +5,6 @@ use Rattle.ice_types.specs.declared.proxy.Endpoint.{Endpoint}
 use Rattle.ice_types.specs.declared.proxy.Proxy.{Proxy}
 use Rattle.ice_encoding.specs.Parts.{IsLawful, Each}
 use Rattle.ice_encoding.specs.Identity.{identity, no_identity, texts, facet_texts}
-use Rattle.ice_encoding.specs.declared.limits.TheConstants.{LARGEST}
 use Rattle.ice_encoding.specs.Endpoint.{endpoint, endpoint_to, EndpointHasSize}
 use Rattle.ice_encoding.specs.Proxy.{Location, located_to, located_by, location, mode, details, is_whole, named_to, named, identity_of, proxy, proxy_to, ProxySizes, HasProxySizes}
 use Rattle.ice_encoding.proofs.Joined.{bool_lawful, byte_lawful, size_lawful, text_lawful, version_lawful, nothing_lawful, both_lawful, made_lawful, tested_lawful, chosen_lawful, times_lawful, times_length}

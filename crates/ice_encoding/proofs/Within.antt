@@ -14,7 +14,7 @@ use Rattle.ice_encoding.specs.Endpoint.{endpoint_to, kind_of, said}
 use Rattle.ice_encoding.specs.Proxy.{Location, Details, located_to, location_to, details_to, details_of, named_to, identity_of, proxy, proxy_to, CanBeWritten}
 
 module _ (most other : ℕ) where
-  -- of so many bytes, or of any
+  -- of so many bytes, or of any; what is put for an endpoint is the same for all limits
   abbrev IsSmall : ℕ → Type 0
   IsSmall count = (most ≤ other) ⊎ (count ≤ other)
 
@@ -28,35 +28,35 @@ module _ (most other : ℕ) where
 
   -- ---- endpoints
 
-  endpoint_long : (e : Endpoint) → size_with (said (kind_of e)) e ≤ length ((endpoint_to most).put e)
+  endpoint_long : (e : Endpoint) → size_with (said (kind_of e)) e ≤ length ((endpoint_to LARGEST).put e)
   endpoint_long e = omega arith
 
-  size_within : (e : Endpoint) → size_with (said (kind_of e)) e ≤ most → IsSmall (length ((endpoint_to most).put e)) → size_with (said (kind_of e)) e ≤ other
+  size_within : (e : Endpoint) → size_with (said (kind_of e)) e ≤ most → IsSmall (length ((endpoint_to LARGEST).put e)) → size_with (said (kind_of e)) e ≤ other
   size_within e le (inl less) = omega (arith, le, less)
   size_within e le (inr small) = omega (arith, small, endpoint_long e)
 
-  endpoint_within : (e : Endpoint) → (endpoint_to most).Is e → IsSmall (length ((endpoint_to most).put e)) → (endpoint_to other).Is e
+  endpoint_within : (e : Endpoint) → (endpoint_to most).Is e → IsSmall (length ((endpoint_to LARGEST).put e)) → (endpoint_to other).Is e
   endpoint_within e is small = (is.0, (is.1.0, is.1.1, size_within e is.1.2 small))
 
-  each_within : (es : List Endpoint) → Each (endpoint_to most).Is es → IsSmall (length (flat_map (endpoint_to most).put es)) → Each (endpoint_to other).Is es
+  each_within : (es : List Endpoint) → Each (endpoint_to most).Is es → IsSmall (length (flat_map (endpoint_to LARGEST).put es)) → Each (endpoint_to other).Is es
   each_within [] is small = tt
   each_within (e ∷ es) is small =
-      let first = (endpoint_to most).put e in
-      let others = flat_map (endpoint_to most).put es in
+      let first = (endpoint_to LARGEST).put e in
+      let others = flat_map (endpoint_to LARGEST).put es in
       (endpoint_within e is.0 (small_front first others small), each_within es is.1 (small_behind first others small))
 
-  located_within : (n : ℕ) (l : Location) → (located_to most n).Is l → IsSmall (length ((located_to most n).put l)) → (located_to other n).Is l
+  located_within : (n : ℕ) (l : Location) → (located_to most n).Is l → IsSmall (length ((located_to LARGEST n).put l)) → (located_to other n).Is l
   located_within zero l is small = is
   located_within (suc n) l is small = ((is.0.0, each_within l.0 is.0.1 small), is.1)
 
-  location_within : (l : Location) → (location_to most).Is l → IsSmall (length ((location_to most).put l)) → (location_to other).Is l
-  location_within l is small = (is.0, located_within (length l.0) l is.1 (small_behind (size_bytes (length l.0)) ((located_to most (length l.0)).put l) small))
+  location_within : (l : Location) → (location_to most).Is l → IsSmall (length ((location_to LARGEST).put l)) → (location_to other).Is l
+  location_within l is small = (is.0, located_within (length l.0) l is.1 (small_behind (size_bytes (length l.0)) ((located_to LARGEST (length l.0)).put l) small))
 
   -- ---- a proxy
 
-  details_within : (x : Details) → (details_to most).Is x → IsSmall (length ((details_to most).put x)) → (details_to other).Is x
+  details_within : (x : Details) → (details_to most).Is x → IsSmall (length ((details_to LARGEST).put x)) → (details_to other).Is x
   details_within x is small =
-      let at_location = (location_to most).put x.1.1.1.1.1 in
+      let at_location = (location_to LARGEST).put x.1.1.1.1.1 in
       let at_encoding = version.put x.1.1.1.1.0 ++ at_location in
       let at_protocol = version.put x.1.1.1.0 ++ at_encoding in
       let at_secure = bool_bytes x.1.1.0 ++ at_protocol in
@@ -68,14 +68,14 @@ module _ (most other : ℕ) where
       let located = small_behind (version.put x.1.1.1.1.0) at_location encoding in
       (is.0, (is.1.0, (is.1.1.0, (is.1.1.1.0, (is.1.1.1.1.0, location_within x.1.1.1.1.1 is.1.1.1.1.1 located)))))
 
-  named_within : (i : Identity) (name : List ℕ) (p : Option Proxy) → (named_to most i name).Is p → IsSmall (length ((named_to most i name).put p)) → (named_to other i name).Is p
+  named_within : (i : Identity) (name : List ℕ) (p : Option Proxy) → (named_to most i name).Is p → IsSmall (length ((named_to LARGEST i name).put p)) → (named_to other i name).Is p
   named_within i [] p is small = is
   named_within i (c ∷ cs) p is small = (details_within (details_of p) is.0 small, is.1)
 
   pub proxy_small : (p : Option Proxy) → (proxy_to most).Is p → IsSmall (length (proxy.put p)) → (proxy_to other).Is p
   proxy_small p is small =
       let i = identity_of p in
-      (is.0, named_within i i.name p is.1 (small_behind (identity.put i) ((named_to most i i.name).put p) small))
+      (is.0, named_within i i.name p is.1 (small_behind (identity.put i) ((named_to LARGEST i i.name).put p) small))
 
 pub proxy_grown : (most other : ℕ) → most ≤ other → (p : Option Proxy) → (proxy_to most).Is p → (proxy_to other).Is p
 proxy_grown most other le p is = proxy_small most other p is (inl le)

@@ -85,9 +85,7 @@ fn is_location(endpoints: &[Endpoint], adapter: &Name, most: usize) -> bool
     if endpoints.is_empty() {
         is_text(adapter)
     } else {
-        is_size(endpoints.len())
-            && are_endpoints(endpoints, most)
-            && adapter.as_str().is_empty()
+        is_size(endpoints.len()) && are_endpoints(endpoints, most) && adapter.as_str().is_empty()
     }
 }
 
