@@ -105,10 +105,13 @@ numbered_row t rules n fits found finds = found_is (ids_like t (numbered_id n)) 
     digits : (m k : ℕ) → numbered_id m ≡ numbered_id k → decimal m ≡ decimal k
     digits m k e = cc
 
+    unused : ((at : ℕ) → HasCompactId t n at → ⊥) → (at : ℕ) → HasId (ids_like t (numbered_id n)) (numbered_id n) at → ⊥
+    unused nowhere at h =
+        let m = number_of_class t rules (numbered_id n) at refl h in
+        nowhere at (subst (λ (k : ℕ). HasCompactId t k at) (sym (decimal_injective n m.0 fits (omega (arith, m.1)) (digits n m.0 m.2))) m.3)
+
     by_found : (found : Option ℕ) → Finds (HasCompactId t n) found → Finds (HasId (ids_like t (numbered_id n)) (numbered_id n)) found
-    by_found None nowhere = λ at h.
-    let m = number_of_class t rules (numbered_id n) at refl h in
-    nowhere at (subst (λ (k : ℕ). HasCompactId t k at) (sym (decimal_injective n m.0 fits (omega (arith, m.1)) (digits n m.0 m.2))) m.3)
+    by_found None nowhere = unused nowhere
     by_found (Some at) there = number_text t n at there
 
 -- no exception has one

@@ -107,6 +107,16 @@ starts_hash (c ∷ cs) false told = sym (by_test (c == 35) refl)
     by_test true e = absurd (false≢true (told.1 (eqb-true c 35 e)))
     by_test false e = refl
 
+-- whether it does not begin so
+pub plain_told : (id text : List ℕ) (starts : Bool) → text ≡ id → starts ≡ is_numbered text → IsTrue (not starts) ↔ (is_numbered id ≡ false)
+plain_told id text starts same is = subst (λ (s : List ℕ). IsTrue (not starts) ↔ (is_numbered s ≡ false)) same (by_test starts (is_numbered text) is)
+  where
+    by_test : (a b : Bool) → a ≡ b → IsTrue (not a) ↔ (b ≡ false)
+    by_test true true e = ((λ h. absurd cc), λ h. absurd cc)
+    by_test true false e = absurd cc
+    by_test false true e = absurd cc
+    by_test false false e = ((λ h. refl), λ h. refl)
+
 -- ---- one slice at least
 
 module _ (u : Tables) (Refer : Refers) where

@@ -119,8 +119,13 @@ fn is_unknown_id(schema: &Schema, sort: SlicedType, id: &Name) -> bool
     let id = id.as_str();
     match sort {
         SlicedType::Class => schema.kept_id(id),
-        SlicedType::Exception if id.starts_with('#') => number_in(id).is_some(),
-        SlicedType::Exception => schema.exception(id).is_none(),
+        SlicedType::Exception => {
+            if id.starts_with('#') {
+                number_in(id).is_some()
+            } else {
+                schema.exception(id).is_none()
+            }
+        }
     }
 }
 
