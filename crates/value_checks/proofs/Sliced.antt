@@ -1,9 +1,7 @@
 -- The slices of an instance, and ids that a schema lacks.
 use Rattle.std.proofs.Common.{◌≡◌, ℕ, ◌+◌, ◌-◌, ◌==◌, ◌↔◌, IsTrue, Bool, true, false, not, if◌then◌else◌, List, [], ◌∷◌, length, map, take, drop, Option, None, Some, refl, sym, ap, subst, ◌∙◌, arith, inl, inr, bytes_eq}
-use Rattle.std.specs.Prelude.{get_or, Decides}
 use Rattle.std.specs.Option.{is_some}
 use Rattle.std.specs.Str.{IsUtf8}
-use Rattle.std.proofs.lemmas.Bool.{eqb-true, eq-eqb, false≢true}
 use Rattle.std.proofs.lemmas.List.{length-drop, take_all}
 use Rattle.ice_types.specs.declared.declarations.ExceptionDecl.{ExceptionDecl}
 use Rattle.ice_types.specs.Tables.{Tables, Finds, HasId, class_ids, compact_ids, exception_ids}
@@ -93,21 +91,7 @@ type_id_told Exception t id text found tells is same utf8 plain finds told =
     by_place (Some at) true there told = absurd cc
     by_place (Some at) false there told = ((λ b. absurd cc), λ h. absurd (at_none (exception_ids t) text (sym (exception_place t text plain) ∙ h.0) at there))
 
--- a text that begins with `#`
-pub starts_hash : (id : List ℕ) (starts : Bool) → Decides starts (get_or id 0 0 ≡ 35) → starts ≡ is_numbered id
-starts_hash [] true told = absurd (nothing 0 refl (told.0 refl))
-  where
-    nothing : (n : ℕ) → n ≡ 0 → n ≡ 35 → ⊥
-    nothing n none other = omega (arith, none, other)
-starts_hash [] false told = refl
-starts_hash (c ∷ cs) true told = sym (eq-eqb c 35 (told.0 refl))
-starts_hash (c ∷ cs) false told = sym (by_test (c == 35) refl)
-  where
-    by_test : (b : Bool) → (c == 35) ≡ b → b ≡ false
-    by_test true e = absurd (false≢true (told.1 (eqb-true c 35 e)))
-    by_test false e = refl
-
--- whether it does not begin so
+-- whether a text does not begin with `#`
 pub plain_told : (id text : List ℕ) (starts : Bool) → text ≡ id → starts ≡ is_numbered text → IsTrue (not starts) ↔ (is_numbered id ≡ false)
 plain_told id text starts same is = subst (λ (s : List ℕ). IsTrue (not starts) ↔ (is_numbered s ≡ false)) same (by_test starts (is_numbered text) is)
   where

@@ -1,6 +1,7 @@
 use Rattle.std.proofs.Common.{arith}
 use Rattle.std.proofs.lemmas.Str.Pattern.{starts_char}
-use Rattle.value_checks.proofs.Sliced.{plain_told, starts_hash}
+use Rattle.ice_values.proofs.Hashed.{starts_hash}
+use Rattle.value_checks.proofs.Sliced.{plain_told}
 use Rattle.value_checks.proofs.instances.has_type_id.Goals as goal
 
 pub returns-in-Unknown : goal.returns-in-Unknown

@@ -1,6 +1,7 @@
 use Rattle.std.proofs.Common.{sym, ◌∙◌, arith}
 use Rattle.std.proofs.lemmas.Str.Pattern.{starts_char}
-use Rattle.value_checks.proofs.Sliced.{kept_told, number_told, type_id_told, starts_hash}
+use Rattle.ice_values.proofs.Hashed.{starts_hash}
+use Rattle.value_checks.proofs.Sliced.{kept_told, number_told, type_id_told}
 use Rattle.value_checks.proofs.instances.is_unknown_id.Goals as goal
 
 pub returns-in-Class : goal.returns-in-Class
