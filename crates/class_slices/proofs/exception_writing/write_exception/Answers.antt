@@ -11,4 +11,4 @@ pub rooted-requires : goal.rooted-requires
 rooted-requires c =
     let t = c.args.schema.now in
     own-below t (view_user_exception c.args.user_exception)
-    (subst (λ (l : List Slice). IsInstance (of_exceptions t) (RefersIn t c.args.user_exception.graph.instances) (view_slices l)) c.as_slice.ensures (c.is_user_exception.ensures.0 c.if-not-is_user_exception.false))
+    (subst (λ (l : List Slice). IsInstance (of_exceptions t) (RefersIn t c.args.user_exception.graph.instances) (view_slices l)) c.as_slice.ensures (c.is_user_exception.ensures.0 c.if-not-is_user_exception.false).0)
