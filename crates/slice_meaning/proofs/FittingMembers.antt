@@ -215,9 +215,10 @@ compact_id_fits k (Some c) h =
     by_number : (r : Result ℕ CheckKind) (n : ℕ) → r ≡ Ok n → n ≤ 2147483647 → has_number (numbers_of k.tables.classes) n ≡ false → CompactIdFits k.tables (elim r [ Err row ↦ None | Ok n ↦ Some n ])
     by_number (Err row) n e le lacks = absurd cc
     by_number (Ok m) n e le lacks =
-        let same : m ≡ n = cc in
-        (subst (λ (k : ℕ). k ≤ 2147483647) (sym same) le,
-         λ at has. clash (has_number (numbers_of k.tables.classes) m) (number_among k.tables.classes m at has) (ap (has_number (numbers_of k.tables.classes)) same ∙ lacks))
+        let same : m ≡ n = cc in (
+          subst (λ (k : ℕ). k ≤ 2147483647) (sym same) le,
+          λ at has. clash (has_number (numbers_of k.tables.classes) m) (number_among k.tables.classes m at has) (ap (has_number (numbers_of k.tables.classes)) same ∙ lacks),
+        )
 
 pub compact_fits : (k : Known) (word : Word) (compact : Option Constant) (base : Option Path) (fields : List Field) → faults k (items.Class word compact base (Some fields)) ≡ []
     → CompactIdFits (with_class_name k word).tables (compact_of (with_class_name k word) compact)

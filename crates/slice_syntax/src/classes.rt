@@ -7,9 +7,7 @@ ghost use Rattle.slice_syntax.specs.Taking.{Takes};
 use crate::cursor::Cursor;
 use crate::definitions::close;
 use crate::fault::Stop;
-use crate::terminal::{
-    CLASS, CLOSE_ROUND, EXCEPTION, EXTENDS, OPEN_BRACE, OPEN_ROUND, SEMICOLON,
-};
+use crate::terminal::{CLASS, CLOSE_ROUND, EXCEPTION, EXTENDS, OPEN_BRACE, OPEN_ROUND, SEMICOLON};
 use crate::tree::{Constant, Field, Item, Path};
 use crate::words::{TAGGED_MEMBERS, given_value, metadata, scoped, tag, type_word, value};
 use ice_types::List;
