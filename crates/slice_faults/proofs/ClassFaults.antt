@@ -59,16 +59,18 @@ compact_fits k m word compact base fields all none same law is h so =
     subst (λ (m : Known). CompactIdFits m.tables (compact_of m compact)) (sym same) (law (unfaulted all none (faults k (items.Class word compact base (Some fields))) is h so))
 
 -- whether a number is that of a class, as a look-up tells
-pub row_told : (t : Tables) (place n : ℕ) (found : Option ℕ) (none : Bool) → Finds (HasCompactId t n) found → is_some found ≡ not none → where_true (has_number (numbers_of t.classes) n) place rows.BadCompactId ≡ where_true (not none) place rows.BadCompactId
-row_told t place n found none finds is = ap (λ (b : Bool). where_true b place rows.BadCompactId) (told found finds ∙ is)
+pub number_taken : (t : Tables) (n : ℕ) (found : Option ℕ) → Finds (HasCompactId t n) found → has_number (numbers_of t.classes) n ≡ is_some found
+number_taken t n None nowhere = absent (has_number (numbers_of t.classes) n) refl
   where
-    absent : (b : Bool) → has_number (numbers_of t.classes) n ≡ b → ((at : ℕ) → HasCompactId t n at → ⊥) → b ≡ false
-    absent false e none = refl
-    absent true e none = let has = number_at t.classes n e in absurd (none has.0 has.1)
+    absent : (b : Bool) → has_number (numbers_of t.classes) n ≡ b → b ≡ false
+    absent false e = refl
+    absent true e = let has = number_at t.classes n e in absurd (nowhere has.0 has.1)
+number_taken t n (Some at) has = number_among t.classes n at has
 
-    told : (found : Option ℕ) → Finds (HasCompactId t n) found → has_number (numbers_of t.classes) n ≡ is_some found
-    told None none = absent (has_number (numbers_of t.classes) n) refl none
-    told (Some at) has = number_among t.classes n at has
+-- so is its fault
+pub number_noted : (t : Tables) (place n : ℕ) (found : Option ℕ) (is_taken : Bool) (before after : Option Fault) → Finds (HasCompactId t n) found → is_taken ≡ is_some found
+    → after ≡ noted before (where_true is_taken place rows.BadCompactId) → after ≡ noted before (where_true (has_number (numbers_of t.classes) n) place rows.BadCompactId)
+number_noted t place n found is_taken before after finds is so = so ∙ ap (λ (b : Bool). noted before (where_true b place rows.BadCompactId)) (is ∙ sym (number_taken t n found finds))
 
 pub same_fits : (k : Known) (path : Option Path) (fields : List Field) (base : Option ℕ) (members : List Member) → base ≡ base_at (class_named k) path → members ≡ members_of k fields
     → ClassFits k.tables (base_at (class_named k) path) (members_of k fields) → ClassFits k.tables base members

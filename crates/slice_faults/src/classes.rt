@@ -5,10 +5,11 @@ ghost use Rattle.slice_syntax.specs.declared.tree.Item.TheVariants as items;
 ghost use Rattle.slice_syntax.specs.Places.{IsPlain};
 ghost use Rattle.ice_types.specs.Tables.{is_defined};
 ghost use Rattle.ice_types.specs.Fits.{ClassFits, CompactIdFits};
+ghost use Rattle.slice_meaning.specs.declared.fault.CheckKind.TheVariants as rows;
 ghost use Rattle.slice_meaning.specs.Known.{standing_here, with_class_name};
 ghost use Rattle.slice_meaning.specs.Uses.{as_class, class_named};
 ghost use Rattle.slice_meaning.specs.Clashes.{reopened_name, is_class};
-ghost use Rattle.slice_meaning.specs.Members.{compact_faults, compact_of, members_of};
+ghost use Rattle.slice_meaning.specs.Members.{compact_faults, compact_of, members_of, new_number, numbers_of};
 ghost use Rattle.slice_meaning.specs.Faults.{faults, as_class_base, class_base_faults};
 ghost use Rattle.slice_meaning.specs.After.{after, base_at, class_at, with_class_body};
 ghost use Rattle.slice_meaning.specs.Checking.{noted};
@@ -163,18 +164,23 @@ fn note_compact(known: &Known, compact: &Option<Constant>, found: &mut Found)
     ensures { found.new.first ≡ noted found.old.first (compact_faults (known_of known.now) compact.now) }
 {
     if let Some(constant) = compact {
-        note_row(compact_row(known, constant), constant.place, found);
+        let number = number_of(known, CheckKind::BadCompactId, constant);
+        note_number(known, number, constant.place, found);
     }
 }
 
-/// The row that applies to a compact id.
-fn compact_row(known: &Known, constant: &Constant) -> Option<CheckKind>
-    ensures { where_row constant.now.place result ≡ compact_faults (known_of known.now) (Some constant.now) }
+/// The same of the number that is told, or of the row that applies to it.
+fn note_number(known: &Known, number: Result<u32, CheckKind>, place: u32, found: &mut Found)
+    ensures { found.new.first
+        ≡ noted found.old.first (new_number rows.BadCompactId place
+        (numbers_of (known_of known.now).tables.classes) number) }
 {
-    match number_of(known, CheckKind::BadCompactId, constant) {
-        Ok(number) if known.rows.class_numbered(number).is_none() => None,
-        Ok(_) => Some(CheckKind::BadCompactId),
-        Err(row) => Some(row),
+    match number {
+        Ok(number) => {
+            let is_taken = known.rows.class_numbered(number).is_some();
+            found.note_where(is_taken, place, CheckKind::BadCompactId);
+        }
+        Err(row) => found.note_where(true, place, row),
     }
 }
 
