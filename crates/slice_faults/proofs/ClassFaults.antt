@@ -12,8 +12,7 @@ use Rattle.slice_meaning.specs.Known.{Known, standing_here, with_class_name}
 use Rattle.slice_meaning.specs.Clashes.{reopened_name, is_class}
 use Rattle.ice_types.specs.declared.declarations.Member.{Member}
 use Rattle.ice_types.specs.Fits.{ClassFits, CompactIdFits}
-use Rattle.slice_meaning.specs.declared.fault.CheckKind.TheVariants as rows
-use Rattle.slice_meaning.specs.Uses.{class_named, where_true}
+use Rattle.slice_meaning.specs.Uses.{class_named}
 use Rattle.slice_meaning.proofs.FittingMembers.{number_among, number_at}
 use Rattle.slice_meaning.specs.Members.{has_number, numbers_of, compact_faults, compact_of, fields_faults, members_of}
 use Rattle.slice_meaning.specs.Faults.{faults, class_base_faults}
@@ -66,11 +65,6 @@ number_taken t n None nowhere = absent (has_number (numbers_of t.classes) n) ref
     absent false e = refl
     absent true e = let has = number_at t.classes n e in absurd (nowhere has.0 has.1)
 number_taken t n (Some at) has = number_among t.classes n at has
-
--- so is its fault
-pub number_noted : (t : Tables) (place n : ℕ) (found : Option ℕ) (is_taken : Bool) (before after : Option Fault) → Finds (HasCompactId t n) found → is_taken ≡ is_some found
-    → after ≡ noted before (where_true is_taken place rows.BadCompactId) → after ≡ noted before (where_true (has_number (numbers_of t.classes) n) place rows.BadCompactId)
-number_noted t place n found is_taken before after finds is so = so ∙ ap (λ (b : Bool). noted before (where_true b place rows.BadCompactId)) (is ∙ sym (number_taken t n found finds))
 
 pub same_fits : (k : Known) (path : Option Path) (fields : List Field) (base : Option ℕ) (members : List Member) → base ≡ base_at (class_named k) path → members ≡ members_of k fields
     → ClassFits k.tables (base_at (class_named k) path) (members_of k fields) → ClassFits k.tables base members

@@ -9,7 +9,7 @@ ghost use Rattle.slice_meaning.specs.declared.fault.CheckKind.TheVariants as row
 ghost use Rattle.slice_meaning.specs.Known.{standing_here, with_class_name};
 ghost use Rattle.slice_meaning.specs.Uses.{as_class, class_named};
 ghost use Rattle.slice_meaning.specs.Clashes.{reopened_name, is_class};
-ghost use Rattle.slice_meaning.specs.Members.{compact_faults, compact_of, members_of, new_number, numbers_of};
+ghost use Rattle.slice_meaning.specs.Members.{compact_faults, compact_of, has_number, members_of, new_number, numbers_of};
 ghost use Rattle.slice_meaning.specs.Faults.{faults, as_class_base, class_base_faults};
 ghost use Rattle.slice_meaning.specs.After.{after, base_at, class_at, with_class_body};
 ghost use Rattle.slice_meaning.specs.Checking.{noted};
@@ -177,11 +177,17 @@ fn note_number(known: &Known, number: Result<u32, CheckKind>, place: u32, found:
 {
     match number {
         Ok(number) => {
-            let is_taken = known.rows.class_numbered(number).is_some();
-            found.note_where(is_taken, place, CheckKind::BadCompactId);
+            found.note_where(is_taken(known, number), place, CheckKind::BadCompactId);
         }
         Err(row) => found.note_where(true, place, row),
     }
+}
+
+/// Whether a number is that of an earlier class.
+fn is_taken(known: &Known, number: u32) -> bool
+    ensures { result ≡ has_number (numbers_of (known_of known.now).tables.classes) number }
+{
+    known.rows.class_numbered(number).is_some()
 }
 
 /// Notes a base that is no class, or a class that is not defined yet.
