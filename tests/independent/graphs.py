@@ -14,6 +14,8 @@ from values import Cursor, Fault
 TYPE_ID, OPTIONAL, TABLE, SIZED, LAST = 0x03, 0x04, 0x08, 0x10, 0x20
 BITS = 0x3F
 AS_TEXT, AS_INDEX, AS_NUMBER = 1, 2, 3
+# What ids of these forms are called. Of an exception the flags tell no form.
+ID_SORTS = {0: "type id", AS_TEXT: "type id", AS_INDEX: "index", AS_NUMBER: "compact id"}
 END_MARKER = 255
 # From this tag on, a tag has a size of its own behind its leading byte.
 LONG_TAG = 30
@@ -533,7 +535,7 @@ class Writer:
         has_table = self.has_table(it, table)
         flags = form | has_optional * OPTIONAL | has_table * TABLE | SIZED | is_last * LAST
         self.put(bytes([flags]), "kept flags" if is_kept else "flags")
-        self.put(type_id, "index" if form == AS_INDEX else "type id")
+        self.put(type_id, ID_SORTS[form])
         self.put(values.spelled_number(4 + len(inside), "int"), "slice size")
         self.out += inside
         if has_table:
@@ -551,7 +553,7 @@ class Writer:
         has_optional = self.has_optional(it)
         self.put(bytes([form | has_optional * OPTIONAL | is_last * LAST]), "flags")
         if type_id:
-            self.put(type_id, "index" if form == AS_INDEX else "type id")
+            self.put(type_id, ID_SORTS[form])
         for value, kind in zip(it.required, it.row.required):
             yield from self.value(value, kind, self.inline)
         if has_optional:
