@@ -145,15 +145,15 @@ ids_stay of change same (x ∷ xs) zero = ap (λ id. id ∷ map of xs) (same x)
 ids_stay of change same (x ∷ xs) (suc at) = ap (λ ids. of x ∷ ids) (ids_stay of change same xs at)
 
 class_ids : (t : Tables) (place : ℕ) (base compact : Option ℕ) (members : List Member) (id : List ℕ) (row : RowRef) → HasRowId (define_class t place base compact members) id row → HasRowId t id row
-class_ids t place base members id (rows.Seq at) h = h
-class_ids t place base members id (rows.Dict at) h = h
-class_ids t place base members id (rows.Struct at) h = h
-class_ids t place base members id (rows.Enum at) h = h
-class_ids t place base members id (rows.Class at) h =
-    let change : ClassDecl → ClassDecl = λ c. record { id = c.id; base = base; members = members } in
+class_ids t place base compact members id (rows.Seq at) h = h
+class_ids t place base compact members id (rows.Dict at) h = h
+class_ids t place base compact members id (rows.Struct at) h = h
+class_ids t place base compact members id (rows.Enum at) h = h
+class_ids t place base compact members id (rows.Class at) h =
+    let change : ClassDecl → ClassDecl = λ c. record { id = c.id; base = base; compact = compact; members = members } in
     ap (λ l. slice_get l at) (sym (ids_stay (λ c. c.id) change (λ _. refl) t.classes place)) ∙ h
-class_ids t place base members id (rows.Exception at) h = h
-class_ids t place base members id (rows.Interface at) h = h
+class_ids t place base compact members id (rows.Exception at) h = h
+class_ids t place base compact members id (rows.Interface at) h = h
 
 interface_ids : (t : Tables) (place : ℕ) (bases : List ℕ) (ops : List OpDecl) (id : List ℕ) (row : RowRef) → HasRowId (define_interface t place bases ops) id row → HasRowId t id row
 interface_ids t place bases ops id (rows.Seq at) h = h
