@@ -1,0 +1,10 @@
+pub mod Coming
+pub mod Lengths
+pub mod Replying
+pub mod Outcomes
+pub mod Dead
+pub mod Runs
+pub mod Saying
+pub mod Handling
+pub mod Sessions
+pub mod Told

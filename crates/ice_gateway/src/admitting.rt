@@ -28,11 +28,7 @@ pub enum Admitted {
 }
 
 /// The call of this operation with its arguments written anew, or the answer of one that is refused.
-pub(crate) fn admitted(
-    alloc: Global,
-    known: Known<'_>,
-    call: &Call,
-) -> Result<Admitted, AllocError>
+pub(crate) fn admitted(alloc: Global, known: Known<'_>, call: &Call) -> Result<Admitted, AllocError>
     requires { Comes call.now }
     ensures is { IfOk result (λ admitted. admitted
         ≡ with_arguments call.now (body_anew known.schema.now known.operation.now.arguments call.now.body)) }

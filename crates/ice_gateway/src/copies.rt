@@ -35,10 +35,7 @@ fn identity_like(alloc: Global, identity: &Identity) -> Result<Identity, AllocEr
     })
 }
 
-fn context_like(
-    alloc: Global,
-    context: &[(Name, Name)],
-) -> Result<List<(Name, Name)>, AllocError>
+fn context_like(alloc: Global, context: &[(Name, Name)]) -> Result<List<(Name, Name)>, AllocError>
     ensures { IfOk result (λ copy. copy ≡ context.now) }
 {
     let mut copy = List::new(alloc);

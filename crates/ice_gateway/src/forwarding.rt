@@ -1,6 +1,6 @@
 //! Messages that are forwarded.
 
-ghost use Rattle.std.specs.Prelude.{◌≡◌, ◌≤◌, ◌×◌, ◌∷◌, [], ℤ, ℕ, pos, IfOk, IsSome, List, length};
+ghost use Rattle.std.specs.Prelude.{◌≡◌, ◌≤◌, ◌∷◌, [], ℤ, ℕ, pos, IfOk, IsSome, List, length};
 ghost use Rattle.ice_types.specs.Object.{object_tables};
 ghost use Rattle.ice_encoding.specs.Parts.{Each};
 ghost use Rattle.ice_proxy.specs.Usable.{tcp_at};
@@ -79,11 +79,7 @@ fn answer_call<N: Net>(
 }
 
 /// Has the servers answer a request with this call, at endpoints that can be used.
-fn invoked<N: Net>(
-    gateway: &Gateway<'_>,
-    net: &mut N,
-    call: &Call,
-) -> Result<Outcome, AllocError>
+fn invoked<N: Net>(gateway: &Gateway<'_>, net: &mut N, call: &Call) -> Result<Outcome, AllocError>
     requires placed { IsSome (tcp_at 0 gateway.now.upstream.now.endpoints) }
     requires sendable { CanGo call.now }
     ensures told { (runs : List (List Tried))
@@ -161,11 +157,7 @@ fn all_going(gateway: &Gateway<'_>, calls: &[Call]) -> Result<List<Call>, AllocE
 }
 
 /// Sends a message for which no reply comes, where an endpoint can be used.
-fn forward<N: Net>(
-    gateway: &Gateway<'_>,
-    net: &mut N,
-    message: &Message,
-) -> Result<(), AllocError>
+fn forward<N: Net>(gateway: &Gateway<'_>, net: &mut N, message: &Message) -> Result<(), AllocError>
     requires writable { IsWritable message.now }
     requires oneway { IsOneway message.now }
     requires short { KeepsLimit message.now }
@@ -178,7 +170,13 @@ fn forward<N: Net>(
     if tcp_of(gateway.upstream, 0).is_none() {
         return Ok(());
     }
-    match send(gateway.alloc, net, gateway.upstream, message, gateway.retries) {
+    match send(
+        gateway.alloc,
+        net,
+        gateway.upstream,
+        message,
+        gateway.retries,
+    ) {
         Ok(_) => Ok(()),
         Err(WriteFault::Memory) => Err(AllocError),
         Err(WriteFault::TooLong(_)) => unreachable!(),

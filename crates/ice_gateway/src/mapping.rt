@@ -38,11 +38,7 @@ pub(crate) fn answer_to(
 }
 
 /// An answer that was read, with its body written anew.
-fn given_back(
-    gateway: &Gateway<'_>,
-    known: Known<'_>,
-    answer: Answer,
-) -> Result<Answer, AllocError>
+fn given_back(gateway: &Gateway<'_>, known: Known<'_>, answer: Answer) -> Result<Answer, AllocError>
     requires { CameBack answer }
     ensures is { IfOk result (λ back. back ≡ mapped.given_back (seen gateway.now) (operation_seen known) answer) }
     ensures replies { IfOk result IsReply }

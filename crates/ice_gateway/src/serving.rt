@@ -61,7 +61,11 @@ fn serve_next<N: Net>(
             let mut link = link;
             let end = gate_connection(gateway, net, &mut link, messages);
             tray.take_back(link);
-            if end.is_err() { Turn::Starved } else { Turn::Served }
+            if end.is_err() {
+                Turn::Starved
+            } else {
+                Turn::Served
+            }
         }
         Ok(None) => Turn::Over,
         Err(Failed) => Turn::Failed,

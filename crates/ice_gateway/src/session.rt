@@ -27,7 +27,11 @@ use talking::{Heard, hear};
 fn went_on(went: bool) -> Option<GateEnd>
     ensures { result ≡ went_on went }
 {
-    if went { None } else { Some(GateEnd::LinkFailed) }
+    if went {
+        None
+    } else {
+        Some(GateEnd::LinkFailed)
+    }
 }
 
 /// Forwards a request, and writes its answer where one is asked for. False where a write failed.
