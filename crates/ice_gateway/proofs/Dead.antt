@@ -1,6 +1,6 @@
 -- No server may dispatch a message that is not idempotent from any attempt but the last.
-use Rattle.std.proofs.Common.{◌≡◌, ℕ, Bool, true, false, List, [], ◌∷◌, ◌++◌, Option, None, Some, refl, sym, subst, ◌∙◌, inl, inr}
-use Rattle.std.specs.Prelude.{◌↔◌, IsTrue}
+use Rattle.std.proofs.Common.{◌≡◌, Bool, true, false, List, [], ◌∷◌, ◌++◌, Option, None, Some, refl, subst, inl, inr}
+use Rattle.std.specs.Prelude.{IsTrue}
 use Rattle.ice_encoding.specs.Parts.{Each}
 use Rattle.ice_ports.specs.declared.talk.Talk.{Talk}
 use Rattle.retry_core.specs.declared.attempt.Attempt.{Attempt}
@@ -9,7 +9,7 @@ use Rattle.retry_core.specs.Retries.{may_follow}
 use Rattle.ice_messages.specs.declared.message.Answer.{Answer}
 use Rattle.ice_client.specs.declared.outcome.Outcome.{Outcome}
 use Rattle.ice_client.specs.declared.outgoing.Outgoing.{Outgoing}
-use Rattle.ice_client.specs.Rows.{IsReplied, is_stale}
+use Rattle.ice_client.specs.Rows.{is_stale}
 use Rattle.ice_client.specs.Asking.{HasRow}
 use Rattle.ice_client.specs.ClientDid.{Tried, IsFollowed, is_uncached}
 use Rattle.ice_gateway.specs.Laws.{ForwardsOnce, IsDead}

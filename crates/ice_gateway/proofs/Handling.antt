@@ -1,6 +1,6 @@
 -- One message that is handled.
-use Rattle.std.proofs.Common.{◌≡◌, ◌≢◌, ℕ, ◌-◌, ◌<◌, ◌≤◌, ◌^◌, zero, suc, Bool, true, false, List, [], ◌∷◌, ◌++◌, length, refl, sym, ap, ◌∙◌, subst, arith, append-nil}
-use Rattle.std.specs.Prelude.{ℤ, pos, negsuc, Option, Some, None, Result, Ok, Err}
+use Rattle.std.proofs.Common.{◌≡◌, ◌≢◌, ℕ, ◌-◌, ◌≤◌, ◌^◌, zero, suc, Bool, true, false, List, [], ◌∷◌, ◌++◌, length, refl, sym, ap, ◌∙◌, subst, arith, append-nil}
+use Rattle.std.specs.Prelude.{ℤ, pos, negsuc, Option, Result, Ok, Err}
 use Rattle.std.proofs.Math.Facts.{to_z-of_z}
 use Rattle.std.proofs.lemmas.Bool.{ltb-true, ltb-false}
 use mir.Val.{SFits, of_z, to_z, sel}
@@ -19,10 +19,10 @@ use Rattle.ice_client.specs.ClientDid.{Tried}
 use Rattle.ice_gateway.specs.Gate.{Gate}
 use Rattle.ice_gateway.specs.Mapped.{Mapped, admitted}
 use Rattle.ice_gateway.specs.Forwarded.{forwarded, going, id_anew, request_anew}
-use Rattle.ice_gateway.specs.Handled.{Handled, Invocation, WasForwarded, WasAnswered, outcome_of, run_of, replies}
-use Rattle.ice_gateway.specs.Said.{IsBegun, Says}
+use Rattle.ice_gateway.specs.Handled.{Invocation, WasForwarded, WasAnswered, outcome_of, run_of, replies}
+use Rattle.ice_gateway.specs.Said.{Says}
 use Rattle.ice_gateway.specs.Parts.{Answers, Handling, Leaves, Passes}
-use Rattle.ice_gateway.proofs.Saying.{none_begun}
+use Rattle.ice_gateway.proofs.Spoken.{none_begun}
 
 -- ---- ids
 

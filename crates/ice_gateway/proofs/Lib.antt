@@ -4,7 +4,8 @@ pub mod Replying
 pub mod Outcomes
 pub mod Dead
 pub mod Runs
-pub mod Saying
+pub mod Passing
+pub mod Spoken
 pub mod Handling
 pub mod Sessions
 pub mod Told

@@ -1,7 +1,5 @@
 -- What a message that was tried can come to.
-use Rattle.std.proofs.Common.{◌≡◌, ℕ, pos, Bool, true, false, List, [], ◌∷◌, Option, None, Some, IsSome, Ok, refl, sym, subst, ◌∙◌, inl, inr}
-use Rattle.std.specs.Prelude.{Result, Err}
-use Rattle.ice_types.specs.declared.proxy.Endpoint.{Endpoint}
+use Rattle.std.proofs.Common.{◌≡◌, ℕ, Bool, true, false, List, Option, None, Some, IsSome, Ok, refl, sym, subst, ◌∙◌, inl, inr}
 use Rattle.ice_encoding.specs.Parts.{Each}
 use Rattle.ice_ports.specs.declared.talk.Talk.{Talk}
 use Rattle.ice_proxy.specs.Usable.{tcp_at}

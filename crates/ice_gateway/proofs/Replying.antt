@@ -1,6 +1,6 @@
 -- Replies can be written of answers.
-use Rattle.std.proofs.Common.{◌≡◌, ℕ, ℤ, pos, zero, suc, ◌≤◌, ◌<◌, ◌^◌, true, List, [], ◌∷◌, ◌++◌, length, Ok, Err, refl, sym, ap, subst, ◌∙◌, arith, length-append}
-use Rattle.std.specs.Prelude.{Result, IfOk, codes}
+use Rattle.std.proofs.Common.{◌≡◌, ℕ, zero, suc, ◌≤◌, ◌<◌, ◌^◌, true, List, ◌++◌, length, refl, sym, ap, subst, arith, length-append}
+use Rattle.std.specs.Prelude.{codes}
 use Rattle.std.specs.Fmt.{decimal}
 use Rattle.std.proofs.lemmas.Bool.{leb-true}
 use Rattle.ice_types.specs.declared.identity.Identity.{Identity}
@@ -10,11 +10,8 @@ use Rattle.ice_encoding.specs.Parts.{text}
 use Rattle.ice_encoding.specs.Identity as names
 use Rattle.ice_messages.specs.declared.message.Answer.{Answer}
 use Rattle.ice_messages.specs.declared.message.Answer.TheVariants.{Done, Raised, Missing, Unknown}
-use Rattle.ice_messages.specs.declared.message.Message.TheVariants.{Reply}
 use Rattle.ice_messages.specs.Calls as form
-use Rattle.ice_messages.specs.Messages.{SpellsMessage}
 use Rattle.ice_messages.specs.Written.{IsAnswer}
-use Rattle.object_adapter.specs.Refusals.{fault_text}
 use Rattle.object_adapter.specs.Replies.{IsReply}
 use Rattle.object_adapter.proofs.Short.{short_reply, fault_short}
 use Rattle.ice_gateway.specs.Mapped.{results_text}

@@ -1,6 +1,6 @@
 -- Messages that are taken one after the other, and how a session ends.
-use Rattle.std.proofs.Common.{◌≡◌, ◌≢◌, ℕ, ◌+◌, ◌<◌, ◌≤◌, Bool, true, false, ◌||◌, List, [], ◌∷◌, ◌++◌, length, refl, sym, ap, ap₂, ◌∙◌, subst, arith, append_assoc, append-nil, length-append}
-use Rattle.std.specs.Prelude.{Option, Some, None, Result, Ok, Err}
+use Rattle.std.proofs.Common.{◌≡◌, ◌≢◌, ℕ, ◌+◌, ◌<◌, Bool, true, false, ◌||◌, List, [], ◌∷◌, ◌++◌, length, refl, sym, ap, ap₂, ◌∙◌, subst, arith, append_assoc, append-nil, length-append}
+use Rattle.std.specs.Prelude.{Option, Some, None, Result, Ok, Err, IfOk}
 use Rattle.ice_encoding.specs.Parts.{Each}
 use Rattle.ice_ports.specs.declared.talk.Talk.{Talk}
 use Rattle.ice_ports.specs.Talks.{and_then, gives, silent}
@@ -16,7 +16,7 @@ use Rattle.ice_gateway.specs.Handled.{Handled, WasHandled, messages, runs_of, ru
 use Rattle.ice_gateway.specs.Said.{IsSaid, IsBegun, Says}
 use Rattle.ice_gateway.specs.GateDid.{GateDid, Shows, WasSaid, ClosesBy, IsLeft, closing}
 use Rattle.ice_gateway.specs.Parts.{Handling, Next, Part, IsNext, Leaves, went_on}
-use Rattle.ice_gateway.proofs.Saying.{said_then, begun_then, said_begun}
+use Rattle.ice_gateway.proofs.Spoken.{said_then, begun_then, said_begun}
 use Rattle.ice_gateway.proofs.Handling.{one_handled}
 
 -- ---- lists
@@ -293,3 +293,7 @@ module _ (gate : Gate) where
 
   pub starved_first : (E : Type 0) (e : E) (most : ℕ) (t : Talk) → Says {E = E} (Validate ∷ []) t (Err e) → GateDid gate most t [] None
   starved_first E e most t h = not_begun most t None h.0 tt (λ f. absurd cc) (omega arith, omega arith) h.1
+
+pub ok_either : {A B : Type 0} (r : Result A B) (P : A → Type 0) → ((x : A) → P x) → IfOk r P
+ok_either (Ok x) P f = f x
+ok_either (Err e) P f = tt

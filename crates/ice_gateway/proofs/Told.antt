@@ -1,10 +1,10 @@
 -- What listeners and trays tell while links are given, taken back and gathered, and connections that are served, one more.
-use Rattle.std.proofs.Common.{◌≡◌, ◌≢◌, ℕ, ◌+◌, ◌-◌, ◌<◌, ◌≤◌, ◌^◌, ◌⊎◌, inl, inr, if◌then◌else◌, Bool, true, false, List, [], ◌∷◌, ◌++◌, length, refl, sym, ap, ap₂, ◌∙◌, subst, arith, append_assoc, append-nil, length-append}
-use Rattle.std.specs.Prelude.{◌↔◌, nat_lt, Option, Some, None, IfSome, Result, Ok, Err, is_err}
+use Rattle.std.proofs.Common.{◌≡◌, ℕ, ◌+◌, ◌-◌, ◌<◌, ◌^◌, ◌⊎◌, inl, inr, if◌then◌else◌, Bool, true, false, List, [], ◌∷◌, ◌++◌, length, refl, sym, ap, ap₂, ◌∙◌, subst, arith, append_assoc, append-nil, length-append}
+use Rattle.std.specs.Prelude.{◌↔◌, Option, Some, None, IfSome, Result, Ok, Err, is_err}
 use Rattle.std.proofs.lemmas.Bool.{lt-ltb}
 use Rattle.std.proofs.Math.Nat.{min-eq_left}
 use Rattle.ice_ports.specs.declared.talk.Talk.{Talk}
-use Rattle.ice_ports.specs.Talks.{silent, and_then, adds}
+use Rattle.ice_ports.specs.Talks.{silent, adds}
 use Rattle.ice_ports.specs.Failures.{count_after}
 use Rattle.ice_ports.specs.Nets.{ToldListener, told_after, accepted, IsNew, IsEmptyTray, behind, taken_behind, one_talk, gathers}
 use Rattle.ice_client.specs.ClientDid.{Tried}
@@ -14,7 +14,7 @@ use Rattle.ice_gateway.specs.declared.serving.Turn.TheVariants as turns
 use Rattle.ice_gateway.specs.Gate.{Gate}
 use Rattle.ice_gateway.specs.Runs.{NetSeen, Ran}
 use Rattle.ice_gateway.specs.GateDid.{GateDid, end_of}
-use Rattle.ice_gateway.specs.Sessions.{Session, talks, all_runs, AllDid, HasEnd, AllFed, IfFresh, TrayTells, DoorTells, NoneToCome, HasServed, AllServed, serves, starves, runs_out, fails}
+use Rattle.ice_gateway.specs.Sessions.{Session, talks, all_runs, AllDid, HasEnd, AllFed, TrayTells, DoorTells, NoneToCome, HasServed, AllServed, starves, runs_out, fails}
 use Rattle.ice_gateway.proofs.Runs.{ran_none, ran_then}
 
 abbrev door : ℕ → ℕ → List Talk → Option ToldListener

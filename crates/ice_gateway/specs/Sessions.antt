@@ -2,7 +2,6 @@
 use Rattle.std.specs.Prelude.{◌≡◌, ℕ, ◌<◌, ◌-◌, ◌^◌, Bool, true, false, List, [], ◌∷◌, ◌++◌, length, Option, Some, None}
 use Rattle.ice_ports.specs.declared.talk.Talk.{Talk}
 use Rattle.ice_ports.specs.Nets.{ToldListener}
-use Rattle.ice_ports.specs.Talks.{silent}
 use Rattle.ice_client.specs.ClientDid.{Tried}
 use Rattle.ice_gateway.specs.declared.end.GateEnd.{GateEnd}
 use Rattle.ice_gateway.specs.declared.serving.Turn.{Turn}

@@ -13,7 +13,7 @@ ghost use Rattle.ice_gateway.specs.Laws.{CanGo, Comes, IsAdmitted};
 use crate::copies::call_with;
 use crate::gateway::{Gateway, Known, known_of};
 use crate::refusing::{bad_arguments, failed};
-use crate::renewing::{Renewed, renewed};
+use crate::renewing::{Renewed, renew};
 use ice_encoding::LARGEST;
 use ice_messages::{Answer, Call, request_length};
 use std::alloc::{AllocError, Global};
@@ -28,14 +28,14 @@ pub enum Admitted {
 }
 
 /// The call of this operation with its arguments written anew, or the answer of one that is refused.
-pub(crate) fn admitted(alloc: Global, known: Known<'_>, call: &Call) -> Result<Admitted, AllocError>
+pub(crate) fn admit(alloc: Global, known: Known<'_>, call: &Call) -> Result<Admitted, AllocError>
     requires { Comes call.now }
     ensures is { IfOk result (λ admitted. admitted
-        ≡ with_arguments call.now (body_anew known.schema.now known.operation.now.arguments call.now.body)) }
+        ≡ with_arguments call.now (body_anew known.entry.schema.now known.entry.operation.now.arguments call.now.body)) }
     ensures sendable { IfOk result IsAdmitted }
 {
     let arguments = &known.operation.arguments;
-    match renewed(alloc, known.schema, arguments, call.body.as_slice())? {
+    match renew(alloc, known.schema, arguments, call.body.as_slice())? {
         Renewed::Written(body) => fitting(alloc, call_with(alloc, call, body)?),
         Renewed::TooLong => Ok(Admitted::Refused(failed(alloc, "too long")?)),
         Renewed::Broken(fault) => Ok(Admitted::Refused(bad_arguments(alloc, fault)?)),
@@ -64,7 +64,7 @@ pub(crate) fn going(gateway: &Gateway<'_>, call: &Call) -> Result<Option<Call>, 
     let Some(known) = known_of(gateway, call.operation.as_str()) else {
         return Ok(None);
     };
-    match admitted(gateway.alloc, known, call)? {
+    match admit(gateway.alloc, known, call)? {
         Admitted::Goes(call) => Ok(Some(call)),
         Admitted::Refused(_) => Ok(None),
     }

@@ -1,23 +1,22 @@
 //! Messages that are forwarded.
 
-ghost use Rattle.std.specs.Prelude.{◌≡◌, ◌≤◌, ◌∷◌, [], ℤ, ℕ, pos, IfOk, IsSome, List, length};
+ghost use Rattle.std.specs.Prelude.{◌≡◌, pos, IfOk, IsSome, List};
 ghost use Rattle.ice_types.specs.Object.{object_tables};
 ghost use Rattle.ice_encoding.specs.Parts.{Each};
 ghost use Rattle.ice_proxy.specs.Usable.{tcp_at};
 ghost use Rattle.ice_messages.specs.declared.message.Message.TheVariants.{Batch, Request};
-ghost use Rattle.ice_messages.specs.Messages.{SpellsMessage};
 ghost use Rattle.ice_messages.specs.Written.{IsWritable};
 ghost use Rattle.ice_client.specs.ClientDid.{Tried};
 ghost use Rattle.ice_client.specs.Sending.{IsOneway};
 ghost use Rattle.object_adapter.specs.Replies.{CanReply, IsReply, KeepsLimit};
 ghost use Rattle.ice_gateway.specs.Gate.{operation_seen, seen};
-ghost use Rattle.ice_gateway.specs.Mapped.{ByOutcome, Mapped, admitted as admitted_call};
+ghost use Rattle.ice_gateway.specs.Mapped.{ByOutcome, Mapped, admitted};
 ghost use Rattle.ice_gateway.specs.Forwarded as forwarded;
 ghost use Rattle.ice_gateway.specs.Runs.{Ran, net_seen};
 ghost use Rattle.ice_gateway.specs.Parts.{Answers, Passes, Tries};
 ghost use Rattle.ice_gateway.specs.Laws.{CanCome, CanGo, Comes};
 
-use crate::admitting::{Admitted, admitted, going};
+use crate::admitting::{Admitted, admit, going};
 use crate::gateway::{Gateway, Known, known_of};
 use crate::mapping::answer_to;
 use crate::refusing::failed;
@@ -43,13 +42,13 @@ pub(crate) fn answer_request<N: Net>(
         (net_seen (N.told net.old) (N.failures net.old) (N.listen_failures net.old))
         (net_seen (N.told net.new) (N.failures net.new) (N.listen_failures net.new))
         × Answers (seen gateway.now) (forwarded.request_anew (seen gateway.now) (pos 1)
-        (forwarded.going (admitted_call (seen gateway.now) call.now))) (Mapped (seen gateway.now) call.now) runs result }
+        (forwarded.going (admitted (seen gateway.now) call.now))) (Mapped (seen gateway.now) call.now) runs result }
     ensures replies { IfOk result (CanReply call.now) }
 {
     let Some(known) = known_of(gateway, call.operation.as_str()) else {
         return missed(gateway.alloc, 4, call);
     };
-    match admitted(gateway.alloc, known, call)? {
+    match admit(gateway.alloc, known, call)? {
         Admitted::Goes(call) => answer_call(gateway, net, known, &call),
         Admitted::Refused(answer) => Ok(answer),
     }
@@ -68,7 +67,7 @@ fn answer_call<N: Net>(
         (net_seen (N.told net.old) (N.failures net.old) (N.listen_failures net.old))
         (net_seen (N.told net.new) (N.failures net.new) (N.listen_failures net.new))
         × Answers (seen gateway.now) (forwarded.placed (seen gateway.now) (Request (pos 1) call.now))
-        (ByOutcome (seen gateway.now) (operation_seen known)) runs result }
+        (ByOutcome (seen gateway.now) (operation_seen known.entry)) runs result }
     ensures replies { IfOk result IsReply }
 {
     if tcp_of(gateway.upstream, 0).is_none() {
@@ -109,7 +108,7 @@ pub(crate) fn forward_oneway<N: Net>(
         (net_seen (N.told net.old) (N.failures net.old) (N.listen_failures net.old))
         (net_seen (N.told net.new) (N.failures net.new) (N.listen_failures net.new))
         × Passes (seen gateway.now) (forwarded.request_anew (seen gateway.now) (pos 0)
-        (forwarded.going (admitted_call (seen gateway.now) call.now))) runs result }
+        (forwarded.going (admitted (seen gateway.now) call.now))) runs result }
 {
     match going(gateway, call)? {
         Some(call) => forward(gateway, net, &Message::Request { id: 0, call }),

@@ -10,7 +10,7 @@ ghost use Rattle.ice_gateway.specs.Laws.{CameBack, CanCome, IsRenewed};
 
 use crate::gateway::{Gateway, Known};
 use crate::refusing::{bad_results, failed};
-use crate::renewing::{Renewed, renewed, renewed_exception};
+use crate::renewing::{Renewed, renew, renew_exception};
 use ice_client::Outcome;
 use ice_messages::Answer;
 use std::alloc::{AllocError, Global};
@@ -22,7 +22,7 @@ pub(crate) fn answer_to(
     outcome: Outcome,
 ) -> Result<Answer, AllocError>
     requires { CanCome outcome }
-    ensures is { IfOk result (IsOutcomes (seen gateway.now) (operation_seen known) outcome) }
+    ensures is { IfOk result (IsOutcomes (seen gateway.now) (operation_seen known.entry) outcome) }
     ensures replies { IfOk result IsReply }
 {
     let alloc = gateway.alloc;
@@ -40,18 +40,18 @@ pub(crate) fn answer_to(
 /// An answer that was read, with its body written anew.
 fn given_back(gateway: &Gateway<'_>, known: Known<'_>, answer: Answer) -> Result<Answer, AllocError>
     requires { CameBack answer }
-    ensures is { IfOk result (λ back. back ≡ mapped.given_back (seen gateway.now) (operation_seen known) answer) }
+    ensures is { IfOk result (λ back. back ≡ mapped.given_back (seen gateway.now) (operation_seen known.entry) answer) }
     ensures replies { IfOk result IsReply }
 {
     let alloc = gateway.alloc;
     match answer {
         Answer::Done(body) => {
             let results = &known.operation.results;
-            let body = renewed(alloc, known.schema, results, body.as_slice())?;
+            let body = renew(alloc, known.schema, results, body.as_slice())?;
             done(alloc, body)
         }
         Answer::Raised(body) => {
-            let body = renewed_exception(alloc, gateway.schema, body.as_slice())?;
+            let body = renew_exception(alloc, gateway.schema, body.as_slice())?;
             raised(alloc, body)
         }
         Answer::Missing {

@@ -31,7 +31,7 @@ pub enum Renewed {
 }
 
 /// The body of values of this shape.
-pub(crate) fn renewed(
+pub(crate) fn renew(
     alloc: Global,
     schema: &Schema,
     shape: &Shape,
@@ -71,7 +71,7 @@ fn graph_written(
 }
 
 /// The body of a user exception.
-pub(crate) fn renewed_exception(
+pub(crate) fn renew_exception(
     alloc: Global,
     schema: &Schema,
     body: &[u8],

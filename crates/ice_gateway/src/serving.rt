@@ -39,22 +39,22 @@ pub enum Turn {
 }
 
 /// Takes the next link, serves it, and puts it into the tray.
-fn serve_next<N: Net>(
+fn serve_next<N: Net, D: Listener>(
     gateway: &Gateway<'_>,
     net: &mut N,
-    door: &mut N::Listener,
-    tray: &mut <N::Listener as Listener>::Tray,
+    door: &mut D,
+    tray: &mut D::Tray,
     messages: u64,
 ) -> Turn
     requires { gateway.now.object.now ≡ object_tables }
     ensures did { (first : Option ToldListener) (old : NetSeen) (n : ℕ) → n + 1 < 2 ^ 64
-        → HasServed (seen gateway.now) messages first (N.Listener.told door.old) (N.Listener.Tray.told tray.old) old
+        → HasServed (seen gateway.now) messages first (D.told door.old) (D.Tray.told tray.old) old
         (net_seen (N.told net.old) (N.failures net.old) (N.listen_failures net.old)) n false
-        → HasServed (seen gateway.now) messages first (N.Listener.told door.new) (N.Listener.Tray.told tray.new) old
+        → HasServed (seen gateway.now) messages first (D.told door.new) (D.Tray.told tray.new) old
         (net_seen (N.told net.new) (N.failures net.new) (N.listen_failures net.new)) (n + serves result) (starves result) }
-    ensures failures { N.Listener.failures door.new ≡ count_after (N.Listener.failures door.old) (fails result) }
-    ensures nones { N.Listener.nones door.new ≡ count_after (N.Listener.nones door.old) (runs_out result) }
-    ensures no_more { runs_out result ≡ true → NoneToCome (N.Listener.told door.new) }
+    ensures failures { D.failures door.new ≡ count_after (D.failures door.old) (fails result) }
+    ensures nones { D.nones door.new ≡ count_after (D.nones door.old) (runs_out result) }
+    ensures no_more { runs_out result ≡ true → NoneToCome (D.told door.new) }
 {
     match door.accept() {
         Ok(Some(link)) => {
@@ -78,23 +78,23 @@ fn serve_next<N: Net>(
 /// Each link that the listener gave was served and taken back. `failed` says that an accept failed, which the listener
 /// counted; `starved`, that memory lacked. Without both, as many links were accepted as were asked for, or the listener
 /// had no more. What fails upstream, or on one connection, ends no session but its own.
-pub fn gate_all<N: Net>(
+pub fn gate_all<N: Net, D: Listener>(
     gateway: &Gateway<'_>,
     net: &mut N,
-    door: N::Listener,
+    door: D,
     connections: u64,
     messages: u64,
-) -> Gated<N::Listener>
+) -> Gated<D>
     requires { gateway.now.object.now ≡ object_tables }
-    ensures done { AllServed (seen gateway.now) messages (N.Listener.told door) (N.Listener.told result.door)
+    ensures done { AllServed (seen gateway.now) messages (D.told door) (D.told result.door)
         (net_seen (N.told net.old) (N.failures net.old) (N.listen_failures net.old))
         (net_seen (N.told net.new) (N.failures net.new) (N.listen_failures net.new)) result.accepted result.starved }
     ensures few { result.accepted ≤ connections }
-    ensures failures { N.Listener.failures result.door ≡ count_after (N.Listener.failures door) result.failed }
+    ensures failures { D.failures result.door ≡ count_after (D.failures door) result.failed }
     ensures ended { result.failed ≡ false → result.starved ≡ false
-        → ((result.accepted ≡ connections) × (N.Listener.nones result.door ≡ N.Listener.nones door))
-        ⊎ ((N.Listener.nones result.door ≡ count_after (N.Listener.nones door) true)
-        × NoneToCome (N.Listener.told result.door)) }
+        → ((result.accepted ≡ connections) × (D.nones result.door ≡ D.nones door))
+        ⊎ ((D.nones result.door ≡ count_after (D.nones door) true)
+        × NoneToCome (D.told result.door)) }
 {
     let mut door = door;
     let mut tray = door.tray();
@@ -102,7 +102,7 @@ pub fn gate_all<N: Net>(
     let mut turn = Turn::Served;
     while turn == Turn::Served && accepted < connections {
         turn = serve_next(gateway, net, &mut door, &mut tray, messages);
-        accepted += served(turn);
+        accepted += links_of(turn);
     }
     door.gather(tray);
     Gated {
@@ -114,7 +114,7 @@ pub fn gate_all<N: Net>(
 }
 
 /// How many links were served.
-fn served(turn: Turn) -> u64
+fn links_of(turn: Turn) -> u64
     ensures { result ≡ serves turn }
 {
     match turn {
