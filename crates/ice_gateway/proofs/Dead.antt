@@ -34,9 +34,9 @@ not_true : (b : Bool) → (IsTrue b → ⊥) → b ≡ false
 not_true true no = absurd (no refl)
 not_true false no = refl
 
-each_dead : (o : Outgoing) (before behind : List Tried) → o.idempotent ≡ false → Each (IsFollowed o) before → ((x : Tried) → x.cached ≡ false → IsFollowed o x → IsDead o x.talk) → Each is_uncached before → Each (λ (x : Tried). IsDead o x.talk) before
-each_dead o [] behind no followed dead uncached = tt
-each_dead o (x ∷ xs) behind no followed dead uncached = (dead x uncached.0 followed.0, each_dead o xs behind no followed.1 dead uncached.1)
+each_dead : (o : Outgoing) (before : List Tried) → o.idempotent ≡ false → Each (IsFollowed o) before → ((x : Tried) → x.cached ≡ false → IsFollowed o x → IsDead o x.talk) → Each is_uncached before → Each (λ (x : Tried). IsDead o x.talk) before
+each_dead o [] no followed dead uncached = tt
+each_dead o (x ∷ xs) no followed dead uncached = (dead x uncached.0 followed.0, each_dead o xs no followed.1 dead uncached.1)
 
 front : {A : Type 0} (P : A → Type 0) (xs ys : List A) → Each P (xs ++ ys) → Each P xs
 front P [] ys each = tt
@@ -54,5 +54,5 @@ forwards_once m retries tried outcome twice did uncached =
       last,
       did.is_of,
       did.ended.2,
-      each_dead o before (last ∷ []) no did.ended.3 (λ x free followed. row_dead o x.cached x.attempt followed.0.0 x.talk free followed.0.1 (subst (λ (b : Bool). may_follow b x.attempt ≡ true) no followed.1)) all,
+      each_dead o before no did.ended.3 (λ x free followed. row_dead o x.cached x.attempt followed.0.0 x.talk free followed.0.1 (subst (λ (b : Bool). may_follow b x.attempt ≡ true) no followed.1)) all,
     )

@@ -1,5 +1,5 @@
 -- How a message that is due was forwarded, and what that makes of a request.
-use Rattle.std.proofs.Common.{◌≡◌, ◌≢◌, ℕ, pos, ◌<◌, ◌≤◌, ◌⊎◌, inl, inr, Bool, leb, List, [], ◌∷◌, length, refl, sym, ap, subst, arith}
+use Rattle.std.proofs.Common.{◌≡◌, ◌≢◌, ℕ, pos, ◌<◌, ◌≤◌, ◌⊎◌, inl, inr, Bool, leb, List, [], ◌∷◌, length, refl, sym, ap, subst, arith, ◌++◌, append_assoc, append-nil}
 use Rattle.std.specs.Prelude.{Option, Some, None, IsSome, IfOk, Result, Ok, Err, is_some, if◌then◌else◌}
 use Rattle.std.proofs.lemmas.Bool.{le-leb, lt-leb}
 use Rattle.ice_encoding.specs.declared.limits.TheConstants.{LARGEST}
@@ -8,7 +8,9 @@ use Rattle.ice_messages.specs.declared.message.Call.{Call}
 use Rattle.ice_messages.specs.declared.message.Answer.{Answer}
 use Rattle.ice_messages.specs.declared.message.Message.{Message}
 use Rattle.ice_messages.specs.declared.message.Message.TheVariants.{Batch}
+use Rattle.ice_encoding.specs.Parts.{Each}
 use Rattle.ice_messages.specs.Messages.{message_bytes}
+use Rattle.ice_messages.specs.Written.{IsWritableCall}
 use Rattle.ice_client.specs.declared.outcome.Outcome.{Outcome}
 use Rattle.ice_client.specs.declared.outcome.Invoked.{Invoked}
 use Rattle.ice_client.specs.ClientDid.{Tried, Invokes}
@@ -18,7 +20,8 @@ use Rattle.object_adapter.proofs.Short.{replies}
 use Rattle.ice_gateway.specs.declared.admitting.Admitted.{Admitted}
 use Rattle.ice_gateway.specs.Gate.{Gate, Operation, operation_of}
 use Rattle.ice_gateway.specs.Mapped.{Mapped, ByOperation, ByArguments, admitted, admitted_by}
-use Rattle.ice_gateway.specs.Forwarded.{placed, going, request_anew, batch_anew}
+use Rattle.ice_gateway.specs.Forwarded.{placed, going, request_anew, with_call, batch_anew}
+use Rattle.ice_gateway.specs.Laws.{CanGo}
 use Rattle.ice_gateway.specs.Handled.{Invocation, WasForwarded}
 use Rattle.ice_gateway.specs.Parts.{Answers, Passes, Tries}
 use Rattle.ice_gateway.proofs.Outcomes.{was_tried}
@@ -48,7 +51,7 @@ was_sent gate m tried r x some h =
 pub batch_stays : (gate : Gate) (cs : List Call) → (cs ≡ []) ⊎ (LARGEST < length (message_bytes (Batch cs))) → batch_anew gate cs ≡ None
 batch_stays gate [] why = refl
 batch_stays gate (c ∷ cs) (inl none) = absurd cc
-batch_stays gate (c ∷ cs) (inr long) = ap (λ (b : Bool). if b then placed gate (Batch (c ∷ cs)) else None) (lt-leb LARGEST (length (message_bytes (Batch (c ∷ cs)))) long)
+batch_stays gate (c ∷ cs) (inr long) = ap (λ (b : Bool). if b then placed gate (Batch (c ∷ cs)) else None) (lt-leb (length (message_bytes (Batch (c ∷ cs)))) LARGEST long)
 
 pub batch_goes : (gate : Gate) (cs : List Call) → cs ≢ [] → length (message_bytes (Batch cs)) ≤ LARGEST → batch_anew gate cs ≡ placed gate (Batch cs)
 batch_goes gate [] some short = absurd (some refl)
@@ -87,3 +90,17 @@ known_so gate c op a runs r found is h = subst (AnswersBy gate c runs r) found (
 pub each_reply : {E : Type 0} (c : Call) (r : Result Answer E) → IfOk r IsReply → IfOk r (CanReply c)
 each_reply c (Ok answer) is = replies c answer is
 each_reply c (Err e) is = is
+
+-- ---- calls that are put behind others
+
+pub put_behind : (all rest : List Call) (o : Option Call) → (all ++ with_call o []) ++ rest ≡ all ++ with_call o rest
+put_behind all rest None = ap (λ (l : List Call). l ++ rest) (append-nil all)
+put_behind all rest (Some c) = append_assoc all (c ∷ []) rest
+
+pub each_behind : (P : Call → Type 0) (all : List Call) (c : Call) → P c → Each P all → Each P (all ++ c ∷ [])
+each_behind P [] c p each = (p, tt)
+each_behind P (x ∷ xs) c p each = (each.0, each_behind P xs c p each.1)
+
+pub each_writable : (cs : List Call) → Each CanGo cs → Each IsWritableCall cs
+each_writable [] each = tt
+each_writable (c ∷ cs) each = (each.0.0, each_writable cs each.1)

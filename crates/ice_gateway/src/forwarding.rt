@@ -1,6 +1,6 @@
 //! Messages that are forwarded.
 
-ghost use Rattle.std.specs.Prelude.{◌≡◌, pos, IfOk, IsSome, List};
+ghost use Rattle.std.specs.Prelude.{◌++◌, [], OnOk, ◌≡◌, pos, IfOk, IsSome, List};
 ghost use Rattle.ice_types.specs.Object.{object_tables};
 ghost use Rattle.ice_encoding.specs.Parts.{Each};
 ghost use Rattle.ice_proxy.specs.Usable.{tcp_at};
@@ -133,7 +133,10 @@ pub(crate) fn forward_batch<N: Net>(
         (forwarded.calls_anew (seen gateway.now) calls.now)) runs result }
 {
     let calls = all_going(gateway, calls)?;
-    if calls.is_empty() || batch_length(calls.as_slice()) > LARGEST as u64 {
+    if calls.is_empty() {
+        return Ok(());
+    }
+    if batch_length(calls.as_slice()) > LARGEST as u64 {
         return Ok(());
     }
     forward(gateway, net, &Message::Batch { calls })
@@ -148,11 +151,23 @@ fn all_going(gateway: &Gateway<'_>, calls: &[Call]) -> Result<List<Call>, AllocE
 {
     let mut all = List::new(gateway.alloc);
     for call in calls {
-        if let Some(call) = going(gateway, call)? {
-            all.push(call)?;
-        }
+        put_going(gateway, call, &mut all)?;
     }
     Ok(all)
+}
+
+/// Puts a call behind the others, where it is not refused.
+fn put_going(gateway: &Gateway<'_>, call: &Call, all: &mut List<Call>) -> Result<(), AllocError>
+    requires object { gateway.now.object.now ≡ object_tables }
+    requires comes { Comes call.now }
+    ensures put { OnOk result (all.new ≡ all.old
+        ++ forwarded.with_call (forwarded.going (admitted (seen gateway.now) call.now)) []) }
+    ensures sendable { OnOk result (Each CanGo all.old → Each CanGo all.new) }
+{
+    match going(gateway, call)? {
+        Some(call) => all.push(call),
+        None => Ok(()),
+    }
 }
 
 /// Sends a message for which no reply comes, where an endpoint can be used.
