@@ -1,7 +1,8 @@
 -- How a message that is due was forwarded, and what that makes of a request.
-use Rattle.std.proofs.Common.{◌≡◌, ◌≢◌, ℕ, pos, ◌<◌, ◌≤◌, ◌⊎◌, inl, inr, Bool, leb, List, [], ◌∷◌, length, refl, sym, ap, subst, arith, ◌++◌, append_assoc, append-nil}
-use Rattle.std.specs.Prelude.{Option, Some, None, IsSome, IfOk, Result, Ok, Err, is_some, if◌then◌else◌}
+use Rattle.std.proofs.Common.{◌≡◌, ◌≢◌, ℕ, pos, ◌<◌, ◌≤◌, ◌⊎◌, inl, inr, Bool, leb, List, [], ◌∷◌, length, refl, sym, ap, subst, arith, ◌++◌, ◌+◌, ◌∙◌, drop, get_or, append_assoc, append-nil}
+use Rattle.std.specs.Prelude.{Option, Some, None, IsSome, IfOk, OnOk, Result, Ok, Err, is_some, if◌then◌else◌}
 use Rattle.std.proofs.lemmas.Bool.{le-leb, lt-leb}
+use Rattle.std.proofs.lemmas.List.{drop_all, drop_more}
 use Rattle.ice_encoding.specs.declared.limits.TheConstants.{LARGEST}
 use Rattle.ice_proxy.specs.Usable.{tcp_at}
 use Rattle.ice_messages.specs.declared.message.Call.{Call}
@@ -20,7 +21,7 @@ use Rattle.object_adapter.proofs.Short.{replies}
 use Rattle.ice_gateway.specs.declared.admitting.Admitted.{Admitted}
 use Rattle.ice_gateway.specs.Gate.{Gate, Operation, operation_of}
 use Rattle.ice_gateway.specs.Mapped.{Mapped, ByOperation, ByArguments, admitted, admitted_by}
-use Rattle.ice_gateway.specs.Forwarded.{placed, going, request_anew, with_call, batch_anew}
+use Rattle.ice_gateway.specs.Forwarded.{placed, going, request_anew, with_call, calls_anew, batch_anew}
 use Rattle.ice_gateway.specs.Laws.{CanGo}
 use Rattle.ice_gateway.specs.Handled.{Invocation, WasForwarded}
 use Rattle.ice_gateway.specs.Parts.{Answers, Passes, Tries}
@@ -104,3 +105,26 @@ each_behind P (x ∷ xs) c p each = (each.0, each_behind P xs c p each.1)
 pub each_writable : (cs : List Call) → Each CanGo cs → Each IsWritableCall cs
 each_writable [] each = tt
 each_writable (c ∷ cs) each = (each.0.0, each_writable cs each.1)
+
+next_is : (xs : List Call) (i : ℕ) (x : Call) → i < length xs → x ≡ get_or xs i x → drop i xs ≡ x ∷ drop (i + 1) xs
+next_is xs i x lt at = drop_more xs i x lt ∙ ap (λ (y : Call). y ∷ drop (i + 1) xs) (sym at)
+
+-- one call more, and none more
+pub put_next : (gate : Gate) (xs : List Call) (i : ℕ) (x : Call) (all more : List Call) → i < length xs → x ≡ get_or xs i x → more ≡ all ++ with_call (going (admitted gate x)) []
+    → all ++ calls_anew gate (drop i xs) ≡ calls_anew gate xs → more ++ calls_anew gate (drop (i + 1) xs) ≡ calls_anew gate xs
+put_next gate xs i x all more lt at is before =
+    let rest = calls_anew gate (drop (i + 1) xs) in
+    ap (λ (l : List Call). l ++ rest) is ∙ (put_behind all rest (going (admitted gate x)) ∙ (ap (λ (l : List Call). all ++ calls_anew gate l) (sym (next_is xs i x lt at)) ∙ before))
+
+pub put_all : (gate : Gate) (xs : List Call) (i : ℕ) (all : List Call) → length xs ≤ i → all ++ calls_anew gate (drop i xs) ≡ calls_anew gate xs → all ≡ calls_anew gate xs
+put_all gate xs i all le before = sym (append-nil all) ∙ (ap (λ (l : List Call). all ++ calls_anew gate l) (sym (drop_all i xs le)) ∙ before)
+
+pub put_some : {X E : Type 0} (r : Result X E) (old new : List Call) (o : Option Call) (c : Call) → Some c ≡ o → OnOk r (new ≡ old ++ c ∷ []) → OnOk r (new ≡ old ++ with_call o [])
+put_some r old new o c is h = subst (λ (z : Option Call). OnOk r (new ≡ old ++ with_call z [])) is h
+
+pub put_sends : {X E : Type 0} (r : Result X E) (old new : List Call) (c : Call) → CanGo c → OnOk r (new ≡ old ++ c ∷ []) → OnOk r (Each CanGo old → Each CanGo new)
+put_sends (Ok x) old new c can is = λ each. subst (Each CanGo) (sym is) (each_behind CanGo old c can each)
+put_sends (Err e) old new c can is = is
+
+pub put_none : (old : List Call) (o : Option Call) → None ≡ o → old ≡ old ++ with_call o []
+put_none old o is = subst (λ (z : Option Call). old ≡ old ++ with_call z []) is (sym (append-nil old))

@@ -61,11 +61,7 @@ fn serve_next<N: Net, D: Listener>(
             let mut link = link;
             let end = gate_connection(gateway, net, &mut link, messages);
             tray.take_back(link);
-            if end.is_err() {
-                Turn::Starved
-            } else {
-                Turn::Served
-            }
+            turn_of(end.is_err())
         }
         Ok(None) => Turn::Over,
         Err(Failed) => Turn::Failed,
@@ -111,6 +107,16 @@ pub fn gate_all<N: Net, D: Listener>(
         failed: turn == Turn::Failed,
         starved: turn == Turn::Starved,
     }
+}
+
+/// The turn of a link that was served.
+fn turn_of(starved: bool) -> Turn
+    ensures serves { serves result ≡ 1 }
+    ensures starves { starves result ≡ starved }
+    ensures fails { fails result ≡ false }
+    ensures runs_out { runs_out result ≡ false }
+{
+    if starved { Turn::Starved } else { Turn::Served }
 }
 
 /// How many links were served.
