@@ -30,8 +30,8 @@ pub enum Admitted {
 /// The call of this operation with its arguments written anew, or the answer of one that is refused.
 pub(crate) fn admit(alloc: Global, known: Known<'_>, call: &Call) -> Result<Admitted, AllocError>
     requires { Comes call.now }
-    ensures is { IfOk result (λ admitted. admitted
-        ≡ with_arguments call.now (body_anew known.entry.schema.now known.entry.operation.now.arguments call.now.body)) }
+    ensures is { IfOk result (λ admitted. admitted ≡ with_arguments call.now
+        (body_anew known.entry.schema.now known.entry.operation.now.arguments call.now.body)) }
     ensures sendable { IfOk result IsAdmitted }
 {
     let arguments = &known.operation.arguments;

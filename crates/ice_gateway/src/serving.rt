@@ -51,7 +51,8 @@ fn serve_next<N: Net, D: Listener>(
         → HasServed (seen gateway.now) messages first (D.told door.old) (D.Tray.told tray.old) old
         (net_seen (N.told net.old) (N.failures net.old) (N.listen_failures net.old)) n false
         → HasServed (seen gateway.now) messages first (D.told door.new) (D.Tray.told tray.new) old
-        (net_seen (N.told net.new) (N.failures net.new) (N.listen_failures net.new)) (n + serves result) (starves result) }
+        (net_seen (N.told net.new) (N.failures net.new) (N.listen_failures net.new))
+        (n + serves result) (starves result) }
     ensures failures { D.failures door.new ≡ count_after (D.failures door.old) (fails result) }
     ensures nones { D.nones door.new ≡ count_after (D.nones door.old) (runs_out result) }
     ensures no_more { runs_out result ≡ true → NoneToCome (D.told door.new) }
