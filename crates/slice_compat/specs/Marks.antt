@@ -1,0 +1,103 @@
+-- What has been met on the way, and what of it is still to be gone through.
+use Rattle.std.specs.Prelude.{ℕ, ◌≡◌, ◌+◌, ◌<◌, ◌⊎◌, ◌↔◌, ◌∷◌, ◌++◌, [], Bool, true, false, IsTrue, List, length, replicate, count_by, not, unwrap_or, slice_get, Contains, Some, if◌then◌else◌}
+use Rattle.ice_types.specs.declared.kind.TypeRef.{TypeRef}
+use Rattle.ice_types.specs.declared.kind.TypeRef.TheVariants as kinds
+use Rattle.ice_types.specs.Tables.{Tables, is_defined}
+use Rattle.slice_compat.specs.declared.marks.Marks.{Marks}
+use Rattle.slice_compat.specs.declared.node.Node.{Node}
+use Rattle.slice_compat.specs.declared.node.Node.TheVariants as nodes
+use Rattle.slice_compat.specs.Nodes.{Steps, node_of}
+use Rattle.slice_compat.specs.Reached.{Names, IsReached}
+
+-- a flag, which is clear behind the end of its table
+abbrev pub is_met : Marks → Node → Bool
+is_met m (nodes.Seq at) = is_defined m.seqs.items at
+is_met m (nodes.Dict at) = is_defined m.dicts.items at
+is_met m (nodes.Struct at) = is_defined m.structs.items at
+is_met m (nodes.Place at) = is_defined m.places.items at
+is_met m nodes.Anywhere = m.anywhere
+is_met m (nodes.Class at) = is_defined m.classes.items at
+
+-- a flag, which is set behind the end: nothing is to be gone through there
+abbrev pub is_set : List Bool → ℕ → Bool
+is_set flags at = unwrap_or (slice_get flags at) true
+
+abbrev pub is_done : Marks → Node → Bool
+is_done m (nodes.Seq at) = is_set m.seqs.items at
+is_done m (nodes.Dict at) = is_set m.dicts.items at
+is_done m (nodes.Struct at) = is_set m.structs.items at
+is_done m (nodes.Place at) = is_set m.places.items at
+is_done m nodes.Anywhere = m.anywhere
+is_done m (nodes.Class at) = is_set m.classes.items at
+
+-- how many flags are clear
+abbrev pub clear : List Bool → ℕ
+clear flags = count_by not flags
+
+abbrev pub unmet : Marks → ℕ
+unmet m = clear m.seqs.items + clear m.dicts.items + clear m.structs.items + clear m.places.items + clear m.classes.items + (if m.anywhere then 0 else 1)
+
+-- how much is left to do: what is not met yet, and what is still to be gone through
+abbrev pub left : Marks → ℕ
+left m = unmet m + length m.pending.items
+
+-- a flag for each row, all clear, and nothing to be gone through
+pub record NothingMet (t : Tables) (m : Marks) : Type 0 where
+  pub seqs : m.seqs.items ≡ replicate (length t.seqs) false
+  pub dicts : m.dicts.items ≡ replicate (length t.dicts) false
+  pub structs : m.structs.items ≡ replicate (length t.structs) false
+  pub places : m.places.items ≡ replicate (length t.classes) false
+  pub anywhere : m.anywhere ≡ false
+  pub classes : m.classes.items ≡ replicate (length t.classes) false
+  pub pending : m.pending.items ≡ []
+
+-- ---- more is met
+
+-- the flag of one node is set, and all else is as it was
+pub record Sets (node : Node) (old new : Marks) : Type 0 where
+  pub pending : new.pending.items ≡ old.pending.items
+  pub rows : length new.classes.items ≡ length old.classes.items
+  pub done : (n : Node) → is_done new n ≡ true → (is_done old n ≡ true) ⊎ (n ≡ node)
+  pub met : (n : Node) → is_met new n ≡ true → (is_met old n ≡ true) ⊎ (n ≡ node)
+  pub here : is_met new node ≡ true
+  pub kept_done : (n : Node) → is_done old n ≡ true → is_done new n ≡ true
+  pub kept_met : (n : Node) → is_met old n ≡ true → is_met new n ≡ true
+  pub fewer : unmet new + 1 ≡ unmet old
+
+-- More nodes are met, each of them one that may be, and is still to be gone through.
+pub record Spreads (May : Node → Type 0) (old new : Marks) : Type 0 where
+  pub rows : length new.classes.items ≡ length old.classes.items
+  -- each that may be met is met, or there is no row for it
+  pub each : (n : Node) → May n → is_done new n ≡ true
+  pub only : (n : Node) → is_met new n ≡ true → (is_met old n ≡ true) ⊎ May n
+  pub fresh : (n : Node) → is_done new n ≡ true → (is_done old n ≡ true) ⊎ Contains new.pending.items n
+  pub added : (n : Node) → Contains new.pending.items n → Contains old.pending.items n ⊎ (is_met new n ≡ true)
+  pub waiting : (n : Node) → Contains old.pending.items n → Contains new.pending.items n
+  pub kept_done : (n : Node) → is_done old n ≡ true → is_done new n ≡ true
+  pub kept_met : (n : Node) → is_met old n ≡ true → is_met new n ≡ true
+  pub total : left new ≡ left old
+
+-- ---- the search
+
+module _ (t : Tables) (root : TypeRef) where
+  -- what a node stands for is reached
+  abbrev pub Stands : Node → Type 0
+  Stands (nodes.Seq at) = (class : ℕ) → Names t class (kinds.Seq at) → IsReached t root class
+  Stands (nodes.Dict at) = (class : ℕ) → Names t class (kinds.Dict at) → IsReached t root class
+  Stands (nodes.Struct at) = (class : ℕ) → Names t class (kinds.Struct at) → IsReached t root class
+  Stands (nodes.Place at) = (class : ℕ) → Names t class (kinds.Class (Some at)) → IsReached t root class
+  Stands nodes.Anywhere = (class : ℕ) → class < length t.classes → IsReached t root class
+  Stands (nodes.Class at) = IsReached t root at
+
+  -- What has been met so far: all of it is reached, and what it leads to is met, unless it is still to be gone through.
+  pub record IsUnderWay (m : Marks) : Type 0 where
+    pub rows : length m.classes.items ≡ length t.classes
+    pub start : (n : Node) → node_of root ≡ Some n → is_done m n ≡ true
+    pub closed : (n next : Node) → is_done m n ≡ true → Steps t n next → (is_done m next ≡ true) ⊎ Contains m.pending.items n
+    pub sound : (n : Node) → is_met m n ≡ true → Stands n
+    pub waiting : (n : Node) → Contains m.pending.items n → is_met m n ≡ true
+
+  -- a flag for each class, set on those that are reached
+  pub record AreReached (flags : List Bool) : Type 0 where
+    pub rows : length flags ≡ length t.classes
+    pub reached : (class : ℕ) → IsTrue (is_defined flags class) ↔ IsReached t root class
