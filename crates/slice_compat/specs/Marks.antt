@@ -9,26 +9,33 @@ use Rattle.slice_compat.specs.declared.node.Node.TheVariants as nodes
 use Rattle.slice_compat.specs.Nodes.{Steps, node_of}
 use Rattle.slice_compat.specs.Reached.{Names, IsReached}
 
--- a flag, which is clear behind the end of its table
+-- the flags of the table of a node, and its place there
+abbrev pub table_of : Marks → Node → List Bool
+table_of m (nodes.Seq at) = m.seqs.items
+table_of m (nodes.Dict at) = m.dicts.items
+table_of m (nodes.Struct at) = m.structs.items
+table_of m (nodes.Place at) = m.places.items
+table_of m nodes.Anywhere = m.anywhere ∷ []
+table_of m (nodes.Class at) = m.classes.items
+
+abbrev pub place_in : Node → ℕ
+place_in (nodes.Seq at) = at
+place_in (nodes.Dict at) = at
+place_in (nodes.Struct at) = at
+place_in (nodes.Place at) = at
+place_in nodes.Anywhere = 0
+place_in (nodes.Class at) = at
+
+-- a node is met where its flag is set
 abbrev pub is_met : Marks → Node → Bool
-is_met m (nodes.Seq at) = is_defined m.seqs.items at
-is_met m (nodes.Dict at) = is_defined m.dicts.items at
-is_met m (nodes.Struct at) = is_defined m.structs.items at
-is_met m (nodes.Place at) = is_defined m.places.items at
-is_met m nodes.Anywhere = m.anywhere
-is_met m (nodes.Class at) = is_defined m.classes.items at
+is_met m n = is_defined (table_of m n) (place_in n)
 
 -- a flag, which is set behind the end: nothing is to be gone through there
 abbrev pub is_set : List Bool → ℕ → Bool
 is_set flags at = unwrap_or (slice_get flags at) true
 
 abbrev pub is_done : Marks → Node → Bool
-is_done m (nodes.Seq at) = is_set m.seqs.items at
-is_done m (nodes.Dict at) = is_set m.dicts.items at
-is_done m (nodes.Struct at) = is_set m.structs.items at
-is_done m (nodes.Place at) = is_set m.places.items at
-is_done m nodes.Anywhere = m.anywhere
-is_done m (nodes.Class at) = is_set m.classes.items at
+is_done m n = is_set (table_of m n) (place_in n)
 
 -- how many flags are clear
 abbrev pub clear : List Bool → ℕ
@@ -87,7 +94,7 @@ module _ (t : Tables) (root : TypeRef) where
   Stands (nodes.Struct at) = (class : ℕ) → Names t class (kinds.Struct at) → IsReached t root class
   Stands (nodes.Place at) = (class : ℕ) → Names t class (kinds.Class (Some at)) → IsReached t root class
   Stands nodes.Anywhere = (class : ℕ) → class < length t.classes → IsReached t root class
-  Stands (nodes.Class at) = IsReached t root at
+  Stands (nodes.Class at) = at < length t.classes → IsReached t root at
 
   -- What has been met so far: all of it is reached, and what it leads to is met, unless it is still to be gone through.
   pub record IsUnderWay (m : Marks) : Type 0 where

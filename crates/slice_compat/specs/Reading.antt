@@ -1,6 +1,6 @@
 -- Whether what was spelled of a type under one schema can be read of a type under another: of t what was spelled, of u what is read.
-use Rattle.std.specs.Prelude.{ℕ, zero, suc, ◌≡◌, List, [], ◌∷◌, Option, None, Some, slice_get}
-use Rattle.std.specs.List.{Any}
+use Rattle.std.specs.Prelude.{ℕ, zero, suc, ◌≡◌, ◌==◌, Bool, true, List, [], ◌∷◌, Option, None, Some, slice_get}
+use Rattle.std.specs.List.{list_any}
 use Rattle.ice_types.specs.declared.kind.TypeRef.{TypeRef}
 use Rattle.ice_types.specs.declared.kind.TypeRef.TheVariants as kinds
 use Rattle.ice_types.specs.declared.kind.RowRef.TheVariants as rows
@@ -15,14 +15,14 @@ use Rattle.ice_types.specs.Tables.{Tables}
 use Rattle.ice_types.specs.Inherited.{IsA}
 use Rattle.ice_types.specs.Lacking.{AreSame, BothAre, SameId}
 
--- some entry has the number
-abbrev pub HasEntry : List Entry → ℕ → Type 0
-HasEntry entries number = Any (λ e. e.number ≡ number) entries
+-- whether some entry has the number
+abbrev pub has_entry : List Entry → ℕ → Bool
+has_entry entries number = list_any (λ e. e.number == number) entries
 
 -- each number of the first is one of the second
 abbrev pub HaveEntries : List Entry → List Entry → Type 0
 HaveEntries [] others = Unit {0}
-HaveEntries (e ∷ es) others = HasEntry others e.number × HaveEntries es others
+HaveEntries (e ∷ es) others = (has_entry others e.number ≡ true) × HaveEntries es others
 
 abbrev pub ReadsEnum : EnumDecl → EnumDecl → Type 0
 ReadsEnum d e = HaveEntries d.entries e.entries

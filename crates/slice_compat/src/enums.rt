@@ -3,7 +3,7 @@
 ghost use Rattle.std.specs.Prelude.{◌≡◌, ◌↔◌, ℕ, IfOk, IsTrue};
 ghost use Rattle.std.specs.BTreeSet.{contains};
 ghost use Rattle.std.specs.Ordering.{nat_cmp};
-ghost use Rattle.slice_compat.specs.Reading.{HasEntry, HaveEntries};
+ghost use Rattle.slice_compat.specs.Reading.{HaveEntries, has_entry};
 
 use ice_types::Entry;
 use std::alloc::{AllocError, Global};
@@ -19,7 +19,7 @@ pub(crate) fn have_entries(alloc: Global, own: &[Entry], entries: &[Entry]) -> R
 
 /// The numbers of the entries.
 fn numbers_of(alloc: Global, entries: &[Entry]) -> Result<BTreeSet<u32>, AllocError>
-    ensures { IfOk result (λ numbers. (number : ℕ) → IsTrue (contains nat_cmp numbers number) ↔ HasEntry entries.now number) }
+    ensures { IfOk result (λ numbers. (number : ℕ) → contains nat_cmp numbers number ≡ has_entry entries.now number) }
 {
     let mut numbers = BTreeSet::new(alloc);
     for entry in entries {
@@ -30,7 +30,7 @@ fn numbers_of(alloc: Global, entries: &[Entry]) -> Result<BTreeSet<u32>, AllocEr
 
 /// Whether each number of the first entries is among these, which are those of the second.
 fn are_among(own: &[Entry], entries: &[Entry], numbers: &BTreeSet<u32>) -> bool
-    requires { (number : ℕ) → IsTrue (contains nat_cmp numbers.now number) ↔ HasEntry entries.now number }
+    requires { (number : ℕ) → contains nat_cmp numbers.now number ≡ has_entry entries.now number }
     ensures { IsTrue result ↔ HaveEntries own.now entries.now }
 {
     for entry in own {

@@ -17,7 +17,7 @@
 mod answers;
 mod children;
 mod classes;
-mod compatible;
+mod compatibility;
 mod enums;
 mod ids;
 mod marks;
@@ -26,5 +26,5 @@ mod reached;
 mod reading;
 mod verdict;
 
-pub use compatible::compatible;
+pub use compatibility::compatible;
 pub use verdict::{Verdict, Why};
