@@ -5,3 +5,6 @@ pub mod Spreading
 pub mod Setting
 pub mod Tables
 pub mod Searching
+pub mod Linked
+pub mod Failing
+pub mod Meeting

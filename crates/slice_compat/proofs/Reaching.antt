@@ -31,6 +31,11 @@ base_within t rules class base e =
     option_and_then_some (λ (c : ClassDecl). c.base) (slice_get t.classes class) base e
     (λ d row own. omega (arith, flag_within t.defined_classes base (base_fits t d.base base own (rules.classes class d row).0), rules.class_flags))
 
+-- a class with a base is a class of the tables
+pub class_within : (t : Tables) (class base : ℕ) → base_in t.classes class ≡ Some base → class < length t.classes
+class_within t class base e =
+    option_and_then_some (λ (c : ClassDecl). c.base) (slice_get t.classes class) base e (λ d row own. slice_get_within t.classes class d row)
+
 -- ---- by the place
 
 module _ (t : Tables) where

@@ -1,10 +1,10 @@
 //! The classes that extend each class.
 
-ghost use Rattle.std.specs.Prelude.{◌≡◌, ◌<◌, ◌≤◌, ◌+◌, [], IfOk, IsTrue, None, Some, length, replicate, slice_get, option_and_then};
+ghost use Rattle.std.specs.Prelude.{ℕ, ◌≡◌, ◌<◌, ◌+◌, IfOk, None, Some, length, replicate, slice_set};
 ghost use Rattle.ice_types.specs.Inherited.{base_in};
 ghost use Rattle.slice_compat.specs.Children.{AreChildren, AreLinked, link_at};
 
-use ice_types::Schema;
+use ice_types::{ClassDecl, Schema};
 use std::alloc::{AllocError, Global};
 
 /// For each class the last one that extends it, and for each the one before it that extends the same class.
@@ -25,12 +25,23 @@ impl Children {
             first: no_links(alloc, classes.len())?,
             next: no_links(alloc, classes.len())?,
         };
-        for (at, class) in classes.iter().enumerate() {
-            if let Some(base) = class.base {
-                children.put(base, at as u32);
-            }
+        for at in 0..classes.len() {
+            children.add(classes, at as u32);
         }
         Ok(children)
+    }
+
+    /// Puts the next class on the list of its base, where it has one.
+    fn add(&mut self, classes: &[ClassDecl], class: u32)
+        requires linked { AreLinked classes.now class self.old.first.items self.old.next.items }
+        requires class { class < length classes.now }
+        requires base { (base : ℕ) → base_in classes.now class ≡ Some base → base < length classes.now }
+        ensures { AreLinked classes.now (class + 1) self.new.first.items self.new.next.items }
+    {
+        match classes[class as usize].base {
+            Some(base) => self.put(base, class),
+            None => {}
+        }
     }
 
     /// Puts a class before those that extend the same one.

@@ -1,7 +1,8 @@
 //! Whether what was spelled of a class of one schema can be read under another: its tests, one after the other.
 
-ghost use Rattle.std.specs.Prelude.{◌↔◌, ◌≡◌, ◌≤◌, ◌<◌, ◌+◌, length, MatchOption, IfOk, OnOk, IsTrue, Some, slice_get, Option};
+ghost use Rattle.std.specs.Prelude.{◌↔◌, ◌≡◌, ◌+◌, length, MatchOption, IfOk, OnOk, IsTrue, slice_get};
 ghost use Rattle.slice_compat.specs.Answers.{AreAnswers};
+ghost use Rattle.slice_compat.specs.Reading.{Reads};
 ghost use Rattle.slice_compat.specs.Tests.{ClassFails, ClassPasses, ClassReads, Fails, FirstUnread, HaveOneTag, IsLeastUnread};
 ghost use Rattle.slice_compat.specs.Tests.{KeepsNumber, ReadsEach, ReadsOption, required_of};
 
@@ -68,10 +69,10 @@ fn fault_of(
         return Ok(Some(Why::Required(place)));
     }
     let least = least_unread(alloc, old, new, answers, own.members.as_slice(), decl.members.as_slice())?;
-    if let Some(tag) = least {
-        return Ok(Some(Why::Optional(tag)));
+    match least {
+        Some(tag) => Ok(Some(Why::Optional(tag))),
+        None => Ok(None),
     }
-    Ok(None)
 }
 
 /// Whether a compact id stays as it is. A class without one may get one.
@@ -182,11 +183,30 @@ fn reads_option(
     ensures answers { OnOk result (AreAnswers old.now new.now answers.new) }
 {
     for member in members {
-        if have_one_tag(own, member) && !reads(alloc, old, new, answers, own.kind, member.kind)? {
+        if !reads_tagged(alloc, old, new, answers, own, member)? {
             return Ok(false);
         }
     }
     Ok(true)
+}
+
+/// Whether the second member can read the first, where both have one tag.
+fn reads_tagged(
+    alloc: Global,
+    old: &Schema,
+    new: &Schema,
+    answers: &mut Answers,
+    own: &Member,
+    member: &Member,
+) -> Result<bool, AllocError>
+    requires { AreAnswers old.now new.now answers.old }
+    ensures yes { IfOk result (λ yes. IsTrue yes ↔ (HaveOneTag own.now member.now → Reads old.now new.now own.now.kind member.now.kind)) }
+    ensures answers { OnOk result (AreAnswers old.now new.now answers.new) }
+{
+    if !have_one_tag(own, member) {
+        return Ok(true);
+    }
+    reads(alloc, old, new, answers, own.kind, member.kind)
 }
 
 /// Whether both have one tag.

@@ -1,17 +1,17 @@
 //! Whether what was spelled of a type under one schema can be read of a type under another.
 
-ghost use Rattle.std.specs.Prelude.{◌<◌, ◌≤◌, IfOk};
-ghost use Rattle.ice_types.specs.Fits.{IsOf};
+ghost use Rattle.std.specs.Prelude.{IfOk, OnOk, IsTrue, MatchOption};
 ghost use Rattle.slice_compat.specs.Answers.{AreAnswers};
 ghost use Rattle.slice_compat.specs.Marks.{AreReached};
 ghost use Rattle.slice_compat.specs.Reading.{Reads};
+ghost use Rattle.slice_compat.specs.Tests.{ClassFails, ClassPasses};
 ghost use Rattle.slice_compat.specs.Verdicts.{IsVerdict};
 
 use crate::answers::Answers;
 use crate::classes::class_fault;
 use crate::reached::reached_classes;
 use crate::reading::reads;
-use crate::verdict::Verdict;
+use crate::verdict::{Verdict, Why};
 use ice_types::{Schema, TypeRef};
 use std::alloc::{AllocError, Global};
 
@@ -51,14 +51,30 @@ fn first_failing(
 {
     old.rules();
     for (at, reached) in flags.iter().enumerate() {
-        if *reached {
-            if let Some(why) = class_fault(alloc, old, new, answers, at as u32)? {
-                return Ok(Verdict::NoClass {
-                    class: at as u32,
-                    why,
-                });
-            }
+        let class = at as u32;
+        if let Some(why) = fault_where(alloc, old, new, answers, *reached, class)? {
+            return Ok(Verdict::NoClass { class, why });
         }
     }
     Ok(Verdict::Yes)
+}
+
+/// The first test that a class fails, where it is reached.
+fn fault_where(
+    alloc: Global,
+    old: &Schema,
+    new: &Schema,
+    answers: &mut Answers,
+    reached: bool,
+    class: u32,
+) -> Result<Option<Why>, AllocError>
+    requires { AreAnswers old.now new.now answers.old }
+    ensures why { IfOk result (λ why. MatchOption why
+        (IsTrue reached → ClassPasses old.now new.now class) (λ why. IsTrue reached × ClassFails old.now new.now class why)) }
+    ensures answers { OnOk result (AreAnswers old.now new.now answers.new) }
+{
+    if !reached {
+        return Ok(None);
+    }
+    class_fault(alloc, old, new, answers, class)
 }
