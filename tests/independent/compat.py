@@ -93,14 +93,32 @@ def places_in(kind, seen):
         yield from places_in(part, seen)
 
 
+def related(row, children):
+    """Yields a class, those derived from it, and its bases."""
+    waiting = [row]
+    while waiting:
+        it = waiting.pop()
+        yield it
+        waiting += children.get(it, [])
+    while row.base is not None:
+        row = row.base
+        yield row
+
+
 def reached(kind, classes):
     """Returns the classes that a type reaches."""
-    found, seen = set(), set()
+    children = {}
+    for row in classes:
+        children.setdefault(row.base, []).append(row)
+    found, seen, declared = set(), set(), set()
     waiting = list(places_in(kind, seen))
     while waiting:
-        declared = waiting.pop().class_
-        for row in classes:
-            if row not in found and (declared is None or row.is_a(declared) or declared.is_a(row)):
+        it = waiting.pop().class_
+        if it in declared or None in declared:
+            continue
+        declared.add(it)
+        for row in classes if it is None else related(it, children):
+            if row not in found:
                 found.add(row)
                 for member in [*row.required, *row.optional.values()]:
                     waiting += places_in(member, seen)

@@ -28,12 +28,17 @@ node_of (kinds.Proxy at) = None
 node_of (kinds.Class None) = Some nodes.Anywhere
 node_of (kinds.Class (Some declared)) = Some (nodes.Place declared)
 
+-- the type leads there
 abbrev pub IsNodeOf : TypeRef → Node → Type 0
 IsNodeOf kind next = node_of kind ≡ Some next
 
 -- the type of one of the members leads there
 abbrev pub AmongMembers : List Member → Node → Type 0
 AmongMembers members next = (place : ℕ) × (m : Member) × (slice_get members place ≡ Some m) × IsNodeOf m.kind next
+
+-- the class that is the base
+abbrev pub IsBase : Option ℕ → Node → Type 0
+IsBase base next = (at : ℕ) × (base ≡ Some at) × (next ≡ nodes.Class at)
 
 module _ (t : Tables) where
   -- the place of a class that extends this one
@@ -43,10 +48,6 @@ module _ (t : Tables) where
   -- a class of the tables
   abbrev pub IsClass : Node → Type 0
   IsClass next = (class : ℕ) × (class < length t.classes) × (next ≡ nodes.Class class)
-
-  -- the base of the class
-  abbrev pub IsBase : Option ℕ → Node → Type 0
-  IsBase base next = (at : ℕ) × (base ≡ Some at) × (next ≡ nodes.Class at)
 
   -- A type leads to its parts. A place leads to the declared class, and to the places of the classes that extend it. A class
   -- leads to its base, and to the types of its own members.

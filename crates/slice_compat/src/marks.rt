@@ -1,6 +1,6 @@
 //! What has been met on the way to the classes that a type reaches.
 
-ghost use Rattle.std.specs.Prelude.{◌≡◌, ◌++◌, ◌∷◌, ◌⊎◌, [], false, true, OnOk, IfOk, replicate};
+ghost use Rattle.std.specs.Prelude.{◌≡◌, false, OnOk, IfOk, replicate};
 ghost use Rattle.slice_compat.specs.Marks.{NothingMet, Sets, Spreads, is_done, is_set};
 ghost use Rattle.slice_compat.specs.Nodes.{AmongMembers, IsNodeOf};
 

@@ -1,10 +1,9 @@
 //! The classes that a type reaches, found without recursion: each row is gone through once.
 
-ghost use Rattle.std.specs.Prelude.{◌≡◌, OnOk, IfOk, [], None, Some, Option};
-ghost use Rattle.slice_compat.specs.Children.{AreChildren, OnList, link_at};
+ghost use Rattle.std.specs.Prelude.{◌≡◌, OnOk, IfOk, []};
+ghost use Rattle.slice_compat.specs.Children.{AreChildren, link_at};
 ghost use Rattle.slice_compat.specs.Marks.{AreReached, IsUnderWay, Spreads};
 ghost use Rattle.slice_compat.specs.Nodes.{IsBase, IsChild, IsClass, Steps};
-ghost use Rattle.ice_types.specs.declared.kind.TypeRef.{TypeRef};
 
 use crate::children::Children;
 use crate::marks::Marks;
