@@ -60,6 +60,15 @@ abbrev pub Above : Option ℕ → ℕ → Type 0
 Above None class = Unit {0}
 Above (Some other) class = other < class
 
+-- those on the list from the start on that lie above the link
+abbrev pub VisitedOf : List (Option ℕ) → Option ℕ → Option ℕ → Node → Type 0
+VisitedOf next start link n = (class : ℕ) × OnList next start class × Above link class × (n ≡ nodes.Place class)
+
+-- the link is of the list, and what lies above it is not
+pub record IsRest (next : List (Option ℕ)) (start link : Option ℕ) : Type 0 where
+  pub inside : (class : ℕ) → OnList next link class → OnList next start class
+  pub parted : (class : ℕ) → OnList next start class → Above link class ⊎ OnList next link class
+
 module _ (next : List (Option ℕ)) (falls : (class other : ℕ) → link_at next class ≡ Some other → other < class) where
   abbrev Below : Option ℕ → ℕ → Type 0
   Below None class = ⊥
@@ -80,20 +89,11 @@ module _ (next : List (Option ℕ)) (falls : (class other : ℕ) → link_at nex
   on_below : (link : Option ℕ) (class : ℕ) → OnList next link class → Above link class → ⊥
   on_below link class on above = not_both link class (on_list link class on) above
 
-  -- those on the list from the start on that lie above the link
-  abbrev pub Visited : Option ℕ → Option ℕ → Node → Type 0
-  Visited start link n = (class : ℕ) × OnList next start class × Above link class × (n ≡ nodes.Place class)
-
-  -- the link is of the list, and what lies above it is not
-  pub record IsRest (start link : Option ℕ) : Type 0 where
-    pub inside : (class : ℕ) → OnList next link class → OnList next start class
-    pub parted : (class : ℕ) → OnList next start class → Above link class ⊎ OnList next link class
-
-  pub whole_rest : (start : Option ℕ) → IsRest start start
+  pub whole_rest : (start : Option ℕ) → IsRest next start start
   whole_rest start = record { inside = λ class h. h; parted = λ class h. inr h }
 
-  pub none_visited : (start : Option ℕ) (m : Marks) → Spreads (Visited start start) m m
-  none_visited start m = nothing_met (Visited start start) m (λ n h. absurd (on_below start h.0 h.1 h.2))
+  pub none_visited : (start : Option ℕ) (m : Marks) → Spreads (VisitedOf next start start) m m
+  none_visited start m = nothing_met (VisitedOf next start start) m (λ n h. absurd (on_below start h.0 h.1 h.2))
 
   head_or_rest : (link : Option ℕ) (head class : ℕ) → link ≡ Some head → OnList next link class → (class ≡ head) ⊎ OnList next (link_at next head) class
   head_or_rest link head class is (First _) = inl (same_Some class head is)
@@ -106,8 +106,8 @@ module _ (next : List (Option ℕ)) (falls : (class other : ℕ) → link_at nex
       by_link None below = tt
       by_link (Some other) below = omega (arith, below other refl, le)
 
-  module _ (start : Option ℕ) (head : ℕ) (here : IsRest start (Some head)) where
-    pub rest_next : IsRest start (link_at next head)
+  module _ (start : Option ℕ) (head : ℕ) (here : IsRest next start (Some head)) where
+    pub rest_next : IsRest next start (link_at next head)
     rest_next = record {
       inside = λ class h. here.inside class (Later head class h);
       parted = λ class h. either (here.parted class h)
@@ -115,8 +115,8 @@ module _ (next : List (Option ℕ)) (falls : (class other : ℕ) → link_at nex
           (λ on. either (head_or_rest (Some head) head class refl on) (λ is. inl (above_next head class (omega (arith, is)))) (λ rest. inr rest));
     }
 
-    pub visited_more : (a b c : Marks) → Spreads (Visited start (Some head)) a b → Spreads (λ n. n ≡ nodes.Place head) b c → Spreads (Visited start (link_at next head)) a c
-    visited_more a b c = both_met (Visited start (Some head)) (λ n. n ≡ nodes.Place head) (Visited start (link_at next head)) a b c
+    pub visited_more : (a b c : Marks) → Spreads (VisitedOf next start (Some head)) a b → Spreads (λ n. n ≡ nodes.Place head) b c → Spreads (VisitedOf next start (link_at next head)) a c
+    visited_more a b c = both_met (VisitedOf next start (Some head)) (λ n. n ≡ nodes.Place head) (VisitedOf next start (link_at next head)) a b c
         (λ n h. either (here.parted h.0 h.1)
         (λ above. inl (h.0, h.1, above, h.3))
         (λ on. either (head_or_rest (Some head) head h.0 refl on)
@@ -127,7 +127,7 @@ module _ (next : List (Option ℕ)) (falls : (class other : ℕ) → link_at nex
 
 pub all_visited : (t : Tables) (first next : List (Option ℕ)) (linked : AreLinked t.classes (length t.classes) first next) (base : ℕ)
     → ((class : ℕ) → base_in t.classes class ≡ Some base → class < length t.classes) → (a b : Marks)
-    → Spreads (Visited next linked.falls (link_at first base) None) a b → Spreads (IsChild t base) a b
-all_visited t first next linked base within a b = met_as (Visited next linked.falls (link_at first base) None) (IsChild t base) a b
+    → Spreads (VisitedOf next (link_at first base) None) a b → Spreads (IsChild t base) a b
+all_visited t first next linked base within a b = met_as (VisitedOf next (link_at first base) None) (IsChild t base) a b
     (λ n h. (h.0, ((linked.listed base h.0).0 h.1).1, h.3))
     (λ n h. (h.0, (linked.listed base h.0).1 (within h.0 h.1, h.1), tt, h.2))
