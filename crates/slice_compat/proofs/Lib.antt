@@ -4,6 +4,7 @@ pub mod Reaching
 pub mod Spreading
 pub mod Setting
 pub mod Tables
+pub mod Stepping
 pub mod Searching
 pub mod Linked
 pub mod Failing

@@ -1,8 +1,9 @@
 -- The search: what is met is reached, and in the end what is reached is met.
-use Rattle.std.proofs.Common.{ℕ, ◌+◌, ◌<◌, ◌≤◌, ◌≡◌, ◌⊎◌, Bool, true, false, List, [], ◌∷◌, ◌++◌, length, replicate, get_or, Option, None, Some, refl, sym, ◌∙◌, ap, subst, inl, inr, arith}
+use Rattle.std.proofs.Common.{ℕ, ◌+◌, ◌<◌, ◌≤◌, ◌≡◌, ◌⊎◌, Bool, true, false, List, [], ◌∷◌, ◌++◌, length, replicate, get_or, Option, None, Some, Vec, refl, sym, ◌∙◌, ap, subst, inl, inr, arith}
 use Rattle.std.specs.Prelude.{◌↔◌, Contains, IsTrue, slice_get, option_and_then, unwrap_or}
 use Rattle.std.proofs.lemmas.Bool.{cases_lt}
-use Rattle.std.proofs.lemmas.List.{length-replicate, get_or-replicate}
+use Rattle.std.specs.declared.alloc.Global.{Global}
+use Rattle.std.proofs.lemmas.List.{length-append, length-replicate, get_or-replicate}
 use Rattle.std.proofs.lemmas.List.Elements.{Contains-push, Contains-push_cases, Contains-append_left}
 use Rattle.std.proofs.lemmas.Option.{slice_get_within, slice_get_past, slice_get-get_or, option_and_then_some, unwrap_or-slice_get}
 use Rattle.ice_types.specs.declared.kind.TypeRef.{TypeRef}
@@ -16,10 +17,10 @@ use Rattle.slice_compat.specs.declared.marks.Marks.{Marks}
 use Rattle.slice_compat.specs.declared.node.Node.{Node}
 use Rattle.slice_compat.specs.declared.node.Node.TheVariants as nodes
 use Rattle.slice_compat.specs.Nodes.{node_of, IsNodeOf, Steps}
-use Rattle.slice_compat.specs.Marks.{table_of, place_in, is_met, is_done, is_set, NothingMet, Spreads, Stands, IsUnderWay, AreReached}
+use Rattle.slice_compat.specs.Marks.{table_of, place_in, is_met, is_done, is_set, left, NothingMet, Spreads, Stands, IsUnderWay, AreReached}
 use Rattle.slice_compat.specs.Reached.{IsOfPlace, MayName, Names, AtPlace, InElement, InValue, InMember, IsReached, AtOnce, Through}
 use Rattle.slice_compat.proofs.Reaching.{base_within, base_reached, child_names, reached_within}
-use Rattle.slice_compat.proofs.Spreading.{either}
+use Rattle.slice_compat.proofs.Spreading.{either, flags_stay}
 
 -- ---- flags that are all clear
 
@@ -199,3 +200,16 @@ module _ (t : Tables) (rules : IsSchema t) (root : TypeRef) where
         λ r. set_inside m.classes.items class (omega (arith, reached_within t root class r, way.rows)) (reached_done class r),
       );
     }
+
+-- one node is taken off, and what it leads to is met
+pub went_on : (t : Tables) (rules : IsSchema t) (root : TypeRef) (node : Node) (before now : Marks) (waiting : Vec Node Global) → IsUnderWay t root before
+    → before.pending.items ≡ waiting.items ++ node ∷ [] → Spreads (Steps t node) (record before { pending = waiting }) now → IsUnderWay t root now
+went_on t rules root node before now waiting way taken s =
+    goes_on t rules root node before (record before { pending = waiting }) now way taken (flags_stay before waiting) s refl
+
+-- and so there is less to do
+pub less_left : (t : Tables) (node : Node) (before now : Marks) (waiting : Vec Node Global) → before.pending.items ≡ waiting.items ++ node ∷ []
+    → Spreads (Steps t node) (record before { pending = waiting }) now → left now < left before
+less_left t node before now waiting taken s =
+    let fewer : length before.pending.items ≡ length waiting.items + 1 = ap length taken ∙ length-append waiting.items (node ∷ []) in
+    omega (arith, s.total, fewer)

@@ -1,8 +1,9 @@
 -- How what is met spreads: nothing, one node, and one spreading behind another.
-use Rattle.std.proofs.Common.{ℕ, ◌+◌, ◌≡◌, ◌⊎◌, Bool, true, false, List, [], ◌∷◌, ◌++◌, length, Option, None, Some, refl, sym, ◌∙◌, ap, subst, inl, inr, arith}
-use Rattle.std.specs.Prelude.{Contains, unwrap_or, slice_get}
+use Rattle.std.proofs.Common.{ℕ, ◌+◌, ◌≡◌, ◌⊎◌, Bool, true, false, List, [], ◌∷◌, ◌++◌, length, Option, None, Some, Result, Ok, Err, Vec, refl, sym, ◌∙◌, ap, subst, inl, inr, arith}
+use Rattle.std.specs.Prelude.{Contains, OnOk, unwrap_or, slice_get}
 use Rattle.std.proofs.lemmas.List.{length-append}
 use Rattle.std.proofs.lemmas.List.Elements.{Contains-push, Contains-push_cases, Contains-append_left}
+use Rattle.std.specs.declared.alloc.Global.{Global}
 use Rattle.slice_compat.specs.declared.marks.Marks.{Marks}
 use Rattle.slice_compat.specs.declared.node.Node.{Node}
 use Rattle.slice_compat.specs.declared.node.Node.TheVariants as nodes
@@ -11,6 +12,20 @@ use Rattle.slice_compat.specs.Marks.{table_of, place_in, is_met, is_done, unmet,
 pub either : {A B C : Type 0} → A ⊎ B → (A → C) → (B → C) → C
 either (inl a) f g = f a
 either (inr b) f g = g b
+
+-- what holds where a call succeeds
+pub on_ok : {A E P Q : Type 0} (r : Result A E) → (P → Q) → OnOk r P → OnOk r Q
+on_ok (Ok x) go h = go h
+on_ok (Err e) go h = tt
+
+-- what is still to be gone through is no flag
+pub flags_stay : (m : Marks) (waiting : Vec Node Global) (n : Node) → table_of (record m { pending = waiting }) n ≡ table_of m n
+flags_stay m waiting (nodes.Seq at) = refl
+flags_stay m waiting (nodes.Dict at) = refl
+flags_stay m waiting (nodes.Struct at) = refl
+flags_stay m waiting (nodes.Place at) = refl
+flags_stay m waiting nodes.Anywhere = refl
+flags_stay m waiting (nodes.Class at) = refl
 
 set_there : (flag : Option Bool) → unwrap_or flag false ≡ true → unwrap_or flag true ≡ true
 set_there None e = absurd cc
@@ -98,3 +113,8 @@ module _ (node : Node) (old mid new : Marks) (sets : Sets node old mid) (same : 
     kept_met = λ n e. met_same n ∙ sets.kept_met n e;
     total = omega (arith, count, sets.fewer, ap length put, length-append mid.pending.items (node ∷ []), ap length sets.pending);
   }
+
+-- a flag is set, and then the node is put behind the others
+pub met_put : (node : Node) (old mid : Marks) (waiting : Vec Node Global) → Sets node old mid → waiting.items ≡ mid.pending.items ++ node ∷ []
+    → Spreads (λ n. n ≡ node) old (record mid { pending = waiting })
+met_put node old mid waiting sets put = one_met node old mid (record mid { pending = waiting }) sets (flags_stay mid waiting) refl refl put
