@@ -47,22 +47,43 @@ fn spread(schema: &Schema, children: &Children, node: Node, marks: &mut Marks) -
     ensures { OnOk result (Spreads (Steps schema.now node) marks.old marks.new) }
 {
     match node {
-        Node::Seq(at) => match schema.seqs().get(at as usize) {
-            Some(decl) => marks.meet_kind(decl.element),
-            None => Ok(()),
-        },
-        Node::Dict(at) => match schema.dicts().get(at as usize) {
-            Some(decl) => marks.meet_kind(decl.value),
-            None => Ok(()),
-        },
-        Node::Struct(at) => match schema.structs().get(at as usize) {
-            Some(decl) => marks.meet_members(decl.members.as_slice()),
-            None => Ok(()),
-        },
+        Node::Seq(at) => spread_seq(schema, at, marks),
+        Node::Dict(at) => spread_dict(schema, at, marks),
+        Node::Struct(at) => spread_struct(schema, at, marks),
         Node::Place(at) => spread_place(schema, children, at, marks),
         Node::Anywhere => meet_classes(schema, marks),
         Node::Class(at) => spread_class(schema, at, marks),
     }
+}
+
+/// Meets what the element of a sequence leads to.
+fn spread_seq(schema: &Schema, at: u32, marks: &mut Marks) -> Result<(), AllocError>
+    ensures { OnOk result (Spreads (Steps schema.now (Node.Seq at)) marks.old marks.new) }
+{
+    let Some(decl) = schema.seqs().get(at as usize) else {
+        return Ok(());
+    };
+    marks.meet_kind(decl.element)
+}
+
+/// Meets what the value of a dictionary leads to. No class place stands in its key.
+fn spread_dict(schema: &Schema, at: u32, marks: &mut Marks) -> Result<(), AllocError>
+    ensures { OnOk result (Spreads (Steps schema.now (Node.Dict at)) marks.old marks.new) }
+{
+    let Some(decl) = schema.dicts().get(at as usize) else {
+        return Ok(());
+    };
+    marks.meet_kind(decl.value)
+}
+
+/// Meets what the members of a struct lead to.
+fn spread_struct(schema: &Schema, at: u32, marks: &mut Marks) -> Result<(), AllocError>
+    ensures { OnOk result (Spreads (Steps schema.now (Node.Struct at)) marks.old marks.new) }
+{
+    let Some(decl) = schema.structs().get(at as usize) else {
+        return Ok(());
+    };
+    marks.meet_members(decl.members.as_slice())
 }
 
 /// Meets the class that is declared at a place, and the places of those that extend it.
@@ -109,13 +130,11 @@ fn meet_classes(schema: &Schema, marks: &mut Marks) -> Result<(), AllocError>
 fn spread_class(schema: &Schema, at: u32, marks: &mut Marks) -> Result<(), AllocError>
     ensures { OnOk result (Spreads (Steps schema.now (Node.Class at)) marks.old marks.new) }
 {
-    match schema.classes().get(at as usize) {
-        Some(decl) => {
-            meet_base(decl.base, marks)?;
-            marks.meet_members(decl.members.as_slice())
-        }
-        None => Ok(()),
-    }
+    let Some(decl) = schema.classes().get(at as usize) else {
+        return Ok(());
+    };
+    meet_base(decl.base, marks)?;
+    marks.meet_members(decl.members.as_slice())
 }
 
 /// Meets the base of a class, where it has one.
