@@ -9,3 +9,4 @@ pub mod Searching
 pub mod Linked
 pub mod Failing
 pub mod Meeting
+pub mod Putting

@@ -34,6 +34,7 @@ module _ (flags : List Bool) (at : ℕ) (e : is_set flags at ≡ false) where
   pub fewer : clear (set flags at true) + 1 ≡ clear flags
   fewer =
       let here_clear : get_or flags at true ≡ false = sym (unwrap_or-slice_get flags at true) ∙ e in
-      let counted = sum_by-set (λ (b : Bool). cond (not b) 1 0) flags at true true inside in
-      let one : cond (not (get_or flags at true)) 1 0 ≡ 1 = ap (λ (b : Bool). cond (not b) 1 0) here_clear in
+      let weight : Bool → ℕ = λ (b : Bool). cond (not b) 1 0 in
+      let counted = sum_by-set weight flags at true true inside in
+      let one : ◌≡◌ {A = ℕ} (cond (not (get_or flags at true)) 1 0) 1 = ap {B = ℕ} (λ (b : Bool). cond (not b) 1 0) here_clear in
       omega (arith, counted, one)

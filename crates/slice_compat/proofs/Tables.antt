@@ -1,12 +1,12 @@
 -- The flag of one node is set: which flags change, by the table that it is of.
 use Rattle.std.proofs.Common.{ℕ, ◌+◌, ◌≡◌, ◌⊎◌, Bool, true, false, List, [], ◌∷◌, length, set, refl, sym, ◌∙◌, ap, subst, inl, inr, arith}
-use Rattle.std.specs.Prelude.{unwrap_or, slice_get, if◌then◌else◌}
+use Rattle.std.specs.Prelude.{unwrap_or, slice_get}
 use Rattle.std.proofs.lemmas.List.{length-set}
 use Rattle.slice_compat.specs.declared.marks.Marks.{Marks}
 use Rattle.slice_compat.specs.declared.node.Node.{Node}
 use Rattle.slice_compat.specs.declared.node.Node.TheVariants as nodes
 use Rattle.ice_types.specs.Tables.{is_defined}
-use Rattle.slice_compat.specs.Marks.{table_of, place_in, is_met, is_done, is_set, clear, unmet, Sets}
+use Rattle.slice_compat.specs.Marks.{table_of, place_in, is_met, is_done, is_set, clear, if_clear, unmet, Sets}
 use Rattle.slice_compat.proofs.Spreading.{either}
 use Rattle.slice_compat.proofs.Setting.{here, was, kept, fewer}
 
@@ -57,7 +57,7 @@ module _ (old new : Marks) (pending : new.pending.items ≡ old.pending.items) (
 
   pub sets_seq : is_set old.seqs.items at ≡ false → new.seqs.items ≡ set old.seqs.items at true → new.dicts.items ≡ old.dicts.items → new.structs.items ≡ old.structs.items → new.places.items ≡ old.places.items → new.classes.items ≡ old.classes.items → new.anywhere ≡ old.anywhere → Sets (nodes.Seq at) old new
   sets_seq e seqs dicts structs places classes anywhere = sets_one (nodes.Seq at) old new e pending (ap length classes) seqs (seq_changes seqs dicts structs places classes anywhere)
-      (omega (arith, fewer old.seqs.items at e, ap clear seqs, ap clear dicts, ap clear structs, ap clear places, ap clear classes, ap (λ (b : Bool). if b then 0 else 1) anywhere))
+      (omega (arith, fewer old.seqs.items at e, ap clear seqs, ap clear dicts, ap clear structs, ap clear places, ap clear classes, ap if_clear anywhere))
 
   dict_changes : new.seqs.items ≡ old.seqs.items → new.dicts.items ≡ set old.dicts.items at true → new.structs.items ≡ old.structs.items → new.places.items ≡ old.places.items → new.classes.items ≡ old.classes.items → new.anywhere ≡ old.anywhere → (n : Node) → Changes (nodes.Dict at) old new n
   dict_changes seqs dicts structs places classes anywhere (nodes.Seq i) = inl seqs
@@ -69,7 +69,7 @@ module _ (old new : Marks) (pending : new.pending.items ≡ old.pending.items) (
 
   pub sets_dict : is_set old.dicts.items at ≡ false → new.seqs.items ≡ old.seqs.items → new.dicts.items ≡ set old.dicts.items at true → new.structs.items ≡ old.structs.items → new.places.items ≡ old.places.items → new.classes.items ≡ old.classes.items → new.anywhere ≡ old.anywhere → Sets (nodes.Dict at) old new
   sets_dict e seqs dicts structs places classes anywhere = sets_one (nodes.Dict at) old new e pending (ap length classes) dicts (dict_changes seqs dicts structs places classes anywhere)
-      (omega (arith, fewer old.dicts.items at e, ap clear seqs, ap clear dicts, ap clear structs, ap clear places, ap clear classes, ap (λ (b : Bool). if b then 0 else 1) anywhere))
+      (omega (arith, fewer old.dicts.items at e, ap clear seqs, ap clear dicts, ap clear structs, ap clear places, ap clear classes, ap if_clear anywhere))
 
   struct_changes : new.seqs.items ≡ old.seqs.items → new.dicts.items ≡ old.dicts.items → new.structs.items ≡ set old.structs.items at true → new.places.items ≡ old.places.items → new.classes.items ≡ old.classes.items → new.anywhere ≡ old.anywhere → (n : Node) → Changes (nodes.Struct at) old new n
   struct_changes seqs dicts structs places classes anywhere (nodes.Seq i) = inl seqs
@@ -81,7 +81,7 @@ module _ (old new : Marks) (pending : new.pending.items ≡ old.pending.items) (
 
   pub sets_struct : is_set old.structs.items at ≡ false → new.seqs.items ≡ old.seqs.items → new.dicts.items ≡ old.dicts.items → new.structs.items ≡ set old.structs.items at true → new.places.items ≡ old.places.items → new.classes.items ≡ old.classes.items → new.anywhere ≡ old.anywhere → Sets (nodes.Struct at) old new
   sets_struct e seqs dicts structs places classes anywhere = sets_one (nodes.Struct at) old new e pending (ap length classes) structs (struct_changes seqs dicts structs places classes anywhere)
-      (omega (arith, fewer old.structs.items at e, ap clear seqs, ap clear dicts, ap clear structs, ap clear places, ap clear classes, ap (λ (b : Bool). if b then 0 else 1) anywhere))
+      (omega (arith, fewer old.structs.items at e, ap clear seqs, ap clear dicts, ap clear structs, ap clear places, ap clear classes, ap if_clear anywhere))
 
   place_changes : new.seqs.items ≡ old.seqs.items → new.dicts.items ≡ old.dicts.items → new.structs.items ≡ old.structs.items → new.places.items ≡ set old.places.items at true → new.classes.items ≡ old.classes.items → new.anywhere ≡ old.anywhere → (n : Node) → Changes (nodes.Place at) old new n
   place_changes seqs dicts structs places classes anywhere (nodes.Seq i) = inl seqs
@@ -93,7 +93,7 @@ module _ (old new : Marks) (pending : new.pending.items ≡ old.pending.items) (
 
   pub sets_place : is_set old.places.items at ≡ false → new.seqs.items ≡ old.seqs.items → new.dicts.items ≡ old.dicts.items → new.structs.items ≡ old.structs.items → new.places.items ≡ set old.places.items at true → new.classes.items ≡ old.classes.items → new.anywhere ≡ old.anywhere → Sets (nodes.Place at) old new
   sets_place e seqs dicts structs places classes anywhere = sets_one (nodes.Place at) old new e pending (ap length classes) places (place_changes seqs dicts structs places classes anywhere)
-      (omega (arith, fewer old.places.items at e, ap clear seqs, ap clear dicts, ap clear structs, ap clear places, ap clear classes, ap (λ (b : Bool). if b then 0 else 1) anywhere))
+      (omega (arith, fewer old.places.items at e, ap clear seqs, ap clear dicts, ap clear structs, ap clear places, ap clear classes, ap if_clear anywhere))
 
   class_changes : new.seqs.items ≡ old.seqs.items → new.dicts.items ≡ old.dicts.items → new.structs.items ≡ old.structs.items → new.places.items ≡ old.places.items → new.classes.items ≡ set old.classes.items at true → new.anywhere ≡ old.anywhere → (n : Node) → Changes (nodes.Class at) old new n
   class_changes seqs dicts structs places classes anywhere (nodes.Seq i) = inl seqs
@@ -105,7 +105,7 @@ module _ (old new : Marks) (pending : new.pending.items ≡ old.pending.items) (
 
   pub sets_class : is_set old.classes.items at ≡ false → new.seqs.items ≡ old.seqs.items → new.dicts.items ≡ old.dicts.items → new.structs.items ≡ old.structs.items → new.places.items ≡ old.places.items → new.classes.items ≡ set old.classes.items at true → new.anywhere ≡ old.anywhere → Sets (nodes.Class at) old new
   sets_class e seqs dicts structs places classes anywhere = sets_one (nodes.Class at) old new e pending (ap length classes ∙ length-set old.classes.items at true) classes (class_changes seqs dicts structs places classes anywhere)
-      (omega (arith, fewer old.classes.items at e, ap clear seqs, ap clear dicts, ap clear structs, ap clear places, ap clear classes, ap (λ (b : Bool). if b then 0 else 1) anywhere))
+      (omega (arith, fewer old.classes.items at e, ap clear seqs, ap clear dicts, ap clear structs, ap clear places, ap clear classes, ap if_clear anywhere))
 
 -- any class: a table of one flag
 set_first : (b : Bool) → set (b ∷ []) 0 true ≡ true ∷ []
@@ -121,4 +121,4 @@ anywhere_changes old new seqs dicts structs places classes anywhere (nodes.Class
 
 pub sets_anywhere : (old new : Marks) → new.pending.items ≡ old.pending.items → old.anywhere ≡ false → new.seqs.items ≡ old.seqs.items → new.dicts.items ≡ old.dicts.items → new.structs.items ≡ old.structs.items → new.places.items ≡ old.places.items → new.classes.items ≡ old.classes.items → new.anywhere ≡ true → Sets nodes.Anywhere old new
 sets_anywhere old new pending e seqs dicts structs places classes anywhere = sets_one nodes.Anywhere old new e pending (ap length classes) (ap (λ (b : Bool). b ∷ []) anywhere ∙ sym (set_first old.anywhere)) (anywhere_changes old new seqs dicts structs places classes anywhere)
-    (omega (arith, ap clear seqs, ap clear dicts, ap clear structs, ap clear places, ap clear classes, ap (λ (b : Bool). if b then 0 else 1) anywhere, ap (λ (b : Bool). if b then 0 else 1) e))
+    (omega (arith, ap clear seqs, ap clear dicts, ap clear structs, ap clear places, ap clear classes, ap if_clear anywhere, ap if_clear e))

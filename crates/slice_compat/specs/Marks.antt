@@ -1,5 +1,5 @@
 -- What has been met on the way, and what of it is still to be gone through.
-use Rattle.std.specs.Prelude.{ℕ, ◌≡◌, ◌+◌, ◌<◌, ◌⊎◌, ◌↔◌, ◌∷◌, ◌++◌, [], Bool, true, false, IsTrue, List, length, replicate, count_by, not, unwrap_or, slice_get, Contains, Some, if◌then◌else◌}
+use Rattle.std.specs.Prelude.{ℕ, ◌≡◌, ◌+◌, ◌<◌, ◌⊎◌, ◌↔◌, ◌∷◌, ◌++◌, [], Bool, true, false, IsTrue, List, length, replicate, count_by, not, unwrap_or, slice_get, Contains, Some}
 use Rattle.ice_types.specs.declared.kind.TypeRef.{TypeRef}
 use Rattle.ice_types.specs.declared.kind.TypeRef.TheVariants as kinds
 use Rattle.ice_types.specs.Tables.{Tables, is_defined}
@@ -41,8 +41,13 @@ is_done m n = is_set (table_of m n) (place_in n)
 abbrev pub clear : List Bool → ℕ
 clear flags = count_by not flags
 
+-- whether any place was met, counted likewise
+abbrev pub if_clear : Bool → ℕ
+if_clear true = 0
+if_clear false = 1
+
 abbrev pub unmet : Marks → ℕ
-unmet m = clear m.seqs.items + clear m.dicts.items + clear m.structs.items + clear m.places.items + clear m.classes.items + (if m.anywhere then 0 else 1)
+unmet m = clear m.seqs.items + clear m.dicts.items + clear m.structs.items + clear m.places.items + clear m.classes.items + if_clear m.anywhere
 
 -- how much is left to do: what is not met yet, and what is still to be gone through
 abbrev pub left : Marks → ℕ
