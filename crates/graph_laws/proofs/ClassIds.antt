@@ -90,13 +90,7 @@ row_compact t at n d is has = some_is (sym (compact_row t at d is) ∙ has)
     some_is : Some d.compact ≡ Some (Some n) → d.compact ≡ Some n
     some_is e = cc
 
--- a class that has a compact id is a row
-number_row : (t : Tables) (at n : ℕ) → HasCompactId t n at → IsRow t.classes at
-number_row t at n has =
-    let r = row_of_base (λ (c : ClassDecl). c.compact) (slice_get t.classes at) (Some n) (sym (slice_get-map (λ (c : ClassDecl). c.compact) t.classes at) ∙ has) in
-    (r.0, r.1)
-
--- and so is one that has an id
+-- a class that has an id is a row
 pub slice_row : (t : Tables) (id : List ℕ) (at : ℕ) → HasSliceId t id at → IsRow t.classes at
 slice_row t id at h = by_test (is_numbered id) refl
   where

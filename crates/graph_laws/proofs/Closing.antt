@@ -1,6 +1,5 @@
 -- Canonical bytes as one sees them who lacks classes: a slice of such a class is kept as it is written.
 use Rattle.std.proofs.Common.{ℕ, zero, suc, ◌≡◌, ◌<◌, ◌⊎◌, Bool, List, [], ◌∷◌, ◌++◌, length, refl, sym, ap, ◌∙◌, subst, Option, Some, None, inl, inr, arith}
-use Rattle.std.specs.Prelude.{slice_get}
 use Rattle.std.proofs.lemmas.List.{append_assoc}
 use Rattle.ice_types.specs.declared.declarations.Member.{Member}
 use Rattle.ice_types.specs.declared.declarations.Shape.{Shape}
@@ -16,7 +15,7 @@ use Rattle.ice_graphs.specs.Slices.{unknown_bytes}
 use Rattle.ice_graphs.specs.Instances.{slices_of}
 use Rattle.ice_graphs.specs.Visiting.{place}
 use Rattle.ice_graphs.specs.Members.{written_option, written_options, marked_options, written_slice_members}
-use Rattle.ice_graphs.specs.Canonical.{is_there, by_size, table_of, sized_bytes, spelled_by, row_id, written_id}
+use Rattle.ice_graphs.specs.Canonical.{is_there, by_size, table_of, sized_bytes, row_id, written_id}
 use Rattle.graph_laws.proofs.Bases.{IsRow}
 use Rattle.graph_laws.specs.Seeing.{SameClassId}
 use Rattle.graph_laws.proofs.ClassIds.{id_named, named_id, spelled_there}

@@ -1,11 +1,11 @@
 -- What goes well where references stand inline: what is appended is spelled, as many instances have begun as the visits list,
 -- and each that has ended is that of the graph.
-use Rattle.std.proofs.Common.{ℕ, suc, ◌+◌, ◌<◌, ◌≤◌, ◌^◌, ◌≡◌, Bool, true, false, List, [], ◌∷◌, ◌++◌, length, refl, sym, ap, ◌∙◌, subst, arith, inl, inr, Option, Some, None}
+use Rattle.std.proofs.Common.{ℕ, suc, ◌+◌, ◌<◌, ◌≤◌, ◌^◌, ◌≡◌, true, List, [], ◌∷◌, ◌++◌, length, refl, sym, ap, ◌∙◌, subst, arith, inl, inr, Option, Some, None}
 use Rattle.std.specs.Prelude.{slice_get}
 use Rattle.std.proofs.lemmas.Bool.{cases_lt}
 use Rattle.std.proofs.lemmas.List.{length-append}
 use Rattle.ice_types.specs.Tables.{Tables}
-use Rattle.ice_types.specs.CompactIds.{number_in, numbered_id, is_numbered, IsSliceId}
+use Rattle.ice_types.specs.CompactIds.{number_in, numbered_id, IsSliceId}
 use Rattle.ice_types.proofs.SliceIds.{number_there, not_numbered}
 use Rattle.ice_graphs.specs.Classes.{place_of}
 use Rattle.ice_prims.specs.Bytes.{size_bytes, text_bytes}

@@ -57,12 +57,12 @@ row_text t rules class (Some d) is = let id = rules.type_ids d.id (rows.Exceptio
 
 pub exception_texts : (t : Tables) → IsSchema t → (ss : List Slice) → HaveTypeIds ss → HaveTypeTexts (of_exceptions t) ss
 exception_texts t rules [] ids = tt
-exception_texts t rules (known class content ∷ ss) ids = (row_text t rules class (slice_get (of_exceptions t).classes class) refl, exception_texts t rules ss ids)
+exception_texts t rules (known class content ∷ ss) ids = (row_text t rules class (slice_get (of_exceptions t).classes class) refl, exception_texts t rules ss ids.1)
 exception_texts t rules (unknown id bytes optionals table ∷ ss) ids = (ids.0, exception_texts t rules ss ids.1)
 
 pub type_ids-renamed : (f : ℕ → ℕ) (ss : List Slice) → HaveTypeIds ss → HaveTypeIds (map (renamed_slice f) ss)
 type_ids-renamed f [] ids = tt
-type_ids-renamed f (known class content ∷ ss) ids = type_ids-renamed f ss ids
+type_ids-renamed f (known class content ∷ ss) ids = (tt, type_ids-renamed f ss ids.1)
 type_ids-renamed f (unknown id bytes optionals table ∷ ss) ids = (ids.0, type_ids-renamed f ss ids.1)
 
 -- ---- the graph of an exception

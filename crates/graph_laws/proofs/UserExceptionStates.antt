@@ -104,7 +104,7 @@ module _ (t : Tables) (rules : IsSchema t) (reach : Reach) (is : List (List Slic
 
     one_id : (id : List ℕ) (sized : Bool) (class : Option ℕ) (s : Slice) (ss : List Slice) → is_numbered id ≡ false → FormedAs id sized class s → HaveTypeIds ss → HaveTypeIds (s ∷ ss)
     one_id id sized class s ss plain (inl (lacks, is_sized, bytes, optionals, table, is)) later = subst (λ (s : Slice). HaveTypeIds (s ∷ ss)) (sym is) (plain, later)
-    one_id id sized class s ss plain (inr (known_class, content, has, is)) later = subst (λ (s : Slice). HaveTypeIds (s ∷ ss)) (sym is) later
+    one_id id sized class s ss plain (inr (known_class, content, has, is)) later = subst (λ (s : Slice). HaveTypeIds (s ∷ ss)) (sym is) (tt, later)
 
     pub type_ids : (n : ℕ) (ahead : Before) (bytes : List ℕ) (ss : List Slice) (from to : Spelled) → UserExceptionSlices port u reach n ahead bytes ss from to → HaveTypeIds ss
     type_ids zero ahead bytes ss from to h = absurd h

@@ -7,11 +7,15 @@ use Rattle.ice_graphs.specs.Graph.{Slice, known, unknown}
 use Rattle.ice_graphs.specs.Instances.{slices_of}
 use Rattle.ice_graphs.specs.Typed.{IsInstance, RefersIn}
 
--- no kept slice has a compact id: exceptions have none
+-- a slice that is not kept under a compact id
+abbrev pub HasTypeId : Slice → Type 0
+HasTypeId (known class content) = Unit {0}
+HasTypeId (unknown id bytes optionals table) = is_numbered id ≡ false
+
+-- none is kept under a compact id: exceptions have none
 abbrev pub HaveTypeIds : List Slice → Type 0
 HaveTypeIds [] = Unit {0}
-HaveTypeIds (known class content ∷ ss) = HaveTypeIds ss
-HaveTypeIds (unknown id bytes optionals table ∷ ss) = (is_numbered id ≡ false) × HaveTypeIds ss
+HaveTypeIds (s ∷ ss) = HasTypeId s × HaveTypeIds ss
 
 -- Its slices are unknown ones and then an exception of the tables with all its bases in order, or one or more unknown ones
 -- alone. Their members are of the exceptions' own types, and refer to its instances, each of a class that fits.

@@ -1,5 +1,5 @@
 -- What a schema keeps of compact ids.
-use Rattle.std.proofs.Common.{◌≡◌, ◌≢◌, ℕ, zero, suc, ◌+◌, ◌<◌, ◌≤◌, Bool, true, false, cond, List, [], ◌∷◌, ◌++◌, length, map, Option, Some, None, refl, sym, ap, subst, ◌∙◌, arith, inl, inr, ◌⊎◌}
+use Rattle.std.proofs.Common.{◌≡◌, ℕ, zero, suc, ◌+◌, ◌<◌, ◌≤◌, Bool, true, false, cond, List, [], ◌∷◌, ◌++◌, length, map, Option, Some, None, refl, sym, ap, subst, ◌∙◌, arith, inl, inr, ◌⊎◌}
 use Rattle.std.specs.Prelude.{slice_get, IsTrue, nat_eq}
 use Rattle.std.proofs.lemmas.Bool.{eqb-true, eq-eqb}
 use Rattle.std.proofs.lemmas.List.{length-append, map-append}
@@ -11,7 +11,7 @@ use Rattle.ice_types.specs.Rules.{IsSchema, defined}
 use Rattle.ice_types.specs.Ids.{AreNumbered}
 use Rattle.ice_types.proofs.Items.{slice_get-front, slice_get-push, length-changed, map-changed, get_other, get_changed, where_from}
 use Rattle.ice_types.proofs.BaseChains.{get_within}
-use Rattle.ice_types.proofs.Flags.{flag_front, flag_stays, defined_front, defined_more, defined_most, another, now_defined}
+use Rattle.ice_types.proofs.Flags.{flag_front, flag_stays, defined_more, defined_most, another, now_defined}
 
 -- within the limit, none of two classes
 pub record AreCompactIds (ids : List (Option ℕ)) : Type 0 where

@@ -1,6 +1,6 @@
 -- What a schema keeps when a class or an interface is defined.
 use Rattle.std.proofs.Common.{◌≡◌, ◌≢◌, ℕ, zero, suc, ◌+◌, ◌<◌, ◌≤◌, Bool, true, false, cond, List, [], ◌∷◌, length, map, Option, Some, None, refl, sym, ap, subst, ◌∙◌, arith, inl, inr}
-use Rattle.std.specs.Prelude.{slice_get, slice_set, slice_index_or, is_some, All, IsTrue, nat_eq, unwrap_or}
+use Rattle.std.specs.Prelude.{slice_get, slice_set, slice_index_or, is_some, All, nat_eq, unwrap_or}
 use Rattle.std.specs.Option.{option_map}
 use Rattle.std.proofs.lemmas.List.{length-map}
 use Rattle.ice_types.specs.declared.declarations.ClassDecl.{ClassDecl}

@@ -4,7 +4,7 @@ use Rattle.std.specs.Prelude.{get_or, slice_get, nat_le, ◌==◌, if◌then◌e
 use Rattle.std.specs.Fmt.{decimal}
 use Rattle.std.specs.Str.{IsUtf8, IsAscii}
 use Rattle.std.proofs.lemmas.Bool.{leb-true, le-leb}
-use Rattle.std.proofs.lemmas.Fmt.{decimal_is_IsNumeral, decimal_injective, IsAscii-decimal}
+use Rattle.std.proofs.lemmas.Fmt.{decimal_is_IsNumeral, IsAscii-decimal}
 use Rattle.std.proofs.lemmas.Slice.Eq.{bytes_eq-Decides}
 use Rattle.std.proofs.lemmas.Str.{IsUtf8-from_ascii}
 use Rattle.ice_types.specs.declared.kind.RowRef.TheVariants as rows
@@ -169,10 +169,13 @@ kept_number t rules id n utf8 is class finds none answer = by_class class finds 
 
 -- one that begins with `#` and tells none may not
 pub no_kept : (t : Tables) (id : List ℕ) → get_or id 0 0 ≡ 35 → number_in id ≡ None → IsTrue false ↔ IsKeptId t id
-no_kept t id first none = (λ h. absurd cc, λ h. absurd (elim h.0.1 [
-  | inl plain ↦ clash (is_numbered id) (hash id first) plain
-  | inr number ↦ none_some number.0 (sym none ∙ ap number_in number.2 ∙ number_there number.0 number.1)
-]))
+no_kept t id first none = (
+  λ h. absurd cc,
+  λ h. absurd (elim h.0.1 [
+    | inl plain ↦ clash (is_numbered id) (hash id first) plain
+    | inr number ↦ none_some number.0 (sym none ∙ ap number_in number.2 ∙ number_there number.0 number.1)
+  ]),
+)
   where
     none_some : (n : ℕ) → None ≡ Some n → ⊥
     none_some n e = cc

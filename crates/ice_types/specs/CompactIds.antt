@@ -1,5 +1,5 @@
 -- The ids of slices: type ids, and compact ids as texts `#n`. (Ice manual, "Compact Type IDs".)
-use Rattle.std.specs.Prelude.{ℕ, ◌≡◌, ◌≤◌, ◌⊎◌, ◌==◌, ◌&&◌, Bool, true, false, List, [], ◌∷◌, map, drop, Option, None, Some, bytes_eq, nat_le, decimal, if◌then◌else◌}
+use Rattle.std.specs.Prelude.{ℕ, ◌≡◌, ◌≤◌, ◌⊎◌, ◌==◌, ◌&&◌, Bool, false, List, [], ◌∷◌, map, drop, Option, None, Some, bytes_eq, nat_le, decimal, if◌then◌else◌}
 use Rattle.std.specs.Str.{IsUtf8}
 use Rattle.std.specs.Str.Parse.{digits_value}
 use Rattle.ice_types.specs.declared.schema.TheConstants.{MOST_NUMBER}

@@ -1,5 +1,5 @@
 -- What has slices, and the rows of a schema that its slices are of. (Ice manual, "Data Encoding for Class and Exception Types".)
-use Rattle.std.specs.Prelude.{ℕ, List, Option, None, Some, slice_get}
+use Rattle.std.specs.Prelude.{ℕ, List, Option, option_and_then, slice_get}
 use Rattle.ice_types.specs.declared.declarations.ClassDecl.{ClassDecl}
 use Rattle.ice_types.specs.declared.declarations.Shape.{Shape}
 use Rattle.ice_types.specs.Tables.{Tables}
@@ -20,8 +20,7 @@ row_of Exception t id = class_named t id
 
 -- the compact id of a class
 abbrev pub compact_in : Option ClassDecl → Option ℕ
-compact_in None = None
-compact_in (Some d) = d.compact
+compact_in row = option_and_then (λ c. c.compact) row
 
 -- the members that a class declares itself, as they are handed over: both lists are all of them
 abbrev pub own_fields : Tables → ℕ → Shape

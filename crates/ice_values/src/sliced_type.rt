@@ -41,6 +41,7 @@ impl SlicedType {
     pub fn row_by_id(self, schema: &Schema, id: &str) -> Option<u32>
         ensures { result ≡ row_of self (rows_of self schema.now) id.now }
     {
+        schema.rules();
         match self {
             SlicedType::Class => match number_in(id) {
                 Some(number) => self.row_numbered(schema, number),

@@ -6,10 +6,15 @@ use Rattle.ice_prims.specs.Bytes.{text_bytes}
 use Rattle.ice_encoding.specs.Writing.{Piece, exactly}
 use Rattle.ice_graphs.specs.Flags.{IdForm, no_id}
 use Rattle.ice_graphs.specs.Graph.{Slice}
-use Rattle.ice_graphs.specs.Canonical.{Pen, flags_byte, has_optional, written_id, written_head}
+use Rattle.ice_graphs.specs.Classes.{place_of}
+use Rattle.ice_graphs.specs.Canonical.{Pen, flags_byte, has_optional, head_as, written_id, written_head}
 use Rattle.ice_values.specs.SlicedType.{rows_of}
 use Rattle.ice_values.specs.declared.sliced_type.SlicedType.{SlicedType}
 use Rattle.ice_values.specs.declared.sliced_type.SlicedType.TheVariants.{Class, Exception}
+
+-- the flags and a type id, as an index where it was written before, else as a text
+abbrev pub text_head : (IdForm → ℕ) → List ℕ → Piece Pen
+text_head flags id p = head_as (place_of p.ids id) flags id p
 
 -- The flags and an id. Of an exception it always stands as a text, of which the flags tell nothing, and is not counted.
 abbrev pub head_of : SlicedType → (IdForm → ℕ) → List ℕ → Piece Pen

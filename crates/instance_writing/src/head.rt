@@ -1,14 +1,13 @@
 //! What stands before the members of a slice.
 
-ghost use Rattle.std.specs.Prelude.{◌≡◌, ◌+◌, ◌<◌, ◌≤◌, ◌++◌, ◌∷◌, None, OnOk, OnErr};
+ghost use Rattle.std.specs.Prelude.{◌≡◌, ◌+◌, ◌<◌, ◌≤◌, ◌++◌, ◌∷◌, OnOk, OnErr};
 ghost use Rattle.ice_prims.specs.Bytes.{size_bytes, text_bytes};
 ghost use Rattle.ice_types.specs.declared.schema.TheConstants.{MOST_NUMBER};
-ghost use Rattle.ice_types.specs.CompactIds.{number_in};
 ghost use Rattle.ice_graphs.specs.Flags.{as_number, no_id};
-ghost use Rattle.ice_graphs.specs.Canonical.{flags_byte, written_head};
+ghost use Rattle.ice_graphs.specs.Canonical.{flags_byte};
 ghost use Rattle.ice_values.specs.WritingMembers.{WritesPiece};
 ghost use Rattle.instance_writing.specs.Ids.{IsTold, id_of};
-ghost use Rattle.instance_writing.specs.Sorts.{head_of};
+ghost use Rattle.instance_writing.specs.Sorts.{head_of, text_head};
 
 use crate::pen::Pen;
 use crate::written_id::WrittenId;
@@ -90,9 +89,8 @@ fn put_class_head<'a>(
     pen: &mut Pen<'a>,
     out: &mut Vec<u8>,
 ) -> Result<(), AllocError>
-    requires plain { number_in id.now ≡ None }
     ensures { WritesPiece
-        (written_head (λ form. flags_byte form flags.has_optional flags.has_table flags.has_size flags.is_last) id.now)
+        (text_head (λ form. flags_byte form flags.has_optional flags.has_table flags.has_size flags.is_last) id.now)
         result pen.old out.old.items pen.new out.new.items }
 {
     let others = flags.without_id();

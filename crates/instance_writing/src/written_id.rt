@@ -21,7 +21,11 @@ pub(crate) enum WrittenId<'a> {
 
 /// That of a slice: of a known class its compact id where it has one, else its type id; of a kept one the id that was
 /// kept.
-pub(crate) fn written_id<'a>(schema: &'a Schema, sort: SlicedType, slice: &'a Slice) -> WrittenId<'a>
+pub(crate) fn written_id<'a>(
+    schema: &'a Schema,
+    sort: SlicedType,
+    slice: &'a Slice,
+) -> WrittenId<'a>
     ensures id { id_of result ≡ spec.written_id (rows_of sort schema.now) (view_slice slice.now) }
     ensures told { IsTold sort result }
 {

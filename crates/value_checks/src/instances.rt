@@ -7,7 +7,7 @@ ghost use Rattle.ice_prims.specs.Rest.{IsBytes};
 ghost use Rattle.ice_graphs.specs.Classes as classes;
 ghost use Rattle.ice_graphs.specs.Exceptions.{of_exceptions};
 ghost use Rattle.ice_graphs.specs.Typed.{AreBases, AreReferred, IsInstance, IsKnown, RefersIn};
-ghost use Rattle.ice_graphs.specs.UserExceptionTyped.{HaveTypeIds};
+ghost use Rattle.ice_graphs.specs.UserExceptionTyped.{HasTypeId, HaveTypeIds};
 ghost use Rattle.graph_arena.specs.Seen.{view_content, view_slice, view_slices};
 ghost use Rattle.ice_values.specs.SlicedType.{rows_of};
 ghost use Rattle.value_checks.specs.First.{AreSlices, IsFine, IsUnknownSlice, IsSlice};
@@ -34,13 +34,21 @@ fn have_type_ids(slices: &[Slice]) -> bool
     ensures { IsTrue result ↔ HaveTypeIds (view_slices slices.now) }
 {
     for slice in slices {
-        if let Slice::Unknown { id, .. } = slice
-            && id.as_str().starts_with('#')
-        {
+        if !has_type_id(slice) {
             return false;
         }
     }
     true
+}
+
+/// Whether it is not kept under a compact id.
+fn has_type_id(slice: &Slice) -> bool
+    ensures { IsTrue result ↔ HasTypeId (view_slice slice.now) }
+{
+    match slice {
+        Slice::Known { .. } => true,
+        Slice::Unknown { id, .. } => !id.as_str().starts_with('#'),
+    }
 }
 
 /// Whether the instance at a place is of its class.
@@ -111,8 +119,13 @@ fn is_unknown_id(schema: &Schema, sort: SlicedType, id: &Name) -> bool
     let id = id.as_str();
     match sort {
         SlicedType::Class => schema.kept_id(id),
-        SlicedType::Exception if id.starts_with('#') => number_in(id).is_some(),
-        SlicedType::Exception => schema.exception(id).is_none(),
+        SlicedType::Exception => {
+            if id.starts_with('#') {
+                number_in(id).is_some()
+            } else {
+                schema.exception(id).is_none()
+            }
+        }
     }
 }
 

@@ -6,7 +6,7 @@ use Rattle.ice_types.proofs.schema.Schema.define_class.Goals as goal
 pub put-requires-in-Some : goal.put-requires-in-Some
 put-requires-in-Some c =
     room_for_one c.self.inside.rows c.fill_class.new.classes c.put.new.self c.args.self.now (row_in c.self.inside.ids) c.self.invariant.0 c.self.view_is (class_in c.self.inside.compact_ids) (room_in c.self.inside.compact_ids) c.self.invariant.1
-      c.args.at c.args.base c.args.compact c.args.members c.class_bases_from-bases.result c.fill_class.ensures c.put.ensures c.requires.there c.requires.undefined
+    c.args.at c.args.base c.args.compact c.args.members c.class_bases_from-bases.result c.fill_class.ensures c.put.ensures c.requires.there c.requires.undefined
 
 pub invariant_of-self : goal.invariant_of-self
 invariant_of-self c = (
