@@ -64,11 +64,25 @@ fn fault_of(
     if required.len() != others.len() {
         return Ok(Some(Why::Members));
     }
-    let unread = first_unread(alloc, old, new, answers, required.as_slice(), others.as_slice())?;
+    let unread = first_unread(
+        alloc,
+        old,
+        new,
+        answers,
+        required.as_slice(),
+        others.as_slice(),
+    )?;
     if let Some(place) = unread {
         return Ok(Some(Why::Required(place)));
     }
-    let least = least_unread(alloc, old, new, answers, own.members.as_slice(), decl.members.as_slice())?;
+    let least = least_unread(
+        alloc,
+        old,
+        new,
+        answers,
+        own.members.as_slice(),
+        decl.members.as_slice(),
+    )?;
     match least {
         Some(tag) => Ok(Some(Why::Optional(tag))),
         None => Ok(None),

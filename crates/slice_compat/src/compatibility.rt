@@ -31,7 +31,15 @@ pub fn compatible(
         return Ok(Verdict::NoRoot);
     }
     let flags = reached_classes(alloc, old, old_kind)?;
-    first_failing(alloc, old, old_kind, new, new_kind, &mut answers, flags.as_slice())
+    first_failing(
+        alloc,
+        old,
+        old_kind,
+        new,
+        new_kind,
+        &mut answers,
+        flags.as_slice(),
+    )
 }
 
 /// The verdict by the classes that are reached.

@@ -10,7 +10,11 @@ use std::alloc::{AllocError, Global};
 use std::collections::BTreeSet;
 
 /// Whether the second entries have each number of the first.
-pub(crate) fn have_entries(alloc: Global, own: &[Entry], entries: &[Entry]) -> Result<bool, AllocError>
+pub(crate) fn have_entries(
+    alloc: Global,
+    own: &[Entry],
+    entries: &[Entry],
+) -> Result<bool, AllocError>
     ensures { IfOk result (λ yes. IsTrue yes ↔ HaveEntries own.now entries.now) }
 {
     let numbers = numbers_of(alloc, entries)?;

@@ -12,7 +12,11 @@ use ice_types::{Schema, TypeRef};
 use std::alloc::{AllocError, Global};
 
 /// A flag for each class, set on those whose instances a value of the type may name.
-pub(crate) fn reached_classes(alloc: Global, schema: &Schema, kind: TypeRef) -> Result<Vec<bool>, AllocError>
+pub(crate) fn reached_classes(
+    alloc: Global,
+    schema: &Schema,
+    kind: TypeRef,
+) -> Result<Vec<bool>, AllocError>
     ensures { IfOk result (λ flags. AreReached schema.now kind flags.items) }
 {
     let children = Children::of(alloc, schema)?;
@@ -42,7 +46,12 @@ fn go_through(
 }
 
 /// Meets what a node leads to.
-fn spread(schema: &Schema, children: &Children, node: Node, marks: &mut Marks) -> Result<(), AllocError>
+fn spread(
+    schema: &Schema,
+    children: &Children,
+    node: Node,
+    marks: &mut Marks,
+) -> Result<(), AllocError>
     requires { AreChildren schema.now children.now }
     ensures { OnOk result (Spreads (Steps schema.now node) marks.old marks.new) }
 {
@@ -87,7 +96,12 @@ fn spread_struct(schema: &Schema, at: u32, marks: &mut Marks) -> Result<(), Allo
 }
 
 /// Meets the class that is declared at a place, and the places of those that extend it.
-fn spread_place(schema: &Schema, children: &Children, at: u32, marks: &mut Marks) -> Result<(), AllocError>
+fn spread_place(
+    schema: &Schema,
+    children: &Children,
+    at: u32,
+    marks: &mut Marks,
+) -> Result<(), AllocError>
     requires { AreChildren schema.now children.now }
     ensures { OnOk result (Spreads (Steps schema.now (Node.Place at)) marks.old marks.new) }
 {
@@ -96,7 +110,12 @@ fn spread_place(schema: &Schema, children: &Children, at: u32, marks: &mut Marks
 }
 
 /// Meets the places of the classes that extend this one.
-fn meet_children(schema: &Schema, children: &Children, base: u32, marks: &mut Marks) -> Result<(), AllocError>
+fn meet_children(
+    schema: &Schema,
+    children: &Children,
+    base: u32,
+    marks: &mut Marks,
+) -> Result<(), AllocError>
     requires { AreChildren schema.now children.now }
     ensures { OnOk result (Spreads (IsChild schema.now base) marks.old marks.new) }
 {
