@@ -16,7 +16,8 @@ ghost use Rattle.slice_compat.specs.Reading.{Reads};
 
 /// An optional member of a type that can be read stands in one format under both schemas.
 pub fn formats_same()
-    ensures { (t u : Tables) (kind other : TypeRef) → Reads t u kind other → optional_format t kind ≡ optional_format u other }
+    ensures { (t u : Tables) (kind other : TypeRef)
+        → Reads t u kind other → optional_format t kind ≡ optional_format u other }
 {}
 
 /// What spells a value of a type spells the same value of each type that can read it.

@@ -3,7 +3,8 @@
 ghost use Rattle.std.specs.Prelude.{◌↔◌, ◌≡◌, ◌+◌, length, MatchOption, IfOk, OnOk, IsTrue, slice_get};
 ghost use Rattle.slice_compat.specs.Answers.{AreAnswers};
 ghost use Rattle.slice_compat.specs.Reading.{Reads};
-ghost use Rattle.slice_compat.specs.Tests.{ClassFails, ClassPasses, ClassReads, Fails, FirstUnread, HaveOneTag, IsLeastUnread};
+ghost use Rattle.slice_compat.specs.Tests.{ClassFails, ClassPasses, ClassReads, Fails, FirstUnread};
+ghost use Rattle.slice_compat.specs.Tests.{HaveOneTag, IsLeastUnread};
 ghost use Rattle.slice_compat.specs.Tests.{KeepsNumber, ReadsEach, ReadsOption, required_of};
 
 use crate::answers::Answers;
@@ -22,7 +23,8 @@ pub(crate) fn class_fault(
     at: u32,
 ) -> Result<Option<Why>, AllocError>
     requires { AreAnswers old.now new.now answers.old }
-    ensures why { IfOk result (λ why. MatchOption why (ClassPasses old.now new.now at) (ClassFails old.now new.now at)) }
+    ensures why { IfOk result (λ why.
+        MatchOption why (ClassPasses old.now new.now at) (ClassFails old.now new.now at)) }
     ensures answers { OnOk result (AreAnswers old.now new.now answers.new) }
 {
     old.rules();
@@ -122,7 +124,8 @@ fn first_unread(
     requires answers { AreAnswers old.now new.now answers.old }
     requires as_many { length own.now ≡ length others.now }
     ensures place { IfOk result (λ place.
-        MatchOption place (ReadsEach old.now new.now own.now others.now) (FirstUnread old.now new.now own.now others.now)) }
+        MatchOption place (ReadsEach old.now new.now own.now others.now)
+        (FirstUnread old.now new.now own.now others.now)) }
     ensures answers { OnOk result (AreAnswers old.now new.now answers.new) }
 {
     for (at, first) in own.iter().enumerate() {
@@ -214,7 +217,8 @@ fn reads_tagged(
     member: &Member,
 ) -> Result<bool, AllocError>
     requires { AreAnswers old.now new.now answers.old }
-    ensures yes { IfOk result (λ yes. IsTrue yes ↔ (HaveOneTag own.now member.now → Reads old.now new.now own.now.kind member.now.kind)) }
+    ensures yes { IfOk result (λ yes. IsTrue yes ↔
+        (HaveOneTag own.now member.now → Reads old.now new.now own.now.kind member.now.kind)) }
     ensures answers { OnOk result (AreAnswers old.now new.now answers.new) }
 {
     if !have_one_tag(own, member) {

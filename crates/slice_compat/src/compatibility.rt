@@ -78,7 +78,8 @@ fn fault_where(
 ) -> Result<Option<Why>, AllocError>
     requires { AreAnswers old.now new.now answers.old }
     ensures why { IfOk result (λ why. MatchOption why
-        (IsTrue reached → ClassPasses old.now new.now class) (λ why. IsTrue reached × ClassFails old.now new.now class why)) }
+        (IsTrue reached → ClassPasses old.now new.now class)
+        (λ why. IsTrue reached × ClassFails old.now new.now class why)) }
     ensures answers { OnOk result (AreAnswers old.now new.now answers.new) }
 {
     if !reached {

@@ -3,7 +3,8 @@
 ghost use Rattle.std.specs.Prelude.{◌↔◌, ◌≡◌, ◌+◌, ◌≤◌, ◌<◌, IfOk, OnOk, IsTrue, slice_get};
 ghost use Rattle.ice_types.specs.Lacking.{BothAre};
 ghost use Rattle.slice_compat.specs.Answers.{AreAnswers};
-ghost use Rattle.slice_compat.specs.Reading.{Reads, ReadsDict, ReadsEnum, ReadsMembers, ReadsParts, ReadsSeq, ReadsStruct, ReadsWithin};
+ghost use Rattle.slice_compat.specs.Reading.{Reads, ReadsDict, ReadsEnum, ReadsMembers, ReadsParts};
+ghost use Rattle.slice_compat.specs.Reading.{ReadsSeq, ReadsStruct, ReadsWithin};
 
 use crate::answers::Answers;
 use crate::enums::have_entries;
@@ -62,7 +63,8 @@ fn reads_parts(
 ) -> Result<bool, AllocError>
     requires levels { levels < MOST_DEPTH }
     requires answers { AreAnswers old.now new.now answers.old }
-    ensures yes { IfOk result (λ yes. IsTrue yes ↔ ReadsParts old.now new.now (ReadsWithin old.now new.now levels) kind other) }
+    ensures yes { IfOk result (λ yes. IsTrue yes ↔
+        ReadsParts old.now new.now (ReadsWithin old.now new.now levels) kind other) }
     ensures answers { OnOk result (AreAnswers old.now new.now answers.new) }
 {
     match kind {
@@ -107,7 +109,8 @@ fn reads_seq(
     requires levels { levels < MOST_DEPTH }
     requires answers { AreAnswers old.now new.now answers.old }
     ensures yes { IfOk result (λ yes. IsTrue yes ↔
-        BothAre (ReadsSeq old.now new.now (ReadsWithin old.now new.now levels)) (slice_get old.now.seqs a) (slice_get new.now.seqs b)) }
+        BothAre (ReadsSeq old.now new.now (ReadsWithin old.now new.now levels))
+        (slice_get old.now.seqs a) (slice_get new.now.seqs b)) }
     ensures answers { OnOk result (AreAnswers old.now new.now answers.new) }
 {
     let Some(own) = old.seqs().get(a as usize) else {
@@ -133,7 +136,8 @@ fn reads_dict(
     requires levels { levels < MOST_DEPTH }
     requires answers { AreAnswers old.now new.now answers.old }
     ensures yes { IfOk result (λ yes. IsTrue yes ↔
-        BothAre (ReadsDict old.now new.now (ReadsWithin old.now new.now levels)) (slice_get old.now.dicts a) (slice_get new.now.dicts b)) }
+        BothAre (ReadsDict old.now new.now (ReadsWithin old.now new.now levels))
+        (slice_get old.now.dicts a) (slice_get new.now.dicts b)) }
     ensures answers { OnOk result (AreAnswers old.now new.now answers.new) }
 {
     let Some(own) = old.dicts().get(a as usize) else {
@@ -163,7 +167,8 @@ fn reads_struct(
     requires levels { levels < MOST_DEPTH }
     requires answers { AreAnswers old.now new.now answers.old }
     ensures yes { IfOk result (λ yes. IsTrue yes ↔
-        BothAre (ReadsStruct old.now new.now (ReadsWithin old.now new.now levels)) (slice_get old.now.structs a) (slice_get new.now.structs b)) }
+        BothAre (ReadsStruct old.now new.now (ReadsWithin old.now new.now levels))
+        (slice_get old.now.structs a) (slice_get new.now.structs b)) }
     ensures answers { OnOk result (AreAnswers old.now new.now answers.new) }
 {
     // An answer holds at each number of levels within which the struct nests, which is each that is met here.
@@ -192,7 +197,8 @@ fn compares_structs(
     requires levels { levels < MOST_DEPTH }
     requires answers { AreAnswers old.now new.now answers.old }
     ensures yes { IfOk result (λ yes. IsTrue yes ↔
-        BothAre (ReadsStruct old.now new.now (ReadsWithin old.now new.now levels)) (slice_get old.now.structs a) (slice_get new.now.structs b)) }
+        BothAre (ReadsStruct old.now new.now (ReadsWithin old.now new.now levels))
+        (slice_get old.now.structs a) (slice_get new.now.structs b)) }
     ensures answers { OnOk result (AreAnswers old.now new.now answers.new) }
 {
     let Some(own) = old.structs().get(a as usize) else {
@@ -225,7 +231,8 @@ fn read_members(
 ) -> Result<bool, AllocError>
     requires levels { levels < MOST_DEPTH }
     requires answers { AreAnswers old.now new.now answers.old }
-    ensures yes { IfOk result (λ yes. IsTrue yes ↔ ReadsMembers old.now new.now (ReadsWithin old.now new.now levels) own.now members.now) }
+    ensures yes { IfOk result (λ yes. IsTrue yes ↔
+        ReadsMembers old.now new.now (ReadsWithin old.now new.now levels) own.now members.now) }
     ensures answers { OnOk result (AreAnswers old.now new.now answers.new) }
 {
     for (at, first) in own.iter().enumerate() {
@@ -250,7 +257,8 @@ fn reads_enum(
     b: u32,
 ) -> Result<bool, AllocError>
     requires { AreAnswers old.now new.now answers.old }
-    ensures yes { IfOk result (λ yes. IsTrue yes ↔ BothAre ReadsEnum (slice_get old.now.enums a) (slice_get new.now.enums b)) }
+    ensures yes { IfOk result (λ yes. IsTrue yes ↔
+        BothAre ReadsEnum (slice_get old.now.enums a) (slice_get new.now.enums b)) }
     ensures answers { OnOk result (AreAnswers old.now new.now answers.new) }
 {
     if let Some(yes) = answers.of_enums(a, b) {
@@ -263,7 +271,8 @@ fn reads_enum(
 
 /// The same, number by number.
 fn compares_enums(alloc: Global, old: &Schema, new: &Schema, a: u32, b: u32) -> Result<bool, AllocError>
-    ensures { IfOk result (λ yes. IsTrue yes ↔ BothAre ReadsEnum (slice_get old.now.enums a) (slice_get new.now.enums b)) }
+    ensures { IfOk result (λ yes. IsTrue yes ↔
+        BothAre ReadsEnum (slice_get old.now.enums a) (slice_get new.now.enums b)) }
 {
     let Some(own) = old.enums().get(a as usize) else {
         return Ok(false);
