@@ -4,7 +4,7 @@ ghost use Rattle.std.specs.Prelude.{◌↔◌, ◌≡◌, ◌+◌, length, Match
 ghost use Rattle.slice_compat.specs.Answers.{AreAnswers};
 ghost use Rattle.slice_compat.specs.Reading.{Reads};
 ghost use Rattle.slice_compat.specs.Tests.{ClassFails, ClassPasses, ClassReads, Fails, FirstUnread};
-ghost use Rattle.slice_compat.specs.Tests.{HaveOneTag, IsLeastUnread};
+ghost use Rattle.slice_compat.specs.Tests.{HaveOneTag, IsLeastUnread, KeepsBase, KeepsCompactId};
 ghost use Rattle.slice_compat.specs.Tests.{KeepsNumber, ReadsEach, ReadsOption, required_of};
 
 use crate::answers::Answers;
@@ -61,6 +61,25 @@ fn fault_of(
     if !keeps_number(own.compact, decl.compact) {
         return Ok(Some(Why::CompactId));
     }
+    members_fault(alloc, old, new, answers, own, decl)
+}
+
+/// The same of classes whose bases and compact ids stand.
+fn members_fault(
+    alloc: Global,
+    old: &Schema,
+    new: &Schema,
+    answers: &mut Answers,
+    own: &ClassDecl,
+    decl: &ClassDecl,
+) -> Result<Option<Why>, AllocError>
+    requires answers { AreAnswers old.now new.now answers.old }
+    requires base { KeepsBase old.now new.now own.now decl.now }
+    requires compact { KeepsCompactId old.now new.now own.now decl.now }
+    ensures why { IfOk result (λ why.
+        MatchOption why (ClassReads old.now new.now own.now decl.now) (Fails old.now new.now own.now decl.now)) }
+    ensures answers { OnOk result (AreAnswers old.now new.now answers.new) }
+{
     let required = required_of(alloc, own.members.as_slice())?;
     let others = required_of(alloc, decl.members.as_slice())?;
     if required.len() != others.len() {
