@@ -55,7 +55,8 @@ pub(crate) fn plan_of<'a, 'b, S: Source>(
     ensures plan { GivesPlan (words_seen command.entry) (S.left source.old) (operation_seen known.entry) callee
         (S.failures source.old) (S.failures source.new) result }
     ensures sendable { IfOk result CanBeSent }
-    ensures taken { LooksFor (LacksReply callee.proxy known.entry.operation.now) (S.left source.old) (S.left source.new) }
+    ensures taken { LooksFor (LacksReply callee.proxy known.entry.operation.now)
+        (S.left source.old) (S.left source.new) }
 {
     if lacks_reply(&callee.proxy, known.operation) {
         return Err(Ending::TwowayOnly(command.operation));
