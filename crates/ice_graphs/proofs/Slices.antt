@@ -102,7 +102,7 @@ id_lawful as_number = record {
   only = λ s to r after bytes v k h. (s, sym h.3, numbered_is s r after h.0 v (size_only r after bytes h.0 k h.1) h.2);
 }
   where
-    numbered_is : (s : State ℕ) (r after : Rest) (n : ℕ) (id : List ℕ) → size_at r ≡ Ok (n, after) → id ≡ numbered_id n → (size_at r >>= λ n. Ok (numbered_id n.0, s, n.1)) ≡ Ok (id, s, after)
+    numbered_is : (s : State ℕ) (r after : Rest) (n : ℕ) (id : List ℕ) → size_at r ≡ Ok (n, after) → id ≡ numbered_id n → (◌>>=◌ {B = List ℕ × State ℕ × Rest} (size_at r) (λ n. Ok (numbered_id n.0, s, n.1))) ≡ Ok (id, s, after)
     numbered_is s r after n id size is = rw size (ap (λ (id : List ℕ). Ok (id, s, after)) (sym is))
 
 -- ---- what stands behind the type id
