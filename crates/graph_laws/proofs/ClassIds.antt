@@ -42,20 +42,23 @@ place_is (first ∷ others) id i e = by_test (place_is others id) (bytes_eq firs
 -- one that stands somewhere is found
 place_there : (ids : List (List ℕ)) (id : List ℕ) (at : ℕ) → slice_get ids at ≡ Some id → (i : ℕ) × (place_of ids id ≡ Some i)
 place_there [] id at e = absurd cc
-place_there (first ∷ others) id at e = by_test (bytes_eq first id) refl at e
+place_there (first ∷ others) id at e = by_test (λ place h. place_there others id place h) (bytes_eq first id) refl at e
   where
-    later : (place : ℕ) → bytes_eq first id ≡ false → slice_get others place ≡ Some id → (i : ℕ) × (place_of (first ∷ others) id ≡ Some i)
-    later place differ e =
-        let rest = place_there others id place e in
+    abbrev Behind : Type 0
+    Behind = (place : ℕ) → slice_get others place ≡ Some id → (i : ℕ) × (place_of others id ≡ Some i)
+
+    later : Behind → (place : ℕ) → bytes_eq first id ≡ false → slice_get others place ≡ Some id → (i : ℕ) × (place_of (first ∷ others) id ≡ Some i)
+    later behind place differ e =
+        let rest = behind place e in
         (suc rest.0, ap (λ (b : Bool). if b then Some 0 else one_further (place_of others id)) differ ∙ ap one_further rest.1)
 
-    by_test : (b : Bool) → bytes_eq first id ≡ b → (at : ℕ) → slice_get (first ∷ others) at ≡ Some id → (i : ℕ) × (place_of (first ∷ others) id ≡ Some i)
-    by_test true same at e = (0, ap (λ (b : Bool). if b then Some 0 else one_further (place_of others id)) same)
-    by_test false differ zero e = let same : first ≡ id = cc in absurd (clash (bytes_eq first id) ((bytes_eq-Decides first id).1 same) differ)
+    by_test : Behind → (b : Bool) → bytes_eq first id ≡ b → (at : ℕ) → slice_get (first ∷ others) at ≡ Some id → (i : ℕ) × (place_of (first ∷ others) id ≡ Some i)
+    by_test behind true same at e = (0, ap (λ (b : Bool). if b then Some 0 else one_further (place_of others id)) same)
+    by_test behind false differ zero e = let same : first ≡ id = cc in absurd (clash (bytes_eq first id) ((bytes_eq-Decides first id).1 same) differ)
       where
         clash : (b : Bool) → b ≡ true → b ≡ false → ⊥
         clash b p q = cc
-    by_test false differ (suc place) e = later place differ e
+    by_test behind false differ (suc place) e = later behind place differ e
 
 -- ---- the class of an id
 

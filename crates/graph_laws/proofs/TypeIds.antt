@@ -1,5 +1,5 @@
 -- Ids that are written spell themselves.
-use Rattle.std.proofs.Common.{ℕ, zero, suc, ◌<◌, ◌≤◌, ◌^◌, ◌≡◌, List, [], ◌∷◌, length, refl, arith, Option, Some, None, inr}
+use Rattle.std.proofs.Common.{ℕ, zero, suc, ◌<◌, ◌≤◌, ◌^◌, ◌≡◌, false, List, [], ◌∷◌, length, refl, arith, Option, Some, None, inr}
 use Rattle.std.specs.Prelude.{slice_get}
 use Rattle.ice_types.specs.Tables.{Tables}
 use Rattle.ice_types.specs.CompactIds.{numbered_id, is_numbered, IsSliceId}

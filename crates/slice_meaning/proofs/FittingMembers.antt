@@ -174,14 +174,11 @@ number_among (c ∷ cs) n zero e = by_compact c.compact (some_is c.compact e)
     by_compact : (o : Option ℕ) → o ≡ Some n → has_number (elim o [ None ↦ numbers_of cs | Some m ↦ m ∷ numbers_of cs ]) n ≡ true
     by_compact None e = absurd cc
     by_compact (Some m) e = let same : m ≡ n = cc in ap (λ (b : Bool). b || list_any (nat_eq n) (numbers_of cs)) (eq-eqb n m (sym same))
-number_among (c ∷ cs) n (suc at) e = by_compact c.compact
+number_among (c ∷ cs) n (suc at) e = by_compact (number_among cs n at e) c.compact
   where
-    later : has_number (numbers_of cs) n ≡ true
-    later = number_among cs n at e
-
-    by_compact : (o : Option ℕ) → has_number (elim o [ None ↦ numbers_of cs | Some m ↦ m ∷ numbers_of cs ]) n ≡ true
-    by_compact None = later
-    by_compact (Some m) = or_second (nat_eq n m) (list_any (nat_eq n) (numbers_of cs)) later
+    by_compact : has_number (numbers_of cs) n ≡ true → (o : Option ℕ) → has_number (elim o [ None ↦ numbers_of cs | Some m ↦ m ∷ numbers_of cs ]) n ≡ true
+    by_compact later None = later
+    by_compact later (Some m) = or_second (nat_eq n m) (list_any (nat_eq n) (numbers_of cs)) later
       where
         or_second : (a b : Bool) → b ≡ true → (a || b) ≡ true
         or_second true b e = refl
@@ -190,18 +187,18 @@ number_among (c ∷ cs) n (suc at) e = by_compact c.compact
 -- and each of those is one of a class
 pub number_at : (classes : List ClassDecl) (n : ℕ) → has_number (numbers_of classes) n ≡ true → (at : ℕ) × (slice_get (map (λ (c : ClassDecl). c.compact) classes) at ≡ Some (Some n))
 number_at [] n e = absurd cc
-number_at (c ∷ cs) n e = by_compact c.compact refl e
+number_at (c ∷ cs) n e = by_compact (λ h. let later = number_at cs n h in (suc later.0, later.1)) c.compact refl e
   where
-    further : has_number (numbers_of cs) n ≡ true → (at : ℕ) × (slice_get (map (λ (c : ClassDecl). c.compact) (c ∷ cs)) at ≡ Some (Some n))
-    further e = let later = number_at cs n e in (suc later.0, later.1)
+    abbrev Further : Type 0
+    Further = has_number (numbers_of cs) n ≡ true → (at : ℕ) × (slice_get (map (λ (c : ClassDecl). c.compact) (c ∷ cs)) at ≡ Some (Some n))
 
-    by_test : (m : ℕ) (b : Bool) → c.compact ≡ Some m → nat_eq n m ≡ b → (b || list_any (nat_eq n) (numbers_of cs)) ≡ true → (at : ℕ) × (slice_get (map (λ (c : ClassDecl). c.compact) (c ∷ cs)) at ≡ Some (Some n))
-    by_test m true is same e = (0, ap Some is ∙ ap (λ (k : ℕ). Some (Some k)) (sym (eqb-true n m same)))
-    by_test m false is differ e = further e
+    by_test : Further → (m : ℕ) (b : Bool) → c.compact ≡ Some m → nat_eq n m ≡ b → (b || list_any (nat_eq n) (numbers_of cs)) ≡ true → (at : ℕ) × (slice_get (map (λ (c : ClassDecl). c.compact) (c ∷ cs)) at ≡ Some (Some n))
+    by_test further m true is same e = (0, ap Some is ∙ ap (λ (k : ℕ). Some (Some k)) (sym (eqb-true n m same)))
+    by_test further m false is differ e = further e
 
-    by_compact : (o : Option ℕ) → c.compact ≡ o → has_number (elim o [ None ↦ numbers_of cs | Some m ↦ m ∷ numbers_of cs ]) n ≡ true → (at : ℕ) × (slice_get (map (λ (c : ClassDecl). c.compact) (c ∷ cs)) at ≡ Some (Some n))
-    by_compact None is e = further e
-    by_compact (Some m) is e = by_test m (nat_eq n m) is refl e
+    by_compact : Further → (o : Option ℕ) → c.compact ≡ o → has_number (elim o [ None ↦ numbers_of cs | Some m ↦ m ∷ numbers_of cs ]) n ≡ true → (at : ℕ) × (slice_get (map (λ (c : ClassDecl). c.compact) (c ∷ cs)) at ≡ Some (Some n))
+    by_compact further None is e = further e
+    by_compact further (Some m) is e = by_test further m (nat_eq n m) is refl e
 
 compact_id_fits : (k : Known) (compact : Option Constant) → compact_faults k compact ≡ [] → CompactIdFits k.tables (compact_of k compact)
 compact_id_fits k None h = tt
