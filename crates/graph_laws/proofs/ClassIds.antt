@@ -39,20 +39,21 @@ place_is (first ∷ others) id i e = by_test (place_is others id) (bytes_eq firs
         let rest = later j at in
         subst (λ (k : ℕ). (slice_get (first ∷ others) k ≡ Some id) × (k < suc (length others))) next (rest.0, omega (arith, rest.1))
 
+-- what stands somewhere in a list is found there
+abbrev Behind : List (List ℕ) → List ℕ → Type 0
+Behind ids id = (place : ℕ) → slice_get ids place ≡ Some id → (i : ℕ) × (place_of ids id ≡ Some i)
+
 -- one that stands somewhere is found
 place_there : (ids : List (List ℕ)) (id : List ℕ) (at : ℕ) → slice_get ids at ≡ Some id → (i : ℕ) × (place_of ids id ≡ Some i)
 place_there [] id at e = absurd cc
 place_there (first ∷ others) id at e = by_test (λ place h. place_there others id place h) (bytes_eq first id) refl at e
   where
-    abbrev Behind : Type 0
-    Behind = (place : ℕ) → slice_get others place ≡ Some id → (i : ℕ) × (place_of others id ≡ Some i)
-
-    later : Behind → (place : ℕ) → bytes_eq first id ≡ false → slice_get others place ≡ Some id → (i : ℕ) × (place_of (first ∷ others) id ≡ Some i)
+    later : Behind others id → (place : ℕ) → bytes_eq first id ≡ false → slice_get others place ≡ Some id → (i : ℕ) × (place_of (first ∷ others) id ≡ Some i)
     later behind place differ e =
         let rest = behind place e in
         (suc rest.0, ap (λ (b : Bool). if b then Some 0 else one_further (place_of others id)) differ ∙ ap one_further rest.1)
 
-    by_test : Behind → (b : Bool) → bytes_eq first id ≡ b → (at : ℕ) → slice_get (first ∷ others) at ≡ Some id → (i : ℕ) × (place_of (first ∷ others) id ≡ Some i)
+    by_test : Behind others id → (b : Bool) → bytes_eq first id ≡ b → (at : ℕ) → slice_get (first ∷ others) at ≡ Some id → (i : ℕ) × (place_of (first ∷ others) id ≡ Some i)
     by_test behind true same at e = (0, ap (λ (b : Bool). if b then Some 0 else one_further (place_of others id)) same)
     by_test behind false differ zero e = let same : first ≡ id = cc in absurd (clash (bytes_eq first id) ((bytes_eq-Decides first id).1 same) differ)
       where

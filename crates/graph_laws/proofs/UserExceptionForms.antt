@@ -1,5 +1,5 @@
 -- The form of an exception: its names are numbers by first visit, its type is that of the exception, and it is the same exception.
-use Rattle.std.proofs.Common.{ℕ, ◌≡◌, List, [], ◌∷◌, length, map, refl, sym, ap, ◌∙◌, subst, Some, None}
+use Rattle.std.proofs.Common.{ℕ, ◌≡◌, List, [], ◌∷◌, length, map, refl, sym, ap, ◌∙◌, subst, Some, None, Option}
 use Rattle.std.specs.Prelude.{slice_get}
 use Rattle.std.proofs.lemmas.List.{append-nil, length-map}
 use Rattle.ice_types.specs.declared.kind.RowRef.TheVariants as rows

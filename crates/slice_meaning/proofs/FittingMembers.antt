@@ -184,19 +184,20 @@ number_among (c ∷ cs) n (suc at) e = by_compact (number_among cs n at e) c.com
         or_second true b e = refl
         or_second false b e = e
 
+-- what is among those of the classes behind the first is among all
+abbrev Further : List ClassDecl → ClassDecl → ℕ → Type 0
+Further cs c n = has_number (numbers_of cs) n ≡ true → (at : ℕ) × (slice_get (map (λ (c : ClassDecl). c.compact) (c ∷ cs)) at ≡ Some (Some n))
+
 -- and each of those is one of a class
 pub number_at : (classes : List ClassDecl) (n : ℕ) → has_number (numbers_of classes) n ≡ true → (at : ℕ) × (slice_get (map (λ (c : ClassDecl). c.compact) classes) at ≡ Some (Some n))
 number_at [] n e = absurd cc
 number_at (c ∷ cs) n e = by_compact (λ h. let later = number_at cs n h in (suc later.0, later.1)) c.compact refl e
   where
-    abbrev Further : Type 0
-    Further = has_number (numbers_of cs) n ≡ true → (at : ℕ) × (slice_get (map (λ (c : ClassDecl). c.compact) (c ∷ cs)) at ≡ Some (Some n))
-
-    by_test : Further → (m : ℕ) (b : Bool) → c.compact ≡ Some m → nat_eq n m ≡ b → (b || list_any (nat_eq n) (numbers_of cs)) ≡ true → (at : ℕ) × (slice_get (map (λ (c : ClassDecl). c.compact) (c ∷ cs)) at ≡ Some (Some n))
+    by_test : Further cs c n → (m : ℕ) (b : Bool) → c.compact ≡ Some m → nat_eq n m ≡ b → (b || list_any (nat_eq n) (numbers_of cs)) ≡ true → (at : ℕ) × (slice_get (map (λ (c : ClassDecl). c.compact) (c ∷ cs)) at ≡ Some (Some n))
     by_test further m true is same e = (0, ap Some is ∙ ap (λ (k : ℕ). Some (Some k)) (sym (eqb-true n m same)))
     by_test further m false is differ e = further e
 
-    by_compact : Further → (o : Option ℕ) → c.compact ≡ o → has_number (elim o [ None ↦ numbers_of cs | Some m ↦ m ∷ numbers_of cs ]) n ≡ true → (at : ℕ) × (slice_get (map (λ (c : ClassDecl). c.compact) (c ∷ cs)) at ≡ Some (Some n))
+    by_compact : Further cs c n → (o : Option ℕ) → c.compact ≡ o → has_number (elim o [ None ↦ numbers_of cs | Some m ↦ m ∷ numbers_of cs ]) n ≡ true → (at : ℕ) × (slice_get (map (λ (c : ClassDecl). c.compact) (c ∷ cs)) at ≡ Some (Some n))
     by_compact further None is e = further e
     by_compact further (Some m) is e = by_test further m (nat_eq n m) is refl e
 
