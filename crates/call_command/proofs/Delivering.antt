@@ -55,7 +55,9 @@ module _ (plan : Plan) (old : Kept) (rounds : List Round) (before after : NetSee
     (kept : after.listen_failures ≡ before.listen_failures) where
   pub delivers : (through : Through) → GoesThrough plan.message (target_of plan) old rounds new (Ok through) → (IsFailure through → Rises before.failures after.failures)
       → DeliversOnce plan old before after new (Ok through)
-  delivers through went fails = (rounds, record { made = made; listens = kept }, went, fails)
+  unfolding DeliversOnce
+  delivers through went fails = (rounds, record { made = made; listens = kept }, record { went = went }, fails)
 
   pub delivers_nothing : GoesThrough plan.message (target_of plan) old rounds new (Err Memory) → DeliversOnce plan old before after new (Err stops.Memory)
+  unfolding DeliversOnce
   delivers_nothing went = (rounds, record { made = made; listens = kept }, (Err Memory, went), refl)

@@ -23,6 +23,7 @@ use Rattle.call_command.specs.Steps.{EncodesArguments}
 module _ (t : Tables) (s asked : Shape) (is : asked ≡ s) where
   -- a text that lists none
   pub unread : (f : Format) (text : List ℕ) (fault : JsonFault) → Parses t asked text (Err fault) → EncodesArguments t s f text (Err (of_json fault))
+  unfolding EncodesArguments
   unread f text (json_faults.Refused why) h = subst (λ (x : Shape). IsRefused t x text why) is h
   unread f text json_faults.Memory h = tt
 
@@ -31,10 +32,12 @@ module _ (t : Tables) (s asked : Shape) (is : asked ≡ s) where
     parsed = subst (λ (x : Shape). Parses t x text (Ok g)) is listed
 
     pub written : (out : Vec ℕ Global) → Writes t asked f g MOST_OF_ARGUMENTS (Ok out) → EncodesArguments t s f text (Ok out.items)
+    unfolding EncodesArguments
     written out e = let h = subst (λ (x : Shape). Writes t x f g MOST_OF_ARGUMENTS (Ok out)) is e in (g, parsed, h.0, h.1, h.2)
 
     -- an unknown slice, or its length, unless memory ran out
     pub unwritten : (fault : WriteFault) → Writes t asked f g MOST_OF_ARGUMENTS (Err fault) → EncodesArguments t s f text (Err (of_write fault))
+    unfolding EncodesArguments
     unwritten write_faults.Memory e = tt
     unwritten (write_faults.UnknownNeedsSliced n) e = (g, parsed, e.0)
     unwritten (write_faults.TooLong n) e = let h = subst (λ (x : Shape). Writes t x f g MOST_OF_ARGUMENTS (Err (write_faults.TooLong n))) is e in (g, parsed, h.0, h.1, h.2)

@@ -42,10 +42,11 @@ use Rattle.locator.specs.Questions.{request}
 use Rattle.locator.specs.Asking.{Asked, Finds, Follows, found, next, told, told_by}
 use Rattle.locator.specs.Resolving.{By, Route, by_itself, from_cache, by_locator, no_route, route}
 use Rattle.locator.specs.Rounds.{Round}
+use Rattle.locator.specs.Through.{GoesThrough}
 use Rattle.call_command.specs.Planning.{Plan, of_locator, target_of}
 use Rattle.call_command.specs.Replies.{IsLine}
-use Rattle.call_command.specs.Rounds.{Delivered}
-use Rattle.call_command.specs.Steps.{IsInVain}
+use Rattle.call_command.specs.Rounds.{NetSeen}
+use Rattle.call_command.specs.Steps.{DeliversOnce, IsInVain}
 
 -- ---- results that are of their type lead somewhere
 
@@ -150,9 +151,14 @@ module _ (old : Kept) (p : Proxy) (retries : ℕ) (rounds : List Round) (new : K
       finds_in_vain locator retries (key_of p) r rounds (subst (λ (x : Came). Finds locator retries (key_of p) rounds (founds.Failed x)) same finds)
   resolves_in_vain no_route (nothing, unchanged, is) = absurd cc
 
-pub in_vain : (plan : Plan) (old : Kept) (rounds : List Round) (new : Kept) (through : Through) → Delivered plan old rounds new through → IsInVain through
-in_vain plan old rounds new (Invoked r) went = tt
-in_vain plan old rounds new NotLocated went = tt
-in_vain plan old rounds new (LocatorFailed r) ((legs, d), short) =
+failed_in_vain : (plan : Plan) (old : Kept) (rounds : List Round) (new : Kept) (r : Came) → GoesThrough plan.message (target_of plan) old rounds new (Ok (LocatorFailed r))
+    → (line : List ℕ) → IsLine of_locator r.outcome line → ⊥
+failed_in_vain plan old rounds new r ((legs, d), short) =
     let t = target_of plan in
     resolves_in_vain d.mid t.proxy t.retries d.rest new r (route d.mid t.locator t.proxy) d.end
+
+pub in_vain : (plan : Plan) (old : Kept) (before after : NetSeen) (new : Kept) (through : Through) → DeliversOnce plan old before after new (Ok through) → IsInVain through
+unfolding IsInVain DeliversOnce
+in_vain plan old before after new (Invoked r) d = tt
+in_vain plan old before after new NotLocated d = tt
+in_vain plan old before after new (LocatorFailed r) d = failed_in_vain plan old d.0 new r d.2.went

@@ -1,5 +1,6 @@
 -- Why there is no plan, and that the plan is the one that is decided.
-use Rattle.std.proofs.Common.{◌≡◌, ◌≤◌, ◌<◌, ℕ, List, [], length, Option, None, Some, Ok, Err, refl, sym, ap, subst, inl, inr}
+use Rattle.std.proofs.Common.{◌≡◌, ◌≤◌, ◌<◌, ℕ, List, [], length, Option, None, Some, Result, Ok, Err, Vec, refl, sym, ap, subst, ◌∙◌, inl, inr}
+use Rattle.std.specs.declared.alloc.Global.{Global}
 use Rattle.std.specs.Prelude.{IfSome}
 use Rattle.ice_types.specs.declared.declarations.Shape.{Shape}
 use Rattle.call_command.specs.declared.callee.Callee.{Callee}
@@ -11,20 +12,27 @@ use Rattle.graph_json.specs.declared.fault.JsonKind.{JsonKind}
 use Rattle.graph_json.specs.Texts.{IsRefused, Lists}
 use Rattle.ice_messages.specs.declared.message.Message.{Message}
 use Rattle.ice_messages.specs.Messages.{message_bytes}
-use Rattle.ice_relay.specs.TextStreams.{ReadsText}
+use Rattle.ice_ports.specs.declared.ports.PortFault.{PortFault}
+use Rattle.ice_ports.specs.declared.ports.PortFault.TheVariants as port_faults
+use Rattle.ice_ports.specs.Failures.{count_after}
+use Rattle.ice_ports.specs.Files.{is_failed}
+use Rattle.ice_relay.specs.TextStreams.{ReadsText, TakesText}
 use Rattle.ice_relay.specs.declared.fault.RelayFault.{RelayFault}
 use Rattle.ice_relay.specs.declared.fault.RelayFault.TheVariants as faults
 use Rattle.ice_relay.proofs.Deciding.{listed_whole, refused_whole}
-use Rattle.node_commands.specs.Answers.{too_long}
-use Rattle.node_commands.specs.Outcomes.{answer_of, of_relay}
+use Rattle.node_commands.specs.Answers.{too_long, no_memory}
+use Rattle.node_commands.specs.Outcomes.{answer_of, of_port, of_relay}
+use Rattle.node_commands.proofs.Keeping.{keeps_itself}
 use Rattle.call_command.specs.declared.arguments.TheConstants.{MOST_OF_ARGUMENTS}
 use Rattle.call_command.specs.Words.{CallWords}
 use Rattle.call_command.specs.Operations.{Operation}
-use Rattle.call_command.specs.Planning.{Plan, plan_of}
+use Rattle.call_command.specs.declared.preparing.Plan.{Plan as Written}
+use Rattle.call_command.specs.Planning.{Plan, plan_of, seen}
 use Rattle.call_command.specs.Messages.{message_of, call_of, rounds_of, calls_of}
-use Rattle.call_command.specs.Endings.{Ended, refused}
+use Rattle.call_command.specs.declared.ending.Ending.{Ending}
+use Rattle.call_command.specs.Endings.{Ended, refused, twoway_only, ending_seen}
 use Rattle.call_command.specs.Decided.{LacksReply, WithMessage}
-use Rattle.call_command.specs.Steps.{KnownDecides, LacksPlan, EncodesArguments, MakesMessage}
+use Rattle.call_command.specs.Steps.{KnownDecides, KnownWants, LacksPlan, GivesPlan, LooksFor, EncodesArguments, MakesMessage}
 
 -- ---- what was read decides all of the input
 
@@ -36,13 +44,51 @@ all_refused : (t : Tables) (s : Shape) (input now : Option (List ℕ)) (got : Li
 all_refused t s None now got why read refusal = tt
 all_refused t s (Some known) now got why read refusal = refused_whole t s known got now why read refusal
 
+-- ---- what becomes of the input
+
+pub left_alone : (Lacks : Type 0) (old : Option (List ℕ)) → LooksFor Lacks old old
+unfolding LooksFor
+left_alone Lacks old = inl (keeps_itself old)
+
+pub looked_at : (Lacks : Type 0) (old new : Option (List ℕ)) → (Lacks → ⊥) → TakesText old new → LooksFor Lacks old new
+unfolding LooksFor
+looked_at Lacks old new replies taken = inr (replies, taken)
+
 module _ (c : CallWords) (input : Option (List ℕ)) (o : Operation) (callee : Callee) (before after : ℕ) where
   -- ---- where there is no plan
 
+  -- the proxy asks for no reply, and one is wanted
+  pub one_way : LacksReply callee.proxy o.declared → after ≡ before → LacksPlan c input o callee before after (twoway_only c.operation)
+  unfolding LacksPlan KnownDecides
+  one_way lacks same = inl (inl (lacks, refl), same)
+
+  pub starved : after ≡ before → LacksPlan c input o callee before after (refused no_memory)
+  unfolding LacksPlan
+  starved same = inr (inr (refl, same))
+
+  pub gives_none : (ending : Ending) → LacksPlan c input o callee before after (ending_seen ending) → GivesPlan c input o callee before after (Err ending)
+  unfolding GivesPlan
+  gives_none ending h = h
+
+  -- by an end by `?`
+  pub given_by : (r : Result Written Ending) (came ending : Ending) → r ≡ Err came → came ≡ ending → LacksPlan c input o callee before after (ending_seen ending) → GivesPlan c input o callee before after r
+  given_by r came ending is same h = subst (GivesPlan c input o callee before after) (sym (is ∙ ap Err same)) (gives_none ending h)
+
+  pub gives_plan : (plan : Written) → ((came : Ended) → KnownDecides c input o callee came (λ q. q ≡ seen plan)) → after ≡ before → GivesPlan c input o callee before after (Ok plan)
+  unfolding GivesPlan
+  gives_plan plan decides same = (decides, same)
+
   module _ (replies : LacksReply callee.proxy o.declared → ⊥) where
+    -- the input was not read
+    pub unread : (fault : PortFault) → after ≡ count_after before (is_failed {T = Vec ℕ Global} (Err fault)) → LacksPlan c input o callee before after (refused (answer_of (of_port fault) []))
+    unfolding LacksPlan KnownWants
+    unread port_faults.Failed rose = inr (inl (refl, inr (replies, tt), rose))
+    unread port_faults.Memory same = inr (inr (refl, same))
+
     module _ (now : Option (List ℕ)) (got : List ℕ) (read : ReadsText input now got) where
       pub unlisted : (fault : RelayFault) → EncodesArguments o.tables o.declared.arguments (view_format c.format) got (Err fault) → after ≡ before
           → LacksPlan c input o callee before after (refused (answer_of (of_relay fault) []))
+      unfolding EncodesArguments LacksPlan KnownDecides
       unlisted (faults.Broken fault) never same = absurd never
       unlisted (faults.TextRefused why) refusal same = inl (inr (replies, inl (why, all_refused o.tables o.declared.arguments input now got why read refusal, refl)), same)
       unlisted faults.NeedsSliced (g, lists, needs) same = inl (inr (replies, inr (g, all_listed o.tables o.declared.arguments input now got g read lists, inl (needs, refl))), same)
@@ -65,6 +111,7 @@ module _ (c : CallWords) (input : Option (List ℕ)) (o : Operation) (callee : C
       module _ (body : List ℕ) where
         decided : (came : Ended) (Next : Plan → Type 0) → EncodesArguments o.tables o.declared.arguments (view_format c.format) got (Ok body)
             → WithMessage (plan_of c o callee body).message came (Next (plan_of c o callee body)) → KnownDecides c input o callee came Next
+        unfolding EncodesArguments KnownDecides
         decided came Next (g, lists, writable, is, short) next =
             inr (
               replies,
@@ -84,6 +131,7 @@ module _ (c : CallWords) (input : Option (List ℕ)) (o : Operation) (callee : C
         module _ (encoded : EncodesArguments o.tables o.declared.arguments (view_format c.format) got (Ok body)) where
           pub unsent : (fault : RelayFault) → MakesMessage (message_of callee.proxy.mode c.times (call_of callee.proxy c.operation o.mode body)) (Err fault) → after ≡ before
               → LacksPlan c input o callee before after (refused (answer_of (of_relay fault) []))
+          unfolding MakesMessage LacksPlan
           unsent (faults.Broken fault) never same = absurd never
           unsent (faults.TextRefused why) never same = absurd never
           unsent faults.NeedsSliced never same = absurd never
@@ -92,10 +140,11 @@ module _ (c : CallWords) (input : Option (List ℕ)) (o : Operation) (callee : C
 
           -- ---- the plan
 
-          pub planned : (m : Message) (rounds calls : ℕ) → m ≡ message_of callee.proxy.mode c.times (call_of callee.proxy c.operation o.mode body) → length (message_bytes m) ≤ LARGEST
+          pub planned : (m : Message) (rounds calls : ℕ) → MakesMessage (message_of callee.proxy.mode c.times (call_of callee.proxy c.operation o.mode body)) (Ok m)
               → rounds ≡ rounds_of callee.proxy.mode c.times → calls ≡ calls_of callee.proxy.mode c.times → (came : Ended)
               → KnownDecides c input o callee came (λ q. q ≡ record { expected = record { tables = o.tables; results = o.declared.results; calls = calls }; callee = callee; message = m; retries = c.retries; rounds = rounds })
-          planned m rounds calls is short many each came =
+          unfolding MakesMessage
+          planned m rounds calls (is, short) many each came =
               let whole : Plan = record { expected = record { tables = o.tables; results = o.declared.results; calls = calls }; callee = callee; message = m; retries = c.retries; rounds = rounds } in
               let same : plan_of c o callee body ≡ whole = (λ i. record { expected = record { tables = o.tables; results = o.declared.results; calls = sym each i }; callee = callee; message = sym is i; retries = c.retries; rounds = sym many i }) in
-              decided came (λ q. q ≡ whole) encoded (inr (subst (λ (x : Message). length (message_bytes x) ≤ LARGEST) is short, same))
+              decided came (λ q. q ≡ whole) encoded (inr (short, same))

@@ -130,6 +130,7 @@ module _ {G : Type 0} (a b : Ended) (alike : (r : Ended) → IsRefusal r → a �
       message_apart (plan_of c o callee body).message _ _ (one (plan_of c o callee body))))
 
   pub decides_apart : (c : CallWords) (files : Files) (input : List ℕ) (Next Other : Plan → Type 0) → ((plan : Plan) → Next plan → Other plan → G) → Decides c (Some files) (Some input) a Next → Decides c (Some files) (Some input) b Other → G
+  unfolding Decides
   decides_apart c files input Next Other one =
       listed_apart (proxy_text c.proxy) _ _ (
       schema_apart files c.file _ _ (λ t.
@@ -177,6 +178,7 @@ module _ (c : CallWords) (files : Files) (input : List ℕ) where
     CameSo came = Comes (Decides c (Some files) (Some input)) (WantsInput c (Some files)) before after old new net now came
 
     ends_so : (came end : Ended) → CameSo came → IsRefusedBy c files input end → (came ≡ end) ⊎ IsHindered came
+    unfolding Comes
     ends_so finished end h is =
         absurd (decides_apart finished end (λ r refuses e f. refusal_no_finish r refuses e) c files input (λ plan. Finishes plan (sink_seen old before.sink) (sink_seen new after.sink) net now) (λ plan. ⊥) (λ plan x y. y) h.0 is)
     ends_so (refused answer) end h is = elim (refused_so (WantsInput c (Some files)) before after answer h.0) [
@@ -192,6 +194,7 @@ module _ (c : CallWords) (files : Files) (input : List ℕ) where
         ⊎ ((stop : Stop) × (end ≡ stopped stop) × Stops plan (sink_seen old before.sink) (sink_seen new after.sink) net now stop)
 
     follows_so : (came : Ended) (plan : Plan) → CameSo came → IsPlanned c files input plan → FollowsSo plan came ⊎ IsHindered came
+    unfolding Comes
     follows_so finished plan h is =
         inl (inl (
           refl,

@@ -12,14 +12,17 @@ use Rattle.ice_prims.proofs.Spelled.{int_exact}
 use Rattle.ice_encoding.specs.Opening.{encapsulated_bytes}
 use Rattle.ice_graphs.specs.Graph.{Graph}
 use Rattle.ice_graphs.specs.Canonical.{Format, graph_bytes, canonical_graph}
+use Rattle.ice_encoding.specs.declared.limits.TheConstants.{LARGEST}
 use Rattle.ice_messages.specs.declared.message.Call.{Call}
+use Rattle.ice_messages.specs.declared.message.Message.{Message}
+use Rattle.ice_messages.specs.Messages.{message_bytes}
 use Rattle.ice_messages.specs.Calls.{IsEncapsulation}
 use Rattle.ice_messages.specs.Context.{AreRising}
 use Rattle.ice_messages.specs.Written.{IsBody, IsWritableCall, IsWritable as CanBeWritten}
 use Rattle.node_commands.specs.Words.{Word}
 use Rattle.call_command.specs.declared.arguments.TheConstants.{MOST_OF_ARGUMENTS}
 use Rattle.call_command.specs.Messages.{call_of, message_of}
-use Rattle.call_command.specs.Steps.{EncodesArguments, IsSent}
+use Rattle.call_command.specs.Steps.{EncodesArguments, MakesMessage, IsSent}
 use Rattle.call_command.proofs.Repeating.{all_alike, some_alike}
 
 -- ---- an encapsulation is a body
@@ -45,9 +48,15 @@ arguments_fit t s f g body is short =
     inl (subst IsEncapsulation (sym is) (enclosed (canonical_graph t s f g) few))
 
 pub held : (t : Tables) (s : Shape) (f : Format) (text body : List ℕ) → EncodesArguments t s f text (Ok body) → IsBody body
+unfolding EncodesArguments
 held t s f text body (g, lists, writable, is, short) = arguments_fit t s f g body is short
 
 -- ---- the message
+
+-- the one that was asked for, which is short enough
+pub made_so : (m made : Message) → MakesMessage m (Ok made) → (made ≡ m) × (length (message_bytes made) ≤ LARGEST)
+unfolding MakesMessage
+made_so m made (is, short) = (is, subst (λ (x : Message). length (message_bytes x) ≤ LARGEST) (sym is) short)
 
 no_entries : AreRising []
 unfolding IsStrictlySortedBy

@@ -1,5 +1,6 @@
 -- Messages one after the other.
-use Rattle.std.proofs.Common.{◌≡◌, ◌<◌, ◌+◌, ℕ, List, [], ◌∷◌, ◌++◌, length, Option, Ok, Err, refl, sym, ap, subst, ◌∙◌, append_assoc, append-nil, arith}
+use Rattle.std.proofs.Common.{◌≡◌, ◌<◌, ◌+◌, ℕ, List, [], ◌∷◌, ◌++◌, length, Option, Result, Ok, Err, Vec, refl, sym, ap, subst, ◌∙◌, append_assoc, append-nil, arith}
+use Rattle.std.specs.declared.alloc.Global.{Global}
 use Rattle.std.specs.Io.KnownBytes.{Appends}
 use Rattle.std.proofs.KnownBytes.{Appends-nil, Appends-trans}
 use Rattle.std.proofs.lemmas.List.{length-append}
@@ -14,8 +15,8 @@ use Rattle.call_command.specs.declared.stop.Stop.{Stop}
 use Rattle.call_command.specs.declared.stop.Stop.TheVariants as stops
 use Rattle.call_command.specs.Planning.{Plan}
 use Rattle.call_command.specs.Replies.{HasLine}
-use Rattle.call_command.specs.Rounds.{NetSeen, SinkSeen, Delivered, Delivery, Succeeded, IsUsed, Printed, Stops, rounds_of, lines_of}
-use Rattle.call_command.specs.Steps.{DeliversOnce, StopsCall}
+use Rattle.call_command.specs.Rounds.{NetSeen, SinkSeen, Delivered, Delivery, Succeeded, IsUsed, Printed, Finishes, Stops, Performs, rounds_of, lines_of}
+use Rattle.call_command.specs.Steps.{DeliversOnce, Tells}
 
 -- ---- the net
 
@@ -59,54 +60,97 @@ prefix_behind : (a b c : Option (List ℕ)) (lines line : List ℕ) → Appends 
 prefix_behind a b c lines line p (front, rest, is, q) =
     (lines ++ front, rest, ap (λ (l : List ℕ). lines ++ l) is ∙ sym (append_assoc lines front rest), Appends-trans a b c lines front p q)
 
+-- ---- what was sent so far
+
+-- so many messages succeeded, with these places kept behind them, and their lines were written
+pub record Sent (plan : Plan) (count : ℕ) (places : Kept) (sink here : SinkSeen) (net at : NetSeen) : Type 0 where
+  pub deliveries : List Delivery
+  pub printed : Printed plan deliveries places sink here
+  pub used : IsUsed (rounds_of deliveries) net at
+  pub counted : length deliveries ≡ count
+
+pub sent_none : (plan : Plan) (places : Kept) (sink : SinkSeen) (net : NetSeen) → places ≡ [] → Sent plan 0 places sink sink net net
+sent_none plan places sink net is = record {
+  deliveries = [];
+  printed = subst (λ (k : Kept). Printed plan [] k sink sink) (sym is) (printed_none plan sink);
+  used = used_none net;
+  counted = refl;
+}
+
+pub sent_all : (plan : Plan) (count : ℕ) (places : Kept) (sink here : SinkSeen) (net at : NetSeen) → Sent plan count places sink here net at → count ≡ plan.rounds → Finishes plan sink here net at
+sent_all plan count places sink here net at sent all =
+    record { deliveries = sent.deliveries; places = places; printed = sent.printed; used = sent.used; all = sent.counted ∙ all }
+
 -- ---- one message more, or what stops it
 
-module _ (plan : Plan) (ds : List Delivery) (places : Kept) (sink here : SinkSeen) (net at now : NetSeen) (printed : Printed plan ds places sink here) (used : IsUsed (rounds_of ds) net at) where
-  used_then : (rounds : List Round) → IsUsed rounds at now → IsUsed (rounds_of ds ++ rounds) net now
-  used_then rounds more = used_more (rounds_of ds) rounds net at now used more
+module _ (plan : Plan) (count : ℕ) (places : Kept) (sink here : SinkSeen) (net at : NetSeen) (sent : Sent plan count places sink here net at) (now : NetSeen) (later : Kept) where
+  used_then : (rounds : List Round) → IsUsed rounds at now → IsUsed (rounds_of sent.deliveries ++ rounds) net now
+  used_then rounds more = used_more (rounds_of sent.deliveries) rounds net at now sent.used more
+
+  -- another message is due
+  is_due : count < plan.rounds → length sent.deliveries < plan.rounds
+  is_due less = subst (λ (n : ℕ). n < plan.rounds) (sym sent.counted) less
 
   -- memory ran out while it was sent
-  pub undelivered : (later : Kept) (stop : Stop) → length ds < plan.rounds → DeliversOnce plan places at now later (Err stop) → Stops plan sink here net now stop
-  undelivered later stop less (rounds, more, (came, went), is) =
-      subst (Stops plan sink here net now) (sym is) record { deliveries = ds; places = places; last = rounds; few = less; used = used_then rounds more; stopped = (came, later, went, printed) }
+  pub undelivered : (stop : Stop) → count < plan.rounds → DeliversOnce plan places at now later (Err stop) → Stops plan sink here net now stop
+  unfolding DeliversOnce
+  undelivered stop less (rounds, more, (came, went), is) =
+      subst (Stops plan sink here net now) (sym is) record { deliveries = sent.deliveries; places = places; last = rounds; few = is_due less; used = used_then rounds more; stopped = (came, later, went, sent.printed) }
 
-  -- what it came to is no success
-  pub without_line : (later : Kept) (through : Through) (stop : Stop) → length ds < plan.rounds → DeliversOnce plan places at now later (Ok through) → StopsCall plan through stop → Stops plan sink here net now stop
-  without_line later through stops.WriteFailed less d lacks = absurd lacks
-  without_line later through stops.NetFailed less (rounds, more, delivered, rises) lacks = record {
-    deliveries = ds;
-    places = places;
-    last = rounds;
-    few = less;
-    used = used_then rounds more;
-    stopped = (through, later, delivered, lacks, printed, subst (λ (n : ℕ). Rises n now.failures) used.made.failures (rises lacks));
-  }
-  without_line later through (stops.Ended reason) less (rounds, more, delivered, rises) lacks =
-      record { deliveries = ds; places = places; last = rounds; few = less; used = used_then rounds more; stopped = (through, later, delivered, lacks, printed) }
-  without_line later through stops.Memory less (rounds, more, delivered, rises) lacks =
-      record { deliveries = ds; places = places; last = rounds; few = less; used = used_then rounds more; stopped = (Ok through, later, delivered, printed) }
-
-  module _ (new : SinkSeen) (later : Kept) (through : Through) (line : List ℕ) (d : DeliversOnce plan places at now later (Ok through)) (tells : HasLine plan through line) where
-    -- its line was not taken whole
-    pub unprinted : (stop : Stop) → length ds < plan.rounds → stop ≡ stops.WriteFailed → AppendsPrefix here.taken new.taken line → new.failures ≡ one_more here.failures → Stops plan sink new net now stop
-    unprinted stop less is prefix failed = subst (Stops plan sink new net now) (sym is) record {
-      deliveries = ds;
+  module _ (through : Through) (d : DeliversOnce plan places at now later (Ok through)) where
+    -- what it came to is no success
+    pub without_line : (stop : Stop) → count < plan.rounds → Tells plan through (Err stop) → Stops plan sink here net now stop
+    unfolding DeliversOnce Tells
+    without_line stops.WriteFailed less lacks = absurd lacks
+    without_line stops.NetFailed less lacks = record {
+      deliveries = sent.deliveries;
       places = places;
       last = d.0;
-      few = less;
+      few = is_due less;
       used = used_then d.0 d.1;
-      stopped = (through, later, line, d.2, tells, printed.succeeded, prefix_behind sink.taken here.taken new.taken (lines_of ds) line printed.lines prefix, failed ∙ ap one_more printed.kept);
+      stopped = (through, later, d.2, lacks, sent.printed, subst (λ (n : ℕ). Rises n now.failures) sent.used.made.failures (d.3 lacks));
     }
+    without_line (stops.Ended reason) less lacks =
+        record { deliveries = sent.deliveries; places = places; last = d.0; few = is_due less; used = used_then d.0 d.1; stopped = (through, later, d.2, lacks, sent.printed) }
+    without_line stops.Memory less lacks =
+        record { deliveries = sent.deliveries; places = places; last = d.0; few = is_due less; used = used_then d.0 d.1; stopped = (Ok through, later, d.2.went, sent.printed) }
 
-    -- it succeeded
-    abbrev pub this_delivery : Delivery
-    this_delivery = record { rounds = d.0; through = through; places = later; line = line }
+    module _ (new : SinkSeen) (line : Vec ℕ Global) (tells : Tells plan through (Ok line)) where
+      -- its line was not taken whole
+      pub unprinted : (stop : Stop) → count < plan.rounds → (stop ≡ stops.WriteFailed) × AppendsPrefix here.taken new.taken line.items × (new.failures ≡ one_more here.failures) → Stops plan sink new net now stop
+      unfolding DeliversOnce Tells
+      unprinted stop less (is, prefix, failed) = subst (Stops plan sink new net now) (sym is) record {
+        deliveries = sent.deliveries;
+        places = places;
+        last = d.0;
+        few = is_due less;
+        used = used_then d.0 d.1;
+        stopped = (
+          through,
+          later,
+          line.items,
+          d.2,
+          tells,
+          sent.printed.succeeded,
+          prefix_behind sink.taken here.taken new.taken (lines_of sent.deliveries) line.items sent.printed.lines prefix,
+          failed ∙ ap one_more sent.printed.kept,
+        );
+      }
 
-    pub printed_so : Appends here.taken new.taken line → new.failures ≡ here.failures → Printed plan (ds ++ this_delivery ∷ []) later sink new
-    printed_so appends kept = printed_more plan ds this_delivery places sink here new printed d.2 tells appends kept
+      -- it succeeded
+      pub sent_more : Appends here.taken new.taken line.items × (new.failures ≡ here.failures) → Sent plan (count + 1) later sink new net now
+      unfolding DeliversOnce Tells
+      sent_more (appends, kept) =
+          let this : Delivery = record { rounds = d.0; through = through; places = later; line = line.items } in
+          record {
+            deliveries = sent.deliveries ++ this ∷ [];
+            printed = printed_more plan sent.deliveries this places sink here new sent.printed d.2 tells appends kept;
+            used = subst (λ (rs : List Round). IsUsed rs net now) (sym (rounds_more sent.deliveries this)) (used_then d.0 d.1);
+            counted = omega (arith, sent.counted, length-append sent.deliveries (this ∷ []));
+          }
 
-    pub used_so : IsUsed (rounds_of (ds ++ this_delivery ∷ [])) net now
-    used_so = subst (λ (rs : List Round). IsUsed rs net now) (sym (rounds_more ds this_delivery)) (used_then d.0 d.1)
+-- ---- what an end by `?` comes to
 
-    pub counted_so : (n : ℕ) → length ds ≡ n → length (ds ++ this_delivery ∷ []) ≡ n + 1
-    counted_so n e = omega (arith, e, length-append ds (this_delivery ∷ []))
+pub stopped_by : {X : Type 0} (plan : Plan) (before after : SinkSeen) (net now : NetSeen) (r : Result X Stop) (came stop : Stop) → r ≡ Err came → came ≡ stop → Stops plan before after net now stop
+    → Performs plan before after net now r
+stopped_by plan before after net now r came stop is same h = subst (Performs plan before after net now) (sym (is ∙ ap Err same)) h

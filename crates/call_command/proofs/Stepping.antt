@@ -1,5 +1,5 @@
 -- What is decided by some of the steps is decided by all of them.
-use Rattle.std.proofs.Common.{◌≡◌, ◌⊎◌, ℕ, List, [], Option, Some, None, Result, Ok, Err, refl, sym, ap, subst, inl, inr}
+use Rattle.std.proofs.Common.{◌≡◌, ◌⊎◌, ℕ, List, [], Option, Some, None, Result, Ok, Err, refl, sym, ap, subst, ◌∙◌, inl, inr}
 use Rattle.std.specs.Prelude.{option_map}
 use Rattle.std.proofs.KnownBytes.{Appends-nil}
 use Rattle.ice_types.specs.declared.proxy.Proxy.{Proxy}
@@ -8,19 +8,22 @@ use Rattle.node_commands.specs.Outside.{Files, Failures, counts}
 use Rattle.node_commands.specs.Answers.{Answer, done, different, usage, no_such_name, slice_refused, input_refused, json_refused, too_long, needs_sliced, text_refused, read_failed, write_failed, no_memory, refused_after, read_failed_after, no_memory_after}
 use Rattle.node_commands.specs.Decided.{IsSchema}
 use Rattle.node_commands.specs.Effects.{GetsText}
-use Rattle.node_commands.specs.Outcomes.{GivesNoSchema}
+use Rattle.node_commands.specs.declared.outcome.Outcome.{Outcome}
+use Rattle.node_commands.specs.Outcomes.{GivesNoSchema, FindsSchema, answer_of}
 use Rattle.node_commands.proofs.Keeping.{keeps_itself}
 use Rattle.proxy_text.specs.Grammar.{proxy_text}
 use Rattle.call_command.specs.declared.callee.Callee.{Callee}
 use Rattle.call_command.specs.declared.stop.Stop.{Stop}
 use Rattle.call_command.specs.Words.{CallWords}
 use Rattle.call_command.specs.Operations.{Operation, operation_of}
-use Rattle.call_command.specs.Planning.{Plan, callee_of, with_proxy}
-use Rattle.call_command.specs.Endings.{Ended, finished, refused, twoway_only, stopped}
-use Rattle.call_command.specs.Decided.{IsListed, IsListedCallee, IsInterface, LacksReply, Plans, Decides, callee_named}
+use Rattle.call_command.specs.declared.preparing.Plan.{Plan as Written}
+use Rattle.call_command.specs.Planning.{Plan, callee_of, with_proxy, seen as plan_seen}
+use Rattle.call_command.specs.declared.ending.Ending.{Ending}
+use Rattle.call_command.specs.Endings.{Ended, finished, refused, twoway_only, stopped, ending_seen, ended_of}
+use Rattle.call_command.specs.Decided.{IsListed, IsListedCallee, IsInterface, LacksReply, Plans, Decides}
 use Rattle.call_command.specs.Rounds.{NetSeen, sink_seen, Finishes, Stops}
 use Rattle.call_command.specs.Called.{Steps, WantsInput, Comes, TakesInput}
-use Rattle.call_command.specs.Steps.{KnownDecides, KnownWants, SchemaDecides, SchemaWants, LacksPlan, LooksFor}
+use Rattle.call_command.specs.Steps.{KnownDecides, KnownWants, SchemaDecides, SchemaWants, LacksPlan, GivesPlan, LooksFor, FindsCallee}
 
 abbrev answer_in : Ended → Answer
 answer_in finished = no_memory
@@ -43,6 +46,7 @@ module _ (c : CallWords) (input : Option (List ℕ)) (o : Operation) (callee : C
   plans_then (inr (g, lists, inr (writable, inr (short, inr (fits, next))))) = inr (g, lists, inr (writable, inr (short, inr (fits, f _ next))))
 
   pub known_then : KnownDecides c input o callee came P → KnownDecides c input o callee came Q
+  unfolding KnownDecides
   known_then (inl lacks) = inl lacks
   known_then (inr (replies, plans)) = inr (replies, plans_then plans)
 
@@ -50,6 +54,7 @@ module _ (c : CallWords) (input : Option (List ℕ)) (o : Operation) (callee : C
 
 module _ (A B : Steps) (V W : Type 0) (chain : (came : Ended) (Next : Plan → Type 0) → A came Next → B came Next) (wants : V → W) (before after : Failures) (old new : Option (List ℕ)) (net now : NetSeen) where
   pub comes_so : (came : Ended) → Comes A V before after old new net now came → Comes B W before after old new net now came
+  unfolding Comes
   comes_so (refused answer) (inl (decided, none), kept, same) = (inl (chain (refused answer) (λ plan. ⊥) decided, none), kept, same)
   comes_so (refused answer) (inr (inl (is, inl shelf)), kept, same) = (inr (inl (is, inl shelf)), kept, same)
   comes_so (refused answer) (inr (inl (is, inr (wanted, source))), kept, same) = (inr (inl (is, inr (wants wanted, source))), kept, same)
@@ -59,82 +64,111 @@ module _ (A B : Steps) (V W : Type 0) (chain : (came : Ended) (Next : Plan → T
   comes_so (stopped stop) (decided, none) = (chain (stopped stop) _ decided, none)
 
 pub takes_so : (V W : Type 0) → (V → W) → (old new : Option (List ℕ)) → TakesInput V old new → TakesInput W old new
+unfolding TakesInput
 takes_so V W wants old new (inl kept) = inl kept
 takes_so V W wants old new (inr (wanted, taken)) = inr (wants wanted, taken)
 
 -- ---- where there is no plan
 
 module _ (c : CallWords) (input : Option (List ℕ)) (o : Operation) (callee : Callee) (shelf source now sink : ℕ) (old : Option (List ℕ)) (net : NetSeen) where
-  pub unplanned : (came : Ended) → LacksPlan c input o callee source now came → Comes (KnownDecides c input o callee) (KnownWants c o callee) (counts shelf source sink) (counts shelf now sink) old old net net came
-  unplanned (refused answer) (inl (decided, same)) = (inl (decided, (refl, same, refl)), keeps_itself old, refl)
-  unplanned (refused answer) (inr (inl (is, wanted, rose))) = (inr (inl (same_answer answer read_failed is, inr (wanted, (refl, rose, refl)))), keeps_itself old, refl)
-  unplanned (refused answer) (inr (inr (is, same))) = (inr (inr (same_answer answer no_memory is, (refl, same, refl))), keeps_itself old, refl)
-  unplanned (twoway_only word) (inl (decided, same)) = (decided, (refl, same, refl), keeps_itself old, refl)
-  unplanned (twoway_only word) (inr (inl (is, wanted, rose))) = absurd cc
-  unplanned (twoway_only word) (inr (inr (is, same))) = absurd cc
-  unplanned finished (inl (decided, same)) = (known_then c input o callee finished (λ plan. ⊥) (λ plan. Finishes plan (sink_seen old sink) (sink_seen old sink) net net) (λ plan never. absurd never) decided, (refl, same))
-  unplanned finished (inr (inl (is, wanted, rose))) = absurd cc
-  unplanned finished (inr (inr (is, same))) = absurd cc
-  unplanned (stopped stop) (inl (decided, same)) = (known_then c input o callee (stopped stop) (λ plan. ⊥) (λ plan. Stops plan (sink_seen old sink) (sink_seen old sink) net net stop) (λ plan never. absurd never) decided, (refl, same))
-  unplanned (stopped stop) (inr (inl (is, wanted, rose))) = absurd cc
-  unplanned (stopped stop) (inr (inr (is, same))) = absurd cc
+  lacking : (came : Ended) → LacksPlan c input o callee source now came → Comes (KnownDecides c input o callee) (KnownWants c o callee) (counts shelf source sink) (counts shelf now sink) old old net net came
+  unfolding LacksPlan Comes
+  lacking (refused answer) (inl (decided, same)) = (inl (decided, (refl, same, refl)), keeps_itself old, refl)
+  lacking (refused answer) (inr (inl (is, wanted, rose))) = (inr (inl (same_answer answer read_failed is, inr (wanted, (refl, rose, refl)))), keeps_itself old, refl)
+  lacking (refused answer) (inr (inr (is, same))) = (inr (inr (same_answer answer no_memory is, (refl, same, refl))), keeps_itself old, refl)
+  lacking (twoway_only word) (inl (decided, same)) = (decided, (refl, same, refl), keeps_itself old, refl)
+  lacking (twoway_only word) (inr (inl (is, wanted, rose))) = absurd cc
+  lacking (twoway_only word) (inr (inr (is, same))) = absurd cc
+  lacking finished (inl (decided, same)) = (known_then c input o callee finished (λ plan. ⊥) (λ plan. Finishes plan (sink_seen old sink) (sink_seen old sink) net net) (λ plan never. absurd never) decided, (refl, same))
+  lacking finished (inr (inl (is, wanted, rose))) = absurd cc
+  lacking finished (inr (inr (is, same))) = absurd cc
+  lacking (stopped stop) (inl (decided, same)) = (known_then c input o callee (stopped stop) (λ plan. ⊥) (λ plan. Stops plan (sink_seen old sink) (sink_seen old sink) net net stop) (λ plan never. absurd never) decided, (refl, same))
+  lacking (stopped stop) (inr (inl (is, wanted, rose))) = absurd cc
+  lacking (stopped stop) (inr (inr (is, same))) = absurd cc
+
+  pub unplanned : (ending : Ending) → GivesPlan c input o callee source now (Err ending)
+      → Comes (KnownDecides c input o callee) (KnownWants c o callee) (counts shelf source sink) (counts shelf now sink) old old net net (ending_seen ending)
+  unfolding GivesPlan
+  unplanned ending h = lacking (ending_seen ending) h
 
 -- the input is looked for where a reply can come
 pub looked_for : (c : CallWords) (o : Operation) (callee : Callee) (old new : Option (List ℕ)) → LooksFor (LacksReply callee.proxy o.declared) old new → TakesInput (KnownWants c o callee) old new
+unfolding LooksFor TakesInput KnownWants
 looked_for c o callee old new (inl kept) = inl kept
 looked_for c o callee old new (inr (replies, taken)) = inr (inr (replies, tt), taken)
 
+-- the input is as it was
+pub untouched : (Wants : Type 0) (old : Option (List ℕ)) → TakesInput Wants old old
+unfolding TakesInput
+untouched Wants old = inl (keeps_itself old)
+
 -- ---- where there is no schema
 
-module _ (c : CallWords) (files : Option Files) (input : Option (List ℕ)) (shelf now source sink : ℕ) (old : Option (List ℕ)) (net : NetSeen) where
-  pub unloaded : IsListed (proxy_text c.proxy) → (answer : Answer) → GivesNoSchema files c.file shelf now answer
-      → Comes (Decides c files input) (WantsInput c files) (counts shelf source sink) (counts now source sink) old old net net (refused answer)
-  unloaded listed (slice_refused broken) h = (inl (inr (listed, inl (broken, h.0, refl)), (h.1, refl, refl)), keeps_itself old, refl)
-  unloaded listed read_failed h = (inr (inl (refl, inl (h, refl, refl))), keeps_itself old, refl)
-  unloaded listed no_memory h = (inr (inr (refl, (h, refl, refl))), keeps_itself old, refl)
-  unloaded listed (done bytes) h = absurd h
-  unloaded listed (different bytes) h = absurd h
-  unloaded listed usage h = absurd h
-  unloaded listed (no_such_name word) h = absurd h
-  unloaded listed (input_refused fault) h = absurd h
-  unloaded listed (json_refused why) h = absurd h
-  unloaded listed (too_long length) h = absurd h
-  unloaded listed needs_sliced h = absurd h
-  unloaded listed (text_refused place) h = absurd h
-  unloaded listed (write_failed bytes) h = absurd h
-  unloaded listed (refused_after written fault) h = absurd h
-  unloaded listed (read_failed_after written) h = absurd h
-  unloaded listed (no_memory_after written) h = absurd h
+module _ (c : CallWords) (files : Option Files) (input : Option (List ℕ)) (shelf : ℕ) where
+  module _ (now source sink : ℕ) (old : Option (List ℕ)) (net : NetSeen) where
+    no_schema : IsListed (proxy_text c.proxy) → (answer : Answer) → GivesNoSchema files c.file shelf now answer
+        → Comes (Decides c files input) (WantsInput c files) (counts shelf source sink) (counts now source sink) old old net net (refused answer)
+    unfolding Comes Decides
+    no_schema listed (slice_refused broken) h = (inl (inr (listed, inl (broken, h.0, refl)), (h.1, refl, refl)), keeps_itself old, refl)
+    no_schema listed read_failed h = (inr (inl (refl, inl (h, refl, refl))), keeps_itself old, refl)
+    no_schema listed no_memory h = (inr (inr (refl, (h, refl, refl))), keeps_itself old, refl)
+    no_schema listed (done bytes) h = absurd h
+    no_schema listed (different bytes) h = absurd h
+    no_schema listed usage h = absurd h
+    no_schema listed (no_such_name word) h = absurd h
+    no_schema listed (input_refused fault) h = absurd h
+    no_schema listed (json_refused why) h = absurd h
+    no_schema listed (too_long length) h = absurd h
+    no_schema listed needs_sliced h = absurd h
+    no_schema listed (text_refused place) h = absurd h
+    no_schema listed (write_failed bytes) h = absurd h
+    no_schema listed (refused_after written fault) h = absurd h
+    no_schema listed (read_failed_after written) h = absurd h
+    no_schema listed (no_memory_after written) h = absurd h
 
-  pub unlisted : (came : Ended) → ((IsListed (proxy_text c.proxy) → ⊥) × (came ≡ refused usage)) ⊎ (came ≡ refused no_memory)
-      → Comes (Decides c files input) (WantsInput c files) (counts shelf source sink) (counts shelf source sink) old old net net came
-  unlisted (refused answer) (inl (not, is)) = (inl (inl (not, is), (refl, refl, refl)), keeps_itself old, refl)
-  unlisted (refused answer) (inr is) = (inr (inr (same_answer answer no_memory is, (refl, refl, refl))), keeps_itself old, refl)
-  unlisted (twoway_only word) (inl (not, is)) = absurd cc
-  unlisted (twoway_only word) (inr is) = absurd cc
-  unlisted finished (inl (not, is)) = absurd cc
-  unlisted finished (inr is) = absurd cc
-  unlisted (stopped stop) (inl (not, is)) = absurd cc
-  unlisted (stopped stop) (inr is) = absurd cc
+    pub unloaded : (parsed : Result Callee ℕ) → FindsCallee c.locator c.proxy (Ok parsed) → (outcome : Outcome) → FindsSchema files c.file shelf now (Err outcome)
+        → Comes (Decides c files input) (WantsInput c files) (counts shelf source sink) (counts now source sink) old old net net (refused (answer_of outcome []))
+    unfolding FindsCallee
+    unloaded parsed found outcome h = no_schema found.1 (answer_of outcome []) h
+
+  module _ (source sink : ℕ) (old : Option (List ℕ)) (net : NetSeen) where
+    no_callee_said : (came : Ended) → ((IsListed (proxy_text c.proxy) → ⊥) × (came ≡ refused usage)) ⊎ (came ≡ refused no_memory)
+        → Comes (Decides c files input) (WantsInput c files) (counts shelf source sink) (counts shelf source sink) old old net net came
+    unfolding Comes Decides
+    no_callee_said (refused answer) (inl (not, is)) = (inl (inl (not, is), (refl, refl, refl)), keeps_itself old, refl)
+    no_callee_said (refused answer) (inr is) = (inr (inr (same_answer answer no_memory is, (refl, refl, refl))), keeps_itself old, refl)
+    no_callee_said (twoway_only word) (inl (not, is)) = absurd cc
+    no_callee_said (twoway_only word) (inr is) = absurd cc
+    no_callee_said finished (inl (not, is)) = absurd cc
+    no_callee_said finished (inr is) = absurd cc
+    no_callee_said (stopped stop) (inl (not, is)) = absurd cc
+    no_callee_said (stopped stop) (inr is) = absurd cc
+
+    pub unlisted : (ending : Ending) → FindsCallee c.locator c.proxy (Err ending)
+        → Comes (Decides c files input) (WantsInput c files) (counts shelf source sink) (counts shelf source sink) old old net net (ending_seen ending)
+    unfolding FindsCallee
+    unlisted ending h = no_callee_said (ending_seen ending) h
 
 -- ---- where there is a plan
 
-module _ (c : CallWords) (input : Option (List ℕ)) (o : Operation) (callee : Callee) (shelf source now sink after : ℕ) (old new : Option (List ℕ)) (net later : NetSeen) (plan : Plan)
-    (given : (came : Ended) → KnownDecides c input o callee came (λ q. q ≡ plan)) (same : now ≡ source) where
-  pub finished_so : Finishes plan (sink_seen old sink) (sink_seen new after) net later
+module _ (c : CallWords) (input : Option (List ℕ)) (o : Operation) (callee : Callee) (shelf source now sink after : ℕ) (old new : Option (List ℕ)) (net later : NetSeen) (plan : Written)
+    (given : GivesPlan c input o callee source now (Ok plan)) where
+  pub finished_so : Finishes (plan_seen plan) (sink_seen old sink) (sink_seen new after) net later
       → Comes (KnownDecides c input o callee) (KnownWants c o callee) (counts shelf source sink) (counts shelf now after) old new net later finished
+  unfolding Comes GivesPlan
   finished_so h = (
-    known_then c input o callee finished (λ q. q ≡ plan) (λ q. Finishes q (sink_seen old sink) (sink_seen new after) net later)
-        (λ q is. subst (λ (x : Plan). Finishes x (sink_seen old sink) (sink_seen new after) net later) (sym is) h) (given finished),
-    (refl, same),
+    known_then c input o callee finished (λ q. q ≡ plan_seen plan) (λ q. Finishes q (sink_seen old sink) (sink_seen new after) net later)
+        (λ q is. subst (λ (x : Plan). Finishes x (sink_seen old sink) (sink_seen new after) net later) (sym is) h) (given.0 finished),
+    (refl, given.1),
   )
 
-  pub stopped_so : (stop : Stop) → Stops plan (sink_seen old sink) (sink_seen new after) net later stop
+  pub stopped_so : (stop : Stop) → Stops (plan_seen plan) (sink_seen old sink) (sink_seen new after) net later stop
       → Comes (KnownDecides c input o callee) (KnownWants c o callee) (counts shelf source sink) (counts shelf now after) old new net later (stopped stop)
+  unfolding Comes GivesPlan
   stopped_so stop h = (
-    known_then c input o callee (stopped stop) (λ q. q ≡ plan) (λ q. Stops q (sink_seen old sink) (sink_seen new after) net later stop)
-        (λ q is. subst (λ (x : Plan). Stops x (sink_seen old sink) (sink_seen new after) net later stop) (sym is) h) (given (stopped stop)),
-    (refl, same),
+    known_then c input o callee (stopped stop) (λ q. q ≡ plan_seen plan) (λ q. Stops q (sink_seen old sink) (sink_seen new after) net later stop)
+        (λ q is. subst (λ (x : Plan). Stops x (sink_seen old sink) (sink_seen new after) net later stop) (sym is) h) (given.0 (stopped stop)),
+    (refl, given.1),
   )
 
 -- ---- where a name or the text of a proxy is refused
@@ -144,16 +178,20 @@ module _ (c : CallWords) (input : Option (List ℕ)) (parsed : Result Callee ℕ
   RefusedHere answer = Comes (SchemaDecides c input parsed t) (SchemaWants c parsed t) (counts shelf source sink) (counts shelf source sink) old old net net (refused answer)
 
   pub no_interface : ((at : ℕ) → HasId (interface_ids t) c.interface at → ⊥) → RefusedHere (no_such_name c.interface)
+  unfolding Comes SchemaDecides
   no_interface none = (inl (inl (none, refl), (refl, refl, refl)), keeps_itself old, refl)
 
   pub out_of_memory : RefusedHere no_memory
+  unfolding Comes
   out_of_memory = (inr (inr (refl, (refl, refl, refl))), keeps_itself old, refl)
 
   module _ (at : ℕ) (names : IsInterface t c.interface at) where
     pub no_operation : operation_of t at c.operation ≡ None → RefusedHere (no_such_name c.operation)
+    unfolding Comes SchemaDecides
     no_operation none = (inl (inr (at, names, inl (none, refl)), (refl, refl, refl)), keeps_itself old, refl)
 
     pub no_callee : (o : Operation) → operation_of t at c.operation ≡ Some o → (place : ℕ) → parsed ≡ Err place → RefusedHere (text_refused place)
+    unfolding Comes SchemaDecides
     no_callee o is place text = (inl (inr (at, names, inr (o, is, inl (place, text, refl))), (refl, refl, refl)), keeps_itself old, refl)
 
 -- ---- the steps before the operation and the object
@@ -161,18 +199,33 @@ module _ (c : CallWords) (input : Option (List ℕ)) (parsed : Result Callee ℕ
 module _ (c : CallWords) (input : Option (List ℕ)) (parsed : Result Callee ℕ) (t : Tables) (at : ℕ) (names : IsInterface t c.interface at)
     (o : Operation) (is : operation_of t at c.operation ≡ Some o) (callee : Callee) (text : parsed ≡ Ok callee) where
   pub schema_decides : (came : Ended) (Next : Plan → Type 0) → KnownDecides c input o callee came Next → SchemaDecides c input parsed t came Next
+  unfolding SchemaDecides
   schema_decides came Next h = inr (at, names, inr (o, is, inr (callee, text, h)))
 
   pub schema_wants : KnownWants c o callee → SchemaWants c parsed t
+  unfolding SchemaWants
   schema_wants h = inr (at, names, inr (o, is, inr (callee, text, h)))
 
-module _ (c : CallWords) (files : Option Files) (input : Option (List ℕ)) (parsed : Result Callee ℕ) (t : Tables)
-    (text : callee_named c ≡ parsed) (listed : IsListed (proxy_text c.proxy)) (means : IsSchema files c.file t) where
-  pub all_decide : (came : Ended) (Next : Plan → Type 0) → SchemaDecides c input parsed t came Next → Decides c files input came Next
-  all_decide came Next h = inr (listed, inr (t, means, subst (λ (x : Result Callee ℕ). SchemaDecides c input x t came Next) (sym text) h))
+module _ (c : CallWords) (files : Option Files) (input : Option (List ℕ)) (parsed : Result Callee ℕ) (t : Tables) (found : FindsCallee c.locator c.proxy (Ok parsed)) where
+  all_decide : IsSchema files c.file t → (came : Ended) (Next : Plan → Type 0) → SchemaDecides c input parsed t came Next → Decides c files input came Next
+  unfolding Decides SchemaDecides KnownDecides FindsCallee
+  all_decide means came Next h = inr (found.1, inr (t, means, subst (λ (x : Result Callee ℕ). SchemaDecides c input x t came Next) (sym found.0) h))
 
-  pub all_want : SchemaWants c parsed t → WantsInput c files
-  all_want h = inr (listed, inr (t, means, subst (λ (x : Result Callee ℕ). SchemaWants c x t) (sym text) h))
+  all_want : IsSchema files c.file t → SchemaWants c parsed t → WantsInput c files
+  unfolding WantsInput SchemaWants KnownWants FindsCallee
+  all_want means h = inr (found.1, inr (t, means, subst (λ (x : Result Callee ℕ). SchemaWants c x t) (sym found.0) h))
+
+  module _ (shelf later : ℕ) (means : FindsSchema files c.file shelf later (Ok t)) where
+    pub loaded : (source now sink after : ℕ) (old new : Option (List ℕ)) (net at : NetSeen) (came : Ended)
+        → Comes (SchemaDecides c input parsed t) (SchemaWants c parsed t) (counts shelf source sink) (counts shelf now after) old new net at came
+        → Comes (Decides c files input) (WantsInput c files) (counts shelf source sink) (counts later now after) old new net at came
+    loaded source now sink after old new net at came h =
+        subst (λ (n : ℕ). Comes (Decides c files input) (WantsInput c files) (counts shelf source sink) (counts n now after) old new net at came) (sym means.1)
+        (comes_so (SchemaDecides c input parsed t) (Decides c files input) (SchemaWants c parsed t) (WantsInput c files) (all_decide means.0) (all_want means.0)
+        (counts shelf source sink) (counts shelf now after) old new net at came h)
+
+    pub loaded_takes : (left : Option (List ℕ)) → TakesInput (SchemaWants c parsed t) input left → TakesInput (WantsInput c files) input left
+    loaded_takes left h = takes_so (SchemaWants c parsed t) (WantsInput c files) (all_want means.0) input left h
 
 -- ---- the line of a success is none
 
@@ -190,5 +243,12 @@ listed_so (Some (Ok locator)) proxy listed = by_proxy (Some locator) proxy liste
 listed_so (Some (Err place)) proxy listed = tt
 listed_so None proxy listed = by_proxy None proxy listed
 
-pub listed_callee : (c : CallWords) (found : Result Callee ℕ) → callee_named c ≡ found → IsListed (proxy_text c.proxy) → IsListedCallee found
-listed_callee c found is listed = subst IsListedCallee is (listed_so (option_map proxy_text c.locator) (proxy_text c.proxy) listed)
+pub listed_callee : (c : CallWords) (parsed : Result Callee ℕ) → FindsCallee c.locator c.proxy (Ok parsed) → IsListedCallee parsed
+unfolding FindsCallee
+listed_callee c parsed found = subst IsListedCallee found.0 (listed_so (option_map proxy_text c.locator) (proxy_text c.proxy) found.1)
+
+-- ---- what an end by `?` comes to
+
+pub ended_by : {X : Type 0} (Chain : Steps) (Wants : Type 0) (before after : Failures) (old new : Option (List ℕ)) (net now : NetSeen) (r : Result X Ending) (came ending : Ending) → r ≡ Err came → came ≡ ending
+    → Comes Chain Wants before after old new net now (ending_seen ending) → Comes Chain Wants before after old new net now (ended_of r)
+ended_by {X = X} Chain Wants before after old new net now r came ending is same h = subst (λ (x : Result X Ending). Comes Chain Wants before after old new net now (ended_of x)) (sym (is ∙ ap Err same)) h

@@ -141,20 +141,20 @@ module _ (plan : Plan) (places : Kept) (last : List Round) (later : Kept) where
     Invoked r,
     later,
     went,
-    λ won. let told = line_of plan.expected went.0.2.did.outgoing (tried_of went.0.0) plan.retries r.outcome went.0.2.did.ended won in subst (λ (x : Outcome). IsLine plan.expected x told.0) fails told.1,
+    λ won. let told = line_of plan.expected went.went.0.2.did.outgoing (tried_of went.went.0.0) plan.retries r.outcome went.went.0.2.did.ended won in subst (λ (x : Outcome). IsLine plan.expected x told.0) fails told.1,
   )
   not_failed NotLocated went fails = absurd fails
-  not_failed (LocatorFailed r) went fails = (LocatorFailed r, later, went, none_won plan.expected went.0.1.did.outgoing (tried_of went.0.0) went.0.1.did.ended.0)
+  not_failed (LocatorFailed r) went fails = (LocatorFailed r, later, went, none_won plan.expected went.went.0.1.did.outgoing (tried_of went.went.0.0) went.went.0.1.did.ended.0)
 
   not_ended : (through : Through) (reason : Reason) → Delivered plan places last later through → HasReason plan through reason → IsNotWon plan places last
   not_ended (Invoked r) reason went why = (
     Invoked r,
     later,
     went,
-    λ won. let told = line_of plan.expected went.0.2.did.outgoing (tried_of went.0.0) plan.retries r.outcome went.0.2.did.ended won in line_or_reason plan.expected r.outcome told.0 reason told.1 why,
+    λ won. let told = line_of plan.expected went.went.0.2.did.outgoing (tried_of went.went.0.0) plan.retries r.outcome went.went.0.2.did.ended won in line_or_reason plan.expected r.outcome told.0 reason told.1 why,
   )
-  not_ended NotLocated reason went why = (NotLocated, later, went, none_won plan.expected went.0.1.did.outgoing (tried_of went.0.0) went.0.1.did.ended.0)
-  not_ended (LocatorFailed r) reason went why = (LocatorFailed r, later, went, none_won plan.expected went.0.1.did.outgoing (tried_of went.0.0) went.0.1.did.ended.0)
+  not_ended NotLocated reason went why = (NotLocated, later, went, none_won plan.expected went.went.0.1.did.outgoing (tried_of went.went.0.0) went.went.0.1.did.ended.0)
+  not_ended (LocatorFailed r) reason went why = (LocatorFailed r, later, went, none_won plan.expected went.went.0.1.did.outgoing (tried_of went.went.0.0) went.went.0.1.did.ended.0)
 
 by_cause : (plan : Plan) (before after : SinkSeen) (net now : NetSeen) (stop : Stop) (ds : List Delivery) (places : Kept) (last : List Round) → IsUsed (rounds_of ds ++ last) net now
     → StopsAt plan ds places last before after net now stop → IsCaused plan before after net now stop

@@ -16,7 +16,7 @@ abbrev pub Steps : Type 1
 Steps = Ended → (Plan → Type 0) → Type 0
 
 -- only where FILE, the names, PROXY and its mode are right is the input read
-abbrev pub WantsInput : CallWords → Option Files → Type 0
+unfoldable pub WantsInput : CallWords → Option Files → Type 0
 WantsInput c files = Reaches c files (refused read_failed) (λ o callee. Unit {0})
 
 -- a refusal is decided, and no call failed; a read failed: of FILE or a file that it includes, or of the input, where it is wanted;
@@ -31,7 +31,7 @@ abbrev pub NoReadFailed : Failures → Failures → Type 0
 NoReadFailed before after = (after.shelf ≡ before.shelf) × (after.source ≡ before.source)
 
 -- Why a call ends so, and what it did to the sink and the net: nothing where it is refused.
-abbrev pub Comes : Steps → (Wants : Type 0) → (before after : Failures) → (old new : Option (List ℕ)) → (net now : NetSeen) → Ended → Type 0
+unfoldable pub Comes : Steps → (Wants : Type 0) → (before after : Failures) → (old new : Option (List ℕ)) → (net now : NetSeen) → Ended → Type 0
 Comes Chain Wants before after old new net now (refused answer) = Refuses Chain Wants before after answer × Keeps old new × (now ≡ net)
 Comes Chain Wants before after old new net now (twoway_only operation) = Chain (twoway_only operation) (λ plan. ⊥) × NoneFailed before after × Keeps old new × (now ≡ net)
 Comes Chain Wants before after old new net now finished =
@@ -40,7 +40,7 @@ Comes Chain Wants before after old new net now (stopped stop) =
     Chain (stopped stop) (λ plan. Stops plan (sink_seen old before.sink) (sink_seen new after.sink) net now stop) × NoReadFailed before after
 
 -- the input is as it was, or was read, no more of it than a text may have and one byte
-abbrev pub TakesInput : (Wants : Type 0) → Option (List ℕ) → Option (List ℕ) → Type 0
+unfoldable pub TakesInput : (Wants : Type 0) → Option (List ℕ) → Option (List ℕ) → Type 0
 TakesInput Wants old new = Keeps old new ⊎ (Wants × TakesText old new)
 
 -- The call ended so: its status is returned, it ended so for its cause and with its effects on the sink and the net, no more of

@@ -120,5 +120,5 @@ Plans c input came Next o callee =
     WithMessage (plan_of c o callee body).message came (Next (plan_of c o callee body))))
 
 -- up to the plan of what is sent
-abbrev pub Decides : CallWords → Option Files → Option (List ℕ) → Ended → (Plan → Type 0) → Type 0
+unfoldable pub Decides : CallWords → Option Files → Option (List ℕ) → Ended → (Plan → Type 0) → Type 0
 Decides c files input came Next = Reaches c files came (Plans c input came Next)

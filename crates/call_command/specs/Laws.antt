@@ -67,9 +67,9 @@ IsWon e o tried = (before : List Tried) × (last : Tried) × (tried ≡ before +
 
 -- the last of the attempts that were made at the target is none such; a message may end without any
 abbrev pub LastLost : (plan : Plan) (old : Kept) (rounds : List Round) (new : Kept) (through : Through) → Delivered plan old rounds new through → Type 0
-LastLost plan old rounds new (Invoked r) went = IsWon plan.expected went.0.2.did.outgoing (tried_of went.0.0) → ⊥
-LastLost plan old rounds new NotLocated went = IsWon plan.expected went.0.1.did.outgoing (tried_of went.0.0) → ⊥
-LastLost plan old rounds new (LocatorFailed r) went = IsWon plan.expected went.0.1.did.outgoing (tried_of went.0.0) → ⊥
+LastLost plan old rounds new (Invoked r) went = IsWon plan.expected went.went.0.2.did.outgoing (tried_of went.went.0.0) → ⊥
+LastLost plan old rounds new NotLocated went = IsWon plan.expected went.went.0.1.did.outgoing (tried_of went.went.0.0) → ⊥
+LastLost plan old rounds new (LocatorFailed r) went = IsWon plan.expected went.went.0.1.did.outgoing (tried_of went.went.0.0) → ⊥
 
 -- the message came to something else
 abbrev pub IsNotWon : Plan → Kept → List Round → Type 0

@@ -38,8 +38,8 @@ sink_seen taken failures = record { taken = taken; failures = failures }
 
 -- The message went wherever the proxy leads, and came to this: its attempts together are what a client does, each behind a
 -- resolution. Before and then these places were kept.
-abbrev pub Delivered : Plan → Kept → List Round → Kept → Through → Type 0
-Delivered plan old rounds new through = GoesThrough plan.message (target_of plan) old rounds new (Ok through)
+pub record Delivered (plan : Plan) (old : Kept) (rounds : List Round) (new : Kept) (through : Through) : Type 0 where
+  pub went : GoesThrough plan.message (target_of plan) old rounds new (Ok through)
 
 -- a message that succeeded: its attempts and the questions before them, what it came to, the places that are kept then, and
 -- its line

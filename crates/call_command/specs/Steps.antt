@@ -1,5 +1,5 @@
 -- What the parts of a call answer on the way.
-use Rattle.std.specs.Prelude.{ℕ, pos, negsuc, zero, suc, ◌≡◌, ◌<◌, ◌≤◌, ◌⊎◌, List, length, Option, Some, None, Result, Ok, Err, Vec}
+use Rattle.std.specs.Prelude.{ℕ, pos, negsuc, zero, suc, ◌≡◌, ◌<◌, ◌≤◌, ◌⊎◌, List, length, Option, Some, None, Result, Ok, Err, Vec, option_map}
 use Rattle.std.specs.declared.alloc.Global.{Global}
 use Rattle.std.specs.Io.KnownBytes.{Keeps, Appends}
 use Rattle.ice_types.specs.declared.proxy.Proxy.{Proxy}
@@ -34,6 +34,7 @@ use Rattle.locator.specs.Through.{GoesThrough, IsFailure}
 use Rattle.ice_relay.specs.TextStreams.{TakesText}
 use Rattle.ice_relay.specs.declared.fault.RelayFault.{RelayFault}
 use Rattle.ice_relay.specs.declared.fault.RelayFault.TheVariants as faults
+use Rattle.proxy_text.specs.Grammar.{proxy_text}
 use Rattle.node_commands.specs.Words.{Word}
 use Rattle.node_commands.specs.Answers.{usage, read_failed, no_memory}
 use Rattle.call_command.specs.declared.arguments.TheConstants.{MOST_OF_ARGUMENTS}
@@ -46,7 +47,7 @@ use Rattle.call_command.specs.declared.stop.Reason.{Reason}
 use Rattle.call_command.specs.declared.stop.Reason.TheVariants as reasons
 use Rattle.call_command.specs.Words.{CallWords}
 use Rattle.call_command.specs.Operations.{Operation}
-use Rattle.call_command.specs.Planning.{Expected, Plan, of_locator, seen, target_of}
+use Rattle.call_command.specs.Planning.{Expected, Plan, callee_of, of_locator, seen, target_of}
 use Rattle.call_command.specs.Replies.{HasLine, HasReason, IsLine, IsReason}
 use Rattle.call_command.specs.Endings.{Ended, refused, ending_seen}
 use Rattle.call_command.specs.Decided.{IsListed, IsInterface, WithInterface, WithOperation, WithCallee, WithReply, Plans}
@@ -64,6 +65,10 @@ abbrev pub ParsesListed : {X : Type 0} → Result Proxy ℕ → X → Result X E
 ParsesListed parsed said (Ok found) = (said ≡ found) × IsListed parsed
 ParsesListed parsed said (Err ending) = ((IsListed parsed → ⊥) × (ending_seen ending ≡ refused usage)) ⊎ (ending_seen ending ≡ refused no_memory)
 
+-- the callee of these texts, or the place of the first word that cannot stand
+unfoldable pub FindsCallee : (locator : Option Word) (proxy : Word) → Result (Result Callee ℕ) Ending → Type 0
+FindsCallee locator proxy result = ParsesListed (proxy_text proxy) (callee_of (option_map proxy_text locator) (proxy_text proxy)) result
+
 -- ---- the interface
 
 -- the one of this type id, or there is none
@@ -74,20 +79,20 @@ FindsInterface t id None = (at : ℕ) → HasId (interface_ids t) id at → ⊥
 -- ---- the steps that are left
 
 -- of the operation and the object
-abbrev pub KnownDecides : CallWords → Option (List ℕ) → Operation → Callee → Ended → (Plan → Type 0) → Type 0
+unfoldable pub KnownDecides : CallWords → Option (List ℕ) → Operation → Callee → Ended → (Plan → Type 0) → Type 0
 KnownDecides c input o callee came Next = WithReply callee.proxy o.declared c.operation came (Plans c input came Next o callee)
 
-abbrev pub KnownWants : CallWords → Operation → Callee → Type 0
+unfoldable pub KnownWants : CallWords → Operation → Callee → Type 0
 KnownWants c o callee = WithReply callee.proxy o.declared c.operation (refused read_failed) (Unit {0})
 
 -- of the schema
-abbrev pub SchemaDecides : CallWords → Option (List ℕ) → Result Callee ℕ → Tables → Ended → (Plan → Type 0) → Type 0
+unfoldable pub SchemaDecides : CallWords → Option (List ℕ) → Result Callee ℕ → Tables → Ended → (Plan → Type 0) → Type 0
 SchemaDecides c input parsed t came Next =
     WithInterface t c.interface came (λ at.
     WithOperation t at c.operation came (λ o.
     WithCallee parsed came (λ callee. KnownDecides c input o callee came Next)))
 
-abbrev pub SchemaWants : CallWords → Result Callee ℕ → Tables → Type 0
+unfoldable pub SchemaWants : CallWords → Result Callee ℕ → Tables → Type 0
 SchemaWants c parsed t =
     WithInterface t c.interface (refused read_failed) (λ at.
     WithOperation t at c.operation (refused read_failed) (λ o.
@@ -97,7 +102,7 @@ SchemaWants c parsed t =
 
 -- The encapsulation of the graph that the text lists; or why it lists none; or that compact format cannot carry it; or the
 -- length of the encapsulation, which is more than it may have.
-abbrev pub EncodesArguments : Tables → Shape → Format → List ℕ → Result (List ℕ) RelayFault → Type 0
+unfoldable pub EncodesArguments : Tables → Shape → Format → List ℕ → Result (List ℕ) RelayFault → Type 0
 EncodesArguments t shape f text (Ok body) = (g : Graph) × Lists t shape text g × IsWritable f g
     × (body ≡ graph_bytes t shape f g) × (length body ≤ MOST_OF_ARGUMENTS)
 EncodesArguments t shape f text (Err (faults.Broken fault)) = ⊥
@@ -108,7 +113,7 @@ EncodesArguments t shape f text (Err (faults.TooLong n)) = (g : Graph) × Lists 
 EncodesArguments t shape f text (Err faults.Memory) = Unit {0}
 
 -- the message, or that it is too long, with its length
-abbrev pub MakesMessage : Message → Result Message RelayFault → Type 0
+unfoldable pub MakesMessage : Message → Result Message RelayFault → Type 0
 MakesMessage m (Ok made) = (made ≡ m) × (length (message_bytes m) ≤ LARGEST)
 MakesMessage m (Err (faults.Broken fault)) = ⊥
 MakesMessage m (Err (faults.TextRefused why)) = ⊥
@@ -129,18 +134,18 @@ pub record CanBeSent (plan : Written) : Type 0 where
   pub results : ShapeFits plan.expected.schema.now plan.expected.results.now
 
 -- why there is none, with the source's count before and after: a refusal is decided, a read failed, or memory ran out
-abbrev pub LacksPlan : CallWords → Option (List ℕ) → Operation → Callee → (before after : ℕ) → Ended → Type 0
+unfoldable pub LacksPlan : CallWords → Option (List ℕ) → Operation → Callee → (before after : ℕ) → Ended → Type 0
 LacksPlan c input o callee before after came = (KnownDecides c input o callee came (λ plan. ⊥) × (after ≡ before))
     ⊎ (((came ≡ refused read_failed) × KnownWants c o callee × (after ≡ one_more before))
     ⊎ ((came ≡ refused no_memory) × (after ≡ before)))
 
 -- the plan that is decided, whatever comes of it
-abbrev pub GivesPlan : CallWords → Option (List ℕ) → Operation → Callee → (before after : ℕ) → Result Written Ending → Type 0
+unfoldable pub GivesPlan : CallWords → Option (List ℕ) → Operation → Callee → (before after : ℕ) → Result Written Ending → Type 0
 GivesPlan c input o callee before after (Ok plan) = ((came : Ended) → KnownDecides c input o callee came (λ q. q ≡ seen plan)) × (after ≡ before)
 GivesPlan c input o callee before after (Err ending) = LacksPlan c input o callee before after (ending_seen ending)
 
 -- the input is as it was, or was read where a reply can come
-abbrev pub LooksFor : (Lacks : Type 0) → Option (List ℕ) → Option (List ℕ) → Type 0
+unfoldable pub LooksFor : (Lacks : Type 0) → Option (List ℕ) → Option (List ℕ) → Type 0
 LooksFor Lacks old new = Keeps old new ⊎ ((Lacks → ⊥) × TakesText old new)
 
 -- ---- replies
@@ -178,12 +183,12 @@ StopsCall plan through (stops.Ended reason) = HasReason plan through reason
 StopsCall plan through stops.Memory = Unit {0}
 
 -- the line on a message, or what stops the call
-abbrev pub Tells : Plan → Through → Result (Vec ℕ Global) Stop → Type 0
+unfoldable pub Tells : Plan → Through → Result (Vec ℕ Global) Stop → Type 0
 Tells plan through (Ok line) = HasLine plan through line.items
 Tells plan through (Err stop) = StopsCall plan through stop
 
 -- a locator that failed gave no results
-abbrev pub IsInVain : Through → Type 0
+unfoldable pub IsInVain : Through → Type 0
 IsInVain (Invoked r) = Unit {0}
 IsInVain NotLocated = Unit {0}
 IsInVain (LocatorFailed r) = (line : List ℕ) → IsLine of_locator r.outcome line → ⊥
@@ -202,7 +207,7 @@ twoway_of Validate = None
 twoway_of Close = None
 
 -- what a message came to, from these places to those, or memory ran out
-abbrev pub DeliversOnce : Plan → Kept → (before after : NetSeen) → Kept → Result Through Stop → Type 0
+unfoldable pub DeliversOnce : Plan → Kept → (before after : NetSeen) → Kept → Result Through Stop → Type 0
 DeliversOnce plan old before after new (Ok through) = (rounds : List Round) × IsUsed rounds before after × Delivered plan old rounds new through
     × (IsFailure through → Rises before.failures after.failures)
 DeliversOnce plan old before after new (Err stop) = (rounds : List Round) × IsUsed rounds before after

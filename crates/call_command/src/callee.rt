@@ -4,7 +4,7 @@ ghost use Rattle.std.specs.Prelude.{◌≡◌, IfSome, option_copied, option_map
 ghost use Rattle.proxy_text.specs.Grammar.{proxy_text};
 ghost use Rattle.node_commands.specs.Words.{IsWord};
 ghost use Rattle.call_command.specs.Planning as spec;
-ghost use Rattle.call_command.specs.Steps.{Parses, ParsesListed};
+ghost use Rattle.call_command.specs.Steps.{FindsCallee, Parses, ParsesListed};
 
 use crate::ending::Ending;
 use ice_types::Proxy;
@@ -21,6 +21,7 @@ pub struct Callee {
 
 /// What both texts say, or the place of the first word that cannot stand in the first text that has one. A proxy for
 /// datagrams is in no form of `call`; the mode of a locator's proxy says nothing.
+#[tactic(auto, unfolding(crate::specs::Steps::FindsCallee))]
 pub(crate) fn callee_of(
     alloc: Global,
     locator: Option<&str>,
@@ -28,8 +29,7 @@ pub(crate) fn callee_of(
 ) -> Result<Result<Callee, u32>, Ending<'static>>
     requires proxy { IsWord proxy.now }
     requires locator { IfSome (option_copied locator) IsWord }
-    ensures { ParsesListed (proxy_text proxy.now)
-        (spec.callee_of (option_map proxy_text (option_copied locator.entry)) (proxy_text proxy.now)) result }
+    ensures { FindsCallee (option_copied locator.entry) proxy.now result }
 {
     let proxy = listed(parsed(alloc, proxy)?)?;
     let locator = located(alloc, locator)?;

@@ -48,6 +48,7 @@ fn identity_like(alloc: Global, identity: &Identity) -> Result<Identity, AllocEr
 
 /// The message that a call goes in, by the mode of the proxy: a request that wants a reply, one that wants none, or so
 /// many of the call in a batch. One that is too long is refused with its length.
+#[tactic(auto, unfolding(crate::specs::Steps::MakesMessage))]
 pub(crate) fn message_of(
     alloc: Global,
     mode: u8,

@@ -32,6 +32,7 @@ use proxy_text::quote;
 use std::alloc::{AllocError, Global};
 
 /// The line on a message that succeeded, or what stops the call.
+#[tactic(auto, unfolding(crate::specs::Steps::Tells, crate::specs::Steps::IsInVain))]
 pub(crate) fn line_of(alloc: Global, plan: &Plan<'_>, through: Through) -> Result<Vec<u8>, Stop>
     requires fits { ShapeFits plan.now.expected.schema.now plan.now.expected.results.now }
     requires in_vain { IsInVain through }
