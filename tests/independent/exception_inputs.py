@@ -82,7 +82,7 @@ class KeepingRaisedMaker(RaisedMaker, KeepingMaker):
 
     def raised_slice(self):
         found = self.kept_slice()
-        if self.chance.random() < 0.2 or found.type_id in self.exception_ids:
+        if self.chance.random() < 0.2 or found.type_id in self.exception_ids or found.type_id.startswith(b"#"):
             found.type_id = self.chance.choice(self.class_ids)
         return found
 

@@ -37,7 +37,7 @@ class Reader(graphs.Reader):
             flags = self.raised_flags(cursor, is_sized)
             is_sized, is_last = bool(flags & SIZED), bool(flags & LAST)
             id_place = cursor.at
-            type_id = cursor.string()
+            type_id = graphs.type_id_at(cursor)
             row = self.exceptions.get(type_id)
             if base and row is not base:
                 raise Fault(id_place, "WrongBase")
@@ -87,7 +87,7 @@ class RaisedWriter(graphs.Writer):
 
     def exception(self, slices):
         for at, it in enumerate(slices):
-            yield from self.slice(it, self.has_last_flag(at, slices), 0, values.spelled_string(graphs.id_of(it)))
+            yield from self.slice(it, self.has_last_flag(at, slices), 0, values.spelled_string(it.type_id if isinstance(it, graphs.Kept) else it.row.type_id))
 
     def plain_exception(self, slices):
         """Writes the slices without sizes."""

@@ -13,7 +13,7 @@
     member    = meta type word [ "=" value ] ";"
     seq       = "sequence" "<" meta type ">" word ";"
     dict      = "dictionary" "<" meta type "," meta type ">" word ";"
-    class     = "class" word ( ";" | [ "extends" scoped ] "{" { omember } "}" [ ";" ] )
+    class     = "class" word ( ";" | [ "(" value ")" ] [ "extends" scoped ] "{" { omember } "}" [ ";" ] )
     exception = "exception" word [ "extends" scoped ] "{" { omember } "}" [ ";" ]
     omember   = meta [ opt ] type word [ "=" value ] ";"
     opt       = "optional" "(" value ")"
@@ -146,6 +146,7 @@ class Dictionary:
 @dataclass(frozen=True)
 class Class:
     word: Word
+    compact: Value | None  # its compact id
     base: Path | None
     fields: tuple | None  # None: it is only declared
 
@@ -254,10 +255,13 @@ class Parser:
     def tag(self):
         if not self.takes("optional"):
             return None
+        return self.in_rounds()
+
+    def in_rounds(self):
         self.take("(")
-        tag = self.value()
+        value = self.value()
         self.take(")")
-        return tag
+        return value
 
     def member(self, may_be_optional):
         self.meta()
@@ -325,9 +329,10 @@ class Parser:
     def class_(self):
         word = self.word()
         if self.takes(";"):
-            return Class(word, None, None)
+            return Class(word, None, None, None)
+        compact = self.in_rounds() if self.sort() == "(" else None
         base = self.base()
-        return Class(word, base, self.members(may_be_optional=True))
+        return Class(word, compact, base, self.members(may_be_optional=True))
 
     def exception(self):
         word, base = self.word(), self.base()

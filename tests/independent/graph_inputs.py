@@ -14,6 +14,7 @@ from graphs import Kept, Known, Ref
 TAGS = [0, 0, 1, 1, 2, 3, 7, 28, 29, 30, 31, 254, 255, 256, 2**31 - 1]
 ANY = [("Object", kinds.ANY_CLASS)]
 # Type ids that no class has, but by chance.
+NUMBERS = [0, 1, 4, 5, 5, 17, 254, 255, 256, 2**31 - 1]  # compact ids
 UNKNOWN_IDS = ["::Gone::Fishing", "::Gone::Fishing", "::Gone::Sailing", "::Ice::Object", "::x", "x", "", "é", "::" + "Long" * 70]
 
 
@@ -23,6 +24,7 @@ class ClassMaker(generate.SchemaMaker):
     def __init__(self, chance, is_plain=False):
         super().__init__(chance, is_plain)
         self.rows, self.defined = {}, []  # the rows by their names, and those of the names that are defined
+        self.numbers = []  # the compact ids that classes have
 
     def type(self, is_key=False):
         if is_key or not self.rows or self.chance.random() < 0.45:
@@ -45,8 +47,19 @@ class ClassMaker(generate.SchemaMaker):
         row, base = self.rows[name], None
         if self.defined and self.chance.random() < 0.6:
             base = self.chance.choice(self.defined[-3:])
-        self.fill(row, name, self.rows.get(base), self.inherited(base), ["class", name, *(["extends", base] if base else [])])
+        head = self.head(name) + (["extends", base] if base else [])
+        self.fill(row, name, self.rows.get(base), self.inherited(base), head)
         self.defined.append(name)
+
+    def head(self, name):
+        """Gives a class a compact id that none has, or no such, and returns the tokens of its name and that id."""
+        free = [it for it in NUMBERS if it not in self.numbers]
+        if not free or self.chance.random() < 0.6:
+            return ["class", name]
+        number = self.chance.choice(free)
+        self.numbers.append(number)
+        self.rows[name].compact = number
+        return ["class", name, "(", str(number), ")"]
 
     def fill(self, row, name, base, members, head):
         """Gives a class, or an exception, its members, and adds its definition behind the head. `members` are names that none has."""
@@ -161,7 +174,8 @@ class KeepingMaker(GraphMaker):
     def __init__(self, chance, rows, most, module, wrong=0.0):
         super().__init__(chance, [*rows, None], most, wrong)
         names = [*UNKNOWN_IDS, f"::{module}", f"::{module}::Unknown", *(it.type_id.decode().swapcase() for it in rows)]
-        taken = {it.type_id for it in rows}
+        names += [f"#{it}" for it in NUMBERS]
+        taken = {it.type_id for it in rows} | {graphs.numbered(it.compact) for it in rows if it.compact is not None}
         self.ids = [it.encode() for it in names if it.encode() not in taken]
         self.keeping, self.few = chance.choice([0.2, 0.5, 1]), chance.sample(self.ids, 2)
 
@@ -200,20 +214,23 @@ class Style:
     """How often what may stand otherwise does."""
 
     def __init__(self, chance):
-        self.tables, self.ids, self.tags, self.order = [chance.choice([0, 0.2, 0.6]) for _ in range(4)]
+        self.tables, self.ids, self.numbers, self.tags, self.order = [chance.choice([0, 0.2, 0.6]) for _ in range(5)]
         self.compact = chance.choice([0, 0, 0.3, 1])
 
 
 class VariedWriter(graphs.Writer):
-    """Writes a graph in any way that is read as that graph: dictionaries in any order, type ids as strings again, members of
-    unknown tags, tables in any order with entries that come twice or that nothing uses, instances without sizes as far as they have
-    no kept slice. With `at` the part of that number is changed, and what counts it fits."""
+    """Writes a graph in any way that is read as that graph: dictionaries in any order, type ids as strings again and in the place of
+    compact ids, members of unknown tags, tables in any order with entries that come twice or that nothing uses, instances without
+    sizes as far as they have no kept slice. With `at` the part of that number is changed, and what counts it fits."""
 
     def __init__(self, graph, seed, at=None, changed=None, is_sized=False):
         super().__init__(graph)
         self.chance, self.at, self.changed = random.Random(seed), at, changed
         self.style, self.parts, self.ids = Style(self.chance), [], []
         self.style.compact *= not is_sized
+        # The type ids of the classes that have a compact id, by what that is as a text
+        rows = [it.row for slices in graph.instances for it in slices if isinstance(it, Known)]
+        self.type_id_of = {graphs.numbered(it.compact): it.type_id for it in rows if it.compact is not None}
 
     def is_so(self, rate):
         return self.chance.random() < rate
@@ -235,6 +252,10 @@ class VariedWriter(graphs.Writer):
         yield from self.unsized(slices) if is_unsized else super().instance(number)
 
     def type_id(self, it):
+        if it.startswith(b"#"):
+            if it not in self.type_id_of or not self.is_so(self.style.numbers):
+                return super().type_id(it)
+            it = self.type_id_of[it]
         there = [at for at, other in enumerate(self.ids, 1) if other == it]
         if there and not self.is_so(self.style.ids):
             return graphs.AS_INDEX, values.spelled_size(self.chance.choice(there))
@@ -339,7 +360,7 @@ def other_flags(data, chance):
 
 def other_ids(data, chance):
     text = data[data[0] < 255 or 5 :]
-    for it in (text[:-1], text + b"x", text[:-1] + b"\xff", text.swapcase(), b"", b"::x"):
+    for it in (text[:-1], text + b"x", text[:-1] + b"\xff", text.swapcase(), b"", b"::x", b"#" + text, b"#4"):
         yield values.spelled_string(it)
     yield size_of_any(len(text) + 1) + text
 
@@ -359,7 +380,7 @@ def other_bytes(data, chance):
 
 OTHERS = {"flags": other_flags, "kept flags": other_flags, "type id": other_ids, "tag": other_tags}
 OTHERS |= {"slice size": other_ints, "int prefix": other_ints, "kept bytes": other_bytes}
-OTHERS |= {it: other_sizes for it in ("size", "reference", "place", "index", "table size", "prefix")}
+OTHERS |= {it: other_sizes for it in ("size", "reference", "place", "index", "compact id", "table size", "prefix")}
 
 
 def changes(what, data, chance):

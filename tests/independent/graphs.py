@@ -14,6 +14,8 @@ from values import Cursor, Fault
 TYPE_ID, OPTIONAL, TABLE, SIZED, LAST = 0x03, 0x04, 0x08, 0x10, 0x20
 BITS = 0x3F
 AS_TEXT, AS_INDEX, AS_NUMBER = 1, 2, 3
+# What ids of these forms are called. Of an exception the flags tell no form.
+ID_SORTS = {0: "type id", AS_TEXT: "type id", AS_INDEX: "index", AS_NUMBER: "compact id"}
 END_MARKER = 255
 # From this tag on, a tag has a size of its own behind its leading byte.
 LONG_TAG = 30
@@ -54,8 +56,25 @@ class Graph:
     instances: list  # of lists of slices
 
 
+def numbered(compact):
+    """Returns the id under which a slice of a compact id is kept."""
+    return b"#%d" % compact
+
+
+def type_id_at(cursor):
+    """Reads a type id as a text."""
+    first = cursor.at
+    type_id = cursor.string()
+    if type_id.startswith(b"#"):
+        raise Fault(first, "BadTypeId")
+    return type_id
+
+
 def id_of(slice_):
-    return slice_.type_id if isinstance(slice_, Kept) else slice_.row.type_id
+    """Returns the id under which a slice is written."""
+    if isinstance(slice_, Kept):
+        return slice_.type_id
+    return slice_.row.type_id if slice_.row.compact is None else numbered(slice_.row.compact)
 
 
 def class_of(slices):
@@ -83,6 +102,7 @@ def finished(first, begun):
 class Reader:
     def __init__(self, classes):
         self.classes = {it.type_id: it for it in classes}
+        self.classes |= {numbered(it.compact): it for it in classes if it.compact is not None}
         self.instances, self.type_ids = [], []
         self.met = []  # place, declared class and Ref of all that is not null
 
@@ -219,16 +239,16 @@ class Reader:
             is_bad = is_bad or has_id and not has_size or has_size != is_sized
         if is_bad:
             raise Fault(first, "BadFlags")
-        if flags & TYPE_ID == AS_NUMBER:
-            raise Fault(first, "CompactId")
         return flags
 
     def type_id(self, cursor, form):
         if form == 0:
             return None
         if form == AS_TEXT:
-            self.type_ids.append(cursor.string())
+            self.type_ids.append(type_id_at(cursor))
             return self.type_ids[-1]
+        if form == AS_NUMBER:
+            return numbered(cursor.size())
         first = cursor.at
         index = cursor.size()
         if not 1 <= index <= len(self.type_ids):
@@ -515,7 +535,7 @@ class Writer:
         has_table = self.has_table(it, table)
         flags = form | has_optional * OPTIONAL | has_table * TABLE | SIZED | is_last * LAST
         self.put(bytes([flags]), "kept flags" if is_kept else "flags")
-        self.put(type_id, "index" if form == AS_INDEX else "type id")
+        self.put(type_id, ID_SORTS[form])
         self.put(values.spelled_number(4 + len(inside), "int"), "slice size")
         self.out += inside
         if has_table:
@@ -526,14 +546,14 @@ class Writer:
     def unsized(self, slices):
         """Writes the slices of an instance without sizes. The first alone has a type id."""
         for at, it in enumerate(slices):
-            yield from self.unsized_slice(it, at == len(slices) - 1, *((0, b"") if at else self.type_id(it.row.type_id)))
+            yield from self.unsized_slice(it, at == len(slices) - 1, *((0, b"") if at else self.type_id(id_of(it))))
 
     def unsized_slice(self, it, is_last, form, type_id):
         """Writes a slice without a size. References in it stand as they do outside of slices."""
         has_optional = self.has_optional(it)
         self.put(bytes([form | has_optional * OPTIONAL | is_last * LAST]), "flags")
         if type_id:
-            self.put(type_id, "index" if form == AS_INDEX else "type id")
+            self.put(type_id, ID_SORTS[form])
         for value, kind in zip(it.required, it.row.required):
             yield from self.value(value, kind, self.inline)
         if has_optional:
@@ -550,7 +570,9 @@ class Writer:
         return bool(it.optional)
 
     def type_id(self, it):
-        """Returns in which form a type id stands, and its bytes."""
+        """Returns in which form an id stands, and its bytes."""
+        if it.startswith(b"#"):
+            return AS_NUMBER, values.spelled_size(int(it[1:]))
         if it in self.type_ids:
             return AS_INDEX, values.spelled_size(self.type_ids[it])
         self.type_ids[it] = len(self.type_ids) + 1

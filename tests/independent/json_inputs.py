@@ -290,7 +290,7 @@ def wrong_slices(told, chance):
     elif way == "last":
         held.append({"bytes": "", "kept": "::Gone", "optionals": False, "table": []})
     else:
-        type_id = held[at].get("class", "::Gone")
+        type_id = chance.choice([held[at].get("class", "::Gone"), "#4", "#04"])
         held[at] = {"bytes": "", "kept": type_id, "optionals": False, "table": []}
     return told
 
@@ -354,7 +354,9 @@ def ids_of(text, graph):
     """Returns type ids that stand in a text or in a graph, and such as do not."""
     kept = [graphs.id_of(it).decode() for slices in graph.instances for it in slices]
     known = [it.type_id.decode() for it in text.classes]
-    return [*kept, *known, *known, "::Gone", "::Ice::Object", "", *(it.removeprefix("::") for it in known)]
+    numbers = [f"#{it.compact}" for it in text.classes if it.compact is not None]
+    odd = ["#", "#7", "#07", "#+7", "#2147483648", "::Gone", "::Ice::Object", ""]
+    return [*kept, *known, *known, *numbers, *odd, *(it.removeprefix("::") for it in known)]
 
 
 def spoilt_trials(text, word, kind, graph, chance, count):

@@ -23,6 +23,8 @@ from graphs import Graph, Kept, Known, Ref
 # The name of the one root, the number of the first instance, and how many may be listed.
 ROOT, FIRST, MOST_LISTED = "$value", 2, 100_000
 HEX = re.compile("(?:[0-9A-Fa-f]{2})*")
+NUMBER = re.compile(b"0|[1-9][0-9]*")
+MOST_COMPACT_ID = 2**31 - 1
 
 
 @functools.cache
@@ -154,6 +156,7 @@ def proxy(it):
 class Reader:
     def __init__(self, classes):
         self.classes = {it.type_id: it for it in classes}
+        self.compact_ids = {it.compact for it in classes}
         self.met = []  # declared class and reference of all that is not null
 
     def whole(self, told, kind):
@@ -233,10 +236,17 @@ class Reader:
 
     def kept(self, it):
         data, type_id, has_optional, table = members_of(it, "bytes", "kept", "optionals", "table")
-        demand(text(type_id) not in self.classes, "a kept slice of a known class")
+        demand(text(type_id) not in self.classes and self.is_kept(text(type_id)), "a kept slice of a known class")
         demand(isinstance(data, str) and HEX.fullmatch(data), "no bytes")
         refs = [self.ref(each, None) for each in array(table)]
         return Kept(text(type_id), bytes.fromhex(data), truth(has_optional), refs)
+
+    def is_kept(self, id_):
+        """Says whether a slice may be kept under the id: a type id, or a compact id that no class has."""
+        number = id_[1:]
+        if not id_.startswith(b"#"):
+            return True
+        return bool(NUMBER.fullmatch(number)) and int(number) <= MOST_COMPACT_ID and int(number) not in self.compact_ids
 
     def known(self, it):
         type_id, members = members_of(it, "class", "members")

@@ -31,6 +31,7 @@ class Class:
     """What a class has, filled where it is defined: it may be spoken of before."""
 
     type_id: bytes = b""
+    compact: int | None = None  # the compact id
     base: "Class | None" = None
     required: list = field(default_factory=list)  # the kinds of the members without a tag
     optional: dict = field(default_factory=dict)  # the kinds of the others by their tags, which rise

@@ -7,8 +7,8 @@ import grammar
 import kinds
 import names
 
-KINDS = "FloatUsed Unknown WrongUse Clash BadKey BadTag BadBase BadValue NoMembers TooDeep TooBig Undefined".split()
-MOST_TAG = MOST_ENUMERATOR = 2**31 - 1
+KINDS = "FloatUsed Unknown WrongUse Clash BadKey BadTag BadCompactId BadBase BadValue NoMembers TooDeep TooBig Undefined".split()
+MOST_TAG = MOST_COMPACT_ID = MOST_ENUMERATOR = 2**31 - 1
 MOST_BASES = 1_000
 
 
@@ -61,6 +61,7 @@ class Rules:
         self.names, self.faults, self.file = names.Names(), Faults(), 0
         self.classes, self.enumerators = [], {}  # in the order of their first declarations; the names by the enum's kind
         self.exceptions = []  # their rows
+        self.compact_ids = set()
         self.counts = {"types": 0, "classes": 0, "exceptions": 0, "interfaces": 0}
 
     def first_fault(self, item):
@@ -257,11 +258,20 @@ class Rules:
         declared = self.claim_again(item.word, names.Class, item.fields is not None)
         if item.fields is None:
             return
+        if item.compact:
+            declared.kind.class_.compact = self.compact_id(item.compact)
         base = self.found(item.base, names.Class) if item.base else None
         if base and not base.is_defined:
             self.faults.add(item.base.place, "BadBase")
         self.fill(declared.kind.class_, item, base and base.kind.class_)
         declared.is_defined = True
+
+    def compact_id(self, value):
+        number = self.integer(value)
+        if number is None or not 0 <= number <= MOST_COMPACT_ID or number in self.compact_ids:
+            self.faults.add(value.place, "BadCompactId")
+        self.compact_ids.add(number)
+        return number
 
     def fill(self, row, item, base):
         """Looks at the members of a class or an exception, and gives the row what it has."""

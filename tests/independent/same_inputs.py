@@ -37,7 +37,7 @@ class TwinMaker(graph_inputs.ClassMaker):
         row.required, row.optional = its.required, its.optional
         tokens = next(it for it in self.definitions if it[:2] == ["class", other] and it[2] != ";")
         self.defined.append(name)
-        self.definitions.append(["class", name, *tokens[2:]])
+        self.definitions.append([*self.head(name), *tokens[5 if tokens[2] == "(" else 2 :]])
 
 
 class Uniform:
@@ -204,7 +204,8 @@ def other_kept(it, chance):
         table[at : at + 1] = chance.choice([[], [table[at], table[at]]])
         return [Kept(it.type_id, it.data, it.has_optional, table)]
     data = chance.choice([it.data + b"\0", it.data + b"\xff", it.data[:-1] or b"\0"])
-    others = [[Kept(it.type_id + b"x", it.data, it.has_optional, table)], [Kept(it.type_id, data, it.has_optional, table)]]
+    other_id = b"::x" if it.type_id.startswith(b"#") else it.type_id + b"x"
+    others = [[Kept(other_id, it.data, it.has_optional, table)], [Kept(it.type_id, data, it.has_optional, table)]]
     return chance.choice([*others, [Kept(it.type_id, it.data, not it.has_optional, table)], [it, it], []])
 
 

@@ -47,6 +47,7 @@ class ShelfMaker:
     def __init__(self, chance, rate):
         self.chance, self.rate = chance, rate
         self.declared, self.scopes, self.open = [], {(): Scope()}, ()
+        self.compact_ids = set()
 
     def slips(self, times=1):
         return self.chance.random() < self.rate * times
@@ -304,9 +305,23 @@ class ShelfMaker:
     def class_(self):
         name, found = self.forward("class")
         base = self.extends("class") if self.likely(0.6) else []
-        tokens = ["class", *self.spelled(name), *base, *self.members(0, True)[0]]
+        tokens = ["class", *self.spelled(name), *self.compact_id(), *base, *self.members(0, True)[0]]
         found.is_defined = True
         return tokens
+
+    def compact_id(self):
+        """Returns the tokens of a compact id that no class has yet, but at a slip, or none."""
+        if self.likely(0.7):
+            return []
+        if self.slips(3):
+            return ["(", *self.any_value(), ")"]
+        least = self.chance.choice([0, 0, MOST_TAG - 8])
+        value, number = self.integer(least, least + 8)
+        if number in self.compact_ids and not self.slips(6):
+            number = next(it for it in range(len(self.compact_ids) + 1) if it not in self.compact_ids)
+            value = self.number(number)
+        self.compact_ids.add(number)
+        return ["(", *value, ")"]
 
     def exception(self):
         base = self.extends("exception") if self.likely(0.6) else []

@@ -83,7 +83,8 @@ def operation(it):
 
 
 def class_(it):
-    return f"class {word(it.word)}{extends(it.base)}" + (";" if it.fields is None else fields(it.fields))
+    compact = f" id{value(it.compact)}" if it.compact else ""
+    return f"class {word(it.word)}{compact}{extends(it.base)}" + (";" if it.fields is None else fields(it.fields))
 
 
 def interface(it):

@@ -138,7 +138,7 @@ class Maker(graph_inputs.ClassMaker):
         super().fill(row, name, base, members, head)
         tokens = self.definitions[-1]
         inside = tokens[tokens.index("{") + 1 :]
-        base = self.taken[tokens[3]] if tokens[2] == "extends" else []
+        base = self.taken[head[-1]] if "extends" in head else []
         self.taken[name] = [*base, *(inside[at - 1] for at, it in enumerate(inside) if it == ";" and inside[at - 1] != "}")]
 
 

@@ -31,7 +31,7 @@ use Rattle.class_slices.specs.ExceptionEncoding.{AreUserException}
 
 -- the names in its slices are those of its instances
 pub own-below : (t : Tables) (x : UserException) → AreUserException t x → AreBelow (length x.instances) (instance_names x.slices)
-own-below t x are = below (length x.instances) (instance_names x.slices) (instance_below (of_exceptions t) (length x.instances) (RefersIn t x.instances) (in_instances t x.instances) x.slices are)
+own-below t x are = below (length x.instances) (instance_names x.slices) (instance_below (of_exceptions t) (length x.instances) (RefersIn t x.instances) (in_instances t x.instances) x.slices are.0)
 
 -- ---- the roots
 

@@ -4,7 +4,7 @@ use Rattle.std.specs.declared.alloc.Global.{Global}
 use Rattle.ice_types.specs.Tables.{Tables}
 use Rattle.ice_graphs.specs.Canonical.{Format, sliced, compact}
 use Rattle.ice_graphs.specs.Exceptions.{of_exceptions, UserException}
-use Rattle.ice_graphs.specs.UserExceptionTyped.{OfUserException}
+use Rattle.ice_graphs.specs.UserExceptionTyped.{HaveTypeIds, OfUserException}
 use Rattle.ice_graphs.specs.UserExceptionWritten.{graph_of, exception_bytes, CanBeWritten}
 use Rattle.ice_graphs.specs.Typed.{IsInstance, RefersIn}
 use Rattle.value_checks.specs.First.{IsFirstInstance}
@@ -14,7 +14,7 @@ use Rattle.class_slices.specs.declared.user_exception_fault.UserExceptionFault.T
 
 -- its own slices are of their types
 abbrev pub AreUserException : Tables → UserException → Type 0
-AreUserException t x = IsInstance (of_exceptions t) (RefersIn t x.instances) x.slices
+AreUserException t x = IsInstance (of_exceptions t) (RefersIn t x.instances) x.slices × HaveTypeIds x.slices
 
 -- The first part that is not of its type: its own slices, which are None, or the first of its instances, in the order of
 -- their first visits from the names in its slices, and then by place.

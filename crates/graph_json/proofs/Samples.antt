@@ -23,11 +23,11 @@ field name kind = record { name = name; kind = kind; tag = None }
 
 -- class N { int v; N next; }
 abbrev nodes : Tables
-nodes = record no_types { classes = record { id = codes "::M::N"; base = None; members = field (codes "v") kinds.Int ∷ field (codes "next") (kinds.Class (Some 0)) ∷ [] } ∷ [] }
+nodes = record no_types { classes = record { id = codes "::M::N"; base = None; compact = None; members = field (codes "v") kinds.Int ∷ field (codes "next") (kinds.Class (Some 0)) ∷ [] } ∷ [] }
 
 -- class B { int b; }
 abbrev bases : Tables
-bases = record no_types { classes = record { id = codes "::M::B"; base = None; members = field (codes "b") kinds.Int ∷ [] } ∷ [] }
+bases = record no_types { classes = record { id = codes "::M::B"; base = None; compact = None; members = field (codes "b") kinds.Int ∷ [] } ∷ [] }
 
 -- one value of the first class
 abbrev shape : Shape

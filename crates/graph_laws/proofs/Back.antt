@@ -3,12 +3,11 @@ use Rattle.std.proofs.Common.{ℕ, zero, suc, ◌≡◌, ◌⊎◌, Bool, true, 
 use Rattle.std.specs.Prelude.{is_none}
 use Rattle.std.proofs.lemmas.Bool.{eq-eqb}
 use Rattle.ice_types.specs.declared.kind.RowRef.TheVariants as rows
-use Rattle.ice_types.specs.Tables.{Tables, HasId, class_ids}
+use Rattle.ice_types.specs.Tables.{Tables}
 use Rattle.ice_types.specs.Lacking.{SameBase}
-use Rattle.ice_types.proofs.RowIdentity.{one_id}
 use Rattle.ice_encoding.specs.Port.{Port}
 use Rattle.ice_graphs.specs.OptionalMembers.{Members}
-use Rattle.ice_graphs.specs.Classes.{class_named, base_of}
+use Rattle.ice_graphs.specs.Classes.{class_by_id, base_of}
 use Rattle.ice_graphs.specs.Graph.{Slice, known, unknown}
 use Rattle.ice_graphs.specs.References.{State}
 use Rattle.ice_graphs.specs.Flags.{Flags, all_slices, Before, first, only_unknown, derived, may_stand}
@@ -18,7 +17,7 @@ use Rattle.ice_graphs.specs.Slices.{Behind as Others}
 use Rattle.graph_laws.proofs.Bases.{IsRow}
 use Rattle.graph_laws.proofs.TypeIds.{Spelled}
 use Rattle.graph_laws.specs.Seeing.{SameClassId, SeenAs, AllSeen}
-use Rattle.graph_laws.proofs.Classed.{Both, id_named, named_id, tied_base}
+use Rattle.graph_laws.proofs.Classed.{Both, tied_named, tied_base}
 use Rattle.graph_laws.proofs.Standing.{Follow, Stands}
 
 pub known_is : {C : Type 0} (a b : ℕ) (x y : Members) → known a x ≡ known b y → (a ≡ b → C) → C
@@ -66,7 +65,7 @@ module _ (t u : Tables) (both : Both t u) (ks : List (List Slice)) where
   flags_back y (derived false a) (inr (b, e, tied)) f = ap (λ (y : Before). may_stand y f) e
 
   named_both : (y x : Before) → BackAs y x → (id : List ℕ)
-      → ((class_in t x id ≡ class_named t id) × (class_in u y id ≡ class_named u id)) ⊎ ((a b : ℕ) × (x ≡ derived false a) × (class_in t x id ≡ Some a) × (class_in u y id ≡ Some b) × SameClassId t u a b)
+      → ((class_in t x id ≡ class_by_id t id) × (class_in u y id ≡ class_by_id u id)) ⊎ ((a b : ℕ) × (x ≡ derived false a) × (class_in t x id ≡ Some a) × (class_in u y id ≡ Some b) × SameClassId t u a b)
   named_both y first e id = inl (refl, ap (λ (y : Before). class_in u y id) e)
   named_both y only_unknown e id = inl (refl, ap (λ (y : Before). class_in u y id) e)
   named_both y (derived true a) (inl e) id = inl (refl, ap (λ (y : Before). class_in u y id) e.1)
@@ -74,13 +73,9 @@ module _ (t u : Tables) (both : Both t u) (ks : List (List Slice)) where
   named_both y (derived true a) (inr (b, e, tied)) id = inl (refl, ap (λ (y : Before). class_in u y id) e)
   named_both y (derived false a) (inr (b, e, tied)) id = inr (a, b, refl, refl, ap (λ (y : Before). class_in u y id) e, tied)
 
-  tied_named : (id : List ℕ) (a b : ℕ) → class_named u id ≡ Some b → SameClassId t u a b → class_named t id ≡ Some a
-  tied_named id a b named (other, here, there) =
-      named_id t both.reader id a (subst (λ (i : List ℕ). HasId (class_ids t) i a) (one_id u (rows.Class b) other id there (id_named u id b named)) here)
-
   -- ---- the first slice, by what it is to be
 
-  unknown_ready : (x : Before) (id bytes : List ℕ) (o : Bool) (table : List ℕ) (ss : List Slice) → Ready x (unknown id bytes o table ∷ ss) → (class_named t id ≡ None) × ((x ≡ first) ⊎ (x ≡ only_unknown))
+  unknown_ready : (x : Before) (id bytes : List ℕ) (o : Bool) (table : List ℕ) (ss : List Slice) → Ready x (unknown id bytes o table ∷ ss) → (class_by_id t id ≡ None) × ((x ≡ first) ⊎ (x ≡ only_unknown))
   unknown_ready first id bytes o table [] h = (h, inl refl)
   unknown_ready first id bytes o table (s ∷ ss) h = (h.0, inl refl)
   unknown_ready only_unknown id bytes o table [] h = (h, inr refl)
@@ -108,14 +103,14 @@ module _ (t u : Tables) (both : Both t u) (ks : List (List Slice)) where
       unknown_id id i x2 b o2 o k2 k (sym form ∙ r_is) λ same.
       let h = unknown_ready x i b o k ss ready in
       elim (named_both y x sees id) [
-        | inl n ↦ n.0 ∙ ap (class_named t) same ∙ h.0
+        | inl n ↦ n.0 ∙ ap (class_by_id t) same ∙ h.0
         | inr (a, c, plain, one, two, tied) ↦ not_plain x a plain h.1
       ]
   class_back y x sees id sized (known a content) r ss (inl (b, r_is, tied)) ready (inl (is, big, x2, o2, k2, form)) = known_unknown b content id x2 o2 k2 (sym r_is ∙ form)
   class_back y x sees id sized (known a content) r ss (inl (b, r_is, tied)) ready (inr (e, other, is, form)) =
       known_is e b other content (sym form ∙ r_is) λ same.
       elim (named_both y x sees id) [
-        | inl n ↦ n.0 ∙ tied_named id a b (sym n.1 ∙ is ∙ ap Some same) tied
+        | inl n ↦ n.0 ∙ tied_named t u both id a b (sym n.1 ∙ is ∙ ap Some same) tied
         | inr (c, d, plain, one, two, other_tied) ↦ one ∙ ap Some (sym (bases_same x c a content ss plain ready))
       ]
     where
@@ -125,7 +120,7 @@ module _ (t u : Tables) (both : Both t u) (ks : List (List Slice)) where
   class_back y x sees id sized (known a content) r ss (inr (i, b, o, k, r_is, named, hidden, opens)) ready (inl (is, big, x2, o2, k2, form)) =
       unknown_id id i x2 b o2 o k2 k (sym form ∙ r_is) λ same.
       elim (named_both y x sees id) [
-        | inl n ↦ n.0 ∙ ap (class_named t) same ∙ named
+        | inl n ↦ n.0 ∙ ap (class_by_id t) same ∙ named
         | inr (c, d, plain, one, two, tied) ↦ (let h : Some d ≡ None = sym two ∙ is in absurd cc)
       ]
 

@@ -18,21 +18,22 @@ use Rattle.ice_graphs.proofs.Exceptions.{exception_apart}
 use Rattle.graph_arena.specs.Arena.{AreBelow}
 use Rattle.graph_laws.proofs.Canonicity.{six_more}
 use Rattle.graph_laws.proofs.Formed.{Asked, EachAsked, Reached, InOrder, form-in_order, form-typed, asked-renamed}
-use Rattle.graph_laws.proofs.Named.{AreNamed, are_named}
+use Rattle.graph_laws.proofs.ClassIds.{AreSpelled, are_spelled}
+use Rattle.graph_laws.proofs.Named.{AreNamed}
 use Rattle.graph_laws.proofs.Once.{once-run}
 use Rattle.graph_laws.proofs.Reached.{reached-few}
 use Rattle.graph_laws.proofs.Schemas.{utf8_texts, few-enough}
-use Rattle.graph_laws.proofs.TypeIds.{Spelled, HaveTexts}
+use Rattle.graph_laws.proofs.TypeIds.{Spelled, HaveTexts, HaveTypeTexts}
 use Rattle.graph_laws.proofs.Upto.{upto, visit-grows}
 use Rattle.ice_graphs.specs.UserExceptionTyped.{OfUserException}
 use Rattle.ice_graphs.specs.UserExceptionWritten.{graph_of, order_of, numbered_user_exception, form_of, SameUserException, SpellsSame, user_exception_bytes, canonical_user_exception, exception_bytes, CanBeWritten}
-use Rattle.graph_laws.proofs.UserExceptionForms.{exceptions_named, exception_texts, root_names, graph_numbered, shape_of, graph_typed, slices_typed, form_same}
+use Rattle.graph_laws.proofs.UserExceptionForms.{exceptions_named, exception_texts, type_ids-renamed, root_names, graph_numbered, shape_of, graph_typed, slices_typed, form_same}
 use Rattle.graph_laws.proofs.WrittenGraphs.{rising, refer_long, inline_instances}
 use Rattle.graph_laws.proofs.WrittenUserException.{user_exception_good}
 
 -- ---- an exception whose names are numbers by first visit
 
-module _ (t : Tables) (named : AreNamed t) (named_user_exception : AreNamed (of_exceptions t)) (reach : Reach) (format : Format) (k : UserException) (room : ℕ) (fits : length k.instances ≤ room) (small_graph : length k.instances + 2 < 2 ^ 31)
+module _ (t : Tables) (named : AreSpelled t) (named_user_exception : AreNamed (of_exceptions t)) (reach : Reach) (format : Format) (k : UserException) (room : ℕ) (fits : length k.instances ≤ room) (small_graph : length k.instances + 2 < 2 ^ 31)
     (typed : (n : ℕ) → n < length k.instances → IsInstance t (RefersIn t k.instances) (slices_of k.instances n)) (asked : (n : ℕ) → n < length k.instances → Asked reach format (slices_of k.instances n) × HaveTexts t (slices_of k.instances n))
     (range : (n : ℕ) → n < length k.instances → AreBelow (length k.instances) (instance_names (slices_of k.instances n))) where
   abbrev g : Graph
@@ -41,7 +42,7 @@ module _ (t : Tables) (named : AreNamed t) (named_user_exception : AreNamed (of_
   abbrev limit : ℕ
   limit = length k.instances
 
-  slices_written : (more : ℕ) → Asked reach format k.slices → HaveTexts (of_exceptions t) k.slices → IsInstance (of_exceptions t) (RefersIn t k.instances) k.slices → AreBelow limit (instance_names k.slices) → limit ≤ most → limit ≤ more
+  slices_written : (more : ℕ) → Asked reach format k.slices → HaveTypeTexts (of_exceptions t) k.slices → IsInstance (of_exceptions t) (RefersIn t k.instances) k.slices → AreBelow limit (instance_names k.slices) → limit ≤ most → limit ≤ more
       → visit_each (visit_at most g) (instance_names k.slices) [] ≡ upto limit → length (user_exception_bytes t format k) < 2 ^ 31
       → (end : Spelled) × ((n : ℕ) × UserExceptionSlices (instances t reach room more) (of_exceptions t) reach n first (user_exception_bytes t format k) k.slices opening end) × (end.instances ≡ k.instances) × AllFit t k.instances end.met
   slices_written more can texts is below deep wide run small =
@@ -75,8 +76,8 @@ module _ (t : Tables) (rules : IsSchema t) (reach : Reach) (format : Format) (x 
       let in_order : InOrder (graph_of k) = subst InOrder (sym (graph_numbered ns x)) (form-in_order (graph_of x) reached) in
       let of_type = form-typed t (shape_of x) reach format (graph_of x) reached (graph_typed t x typed) each_asked in
       let tiny : length k.instances + 2 < 2 ^ 31 = small_enough (length k.instances) (length ns) size few in
-      let w = slices_written t (are_named t rules) (exceptions_named t rules) reach format k most_instances (omega (arith, size, few)) tiny of_type.typed.instances of_type.asked in_order.instances most_instances
-      (asked-renamed reach format (place ns) x.slices can) (exception_texts t rules k.slices) (slices_typed t x typed reached) (subst (AreBelow (length k.instances)) (root_names k) in_order.roots) in_order.size (omega (arith, size, few))
+      let w = slices_written t (are_spelled t rules) (exceptions_named t rules) reach format k most_instances (omega (arith, size, few)) tiny of_type.typed.instances of_type.asked in_order.instances most_instances
+      (asked-renamed reach format (place ns) x.slices can) (exception_texts t rules k.slices (type_ids-renamed (place ns) x.slices typed.type_ids)) (slices_typed t x typed reached) (subst (AreBelow (length k.instances)) (root_names k) in_order.roots) in_order.size (omega (arith, size, few))
       (ap (λ (l : List ℕ). visit_each (visit_at most (graph_of k)) l []) (sym (root_names k)) ∙ in_order.order) small in
       (w.0, w.1.0, w.1.1, w.2, subst (λ (is : List (List Slice)). AllFit t is w.0.met) (sym w.2) w.3)
 

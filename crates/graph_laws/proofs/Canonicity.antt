@@ -22,7 +22,7 @@ use Rattle.ice_graphs.specs.Canonical.{Format, bytes_of, canonical_graph, graph_
 use Rattle.ice_graphs.proofs.Slices.{instances_seen, instances_lawful}
 use Rattle.graph_laws.proofs.TypeIds.{Spelled}
 use Rattle.graph_laws.proofs.Weaker.{content_weaker}
-use Rattle.graph_laws.proofs.Named.{AreNamed}
+use Rattle.graph_laws.proofs.ClassIds.{AreSpelled}
 use Rattle.graph_laws.proofs.Renumbered.{form-same}
 use Rattle.graph_laws.proofs.Formed.{EachAsked, Reached, form-in_order, form-typed, form-same-graph}
 use Rattle.graph_laws.proofs.WrittenGraphs.{content_spelled}
@@ -79,7 +79,7 @@ same_from_form g h g-in h-in e = record { left = order g; right = order h; left_
 
 -- ---- the form is spelled
 
-module _ (t : Tables) (named : AreNamed t) (shape : Shape) (reach : Reach) (format : Format) where
+module _ (t : Tables) (named : AreSpelled t) (shape : Shape) (reach : Reach) (format : Format) where
   form_spelled : (room more : ℕ) (g : Graph) → Reached g → OfType t shape g → EachAsked t reach format g → length (form g).instances ≤ room → length (form g).instances ≤ more → length (canonical_graph t shape format g) < 2 ^ 31
       → (end : Spelled) × SpellsContent (instances t reach room more) t shape (canonical_graph t shape format g) (form g).roots opening end × (end.instances ≡ (form g).instances) × AllFit t (form g).instances end.met
   unfolding canonical_graph form order most
@@ -92,7 +92,7 @@ module _ (t : Tables) (named : AreNamed t) (shape : Shape) (reach : Reach) (form
 form_small : (g : Graph) → Reached g → length (form g).instances ≤ most
 form_small g reached = omega (arith, form_fewer g, reached.few)
 
-pub same_from_bytes : (t : Tables) → AreNamed t → (shape : Shape) (reach : Reach) (format : Format) (g h : Graph) → Reached g → Reached h → OfType t shape g → OfType t shape h → EachAsked t reach format g → EachAsked t reach format h
+pub same_from_bytes : (t : Tables) → AreSpelled t → (shape : Shape) (reach : Reach) (format : Format) (g h : Graph) → Reached g → Reached h → OfType t shape g → OfType t shape h → EachAsked t reach format g → EachAsked t reach format h
     → length (graph_bytes t shape format g) < 2 ^ 31 → graph_bytes t shape format g ≡ graph_bytes t shape format h → Same g h
 same_from_bytes t named shape reach format g h g-in h-in g-typed h-typed g-can h-can small equal =
     let e = inside_is (canonical_graph t shape format g) (canonical_graph t shape format h) equal in
@@ -105,7 +105,7 @@ same_from_bytes t named shape reach format g h g-in h-in g-typed h-typed g-can h
     same_from_form g h g-in h-in (λ i. record { roots = same.0 i; instances = instances_are i })
 
 -- within the limits, no other graph is read from the canonical encapsulation, whatever is read
-pub read_is_form : (t : Tables) → AreNamed t → (reach : Reach) (shape : Shape) (format : Format) (g h : Graph) → Reached g → OfType t shape g → EachAsked t all_slices format g → length (order g) ≤ most_instances
+pub read_is_form : (t : Tables) → AreSpelled t → (reach : Reach) (shape : Shape) (format : Format) (g h : Graph) → Reached g → OfType t shape g → EachAsked t all_slices format g → length (order g) ≤ most_instances
     → SpellsNumbered t reach shape (graph_bytes t shape format g) h → h ≡ form g
 unfolding SpellsGraph
 read_is_form t named reach shape format g h reached typed asked few (content, is, short, (end, spelled, instances_are, fit)) =
@@ -119,12 +119,12 @@ read_is_form t named reach shape format g h reached typed asked few (content, is
     let form_is : form g ≡ h = λ i. record { roots = same.0 i; instances = all_instances i } in
     sym form_is
 
-pub read_is_same : (t : Tables) → AreNamed t → (reach : Reach) (shape : Shape) (format : Format) (g h : Graph) → Reached g → OfType t shape g → EachAsked t all_slices format g → length (order g) ≤ most_instances
+pub read_is_same : (t : Tables) → AreSpelled t → (reach : Reach) (shape : Shape) (format : Format) (g h : Graph) → Reached g → OfType t shape g → EachAsked t all_slices format g → length (order g) ≤ most_instances
     → SpellsNumbered t reach shape (graph_bytes t shape format g) h → Same h g
 read_is_same t named reach shape format g h reached typed asked few held =
     subst (λ (x : Graph). Same x g) (sym (read_is_form t named reach shape format g h reached typed asked few held)) (form-same-graph g reached)
 
-module _ (t : Tables) (named : AreNamed t) (shape : Shape) (reach : Reach) (format : Format) where
+module _ (t : Tables) (named : AreSpelled t) (shape : Shape) (reach : Reach) (format : Format) where
   -- within the limits, the canonical encapsulation spells the form
   pub numbered_spelled : (g : Graph) → Reached g → OfType t shape g → EachAsked t reach format g → length (order g) ≤ most_instances → length (graph_bytes t shape format g) ≤ LARGEST → SpellsNumbered t reach shape (graph_bytes t shape format g) (form g)
   unfolding SpellsGraph

@@ -1,30 +1,21 @@
--- A type id in both schemas, and what stands before a slice in both.
+-- An id in both schemas, and what stands before a slice in both.
 use Rattle.std.proofs.Common.{ℕ, ◌≡◌, Bool, true, false, ◌&&◌, ◌⊎◌, List, refl, sym, ap, ◌∙◌, subst, Option, Some, None, inl, inr}
 use Rattle.std.specs.Prelude.{is_none, option_and_then}
 use Rattle.std.proofs.lemmas.Bool.{eqb-true, eq-eqb}
 use Rattle.ice_types.specs.declared.kind.RowRef.TheVariants as rows
 use Rattle.ice_types.specs.declared.declarations.ClassDecl.{ClassDecl}
 use Rattle.ice_types.specs.Tables.{Tables, HasId, class_ids}
+use Rattle.ice_types.specs.CompactIds.{is_numbered, HasSliceId}
 use Rattle.ice_types.specs.Rules.{IsSchema}
 use Rattle.ice_types.specs.Lacking.{SameBase, Lacks}
 use Rattle.ice_types.proofs.RowIdentity.{one_id}
-use Rattle.ice_graphs.specs.Classes.{class_named, base_of}
+use Rattle.ice_types.proofs.SliceIds.{number_text, number_of_class, one_class}
+use Rattle.ice_graphs.specs.Classes.{class_by_id, base_of}
 use Rattle.ice_graphs.specs.Flags.{Flags, all_slices, has_id, Before, first, only_unknown, derived, may_stand}
 use Rattle.ice_graphs.specs.TypeIds.{class_in, is_base, same_class, can_be_read, same_bool, ends_well, before_base, before_next}
-use Rattle.graph_laws.proofs.Bases.{row_of_id}
-use Rattle.graph_laws.proofs.Named.{are_named}
+use Rattle.graph_laws.proofs.ClassIds.{id_named, named_id, plain_id, id_plain, compact_row, row_compact, slice_row}
 use Rattle.graph_laws.specs.Seeing.{SameClassId}
-use Rattle.graph_laws.proofs.Rows.{Agrees, agrees, own_class, id_there, row_there}
-
--- ---- the class of a type id
-
--- the class that is found has the type id
-pub id_named : (t : Tables) (id : List ℕ) (a : ℕ) → class_named t id ≡ Some a → HasId (class_ids t) id a
-id_named t id a e = let r = row_of_id t.classes id a e in subst (λ (i : List ℕ). HasId (class_ids t) i a) r.2 (id_there (λ c. c.id) t.classes a r.0 r.1)
-
--- and the class that has it is found
-pub named_id : (t : Tables) → IsSchema t → (id : List ℕ) (a : ℕ) → HasId (class_ids t) id a → class_named t id ≡ Some a
-named_id t rules id a h = let r = row_there (λ c. c.id) t.classes a id h in subst (λ (i : List ℕ). class_named t i ≡ Some a) r.2 (are_named t rules a r.0 r.1)
+use Rattle.graph_laws.proofs.Rows.{Agrees, agrees, own_class, id_there}
 
 pub none_some : {C : Type 0} (o : Option ℕ) (n : ℕ) → o ≡ None → o ≡ Some n → C
 none_some o n e f = let h : Some n ≡ None = sym f ∙ e in absurd cc
@@ -39,21 +30,61 @@ pub rows_agree : (t u : Tables) → Both t u → Agrees t u
 rows_agree t u both = agrees t u both.reader both.lacks
 
 module _ (t u : Tables) (both : Both t u) where
-  -- what a type id stands for in both: no class, one that the second lacks, or one that is left
+  -- what an id stands for in both: no class, one that the second lacks, or one that is left
   abbrev pub ClassAs : List ℕ → Option ℕ → Option ℕ → Type 0
-  ClassAs id None y = (y ≡ None) × (class_named u id ≡ None)
-  ClassAs id (Some a) y = ((y ≡ None) × (class_named t id ≡ Some a) × (class_named u id ≡ None)) ⊎ ((b : ℕ) × (y ≡ Some b) × SameClassId t u a b)
+  ClassAs id None y = (y ≡ None) × (class_by_id u id ≡ None)
+  ClassAs id (Some a) y = ((y ≡ None) × (class_by_id t id ≡ Some a) × (class_by_id u id ≡ None)) ⊎ ((b : ℕ) × (y ≡ Some b) × SameClassId t u a b)
 
-  both_named : (id : List ℕ) (x y : Option ℕ) → class_named t id ≡ x → class_named u id ≡ y → ClassAs id x y
+  -- ---- a class of both has the same ids in both
+
+  carried_id : (id : List ℕ) (a b : ℕ) → SameClassId t u a b → HasSliceId t id a → HasSliceId u id b
+  carried_id id a b (other, here, there) h = by_test (is_numbered id) refl
+    where
+      by_test : (k : Bool) → is_numbered id ≡ k → HasSliceId u id b
+      by_test true hash =
+          let n = number_of_class t both.reader id a hash h in
+          let r = (rows_agree t u both).classes a b (other, here, there) in
+          subst (λ (i : List ℕ). HasSliceId u i b) (sym n.2) (number_text u n.0 b (compact_row u b r.1 r.3 ∙ ap Some (sym r.4.2 ∙ row_compact t a n.0 r.0 r.2 n.3)))
+      by_test false plain = id_plain u id b plain (subst (λ (i : List ℕ). HasId (class_ids u) i b) (one_id t (rows.Class a) other id here (plain_id t id a plain h)) there)
+
+  back_id : (id : List ℕ) (a b : ℕ) → SameClassId t u a b → HasSliceId u id b → HasSliceId t id a
+  back_id id a b (other, here, there) h = by_test (is_numbered id) refl
+    where
+      by_test : (k : Bool) → is_numbered id ≡ k → HasSliceId t id a
+      by_test true hash =
+          let n = number_of_class u both.node id b hash h in
+          let r = (rows_agree t u both).classes a b (other, here, there) in
+          subst (λ (i : List ℕ). HasSliceId t i a) (sym n.2) (number_text t n.0 a (compact_row t a r.0 r.2 ∙ ap Some (r.4.2 ∙ row_compact u b n.0 r.1 r.3 n.3)))
+      by_test false plain = id_plain t id a plain (subst (λ (i : List ℕ). HasId (class_ids t) i a) (one_id u (rows.Class b) other id there (plain_id u id b plain h)) here)
+
+  -- each class of the second schema is one of the first
+  pub own_slice : (id : List ℕ) (b : ℕ) → HasSliceId u id b → (a : ℕ) × HasSliceId t id a × SameClassId t u a b
+  own_slice id b h =
+      let row = slice_row u id b h in
+      let there = id_there (λ (c : ClassDecl). c.id) u.classes b row.0 row.1 in
+      let own = own_class t u both.reader both.lacks row.0.id b there in
+      let tied : SameClassId t u own.0 b = (row.0.id, own.1, there) in
+      (own.0, back_id id own.0 b tied h, tied)
+
+  pub tied_by_id : (id : List ℕ) (a b : ℕ) → HasSliceId t id a → HasSliceId u id b → SameClassId t u a b
+  tied_by_id id a b here there =
+      let own = own_slice id b there in
+      subst (λ (k : ℕ). SameClassId t u k b) (one_class t both.reader id own.0 a own.1 here) own.2
+
+  -- found by an id in the second schema, it is found by that in the first
+  pub tied_named : (id : List ℕ) (a b : ℕ) → class_by_id u id ≡ Some b → SameClassId t u a b → class_by_id t id ≡ Some a
+  tied_named id a b named tied = named_id t both.reader id a (back_id id a b tied (id_named u id b named))
+
+  both_named : (id : List ℕ) (x y : Option ℕ) → class_by_id t id ≡ x → class_by_id u id ≡ y → ClassAs id x y
   both_named id None None e f = (refl, f)
   both_named id None (Some b) e f =
-      let a = own_class t u both.reader both.lacks id b (id_named u id b f) in
-      none_some (class_named t id) a.0 e (named_id t both.reader id a.0 a.1)
+      let a = own_slice id b (id_named u id b f) in
+      none_some (class_by_id t id) a.0 e (named_id t both.reader id a.0 a.1)
   both_named id (Some a) None e f = inl (refl, e, f)
-  both_named id (Some a) (Some b) e f = inr (b, refl, (id, id_named t id a e, id_named u id b f))
+  both_named id (Some a) (Some b) e f = inr (b, refl, tied_by_id id a b (id_named t id a e) (id_named u id b f))
 
-  pub class_as : (id : List ℕ) → ClassAs id (class_named t id) (class_named u id)
-  class_as id = both_named id (class_named t id) (class_named u id) refl refl
+  pub class_as : (id : List ℕ) → ClassAs id (class_by_id t id) (class_by_id u id)
+  class_as id = both_named id (class_by_id t id) (class_by_id u id) refl refl
 
   -- ---- before a slice
 
@@ -64,10 +95,10 @@ module _ (t u : Tables) (both : Both t u) where
   BeforeAs (derived false a) y = (b : ℕ) × (y ≡ derived false b) × SameClassId t u a b
 
   pub class_before : (x y : Before) → BeforeAs x y → (id : List ℕ) → ClassAs id (class_in t x id) (class_in u y id)
-  class_before first y sees id = subst (λ (y : Before). ClassAs id (class_named t id) (class_in u y id)) (sym sees) (class_as id)
-  class_before only_unknown y sees id = subst (λ (y : Before). ClassAs id (class_named t id) (class_in u y id)) (sym sees) (class_as id)
-  class_before (derived true a) y (inl sees) id = subst (λ (y : Before). ClassAs id (class_named t id) (class_in u y id)) (sym sees) (class_as id)
-  class_before (derived true a) y (inr (b, sees, tied)) id = subst (λ (y : Before). ClassAs id (class_named t id) (class_in u y id)) (sym sees) (class_as id)
+  class_before first y sees id = subst (λ (y : Before). ClassAs id (class_by_id t id) (class_in u y id)) (sym sees) (class_as id)
+  class_before only_unknown y sees id = subst (λ (y : Before). ClassAs id (class_by_id t id) (class_in u y id)) (sym sees) (class_as id)
+  class_before (derived true a) y (inl sees) id = subst (λ (y : Before). ClassAs id (class_by_id t id) (class_in u y id)) (sym sees) (class_as id)
+  class_before (derived true a) y (inr (b, sees, tied)) id = subst (λ (y : Before). ClassAs id (class_by_id t id) (class_in u y id)) (sym sees) (class_as id)
   class_before (derived false a) y (b, sees, tied) id = subst (λ (y : Before). ClassAs id (Some a) (class_in u y id)) (sym sees) (inr (b, refl, tied))
 
   class_of_row : (a b : ℕ) → rows.Class a ≡ rows.Class b → a ≡ b
@@ -79,9 +110,8 @@ module _ (t u : Tables) (both : Both t u) where
       class_of_row b c (both.node.apart id (rows.Class b) (rows.Class c) there (subst (λ (i : List ℕ). HasId (class_ids u) i c) (one_id t (rows.Class a) other id again here) also))
 
   -- a class that the second lacks is tied to none
-  pub hidden_untied : {C : Type 0} (id : List ℕ) (a b : ℕ) → class_named t id ≡ Some a → class_named u id ≡ None → SameClassId t u a b → C
-  hidden_untied id a b named hidden (other, here, there) =
-      none_some (class_named u id) b hidden (named_id u both.node id b (subst (λ (i : List ℕ). HasId (class_ids u) i b) (one_id t (rows.Class a) other id here (id_named t id a named)) there))
+  pub hidden_untied : {C : Type 0} (id : List ℕ) (a b : ℕ) → class_by_id t id ≡ Some a → class_by_id u id ≡ None → SameClassId t u a b → C
+  hidden_untied id a b named hidden tied = none_some (class_by_id u id) b hidden (named_id u both.node id b (carried_id id a b tied (id_named t id a named)))
 
   base_tied : (sized : Bool) (a b : ℕ) (id : List ℕ) (c d : Option ℕ) → SameClassId t u a b → ClassAs id c d → is_base (derived sized a) c ≡ true → is_base (derived sized b) d ≡ true
   base_tied sized a b id None d tied class h = absurd cc

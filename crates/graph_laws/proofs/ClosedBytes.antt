@@ -1,9 +1,12 @@
 -- What is kept as it is written is written so again: the canonical bytes of a graph are those of what one sees of it who lacks classes.
 use Rattle.std.proofs.Common.{ℕ, zero, suc, ◌≡◌, Bool, true, List, [], ◌∷◌, ◌++◌, length, refl, sym, ap, ◌∙◌, subst, Option, Some, None, inl, inr}
+use Rattle.std.specs.Prelude.{slice_get}
 use Rattle.ice_types.specs.declared.kind.TypeRef.{TypeRef}
 use Rattle.ice_types.specs.declared.declarations.Member.{Member}
 use Rattle.ice_types.specs.declared.declarations.Shape.{Shape}
-use Rattle.ice_types.specs.Tables.{Tables}
+use Rattle.ice_types.specs.declared.declarations.ClassDecl.{ClassDecl}
+use Rattle.ice_types.specs.Tables.{Tables, HasId, class_ids}
+use Rattle.ice_types.specs.CompactIds.{numbered_id}
 use Rattle.ice_types.specs.Formats.{optional_format}
 use Rattle.ice_types.specs.Lacking.{SameShape}
 use Rattle.ice_prims.specs.Bytes.{size_bytes}
@@ -21,10 +24,22 @@ use Rattle.ice_graphs.specs.Slices.{slice_size}
 use Rattle.ice_graphs.specs.Instances.{slices_of}
 use Rattle.ice_graphs.specs.Visiting.{place, most}
 use Rattle.ice_graphs.specs.Members.{framing, written_option, written_options, marked_options, written_slice_members, written_content}
-use Rattle.ice_graphs.specs.Canonical.{Pen, by_size, table_of, sized_bytes, is_there, id_of, has_optional, flags_byte, written_head, sliced, written_names, written_table, is_end, sized_body, written_slices, with_one_begun, put_inline, written_instance, blank, bytes_of}
+use Rattle.ice_graphs.specs.Canonical.{Pen, by_size, table_of, sized_bytes, is_there, spelled_by, row_id, written_id, has_optional, flags_byte, written_head, sliced, written_names, written_table, is_end, sized_body, written_slices, with_one_begun, put_inline, written_instance, blank, bytes_of}
 use Rattle.graph_laws.proofs.Rows.{Agrees}
 use Rattle.graph_laws.proofs.Measured.{SameMembers, TiedOption, tagged_same, own_same, same_optional, same_prefix}
-use Rattle.graph_laws.proofs.Closing.{id_in_row, ClosedAs, AllClosed, EachClosed, closed_slices}
+use Rattle.graph_laws.specs.Seeing.{SameClassId}
+use Rattle.graph_laws.proofs.Named.{id_of_row}
+use Rattle.graph_laws.proofs.Closing.{ClosedAs, AllClosed, EachClosed, closed_slices}
+
+-- a row that has a type id has it in its own words
+own_id : (t : Tables) (at : ℕ) (d : ClassDecl) → slice_get t.classes at ≡ Some d → (id : List ℕ) → HasId (class_ids t) id at → d.id ≡ id
+own_id t at d is id h = some_is (sym (id_of_row t.classes at d is) ∙ h)
+  where
+    some_is : Some d.id ≡ Some id → d.id ≡ id
+    some_is e = cc
+
+same_spelled : (c d : ClassDecl) → d.id ≡ c.id → d.compact ≡ c.compact → spelled_by d ≡ spelled_by c
+same_spelled c d ids numbers = λ i. elim (numbers i) [ None ↦ ids i | Some number ↦ numbered_id number ]
 
 module _ (t u : Tables) (agrees : Agrees t u) where
   -- ---- members
@@ -58,15 +73,22 @@ module _ (t u : Tables) (agrees : Agrees t u) where
   record WrittenAs (s r : Slice) : Type 0 where
     optional : has_optional r ≡ has_optional s
     table : table_of r ≡ table_of s
-    id : id_of u r ≡ id_of t s
+    id : written_id u r ≡ written_id t s
     bytes : sized_bytes u r ≡ sized_bytes t s
+
+  -- a class of both is written under the same id
+  same_id : (a b : ℕ) → SameClassId t u a b → row_id (slice_get u.classes b) ≡ row_id (slice_get t.classes a)
+  same_id a b (id, here, there) =
+      let r = agrees.classes a b (id, here, there) in
+      let ids : r.1.id ≡ r.0.id = own_id u b r.1 r.3 id there ∙ sym (own_id t a r.0 r.2 id here) in
+      ap row_id r.3 ∙ same_spelled r.0 r.1 ids (sym r.4.2) ∙ sym (ap row_id r.2)
 
   closed_written : (s r : Slice) → ClosedAs t u s r → WrittenAs s r
   closed_written (unknown i x o k) r (is, hidden) = subst (WrittenAs (unknown i x o k)) (sym is) (record { optional = refl; table = refl; id = refl; bytes = refl })
   closed_written (known a content) r (inl (b, is, (id, here, there))) = subst (WrittenAs (known a content)) (sym is) (record {
     optional = refl;
     table = refl;
-    id = id_in_row u id b there ∙ sym (id_in_row t id a here);
+    id = same_id a b (id, here, there);
     bytes = ap (λ (w : Piece (Unit {0})). (w tt).0) (sym (members_same by_size (own_members t a) (own_members u b) (own_same t u agrees a b (id, here, there)) (renamed_members (place (table_of (known a content))) content)));
   })
   closed_written (known a content) r (inr (x, is, named, hidden, bytes)) = subst (WrittenAs (known a content)) (sym is) (record { optional = refl; table = refl; id = refl; bytes = bytes })
@@ -87,13 +109,13 @@ module _ (t u : Tables) (agrees : Agrees t u) where
   slices_same refer [] rs e = ap (written_slices u refer) (sym e)
   slices_same refer (s ∷ ss) rs (r, others, is, one, rest) =
       let w = closed_written s r one in
-      ap (λ (x : Piece Pen). written_head (λ form. flags_byte form (has_optional s) (is_there (table_of s)) true (is_end t refer ss)) (id_of t s) >> ((exactly (slice_size.put (length (sized_bytes t s)) ++ sized_bytes t s) >> x) >> written_slices t refer ss)) (table_same refer (table_of s))
-      ∙ ap (λ (o : Bool). written_head (λ form. flags_byte form o (is_there (table_of s)) true (is_end t refer ss)) (id_of t s) >> ((exactly (slice_size.put (length (sized_bytes t s)) ++ sized_bytes t s) >> written_table u refer (table_of s)) >> written_slices t refer ss)) (sym w.optional)
-      ∙ ap (λ (k : List ℕ). written_head (λ form. flags_byte form (has_optional r) (is_there k) true (is_end t refer ss)) (id_of t s) >> ((exactly (slice_size.put (length (sized_bytes t s)) ++ sized_bytes t s) >> written_table u refer k) >> written_slices t refer ss)) (sym w.table)
-      ∙ ap (λ (b : Bool). written_head (λ form. flags_byte form (has_optional r) (is_there (table_of r)) true b) (id_of t s) >> ((exactly (slice_size.put (length (sized_bytes t s)) ++ sized_bytes t s) >> written_table u refer (table_of r)) >> written_slices t refer ss)) (sym (end_same ss others rest refer))
+      ap (λ (x : Piece Pen). written_head (λ form. flags_byte form (has_optional s) (is_there (table_of s)) true (is_end t refer ss)) (written_id t s) >> ((exactly (slice_size.put (length (sized_bytes t s)) ++ sized_bytes t s) >> x) >> written_slices t refer ss)) (table_same refer (table_of s))
+      ∙ ap (λ (o : Bool). written_head (λ form. flags_byte form o (is_there (table_of s)) true (is_end t refer ss)) (written_id t s) >> ((exactly (slice_size.put (length (sized_bytes t s)) ++ sized_bytes t s) >> written_table u refer (table_of s)) >> written_slices t refer ss)) (sym w.optional)
+      ∙ ap (λ (k : List ℕ). written_head (λ form. flags_byte form (has_optional r) (is_there k) true (is_end t refer ss)) (written_id t s) >> ((exactly (slice_size.put (length (sized_bytes t s)) ++ sized_bytes t s) >> written_table u refer k) >> written_slices t refer ss)) (sym w.table)
+      ∙ ap (λ (b : Bool). written_head (λ form. flags_byte form (has_optional r) (is_there (table_of r)) true b) (written_id t s) >> ((exactly (slice_size.put (length (sized_bytes t s)) ++ sized_bytes t s) >> written_table u refer (table_of r)) >> written_slices t refer ss)) (sym (end_same ss others rest refer))
       ∙ ap (λ (i : List ℕ). written_head (λ form. flags_byte form (has_optional r) (is_there (table_of r)) true (is_end u refer others)) i >> ((exactly (slice_size.put (length (sized_bytes t s)) ++ sized_bytes t s) >> written_table u refer (table_of r)) >> written_slices t refer ss)) (sym w.id)
-      ∙ ap (λ (b : List ℕ). written_head (λ form. flags_byte form (has_optional r) (is_there (table_of r)) true (is_end u refer others)) (id_of u r) >> ((exactly (slice_size.put (length b) ++ b) >> written_table u refer (table_of r)) >> written_slices t refer ss)) (sym w.bytes)
-      ∙ ap (λ (x : Piece Pen). written_head (λ form. flags_byte form (has_optional r) (is_there (table_of r)) true (is_end u refer others)) (id_of u r) >> (sized_body u refer r >> x)) (slices_same refer ss others rest)
+      ∙ ap (λ (b : List ℕ). written_head (λ form. flags_byte form (has_optional r) (is_there (table_of r)) true (is_end u refer others)) (written_id u r) >> ((exactly (slice_size.put (length b) ++ b) >> written_table u refer (table_of r)) >> written_slices t refer ss)) (sym w.bytes)
+      ∙ ap (λ (x : Piece Pen). written_head (λ form. flags_byte form (has_optional r) (is_there (table_of r)) true (is_end u refer others)) (written_id u r) >> (sized_body u refer r >> x)) (slices_same refer ss others rest)
       ∙ ap (written_slices u refer) (sym is)
 
   -- ---- instances

@@ -15,13 +15,13 @@ use Rattle.ice_encoding.specs.Typed.{AllOf, EachOf, PairsOf, Refers, no_referenc
 use Rattle.ice_encoding.specs.Enum.{HasNumber}
 use Rattle.ice_graphs.specs.Optionals.{Present, kind_tagged}
 use Rattle.ice_graphs.specs.OptionalMembers.{Members, required_kinds}
-use Rattle.ice_graphs.specs.Classes.{class_named, base_of, own_members}
+use Rattle.ice_graphs.specs.Classes.{class_by_id, base_of, own_members}
 use Rattle.ice_graphs.specs.Graph.{Slice, known, unknown, Graph}
 use Rattle.ice_graphs.specs.Names.{names_of, instance_names}
 use Rattle.ice_graphs.specs.Instances.{slices_of}
 use Rattle.ice_graphs.specs.Typed.{AreReferred, AreOptions, AreMembers, IsKnown, AreBases, IsUnknown, IsInstance, RefersIn, OfType}
 use Rattle.ice_graphs.specs.Slices.{unknown_bytes}
-use Rattle.ice_graphs.specs.Canonical.{is_there, id_of, table_of, sized_bytes}
+use Rattle.ice_graphs.specs.Canonical.{is_there, written_id, table_of, sized_bytes}
 use Rattle.ice_prims.specs.Rest.{IsBytes}
 use Rattle.graph_laws.proofs.PutBytes.{kept_bytes}
 use Rattle.graph_laws.proofs.WrittenBytes.{sized_fit}
@@ -31,7 +31,8 @@ use Rattle.graph_laws.proofs.Once.{once-below}
 use Rattle.graph_laws.specs.Seeing.{SameClassId}
 use Rattle.graph_laws.proofs.Rows.{Agrees, row_there}
 use Rattle.graph_laws.proofs.Measured.{SameKinds, SameMembers, TiedOption, same_entries, kinds_same, required_same, tagged_same, own_same}
-use Rattle.graph_laws.proofs.Classed.{Both, rows_agree, tied_base, tied_once, hidden_untied, id_named}
+use Rattle.graph_laws.proofs.ClassIds.{id_named, is_slice_id}
+use Rattle.graph_laws.proofs.Classed.{Both, rows_agree, tied_base, tied_once, hidden_untied}
 use Rattle.graph_laws.proofs.RelayedFitting.{fits_there}
 use Rattle.graph_laws.proofs.Closing.{AllClosed, EachClosed, closed_slices, closed_length, all_like_closed}
 use Rattle.graph_laws.proofs.Standing.{Stands}
@@ -154,11 +155,11 @@ module _ (t u : Tables) (both : Both t u) (ks js : List (List Slice)) (closed : 
   referred_there (n ∷ ns) h = (moves_there None None (Some n) refl h.0, referred_there ns h.1)
 
   -- a slice that is kept as it is written
-  unknown_there : (a : ℕ) (content : Members) (id bytes : List ℕ) (o : Bool) → class_named t id ≡ Some a → class_named u id ≡ None → unknown_bytes o bytes ≡ sized_bytes t (known a content) → IsKnown t Refer a content → AreBelow (length ks) (names_of content)
+  unknown_there : (a : ℕ) (content : Members) (id bytes : List ℕ) (o : Bool) → class_by_id t id ≡ Some a → class_by_id u id ≡ None → unknown_bytes o bytes ≡ sized_bytes t (known a content) → IsKnown t Refer a content → AreBelow (length ks) (names_of content)
       → IsUnknown u Other id bytes (table_of (known a content))
   unknown_there a content id bytes o named hidden written is_known below = (
     hidden,
-    (both.reader.type_ids id (rows.Class a) (id_named t id a named)).1,
+    is_slice_id t both.reader id a (id_named t id a named),
     referred (table_of (known a content)) (once-below (length ks) [] (names_of content) below),
     kept_bytes o bytes (subst IsBytes (sym written) (sized_fit t Refer a content is_known)),
   )
@@ -178,7 +179,7 @@ module _ (t u : Tables) (both : Both t u) (ks js : List (List Slice)) (closed : 
       subst (λ (p : Option ℕ). AreBases u Other p rs) (sym is) (subst (AreBases u Other (Some q)) (sym split) (subst (λ (s : Slice). AreBases u Other (Some q) (s ∷ others)) (sym r_is)
       (one, known_there a q content tied is_known, bases_there (base_of t a) (base_of u q) (tied_base t u both a q tied) ss others bases rest)))
   bases_there (Some a) p (q, is, tied) (known b content ∷ ss) rs (same, is_known, bases) (r, others, split, inr (x, r_is, named, hidden, written), rest) =
-      hidden_untied t u both (id_of t (known b content)) b q named hidden (subst (λ (k : ℕ). SameClassId t u k q) (sym same) tied)
+      hidden_untied t u both (written_id t (known b content)) b q named hidden (subst (λ (k : ℕ). SameClassId t u k q) (sym same) tied)
 
   -- bases behind a slice that is kept, of which more may be so
   follow_there : (o : Option ℕ) (ss rs : List Slice) → AreBases t Refer o ss → AreBelow (length ks) (instance_names ss) → AllClosed t u ss rs → (rs ≡ []) ⊎ IsInstance u Other rs
@@ -192,7 +193,7 @@ module _ (t u : Tables) (both : Both t u) (ks js : List (List Slice)) (closed : 
   follow_there (Some a) (known b content ∷ ss) rs (same, is_known, bases) below (r, others, split, inr (x, r_is, named, hidden, written), rest) =
       let more = follow_there (base_of t a) ss others bases (below-right (length ks) (names_of content) (instance_names ss) below) rest in
       inr (subst (IsInstance u Other) (sym split) (subst (λ (s : Slice). IsInstance u Other (s ∷ others)) (sym r_is)
-      (before (id_of t (known b content)) x (is_there content.optional) (table_of (known b content)) others (unknown_there b content (id_of t (known b content)) x (is_there content.optional) named hidden written (subst (λ (k : ℕ). IsKnown t Refer k content) (sym same) is_known) (below-left (length ks) (names_of content) (instance_names ss) below)) more)))
+      (before (written_id t (known b content)) x (is_there content.optional) (table_of (known b content)) others (unknown_there b content (written_id t (known b content)) x (is_there content.optional) named hidden written (subst (λ (k : ℕ). IsKnown t Refer k content) (sym same) is_known) (below-left (length ks) (names_of content) (instance_names ss) below)) more)))
 
   instance_there : (ss rs : List Slice) → IsInstance t Refer ss → AreBelow (length ks) (instance_names ss) → AllClosed t u ss rs → IsInstance u Other rs
   instance_there [] rs h below all = absurd h
@@ -209,7 +210,7 @@ module _ (t u : Tables) (both : Both t u) (ks js : List (List Slice)) (closed : 
   instance_there (known a content ∷ ss) rs h below (r, others, split, inr (x, r_is, named, hidden, written), rest) =
       let more = follow_there (base_of t a) ss others h.1 (below-right (length ks) (names_of content) (instance_names ss) below) rest in
       subst (IsInstance u Other) (sym split) (subst (λ (s : Slice). IsInstance u Other (s ∷ others)) (sym r_is)
-      (before (id_of t (known a content)) x (is_there content.optional) (table_of (known a content)) others (unknown_there a content (id_of t (known a content)) x (is_there content.optional) named hidden written h.0 (below-left (length ks) (names_of content) (instance_names ss) below)) more))
+      (before (written_id t (known a content)) x (is_there content.optional) (table_of (known a content)) others (unknown_there a content (written_id t (known a content)) x (is_there content.optional) named hidden written h.0 (below-left (length ks) (names_of content) (instance_names ss) below)) more))
 
 -- the graph that is closed is of its type
 pub closed_typed : (t u : Tables) (both : Both t u) (shape other : Shape) → SameShape t u shape other → (k h : Graph) → h.roots ≡ k.roots → EachClosed t u k.instances h.instances

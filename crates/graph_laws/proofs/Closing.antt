@@ -1,25 +1,25 @@
 -- Canonical bytes as one sees them who lacks classes: a slice of such a class is kept as it is written.
 use Rattle.std.proofs.Common.{ℕ, zero, suc, ◌≡◌, ◌<◌, ◌⊎◌, Bool, List, [], ◌∷◌, ◌++◌, length, refl, sym, ap, ◌∙◌, subst, Option, Some, None, inl, inr, arith}
-use Rattle.std.specs.Prelude.{slice_get}
 use Rattle.std.proofs.lemmas.List.{append_assoc}
 use Rattle.ice_types.specs.declared.declarations.Member.{Member}
 use Rattle.ice_types.specs.declared.declarations.Shape.{Shape}
-use Rattle.ice_types.specs.Tables.{Tables, HasId, class_ids}
+use Rattle.ice_types.specs.Tables.{Tables}
+use Rattle.ice_types.specs.CompactIds.{HasSliceId}
 use Rattle.ice_encoding.specs.Writing.{Writer, written_each}
 use Rattle.ice_graphs.specs.Optionals.{Present, kind_tagged}
 use Rattle.ice_graphs.specs.OptionalMembers.{Members}
-use Rattle.ice_graphs.specs.Classes.{class_named, base_of, own_members}
+use Rattle.ice_graphs.specs.Classes.{class_by_id, base_of, own_members}
 use Rattle.ice_graphs.specs.Graph.{Slice, known, unknown}
 use Rattle.ice_graphs.specs.Names.{renamed_members, renamed_present}
 use Rattle.ice_graphs.specs.Slices.{unknown_bytes}
 use Rattle.ice_graphs.specs.Instances.{slices_of}
 use Rattle.ice_graphs.specs.Visiting.{place}
 use Rattle.ice_graphs.specs.Members.{written_option, written_options, marked_options, written_slice_members}
-use Rattle.ice_graphs.specs.Canonical.{is_there, by_size, table_of, sized_bytes, id_in, id_of}
+use Rattle.ice_graphs.specs.Canonical.{is_there, by_size, table_of, sized_bytes, row_id, written_id}
 use Rattle.graph_laws.proofs.Bases.{IsRow}
 use Rattle.graph_laws.specs.Seeing.{SameClassId}
-use Rattle.graph_laws.proofs.Rows.{own_class, id_there, row_there}
-use Rattle.graph_laws.proofs.Classed.{Both, id_named, named_id, none_some}
+use Rattle.graph_laws.proofs.ClassIds.{id_named, named_id, spelled_there}
+use Rattle.graph_laws.proofs.Classed.{Both, none_some, own_slice, tied_by_id}
 use Rattle.graph_laws.proofs.Standing.{Follow, Stands}
 use Rattle.graph_laws.proofs.RelayedFitting.{LikeAs, AllLike}
 
@@ -52,20 +52,15 @@ sized_marked t a content =
     let g = slice_marked by_size t (own_members t a) (renamed_members (place (table_of (known a content))) content) tt in
     (g.0, g.1 ∙ ap (λ (b : Bool). unknown_bytes b g.0) (there_still (place (table_of (known a content))) content.optional))
 
--- ---- the type id in a row
-
-pub id_in_row : (t : Tables) (id : List ℕ) (a : ℕ) → HasId (class_ids t) id a → id_in (slice_get t.classes a) ≡ id
-id_in_row t id a h = let r = row_there (λ c. c.id) t.classes a id h in ap id_in r.1 ∙ r.2
-
 module _ (t u : Tables) where
   -- a slice of a class that the second schema lacks, kept as it is written
   abbrev pub UnknownWritten : ℕ → Members → Slice → Type 0
-  UnknownWritten a content r = (x : List ℕ) × (r ≡ unknown (id_of t (known a content)) x (is_there content.optional) (table_of (known a content)))
-      × (class_named t (id_of t (known a content)) ≡ Some a) × (class_named u (id_of t (known a content)) ≡ None) × (unknown_bytes (is_there content.optional) x ≡ sized_bytes t (known a content))
+  UnknownWritten a content r = (x : List ℕ) × (r ≡ unknown (written_id t (known a content)) x (is_there content.optional) (table_of (known a content)))
+      × (class_by_id t (written_id t (known a content)) ≡ Some a) × (class_by_id u (written_id t (known a content)) ≡ None) × (unknown_bytes (is_there content.optional) x ≡ sized_bytes t (known a content))
 
   abbrev pub ClosedAs : Slice → Slice → Type 0
   ClosedAs (known a content) r = ((b : ℕ) × (r ≡ known b content) × SameClassId t u a b) ⊎ UnknownWritten a content r
-  ClosedAs (unknown id bytes optionals table) r = (r ≡ unknown id bytes optionals table) × (class_named u id ≡ None)
+  ClosedAs (unknown id bytes optionals table) r = (r ≡ unknown id bytes optionals table) × (class_by_id u id ≡ None)
 
   abbrev pub AllClosed : List Slice → List Slice → Type 0
   AllClosed [] others = others ≡ []
@@ -87,7 +82,7 @@ module _ (t u : Tables) where
   -- by their classes
   like_closed : (s r : Slice) → ClosedAs s r → LikeAs t u s r
   like_closed (known a content) r (inl (b, is, tied)) = inl (b, content, is, tied)
-  like_closed (known a content) r (inr (x, is, named, hidden, bytes)) = inr (id_of t (known a content), x, is_there content.optional, table_of (known a content), is, named, hidden)
+  like_closed (known a content) r (inr (x, is, named, hidden, bytes)) = inr (written_id t (known a content), x, is_there content.optional, table_of (known a content), is, named, hidden)
   like_closed (unknown id bytes optionals table) r h = h.0
 
   pub all_like_closed : (ss rs : List Slice) → AllClosed ss rs → AllLike t u ss rs
@@ -98,24 +93,24 @@ module _ (t u : Tables) where
 
   module _ (both : Both t u) where
     close_known : (a : ℕ) (content : Members) → IsRow t.classes a → (r : Slice) × ClosedAs (known a content) r
-    close_known a content (d, row) = by_class (class_named u (id_of t (known a content))) refl
+    close_known a content (d, row) = by_class (class_by_id u (written_id t (known a content))) refl
       where
         id : List ℕ
-        id = id_of t (known a content)
+        id = written_id t (known a content)
 
-        here : HasId (class_ids t) id a
-        here = subst (λ (i : List ℕ). HasId (class_ids t) i a) (sym (ap id_in row)) (id_there (λ c. c.id) t.classes a d row)
+        here : HasSliceId t id a
+        here = subst (λ (i : List ℕ). HasSliceId t i a) (sym (ap row_id row)) (spelled_there t both.reader a d row)
 
-        by_class : (o : Option ℕ) → class_named u id ≡ o → (r : Slice) × ClosedAs (known a content) r
+        by_class : (o : Option ℕ) → class_by_id u id ≡ o → (r : Slice) × ClosedAs (known a content) r
         by_class None e = let x = sized_marked t a content in (unknown id x.0 (is_there content.optional) (table_of (known a content)), inr (x.0, refl, named_id t both.reader id a here, e, sym x.1))
-        by_class (Some b) e = (known b content, inl (b, refl, (id, here, id_named u id b e)))
+        by_class (Some b) e = (known b content, inl (b, refl, tied_by_id t u both id a b here (id_named u id b e)))
 
-    close_unknown : (id bytes : List ℕ) (optionals : Bool) (table : List ℕ) → class_named t id ≡ None → ClosedAs (unknown id bytes optionals table) (unknown id bytes optionals table)
-    close_unknown id bytes optionals table none = (refl, by_class (class_named u id) refl)
+    close_unknown : (id bytes : List ℕ) (optionals : Bool) (table : List ℕ) → class_by_id t id ≡ None → ClosedAs (unknown id bytes optionals table) (unknown id bytes optionals table)
+    close_unknown id bytes optionals table none = (refl, by_class (class_by_id u id) refl)
       where
-        by_class : (o : Option ℕ) → class_named u id ≡ o → class_named u id ≡ None
+        by_class : (o : Option ℕ) → class_by_id u id ≡ o → class_by_id u id ≡ None
         by_class None e = e
-        by_class (Some b) e = let a = own_class t u both.reader both.lacks id b (id_named u id b e) in none_some (class_named t id) a.0 none (named_id t both.reader id a.0 a.1)
+        by_class (Some b) e = let a = own_slice t u both id b (id_named u id b e) in none_some (class_by_id t id) a.0 none (named_id t both.reader id a.0 a.1)
 
     close_follow : (o : Option ℕ) (ss : List Slice) → Follow t o ss → (rs : List Slice) × AllClosed ss rs
     close_follow None ss h = ([], subst (λ (l : List Slice). AllClosed l []) (sym h) refl)

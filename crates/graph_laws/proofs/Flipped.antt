@@ -59,5 +59,5 @@ module _ (t u : Tables) where
     dicts = λ a b s. let r = rs.dicts b a (s.0, s.2, s.1) in (r.1, r.0, r.3, r.2, (kind_flipped r.0.key r.1.key r.4.0, kind_flipped r.0.value r.1.value r.4.1));
     structs = λ a b s. let r = rs.structs b a (s.0, s.2, s.1) in (r.1, r.0, r.3, r.2, members_flipped r.0.members r.1.members r.4);
     enums = λ a b s. let r = rs.enums b a (s.0, s.2, s.1) in (r.1, r.0, r.3, r.2, each_flipped SameEntry SameEntry entry_flipped r.0.entries r.1.entries r.4);
-    classes = λ a b s. let r = rs.classes b a (s.0, s.2, s.1) in (r.1, r.0, r.3, r.2, (base_flipped r.0.base r.1.base r.4.0, members_flipped r.0.members r.1.members r.4.1));
+    classes = λ a b s. let r = rs.classes b a (s.0, s.2, s.1) in (r.1, r.0, r.3, r.2, (base_flipped r.0.base r.1.base r.4.0, members_flipped r.0.members r.1.members r.4.1, sym r.4.2));
   }

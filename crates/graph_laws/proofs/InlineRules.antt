@@ -1,47 +1,28 @@
 -- What goes well where references stand inline: what is appended is spelled, as many instances have begun as the visits list,
 -- and each that has ended is that of the graph.
-use Rattle.std.proofs.Common.{ℕ, suc, ◌+◌, ◌<◌, ◌≤◌, ◌^◌, ◌≡◌, Bool, true, false, List, [], ◌∷◌, ◌++◌, length, refl, sym, ap, ◌∙◌, subst, arith, inl, inr, Option, Some, None}
-use Rattle.std.specs.Prelude.{slice_get, if◌then◌else◌}
-use Rattle.std.specs.Str.{IsUtf8, bytes_eq}
+use Rattle.std.proofs.Common.{ℕ, suc, ◌+◌, ◌<◌, ◌≤◌, ◌^◌, ◌≡◌, true, List, [], ◌∷◌, ◌++◌, length, refl, sym, ap, ◌∙◌, subst, arith, inl, inr, Option, Some, None}
+use Rattle.std.specs.Prelude.{slice_get}
 use Rattle.std.proofs.lemmas.Bool.{cases_lt}
 use Rattle.std.proofs.lemmas.List.{length-append}
-use Rattle.std.proofs.lemmas.Slice.Eq.{bytes_eq-Decides}
 use Rattle.ice_types.specs.Tables.{Tables}
-use Rattle.ice_graphs.specs.Classes.{one_further, place_of}
+use Rattle.ice_types.specs.CompactIds.{number_in, numbered_id, IsSliceId}
+use Rattle.ice_types.proofs.SliceIds.{number_there, not_numbered}
+use Rattle.ice_graphs.specs.Classes.{place_of}
 use Rattle.ice_prims.specs.Bytes.{size_bytes, text_bytes}
 use Rattle.ice_graphs.specs.Graph.{Slice, Graph}
 use Rattle.ice_graphs.specs.References.{Reference, with_met}
-use Rattle.ice_graphs.specs.Flags.{IdForm, no_id, as_text, as_index, has_id}
+use Rattle.ice_graphs.specs.Flags.{IdForm, no_id, as_text, as_index, as_number, has_id}
 use Rattle.ice_graphs.specs.TypeIds.{with_id, SpellsId}
 use Rattle.ice_graphs.specs.Instances.{slices_of, AllFit}
 use Rattle.ice_graphs.specs.Visiting.{visit_each}
-use Rattle.ice_graphs.specs.Canonical.{Pen, head_as, written_head}
+use Rattle.ice_graphs.specs.Canonical.{Pen, head_as, head_under, written_head}
 use Rattle.ice_encoding.specs.Parts.{Part}
 use Rattle.ice_encoding.specs.Writing.{Piece, exactly, ◌>>◌}
 use Rattle.ice_graphs.specs.Members.{with_length}
-use Rattle.graph_laws.proofs.TypeIds.{Spelled, text_spelled, index_spelled}
+use Rattle.graph_laws.proofs.ClassIds.{IsText, place_is}
+use Rattle.graph_laws.proofs.TypeIds.{Spelled, text_spelled, index_spelled, number_spelled}
 use Rattle.graph_laws.proofs.Upto.{upto, upto-one, Grows, parts}
 use Rattle.graph_laws.proofs.WrittenValues.{Relation, Chain, Behind, Rules}
-
--- ---- type ids
-
-further_is : {C : Type 0} (o : Option ℕ) (i : ℕ) → one_further o ≡ Some i → ((j : ℕ) → o ≡ Some j → suc j ≡ i → C) → C
-further_is None i e go = absurd cc
-further_is (Some j) i e go = go j refl cc
-
-place_is : (ids : List (List ℕ)) (id : List ℕ) (i : ℕ) → place_of ids id ≡ Some i → (slice_get ids i ≡ Some id) × (i < length ids)
-place_is [] id i e = absurd cc
-place_is (first ∷ others) id i e = by_test (place_is others id) (bytes_eq first id) refl e
-  where
-    by_test : ((j : ℕ) → place_of others id ≡ Some j → (slice_get others j ≡ Some id) × (j < length others)) → (b : Bool) → bytes_eq first id ≡ b → (if b then Some 0 else one_further (place_of others id)) ≡ Some i
-        → (slice_get (first ∷ others) i ≡ Some id) × (i < suc (length others))
-    by_test later true same e =
-        let zero_is : 0 ≡ i = cc in
-        subst (λ (k : ℕ). (slice_get (first ∷ others) k ≡ Some id) × (k < suc (length others))) zero_is (ap Some ((bytes_eq-Decides first id).0 same), omega arith)
-    by_test later false same e =
-        further_is (place_of others id) i e λ j at next.
-        let rest = later j at in
-        subst (λ (k : ℕ). (slice_get (first ∷ others) k ≡ Some id) × (k < suc (length others))) next (rest.0, omega (arith, rest.1))
 
 pub all_fit_more : (t : Tables) (is : List (List Slice)) (a b : List (Reference (Unit {0}))) → AllFit t is a → AllFit t is b → AllFit t is (a ++ b)
 all_fit_more t is [] b p q = q
@@ -154,14 +135,14 @@ module _ (t : Tables) (k : Graph) where
         let g = good from p j stands is_ready run small in
         record { end = with_met ms g.end; spelled = (g.end, g.spelled, refl); count = g.count; begun = g.begun; ids = g.ids; many = g.many; earlier = g.earlier; inside = g.inside; fit = λ h. all_fit_more t k.instances g.end.met ms (g.fit h) fits }
 
-    -- the flags, and the type id
+    -- the flags, and the id
     abbrev pub Head : (IdForm → Type 0) → (IdForm → ℕ) → List ℕ → Relation Spelled
     Head Ok flags id b from to = (form : IdForm) × Ok form × (id_bytes : List ℕ) × (b ≡ flags form ∷ id_bytes) × SpellsId form id_bytes id from to
 
     abbrev pub HasId : IdForm → Type 0
     HasId form = has_id form ≡ true
 
-    head_cases : (flags : IdForm → ℕ) (id : List ℕ) → IsUtf8 id → (from : Spelled) (p : Pen) (j : ℕ) → Stands from p → upto p.begun ≡ upto j → (o : Option ℕ) → place_of p.ids id ≡ o → length p.ids + length (head_as o flags id p).0 < 2 ^ 31
+    head_cases : (flags : IdForm → ℕ) (id : List ℕ) → IsText id → (from : Spelled) (p : Pen) (j : ℕ) → Stands from p → upto p.begun ≡ upto j → (o : Option ℕ) → place_of p.ids id ≡ o → length p.ids + length (head_as o flags id p).0 < 2 ^ 31
         → Goes (Head HasId flags id) from p (head_as o flags id p) j
     head_cases flags id text from p j stands run (Some i) e small =
         let at = place_is p.ids id i e in
@@ -173,8 +154,20 @@ module _ (t : Tables) (k : Graph) where
         still (Head HasId flags id) from (with_id id from) p q (flags as_text ∷ text_bytes id) j stands run
         (as_text, refl, text_bytes id, refl, text_spelled id from text lt) refl refl refl (ap (λ (ids : List (List ℕ)). ids ++ id ∷ []) stands.ids) (omega (arith, length-append p.ids (id ∷ [])))
 
-    pub head_good : (flags : IdForm → ℕ) (id : List ℕ) → IsUtf8 id → Good (written_head flags id) [] (Head HasId flags id)
-    head_good flags id text from p j stands is_ready run small = head_cases flags id text from p j stands run (place_of p.ids id) refl small
+    -- by its number, or as a text that is no number
+    by_number : (flags : IdForm → ℕ) (id : List ℕ) → IsSliceId id → (number : Option ℕ) → number_in id ≡ number → (from : Spelled) (p : Pen) (j : ℕ) → Stands from p → upto p.begun ≡ upto j → length p.ids + length (head_under number flags id p).0 < 2 ^ 31
+        → Goes (Head HasId flags id) from p (head_under number flags id p) j
+    by_number flags id (utf8, inl plain) None e from p j stands run small = head_cases flags id (utf8, plain) from p j stands run (place_of p.ids id) refl small
+    by_number flags id (utf8, inl plain) (Some n) e from p j stands run small = let none : None ≡ Some n = sym (not_numbered id plain) ∙ e in absurd cc
+    by_number flags id (utf8, inr (m, le, is)) None e from p j stands run small = let some : Some m ≡ None = sym (number_there m le) ∙ ap number_in (sym is) ∙ e in absurd cc
+    by_number flags id (utf8, inr (m, le, is)) (Some n) e from p j stands run small =
+        let both : Some m ≡ Some n = sym (number_there m le) ∙ ap number_in (sym is) ∙ e in
+        let same : m ≡ n = cc in
+        still (Head HasId flags id) from from p p (flags as_number ∷ size_bytes n) j stands run
+        (as_number, refl, size_bytes n, refl, number_spelled n id from (subst (λ (k : ℕ). k ≤ 2147483647) same le) (is ∙ ap numbered_id same)) refl refl refl stands.ids (omega arith)
+
+    pub head_good : (flags : IdForm → ℕ) (id : List ℕ) → IsSliceId id → Good (written_head flags id) [] (Head HasId flags id)
+    head_good flags id is_id from p j stands is_ready run small = by_number flags id is_id (number_in id) refl from p j stands run small
 
     abbrev pub IsNone : IdForm → Type 0
     IsNone form = form ≡ no_id

@@ -23,6 +23,7 @@ pub mod WrittenBytes
 pub mod TypeIds
 pub mod Weaker
 pub mod Named
+pub mod ClassIds
 pub mod Formed
 pub mod TableRules
 pub mod FlagBytes

@@ -5,6 +5,7 @@ use Rattle.std.proofs.lemmas.List.{length-append, append_assoc, take_at}
 use Rattle.ice_types.specs.declared.kind.RowRef.TheVariants as rows
 use Rattle.ice_types.specs.declared.declarations.Shape.{Shape}
 use Rattle.ice_types.specs.Tables.{Tables}
+use Rattle.ice_types.specs.CompactIds.{numbered_id}
 use Rattle.ice_types.specs.Lacking.{SameShape, SameBase}
 use Rattle.ice_prims.specs.Number.{SpellsText}
 use Rattle.ice_encoding.specs.Parts.{size}
@@ -71,14 +72,16 @@ module _ (t u : Tables) (both : Both t u) where
   id_locked : (form : IdForm) (a b r s id other : List ℕ) (from to begin end : Spelled) → a ++ r ≡ b ++ s → SpellsId form a id from to → SpellsId form b other begin end → Rel from begin → (a ≡ b) × ((id ≡ other) × Rel to end)
   id_locked no_id a b r s id other from to begin end e h g rel = (h.0 ∙ sym g.0, (h.1 ∙ sym g.1, moved from to begin end h.2 g.2 rel))
   id_locked as_text a b r s id other from to begin end e h g rel =
-      let m = part_apart _ SpellsText text_lawful a b r s id other e h.0 g.0 in
+      let m = part_apart _ SpellsText text_lawful a b r s id other e h.0.0 g.0.0 in
       (m.0, (m.1, moved (with_id id from) to (with_id other begin) end h.1 g.1 (ap (λ (l : List (List ℕ)). l ++ other ∷ []) rel.0 ∙ ap (λ (i : List ℕ). from.ids ++ i ∷ []) (sym m.1), rel.1)))
   id_locked as_index a b r s id other from to begin end e h g rel =
       let m = size_apart a b r s (suc h.0) (suc g.0) e h.1 g.1 in
       let place : h.0 ≡ g.0 = omega (arith, m.1) in
       let both_ids : Some id ≡ Some other = sym h.2 ∙ ap (slice_get from.ids) place ∙ ap (λ (l : List (List ℕ)). slice_get l g.0) (sym rel.0) ∙ g.2 in
       (m.0, ((let same : id ≡ other = cc in same), moved from to begin end h.3 g.3 rel))
-  id_locked as_number a b r s id other from to begin end e h g rel = absurd h
+  id_locked as_number a b r s id other from to begin end e h g rel =
+      let m = size_apart a b r s h.0 g.0 e h.1 g.1 in
+      (m.0, (h.2 ∙ ap numbered_id m.1 ∙ sym g.2, moved from to begin end h.3 g.3 rel))
 
   module _ (one three two : Port (State ℕ) Spelled) (refer : (a b : Option ℕ) → SameBase t u rows.Class a b → Locks Rel (one.Spells a) (two.Spells b) (three.Spells a)) where
     entries_locked : (n : ℕ) → Locks Rel (SpellsEntries one n) (SpellsEntries two n) (SpellsEntries three n)

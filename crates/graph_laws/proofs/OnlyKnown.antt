@@ -72,7 +72,7 @@ id_keeps : (form : IdForm) (bytes id : List ℕ) (from to : Spelled) → SpellsI
 id_keeps no_id bytes id from to h = stay from to h.2
 id_keeps as_text bytes id from to h = λ u. subst Good (sym h.1) u
 id_keeps as_index bytes id from to h = stay from to h.3
-id_keeps as_number bytes id from to h = absurd h
+id_keeps as_number bytes id from to h = stay from to h.3
 
 module _ (t : Tables) where
   module _ (port : Port (State ℕ) Spelled) (port_keeps : (declared n : Option ℕ) (bytes : List ℕ) (from to : Spelled) → IsBytes bytes → port.Spells declared bytes n from to → Keeps from to) where

@@ -9,7 +9,7 @@ use Rattle.ice_types.specs.Rules.{IsSchema}
 use Rattle.ice_types.specs.Lacking.{SameBase}
 use Rattle.ice_types.proofs.RowIdentity.{one_id}
 use Rattle.ice_graphs.specs.OptionalMembers.{Members}
-use Rattle.ice_graphs.specs.Classes.{class_named, base_of, holds_of, leads_to, is_a}
+use Rattle.ice_graphs.specs.Classes.{class_by_id, base_of, holds_of, leads_to, is_a}
 use Rattle.ice_graphs.specs.Graph.{Slice, known, unknown}
 use Rattle.ice_graphs.specs.Instances.{class_of, comes_from, class_fits, slices_of, AllFit}
 use Rattle.graph_laws.proofs.Related.{related, to_base}
@@ -38,7 +38,7 @@ module _ (t u : Tables) where
   -- by their classes alone, a slice in the one schema and in the other
   abbrev pub LikeAs : Slice → Slice → Type 0
   LikeAs (known a content) r = ((b : ℕ) × (c : Members) × (r ≡ known b c) × SameClassId t u a b)
-      ⊎ ((id bytes : List ℕ) × (optionals : Bool) × (table : List ℕ) × (r ≡ unknown id bytes optionals table) × (class_named t id ≡ Some a) × (class_named u id ≡ None))
+      ⊎ ((id bytes : List ℕ) × (optionals : Bool) × (table : List ℕ) × (r ≡ unknown id bytes optionals table) × (class_by_id t id ≡ Some a) × (class_by_id u id ≡ None))
   LikeAs (unknown id bytes optionals table) r = r ≡ unknown id bytes optionals table
 
   abbrev pub AllLike : List Slice → List Slice → Type 0

@@ -7,7 +7,7 @@ use Rattle.ice_types.specs.Lacking.{HasRow, IsClass, IsTaken, Lacks}
 use Rattle.graph_laws.specs.Sample.{base, whole, less}
 
 has_row : (id : List ℕ) (row : RowRef) → HasRowId less id row → HasRow whole less id row
-has_row id (rows.Class zero) h = (rows.Class 1, h, (0, refl, (base, base, refl, refl, (refl, tt))))
+has_row id (rows.Class zero) h = (rows.Class 1, h, (0, refl, (base, base, refl, refl, (refl, tt, refl))))
 has_row id (rows.Class (suc at)) h = absurd cc
 has_row id (rows.Seq at) h = absurd cc
 has_row id (rows.Dict at) h = absurd cc

@@ -148,7 +148,7 @@ module _ (t u : Tables) (both : Both t u) (ks hs : List (List Slice)) (seen : Ea
     id_back as_text bytes id from to begin h r =
         (with_id id begin, (h.0, refl), moved (with_id id from) to (with_id id begin) h.1 (record { ids = ap (λ (l : List (List ℕ)). l ++ id ∷ []) r.ids; count = r.count; each = r.each; met = r.met }))
     id_back as_index bytes id from to begin h r = (begin, (h.0, h.1, subst (λ (l : List (List ℕ)). slice_get l h.0 ≡ Some id) (sym r.ids) h.2, refl), moved from to begin h.3 r)
-    id_back as_number bytes id from to begin h r = absurd h
+    id_back as_number bytes id from to begin h r = (begin, (h.0, h.1, h.2, refl), moved from to begin h.3 r)
 
     -- ---- slices
 

@@ -153,5 +153,5 @@ module _ (t : Tables) where
       enums = λ a b s. itself (λ e. e.id) t.enums (SameEnum t t) (λ at e is. entries_itself e.entries) a b s.0 s.1
           (let same : rows.Enum a ≡ rows.Enum b = rules.apart s.0 (rows.Enum a) (rows.Enum b) s.1 s.2 in cc);
       classes = λ a b s. itself (λ c. c.id) t.classes (SameClass t t)
-          (λ at c is. let f = rules.classes at c is in (base_itself c.base f.0, of_itself c.members (recursion_from_All _ c.members f.1.0))) a b s.0 s.1 (one_class a b s);
+          (λ at c is. let f = rules.classes at c is in (base_itself c.base f.0, of_itself c.members (recursion_from_All _ c.members f.1.0), refl)) a b s.0 s.1 (one_class a b s);
     }

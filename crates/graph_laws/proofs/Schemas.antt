@@ -1,12 +1,11 @@
 -- The laws of canonical bytes, of graphs of types under schemas.
-use Rattle.std.proofs.Common.{ℕ, ◌≤◌, ◌<◌, ◌^◌, ◌≡◌, List, [], ◌∷◌, length, refl, arith, Option, Some, None}
+use Rattle.std.proofs.Common.{ℕ, ◌≤◌, ◌<◌, ◌^◌, ◌≡◌, List, [], ◌∷◌, length, refl, arith, Option, Some, None, inl}
 use Rattle.std.specs.Prelude.{◌↔◌, slice_get}
-use Rattle.std.specs.Str.{IsUtf8}
 use Rattle.std.proofs.lemmas.Str.{IsUtf8-nil}
 use Rattle.ice_types.specs.declared.declarations.ClassDecl.{ClassDecl}
 use Rattle.ice_types.specs.declared.declarations.Shape.{Shape}
-use Rattle.ice_types.specs.declared.kind.RowRef.TheVariants as rows
 use Rattle.ice_types.specs.Tables.{Tables}
+use Rattle.ice_types.specs.CompactIds.{IsSliceId}
 use Rattle.ice_types.specs.Rules.{IsSchema}
 use Rattle.ice_prims.specs.Rest.{IsBytes}
 use Rattle.ice_encoding.specs.declared.limits.TheConstants.{LARGEST}
@@ -16,31 +15,31 @@ use Rattle.ice_graphs.specs.Instances.{slices_of, most_instances, SpellsNumbered
 use Rattle.ice_graphs.specs.Visiting.{most, order}
 use Rattle.ice_graphs.specs.Same.{Same, Spells, form}
 use Rattle.ice_graphs.specs.Typed.{OfType}
-use Rattle.ice_graphs.specs.Canonical.{Format, compact, graph_bytes, id_in, IsWritable}
+use Rattle.ice_graphs.specs.Canonical.{Format, compact, graph_bytes, spelled_by, row_id, IsWritable}
 use Rattle.graph_laws.proofs.Sound.{numbered_typed}
 use Rattle.graph_arena.proofs.Closed.{few}
 use Rattle.graph_laws.proofs.TypeIds.{HaveTexts}
-use Rattle.graph_laws.proofs.Named.{are_named, id_of_row}
+use Rattle.graph_laws.proofs.ClassIds.{are_spelled, spelled_id}
 use Rattle.graph_laws.proofs.Formed.{Reached}
 use Rattle.graph_laws.proofs.Reached.{reached-small, reached-few}
 use Rattle.graph_laws.proofs.OnlyKnown.{read_compact}
 use Rattle.graph_laws.proofs.Canonicity.{same_bytes, same_from_bytes, read_is_form, read_is_same, numbered_spelled, graph_spelled}
 
--- ---- type ids of a schema are UTF-8
+-- ---- each class of a schema is written under an id
 
-pub row_text : (row : Option ClassDecl) → ((d : ClassDecl) → row ≡ Some d → IsUtf8 d.id) → IsUtf8 (id_in row)
-row_text None texts = IsUtf8-nil
+pub row_text : (row : Option ClassDecl) → ((d : ClassDecl) → row ≡ Some d → IsSliceId (spelled_by d)) → IsSliceId (row_id row)
+row_text None texts = (IsUtf8-nil, inl refl)
 row_text (Some d) texts = texts d refl
 
 pub utf8_texts : (t : Tables) → IsSchema t → (ss : List Slice) → HaveTexts t ss
 utf8_texts t rules [] = tt
-utf8_texts t rules (known class content ∷ ss) = (row_text (slice_get t.classes class) (λ d is. (rules.type_ids d.id (rows.Class class) (id_of_row t.classes class d is)).1), utf8_texts t rules ss)
+utf8_texts t rules (known class content ∷ ss) = (row_text (slice_get t.classes class) (λ d is. spelled_id t rules class d is), utf8_texts t rules ss)
 utf8_texts t rules (unknown id bytes optionals table ∷ ss) = utf8_texts t rules ss
 
 pub equal_is_same : (t : Tables) (shape : Shape) (format : Format) (g h : Graph) → IsSchema t → OfType t shape g → OfType t shape h → IsWritable format g → IsWritable format h
     → length g.instances ≤ most → length h.instances ≤ most → length (graph_bytes t shape format g) < 2 ^ 31 → (graph_bytes t shape format g ≡ graph_bytes t shape format h) ↔ Same g h
 equal_is_same t shape format g h rules g-typed h-typed g-can h-can g-few h-few small = (
-  λ e. same_from_bytes t (are_named t rules) shape all_slices format g h (reached-small t shape g g-typed g-few) (reached-small t shape h h-typed h-few) g-typed h-typed
+  λ e. same_from_bytes t (are_spelled t rules) shape all_slices format g h (reached-small t shape g g-typed g-few) (reached-small t shape h h-typed h-few) g-typed h-typed
       (λ n lt. (g-can n lt, utf8_texts t rules (slices_of g.instances n))) (λ n lt. (h-can n lt, utf8_texts t rules (slices_of h.instances n))) small e,
   same_bytes t shape format g h,
 )
@@ -52,34 +51,34 @@ few-enough n le = omega (arith, le)
 pub canonical_spelled : (t : Tables) (shape : Shape) (format : Format) (g : Graph) → IsSchema t → OfType t shape g → IsWritable format g
     → length (order g) ≤ most_instances → length (graph_bytes t shape format g) ≤ LARGEST → Spells t all_slices shape (graph_bytes t shape format g) g
 canonical_spelled t shape format g rules typed can few =
-    graph_spelled t (are_named t rules) shape all_slices format g (reached-few t shape g typed (few-enough (length (order g)) few)) typed (λ n lt. (can n lt, utf8_texts t rules (slices_of g.instances n))) few
+    graph_spelled t (are_spelled t rules) shape all_slices format g (reached-few t shape g typed (few-enough (length (order g)) few)) typed (λ n lt. (can n lt, utf8_texts t rules (slices_of g.instances n))) few
 
 pub known_spelled : (t : Tables) (shape : Shape) (format : Format) (g : Graph) → IsSchema t → OfType t shape g → IsWritable compact g
     → length (order g) ≤ most_instances → length (graph_bytes t shape format g) ≤ LARGEST → Spells t known_classes shape (graph_bytes t shape format g) g
 known_spelled t shape format g rules typed can few =
-    graph_spelled t (are_named t rules) shape known_classes format g (reached-few t shape g typed (few-enough (length (order g)) few)) typed (λ n lt. (can n lt, utf8_texts t rules (slices_of g.instances n))) few
+    graph_spelled t (are_spelled t rules) shape known_classes format g (reached-few t shape g typed (few-enough (length (order g)) few)) typed (λ n lt. (can n lt, utf8_texts t rules (slices_of g.instances n))) few
 
 pub canonical_read : (t : Tables) (reach : Reach) (shape : Shape) (format : Format) (g h : Graph) → IsSchema t → OfType t shape g → IsWritable format g → length (order g) ≤ most_instances
     → SpellsNumbered t reach shape (graph_bytes t shape format g) h → Same h g
 canonical_read t reach shape format g h rules typed can few =
-    read_is_same t (are_named t rules) reach shape format g h (reached-few t shape g typed (few-enough (length (order g)) few)) typed (λ n lt. (can n lt, utf8_texts t rules (slices_of g.instances n))) few
+    read_is_same t (are_spelled t rules) reach shape format g h (reached-few t shape g typed (few-enough (length (order g)) few)) typed (λ n lt. (can n lt, utf8_texts t rules (slices_of g.instances n))) few
 
 -- the form, name by name
 
 pub form_spelled : (t : Tables) (shape : Shape) (format : Format) (g : Graph) → IsSchema t → OfType t shape g → IsWritable format g
     → length (order g) ≤ most_instances → length (graph_bytes t shape format g) ≤ LARGEST → SpellsNumbered t all_slices shape (graph_bytes t shape format g) (form g)
 form_spelled t shape format g rules typed can few =
-    numbered_spelled t (are_named t rules) shape all_slices format g (reached-few t shape g typed (few-enough (length (order g)) few)) typed (λ n lt. (can n lt, utf8_texts t rules (slices_of g.instances n))) few
+    numbered_spelled t (are_spelled t rules) shape all_slices format g (reached-few t shape g typed (few-enough (length (order g)) few)) typed (λ n lt. (can n lt, utf8_texts t rules (slices_of g.instances n))) few
 
 pub known_form_spelled : (t : Tables) (shape : Shape) (format : Format) (g : Graph) → IsSchema t → OfType t shape g → IsWritable compact g
     → length (order g) ≤ most_instances → length (graph_bytes t shape format g) ≤ LARGEST → SpellsNumbered t known_classes shape (graph_bytes t shape format g) (form g)
 known_form_spelled t shape format g rules typed can few =
-    numbered_spelled t (are_named t rules) shape known_classes format g (reached-few t shape g typed (few-enough (length (order g)) few)) typed (λ n lt. (can n lt, utf8_texts t rules (slices_of g.instances n))) few
+    numbered_spelled t (are_spelled t rules) shape known_classes format g (reached-few t shape g typed (few-enough (length (order g)) few)) typed (λ n lt. (can n lt, utf8_texts t rules (slices_of g.instances n))) few
 
 pub form_read : (t : Tables) (reach : Reach) (shape : Shape) (format : Format) (g h : Graph) → IsSchema t → OfType t shape g → IsWritable format g → length (order g) ≤ most_instances
     → SpellsNumbered t reach shape (graph_bytes t shape format g) h → h ≡ form g
 form_read t reach shape format g h rules typed can few =
-    read_is_form t (are_named t rules) reach shape format g h (reached-few t shape g typed (few-enough (length (order g)) few)) typed (λ n lt. (can n lt, utf8_texts t rules (slices_of g.instances n))) few
+    read_is_form t (are_spelled t rules) reach shape format g h (reached-few t shape g typed (few-enough (length (order g)) few)) typed (λ n lt. (can n lt, utf8_texts t rules (slices_of g.instances n))) few
 
 -- ---- what was read and is written again
 

@@ -53,7 +53,7 @@ module _ (t u : Tables) (both : Both t u) (ks : List (List Slice)) where
   id_carried as_text bytes id from to begin h r =
       (with_id id begin, (h.0, refl), moved (with_id id from) to (with_id id begin) h.1 (record { ids = ap (λ (l : List (List ℕ)). l ++ id ∷ []) r.ids; instances = r.instances; met = r.met }))
   id_carried as_index bytes id from to begin h r = (begin, (h.0, h.1, subst (λ (l : List (List ℕ)). slice_get l h.0 ≡ Some id) (sym r.ids) h.2, refl), moved from to begin h.3 r)
-  id_carried as_number bytes id from to begin h r = absurd h
+  id_carried as_number bytes id from to begin h r = (begin, (h.0, h.1, h.2, refl), moved from to begin h.3 r)
 
   -- what is seen as something else
   abbrev Shows : {A : Type 0} → (A → A → Type 0) → Speller Spelled A → Speller Spelled A → Type 0

@@ -8,18 +8,19 @@ use Rattle.ice_encoding.specs.declared.limits.TheConstants.{LARGEST}
 use Rattle.ice_encoding.specs.Opening.{encapsulated_bytes}
 use Rattle.ice_encoding.specs.Writing.{Piece}
 use Rattle.ice_graphs.specs.Classes.{place_of}
+use Rattle.ice_types.specs.CompactIds.{number_in}
 use Rattle.ice_graphs.specs.Graph.{Slice, Graph}
 use Rattle.ice_graphs.specs.Names.{names_of, instance_names}
 use Rattle.ice_graphs.specs.References.{GoesBack}
-use Rattle.ice_graphs.specs.Flags.{as_text, as_index, Flags, all_slices}
+use Rattle.ice_graphs.specs.Flags.{as_text, as_index, as_number, Flags, all_slices}
 use Rattle.ice_graphs.specs.Instances.{AllFit, slices_of, most_instances}
 use Rattle.ice_graphs.specs.Visiting.{visit_each, visit_at, most, order}
 use Rattle.ice_graphs.specs.Same.{form, numbered}
 use Rattle.ice_graphs.specs.Typed.{OfType}
-use Rattle.ice_graphs.specs.Canonical.{Pen, table_of, is_there, id_of, has_optional, flags_byte, head_as, sliced, is_end, sized_body, written_slices, bytes_of, canonical_graph, graph_bytes}
+use Rattle.ice_graphs.specs.Canonical.{Pen, table_of, is_there, written_id, has_optional, flags_byte, head_as, head_under, sliced, is_end, sized_body, written_slices, bytes_of, canonical_graph, graph_bytes}
 use Rattle.graph_arena.specs.Arena.{AreBelow}
 use Rattle.graph_laws.proofs.TypeIds.{Spelled}
-use Rattle.graph_laws.proofs.Named.{are_named}
+use Rattle.graph_laws.proofs.ClassIds.{are_spelled}
 use Rattle.graph_laws.proofs.Upto.{upto}
 use Rattle.graph_laws.proofs.FlagBytes.{flags_back}
 use Rattle.graph_laws.proofs.Formed.{Reached, form-in_order, form-typed}
@@ -36,12 +37,17 @@ head_sized : (o : Option ℕ) (optional table last : Bool) (id rest : List ℕ) 
 head_sized (Some i) optional table last id rest p = ap (λ (f : Flags). f.has_size) (flags_back as_index optional table true last)
 head_sized None optional table last id rest p = ap (λ (f : Flags). f.has_size) (flags_back as_text optional table true last)
 
+under_sized : (number : Option ℕ) (optional table last : Bool) (id rest : List ℕ) (p : Pen) → starts_sized ((head_under number (λ form. flags_byte form optional table true last) id p).0 ++ rest) ≡ true
+under_sized (Some n) optional table last id rest p = ap (λ (f : Flags). f.has_size) (flags_back as_number optional table true last)
+under_sized None optional table last id rest p = head_sized (place_of p.ids id) optional table last id rest p
+
 slices_sized : (t : Tables) (refer : Option ℕ → Piece Pen) (ss : List Slice) (p : Pen) → (ss ≡ [] → ⊥) → starts_sized (written_slices t refer ss p).0 ≡ true
 slices_sized t refer [] p some = absurd (some refl)
 slices_sized t refer (s ∷ ss) p some =
-    let head = head_as (place_of p.ids (id_of t s)) (λ form. flags_byte form (has_optional s) (is_there (table_of s)) true (is_end t refer ss)) (id_of t s) p in
+    let id = written_id t s in
+    let head = head_under (number_in id) (λ form. flags_byte form (has_optional s) (is_there (table_of s)) true (is_end t refer ss)) id p in
     let body = sized_body t refer s head.1 in
-    head_sized (place_of p.ids (id_of t s)) (has_optional s) (is_there (table_of s)) (is_end t refer ss) (id_of t s) (body.0 ++ (written_slices t refer ss body.1).0) p
+    under_sized (number_in id) (has_optional s) (is_there (table_of s)) (is_end t refer ss) id (body.0 ++ (written_slices t refer ss body.1).0) p
 
 written_sized : (t : Tables) (bytes : List ℕ) (ss : List Slice) → IsWritten t sliced bytes ss → starts_sized bytes ≡ true
 written_sized t bytes ss w = ap starts_sized w.is ∙ slices_sized t w.refer ss w.pen w.some
@@ -83,7 +89,7 @@ module _ (t : Tables) (rules : IsSchema t) (shape : Shape) where
       → order h ≡ upto (length h.instances) → length (encapsulated_bytes (bytes_of t shape sliced h)) ≤ LARGEST → SpellsSizedNumbered t shape (encapsulated_bytes (bytes_of t shape sliced h)) h
   unfolding SpellsSizedGraph
   own_sized h typed few range own small =
-      let c = content_written t (are_named t rules) all_slices sliced h most_instances few (few_for_size (length h.instances) few) typed.instances (λ n lt. (tt, utf8_texts t rules (slices_of h.instances n))) range
+      let c = content_written t (are_spelled t rules) all_slices sliced h most_instances few (few_for_size (length h.instances) few) typed.instances (λ n lt. (tt, utf8_texts t rules (slices_of h.instances n))) range
       (sized_instances t most_instances) (inline_sized t most_instances) most_instances shape typed.roots (omega (arith, few-enough (length h.instances) few)) few (order_is h (length h.instances) own) (omega (arith, small)) in
       (bytes_of t shape sliced h, refl, small, (c.0, c.1, c.2, subst (λ (is : List (List Slice)). AllFit t is c.0.met) (sym c.2) c.3))
 

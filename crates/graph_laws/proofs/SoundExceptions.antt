@@ -24,7 +24,7 @@ module _ (t : Tables) (reach : Reach) (rules : IsSchema t) where
       let fit_x : AllFit t x.instances end.met = subst (λ (is : List (List Slice)). AllFit t is end.met) same fit in
       let utf8 = user_exception_texts reach (of_exceptions t) (instances t reach most_instances most_instances) (instances_texts t reach most_instances most_instances) n first bytes x.slices opening end fits h tt in
       let r = exception_typed t rules reach x.instances most_instances most_instances n bytes x.slices end fits h same fit_x utf8 in
-      (record { slices = r.0; instances = r.1 }, r.2)
+      (record { slices = r.0; type_ids = r.1; instances = r.2 }, r.3)
 
   pub user_exception_sound : (bytes : List ℕ) (x : UserException) → IsBytes bytes → SpellsException t reach bytes x → OfUserException t x × (length x.instances ≤ most_instances)
   user_exception_sound bytes x fits (content, is, short, h) =

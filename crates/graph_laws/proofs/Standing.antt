@@ -2,7 +2,7 @@
 use Rattle.std.proofs.Common.{ℕ, ◌≡◌, List, [], ◌∷◌, map, ap, Option, Some, None}
 use Rattle.ice_types.specs.Tables.{Tables}
 use Rattle.ice_encoding.specs.Typed.{Refers}
-use Rattle.ice_graphs.specs.Classes.{class_named, base_of}
+use Rattle.ice_graphs.specs.Classes.{class_by_id, base_of}
 use Rattle.ice_graphs.specs.Graph.{Slice, known, unknown}
 use Rattle.ice_graphs.specs.Names.{renamed_slice}
 use Rattle.ice_graphs.specs.Typed.{AreBases, IsInstance}
@@ -19,8 +19,8 @@ module _ (t : Tables) where
   -- unknown slices of classes that are not known, and then a class with all its bases
   abbrev pub Stands : List Slice → Type 0
   Stands [] = ⊥
-  Stands (unknown id bytes optionals table ∷ []) = class_named t id ≡ None
-  Stands (unknown id bytes optionals table ∷ s ∷ ss) = (class_named t id ≡ None) × Stands (s ∷ ss)
+  Stands (unknown id bytes optionals table ∷ []) = class_by_id t id ≡ None
+  Stands (unknown id bytes optionals table ∷ s ∷ ss) = (class_by_id t id ≡ None) × Stands (s ∷ ss)
   Stands (known a content ∷ ss) = IsRow t.classes a × Follow (base_of t a) ss
 
   bases_follow : (Refer : Refers) (o : Option ℕ) (ss : List Slice) → AreBases t Refer o ss → Follow o ss

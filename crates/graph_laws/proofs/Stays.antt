@@ -97,7 +97,7 @@ module _ (t : Tables) (agrees : Agrees t t) where
     id_stays no_id bytes id from to h = here_stays from to h.2
     id_stays as_text bytes id from to h = subst (λ (s : Spelled). Stays from s) (sym h.1) (record { longer = omega arith; earlier = λ m lt. refl; met = ([], sym (append-nil from.met)) })
     id_stays as_index bytes id from to h = here_stays from to h.3
-    id_stays as_number bytes id from to h = absurd h
+    id_stays as_number bytes id from to h = here_stays from to h.3
 
     behind_stays : (Next : Before → Speller Spelled (List Slice)) → ((ahead : Before) (bytes : List ℕ) (ss : List Slice) (from to : Spelled) → Next ahead bytes ss from to → Stays from to)
         → (last : Bool) (ahead : Before) (bytes : List ℕ) (ss : List Slice) (from to : Spelled) → Others port t Next last ahead bytes ss from to → Stays from to

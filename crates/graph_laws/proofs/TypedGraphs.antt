@@ -1,18 +1,18 @@
 -- What bytes spell is a graph of its type.
 use Rattle.std.proofs.Common.{ℕ, zero, suc, ◌<◌, ◌≤◌, ◌≡◌, ◌⊎◌, Bool, true, false, List, [], ◌∷◌, ◌++◌, length, refl, sym, ap, ◌∙◌, subst, arith, inl, inr, Option, Some, None}
 use Rattle.std.specs.Prelude.{slice_get, slice_index, is_none}
-use Rattle.std.specs.Str.{IsUtf8}
 use Rattle.std.proofs.lemmas.Bool.{cases_lt, eqb-true, ltb-true}
 use Rattle.std.proofs.lemmas.Str.{IsUtf8-nil}
 use Rattle.std.proofs.lemmas.List.{length-append, get_or_append_left}
 use Rattle.ice_types.specs.declared.declarations.Shape.{Shape}
 use Rattle.ice_types.specs.Tables.{Tables}
+use Rattle.ice_types.specs.CompactIds.{IsSliceId}
 use Rattle.ice_types.specs.Rules.{IsSchema}
 use Rattle.ice_prims.specs.Rest.{IsBytes}
 use Rattle.ice_encoding.specs.Port.{Port, Speller}
 use Rattle.ice_encoding.specs.Typed.{Refers}
 use Rattle.ice_graphs.specs.OptionalMembers.{Members, SpellsSliceMembers, SpellsContent}
-use Rattle.ice_graphs.specs.Classes.{class_named, base_of, own_members}
+use Rattle.ice_graphs.specs.Classes.{class_by_id, base_of, own_members}
 use Rattle.ice_graphs.specs.Graph.{Slice, known, unknown}
 use Rattle.ice_graphs.specs.Names.{renamed_members}
 use Rattle.ice_graphs.specs.References.{State, Reference, met_at, SpellsEntry, in_table, entry_in, resolved, AreWithin, SpellsEntries, SpellsTable, SpellsInline, with_met, with_ended, replaced, beginning, opening}
@@ -23,9 +23,10 @@ use Rattle.ice_graphs.specs.Slices.{Behind as Others}
 use Rattle.ice_graphs.specs.Instances.{instances, slices_of, class_of, class_fits, AllFit}
 use Rattle.ice_graphs.specs.Typed.{AreReferred, AreMembers, IsKnown, AreBases, IsUnknown, IsInstance, RefersIn}
 use Rattle.graph_laws.proofs.PutBytes.{kept_bytes}
-use Rattle.graph_laws.proofs.Texts.{AllUtf8}
+use Rattle.graph_laws.proofs.Texts.{AllTexts}
 use Rattle.graph_laws.proofs.Ranged.{AreBelow}
-use Rattle.graph_laws.proofs.Bases.{IsRow, row_named, base_is_row}
+use Rattle.graph_laws.proofs.ClassIds.{IsText, text_id, number_id, size_small, row_by_id}
+use Rattle.graph_laws.proofs.Bases.{IsRow, base_is_row}
 use Rattle.graph_laws.proofs.Carried.{Steps, front_fits, rest_fits}
 use Rattle.graph_laws.proofs.Renamed.{Moves, members-renamed}
 use Rattle.graph_laws.proofs.TypedMembers.{slice_typed, content_typed}
@@ -57,12 +58,12 @@ replaced_else (suc n) (suc m) x (y ∷ l) apart = replaced_else n m x l (λ e. a
 
 -- ---- type ids
 
-utf8_at : (ids : List (List ℕ)) (i : ℕ) (id : List ℕ) → AllUtf8 ids → slice_get ids i ≡ Some id → IsUtf8 id
+utf8_at : (ids : List (List ℕ)) (i : ℕ) (id : List ℕ) → AllTexts ids → slice_get ids i ≡ Some id → IsText id
 utf8_at [] i id h e = absurd cc
-utf8_at (x ∷ ids) zero id h e = let same : x ≡ id = cc in subst IsUtf8 same h.0
+utf8_at (x ∷ ids) zero id h e = let same : x ≡ id = cc in subst IsText same h.0
 utf8_at (x ∷ ids) (suc i) id h e = utf8_at ids i id h.1 e
 
-utf8_front : (a b : List (List ℕ)) → AllUtf8 (a ++ b) → AllUtf8 a
+utf8_front : (a b : List (List ℕ)) → AllTexts (a ++ b) → AllTexts a
 utf8_front [] b h = tt
 utf8_front (x ∷ a) b h = (h.0, utf8_front a b h.1)
 
@@ -124,7 +125,7 @@ module _ (t : Tables) (rules : IsSchema t) (reach : Reach) (is : List (List Slic
   pub record Fine (s : Spelled) : Type 0 where
     pub met : AllFit t is s.met
     pub many : length s.instances ≤ limit
-    pub ids : AllUtf8 s.ids
+    pub ids : AllTexts s.ids
 
   abbrev pub Done : List Slice → Type 0
   Done ss = IsInstance t Refer ss
@@ -166,7 +167,7 @@ module _ (t : Tables) (rules : IsSchema t) (reach : Reach) (is : List (List Slic
   back_step a b p f = record {
     met = fit_front a.met p.met.0 (subst (AllFit t is) p.met.1 f.met);
     many = omega (arith, p.longer, f.many);
-    ids = utf8_front a.ids p.ids.0 (subst AllUtf8 p.ids.1 f.ids);
+    ids = utf8_front a.ids p.ids.0 (subst AllTexts p.ids.1 f.ids);
   }
 
   abbrev state_steps : Steps Spelled
@@ -214,14 +215,14 @@ module _ (t : Tables) (rules : IsSchema t) (reach : Reach) (is : List (List Slic
         let same : class ≡ base = eqb-true class base based in
         (same, subst (λ (c : ℕ). IsKnown u Refer c content) same k, subst (λ (c : ℕ). AreBases u Refer (base_of u c) others) same bases)
 
-    pub one_comes : (ahead : Before) (id : List ℕ) (class : Option ℕ) (slice : Slice) (others : List Slice) → (class ≡ None → class_named u id ≡ None) → ((c : ℕ) → class ≡ Some c → IsRow u.classes c) → IsUtf8 id → is_base ahead class ≡ true → BodyIs id class slice
+    pub one_comes : (ahead : Before) (id : List ℕ) (class : Option ℕ) (slice : Slice) (others : List Slice) → (class ≡ None → class_by_id u id ≡ None) → ((c : ℕ) → class ≡ Some c → IsRow u.classes c) → IsSliceId id → is_base ahead class ≡ true → BodyIs id class slice
         → After class others → Come ahead (slice ∷ others)
-    one_comes first id None slice others lacks row utf8 based (bytes, optionals, table, s_is, below, kept) after =
-        subst (λ (s : Slice). Come first (s ∷ others)) (sym s_is) (unknown_comes id bytes optionals table others (lacks refl, utf8, referred table below, kept) after)
-    one_comes only_unknown id None slice others lacks row utf8 based (bytes, optionals, table, s_is, below, kept) after =
-        subst (λ (s : Slice). Come only_unknown (s ∷ others)) (sym s_is) (unknown_comes id bytes optionals table others (lacks refl, utf8, referred table below, kept) after)
-    one_comes (derived sized base) id None slice others lacks row utf8 based body after = absurd cc
-    one_comes ahead id (Some class) slice others lacks row utf8 based (content, s_is, h) after =
+    one_comes first id None slice others lacks row is_id based (bytes, optionals, table, s_is, below, kept) after =
+        subst (λ (s : Slice). Come first (s ∷ others)) (sym s_is) (unknown_comes id bytes optionals table others (lacks refl, is_id, referred table below, kept) after)
+    one_comes only_unknown id None slice others lacks row is_id based (bytes, optionals, table, s_is, below, kept) after =
+        subst (λ (s : Slice). Come only_unknown (s ∷ others)) (sym s_is) (unknown_comes id bytes optionals table others (lacks refl, is_id, referred table below, kept) after)
+    one_comes (derived sized base) id None slice others lacks row is_id based body after = absurd cc
+    one_comes ahead id (Some class) slice others lacks row is_id based (content, s_is, h) after =
         let d = row class refl in
         let k : IsKnown u Refer class content = (d.0, d.1, h) in
         subst (λ (s : Slice). Come ahead (s ∷ others)) (sym s_is) (known_comes ahead class content others based k after)
@@ -289,12 +290,12 @@ module _ (t : Tables) (rules : IsSchema t) (reach : Reach) (is : List (List Slic
     InTable only_unknown = Unit {0}
     InTable (derived sized base) = IsRow t.classes base
 
-    id_typed : (form : IdForm) (bytes id : List ℕ) (from to : Spelled) → SpellsId form bytes id from to → Step from to × (AllUtf8 to.ids → IsUtf8 id)
-    id_typed no_id bytes id from to h = (stays from to h.2, λ u. subst IsUtf8 (sym h.1) IsUtf8-nil)
+    id_typed : (form : IdForm) (bytes id : List ℕ) (from to : Spelled) → SpellsId form bytes id from to → Step from to × (AllTexts to.ids → IsSliceId id)
+    id_typed no_id bytes id from to h = (stays from to h.2, λ u. subst IsSliceId (sym h.1) (IsUtf8-nil, inl refl))
     id_typed as_text bytes id from to h =
-        (subst (λ (s : Spelled). Step from s) (sym h.1) (record { longer = omega arith; fewer = λ h. h; met = ([], none_behind from.met); ids = (id ∷ [], refl); earlier = λ m lt. refl; done = λ m le lt. absurd (omega (arith, le, lt)) }), λ u. h.0.2)
-    id_typed as_index bytes id from to h = (stays from to h.3, λ u. utf8_at to.ids h.0 id u (subst (λ (s : Spelled). slice_get s.ids h.0 ≡ Some id) (sym h.3) h.2))
-    id_typed as_number bytes id from to h = absurd h
+        (subst (λ (s : Spelled). Step from s) (sym h.1) (record { longer = omega arith; fewer = λ h. h; met = ([], none_behind from.met); ids = (id ∷ [], refl); earlier = λ m lt. refl; done = λ m le lt. absurd (omega (arith, le, lt)) }), λ u. text_id id (h.0.0.2, h.0.1))
+    id_typed as_index bytes id from to h = (stays from to h.3, λ u. text_id id (utf8_at to.ids h.0 id u (subst (λ (s : Spelled). slice_get s.ids h.0 ≡ Some id) (sym h.3) h.2)))
+    id_typed as_number bytes id from to h = (stays from to h.3, λ u. number_id h.0 id (size_small bytes h.0 h.1) h.2)
 
     -- what is known of the slices behind
     abbrev Rest : Bool → Before → List Slice → Type 0
@@ -315,16 +316,16 @@ module _ (t : Tables) (rules : IsSchema t) (reach : Reach) (is : List (List Slic
     after_of None f others ends rest = ended_or f.is_last others rest
     after_of (Some class) f others ends rest = bases_behind (base_of t class) f.has_size f.is_last others ends rest
 
-    lacks_in : (ahead : Before) (id : List ℕ) → class_in t ahead id ≡ None → class_named t id ≡ None
+    lacks_in : (ahead : Before) (id : List ℕ) → class_in t ahead id ≡ None → class_by_id t id ≡ None
     lacks_in first id e = e
     lacks_in only_unknown id e = e
     lacks_in (derived true base) id e = e
     lacks_in (derived false base) id e = absurd cc
 
     class_is_known : (ahead : Before) → InTable ahead → (id : List ℕ) (class : ℕ) → class_in t ahead id ≡ Some class → IsRow t.classes class
-    class_is_known first in_table id class e = row_named t.classes id class e
-    class_is_known only_unknown in_table id class e = row_named t.classes id class e
-    class_is_known (derived true base) in_table id class e = row_named t.classes id class e
+    class_is_known first in_table id class e = row_by_id t id class e
+    class_is_known only_unknown in_table id class e = row_by_id t id class e
+    class_is_known (derived true base) in_table id class e = row_by_id t id class e
     class_is_known (derived false base) in_table id class e =
         let same : base ≡ class = cc in
         subst (IsRow t.classes) same in_table
@@ -410,7 +411,7 @@ module _ (t : Tables) (rules : IsSchema t) (reach : Reach) (is : List (List Slic
 
   -- ---- a whole content
 
-  pub graph_typed : (more : ℕ) (shape : Shape) (bytes : List ℕ) (roots : Members) (end : Spelled) → IsBytes bytes → SpellsContent (instances t reach room more) t shape bytes roots opening end → end.instances ≡ is → AllFit t is end.met → AllUtf8 end.ids
+  pub graph_typed : (more : ℕ) (shape : Shape) (bytes : List ℕ) (roots : Members) (end : Spelled) → IsBytes bytes → SpellsContent (instances t reach room more) t shape bytes roots opening end → end.instances ≡ is → AllFit t is end.met → AllTexts end.ids
       → AreMembers t Refer shape roots × ((n : ℕ) → n < limit → IsInstance t Refer (slices_of is n)) × (limit ≤ room)
   graph_typed more shape bytes roots end fits h same fit utf8 =
       let fine : Fine end = record { met = fit; many = omega (arith, ap length same); ids = utf8 } in

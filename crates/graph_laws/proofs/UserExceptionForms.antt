@@ -1,5 +1,5 @@
 -- The form of an exception: its names are numbers by first visit, its type is that of the exception, and it is the same exception.
-use Rattle.std.proofs.Common.{ℕ, ◌≡◌, List, [], ◌∷◌, length, map, refl, sym, ap, ◌∙◌, subst, Some, None}
+use Rattle.std.proofs.Common.{ℕ, ◌≡◌, List, [], ◌∷◌, length, map, refl, sym, ap, ◌∙◌, subst, Some, None, Option}
 use Rattle.std.specs.Prelude.{slice_get}
 use Rattle.std.proofs.lemmas.List.{append-nil, length-map}
 use Rattle.ice_types.specs.declared.kind.RowRef.TheVariants as rows
@@ -28,10 +28,13 @@ use Rattle.graph_laws.proofs.Named.{Apart, own_place, AreNamed, id_of_row}
 use Rattle.graph_laws.proofs.Places.{place-map, slices-fused}
 use Rattle.graph_laws.proofs.Renumbered.{renumbered}
 use Rattle.graph_laws.proofs.Sameness.{listed-within}
-use Rattle.graph_laws.proofs.Schemas.{row_text}
-use Rattle.graph_laws.proofs.TypeIds.{HaveTexts}
+use Rattle.graph_laws.proofs.ClassIds.{IsText}
+use Rattle.graph_laws.proofs.TypeIds.{HaveTypeTexts}
+use Rattle.ice_types.proofs.SliceIds.{type_id_plain}
+use Rattle.std.proofs.lemmas.Str.{IsUtf8-nil}
+use Rattle.ice_graphs.specs.Canonical.{id_in}
 use Rattle.graph_laws.proofs.Upto.{upto}
-use Rattle.ice_graphs.specs.UserExceptionTyped.{OfUserException}
+use Rattle.ice_graphs.specs.UserExceptionTyped.{HaveTypeIds, OfUserException}
 use Rattle.ice_graphs.specs.UserExceptionWritten.{references_to, graph_of, order_of, numbered_user_exception, form_of, SameUserException}
 
 -- ---- in a schema each exception is found by its type id, which is UTF-8
@@ -48,11 +51,19 @@ exceptions_named t rules class d is = own_place (of_exceptions t).classes apart 
     apart : Apart (of_exceptions t).classes
     apart = λ a b c d a_is b_is same. same_exception a b (rules.apart d.id (rows.Exception a) (rows.Exception b) (id_at t a c a_is ∙ ap Some same) (id_at t b d b_is))
 
-pub exception_texts : (t : Tables) → IsSchema t → (ss : List Slice) → HaveTexts (of_exceptions t) ss
-exception_texts t rules [] = tt
-exception_texts t rules (known class content ∷ ss) =
-    (row_text (slice_get (of_exceptions t).classes class) (λ d is. (rules.type_ids d.id (rows.Exception class) (id_at t class d is)).1), exception_texts t rules ss)
-exception_texts t rules (unknown id bytes optionals table ∷ ss) = exception_texts t rules ss
+row_text : (t : Tables) → IsSchema t → (class : ℕ) (row : Option ClassDecl) → slice_get (of_exceptions t).classes class ≡ row → IsText (id_in row)
+row_text t rules class None is = (IsUtf8-nil, refl)
+row_text t rules class (Some d) is = let id = rules.type_ids d.id (rows.Exception class) (id_at t class d is) in (id.1, type_id_plain d.id id)
+
+pub exception_texts : (t : Tables) → IsSchema t → (ss : List Slice) → HaveTypeIds ss → HaveTypeTexts (of_exceptions t) ss
+exception_texts t rules [] ids = tt
+exception_texts t rules (known class content ∷ ss) ids = (row_text t rules class (slice_get (of_exceptions t).classes class) refl, exception_texts t rules ss ids.1)
+exception_texts t rules (unknown id bytes optionals table ∷ ss) ids = (ids.0, exception_texts t rules ss ids.1)
+
+pub type_ids-renamed : (f : ℕ → ℕ) (ss : List Slice) → HaveTypeIds ss → HaveTypeIds (map (renamed_slice f) ss)
+type_ids-renamed f [] ids = tt
+type_ids-renamed f (known class content ∷ ss) ids = (tt, type_ids-renamed f ss ids.1)
+type_ids-renamed f (unknown id bytes optionals table ∷ ss) ids = (ids.0, type_ids-renamed f ss ids.1)
 
 -- ---- the graph of an exception
 

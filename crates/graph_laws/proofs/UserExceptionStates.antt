@@ -1,5 +1,5 @@
 -- What bytes spell as an exception is of its type.
-use Rattle.std.proofs.Common.{ℕ, zero, suc, ◌≤◌, ◌<◌, ◌≡◌, Bool, true, false, List, [], ◌∷◌, length, refl, sym, ap, subst, arith, inl, inr, Option, Some, None}
+use Rattle.std.proofs.Common.{ℕ, zero, suc, ◌≤◌, ◌<◌, ◌≡◌, Bool, true, false, List, [], ◌∷◌, length, refl, sym, ap, ◌∙◌, subst, arith, inl, inr, Option, Some, None}
 use Rattle.std.specs.Prelude.{is_none}
 use Rattle.ice_types.specs.Tables.{Tables}
 use Rattle.ice_types.specs.Rules.{IsSchema}
@@ -15,10 +15,14 @@ use Rattle.ice_graphs.specs.Flags.{Flags, Reach, Before, first, only_unknown, de
 use Rattle.ice_graphs.specs.TypeIds.{before_base, before_next}
 use Rattle.ice_graphs.specs.Instances.{instances, slices_of, AllFit}
 use Rattle.ice_graphs.specs.Typed.{AreBases, IsInstance, RefersIn}
+use Rattle.ice_graphs.specs.UserExceptionTyped.{HaveTypeIds}
+use Rattle.ice_types.specs.CompactIds.{is_numbered}
 use Rattle.ice_graphs.proofs.Agreeing.{spelled_same, members_to}
+use Rattle.graph_laws.proofs.Back.{FormedAs, body_form}
+use Rattle.graph_laws.proofs.ClassIds.{plain_named, text_id}
 use Rattle.graph_laws.proofs.Bases.{row_named}
 use Rattle.graph_laws.proofs.Carried.{front_fits, rest_fits}
-use Rattle.graph_laws.proofs.Texts.{AllUtf8}
+use Rattle.graph_laws.proofs.Texts.{AllTexts}
 use Rattle.graph_laws.proofs.TypedGraphs.{Spelled, Uses, Alike, body_typed, one_comes, instances_typed}
 use Rattle.graph_laws.proofs.TypedGraphs as graphs
 
@@ -87,13 +91,33 @@ module _ (t : Tables) (rules : IsSchema t) (reach : Reach) (is : List (List Slic
         let more = user_exception_behind (UserExceptionSlices port u reach n) (user_exception_typed n) class f h others end to (rest_fits d g h pieces fits_d) rest fine in
         let one = body_typed t rules reach is room port refers u alike f id f.has_size class g slice next end (front_fits d g h pieces fits_d) body (graphs.back_step t rules reach is room end to more.0 fine) in
         let step = joined_step from mid to (stays from mid first_is) (joined_step mid next to (stays mid next second_is) (joined_step next end to one.0 more.0)) in
-        (step, subst (Come ahead) (sym is_list) (one_comes t rules reach is room u ahead id class slice others (λ e. e) (row_named u.classes id) is_id.2 base one.1 more.1))
+        (step, subst (Come ahead) (sym is_list) (one_comes t rules reach is room u ahead id class slice others (λ e. plain_named u id is_id.1 ∙ e) (row_named u.classes id) (text_id id (is_id.0.2, is_id.1)) base one.1 more.1))
+
+    -- ---- type ids alone stand in them
+
+    ids_behind : (Next : Speller Spelled (List Slice)) → ((bytes : List ℕ) (ss : List Slice) (from to : Spelled) → Next bytes ss from to → HaveTypeIds ss)
+        → (last : Bool) (exception : Option ℕ) (bytes : List ℕ) (ss : List Slice) (from to : Spelled) → BehindUserException Next last exception bytes ss from to → HaveTypeIds ss
+    ids_behind Next next true exception bytes ss from to h = subst HaveTypeIds (sym h.1) tt
+    ids_behind Next next false (Some exception) bytes ss from to h = next bytes ss from to h
+    ids_behind Next next false None [] ss from to h = subst HaveTypeIds (sym (h.0 refl).1) tt
+    ids_behind Next next false None (b ∷ bs) ss from to h = next (b ∷ bs) ss from to (h.1 (λ e. absurd cc))
+
+    one_id : (id : List ℕ) (sized : Bool) (class : Option ℕ) (s : Slice) (ss : List Slice) → is_numbered id ≡ false → FormedAs id sized class s → HaveTypeIds ss → HaveTypeIds (s ∷ ss)
+    one_id id sized class s ss plain (inl (lacks, is_sized, bytes, optionals, table, is)) later = subst (λ (s : Slice). HaveTypeIds (s ∷ ss)) (sym is) (plain, later)
+    one_id id sized class s ss plain (inr (known_class, content, has, is)) later = subst (λ (s : Slice). HaveTypeIds (s ∷ ss)) (sym is) (tt, later)
+
+    pub type_ids : (n : ℕ) (ahead : Before) (bytes : List ℕ) (ss : List Slice) (from to : Spelled) → UserExceptionSlices port u reach n ahead bytes ss from to → HaveTypeIds ss
+    type_ids zero ahead bytes ss from to h = absurd h
+    type_ids (suc n) ahead bytes ss from to (f, a, b, mid, parts, flags, (id, c, d, next, cut, (is_id, second_is), (base, (read, (ends, (slice, g, h, end, pieces, body, (others, is_list, rest))))))) =
+        let class = class_named u id in
+        let later = ids_behind (UserExceptionSlices port u reach n (before_next u class f)) (type_ids n (before_next u class f)) (is_known_last u class f) class h others end to rest in
+        subst HaveTypeIds (sym is_list) (one_id id f.has_size class slice others is_id.1 (body_form port u f id f.has_size class g slice next end body) later)
 
   -- ---- a whole exception
 
-  pub exception_typed : (more n : ℕ) (bytes : List ℕ) (ss : List Slice) (end : Spelled) → IsBytes bytes → UserExceptionSlices (instances t reach room more) (of_exceptions t) reach n first bytes ss opening end → end.instances ≡ is → AllFit t is end.met → AllUtf8 end.ids
-      → IsInstance (of_exceptions t) Refer ss × ((m : ℕ) → m < limit → IsInstance t Refer (slices_of is m)) × (limit ≤ room)
+  pub exception_typed : (more n : ℕ) (bytes : List ℕ) (ss : List Slice) (end : Spelled) → IsBytes bytes → UserExceptionSlices (instances t reach room more) (of_exceptions t) reach n first bytes ss opening end → end.instances ≡ is → AllFit t is end.met → AllTexts end.ids
+      → IsInstance (of_exceptions t) Refer ss × HaveTypeIds ss × ((m : ℕ) → m < limit → IsInstance t Refer (slices_of is m)) × (limit ≤ room)
   exception_typed more n bytes ss end fits h same fit utf8 =
       let fine : Fine end = record { met = fit; many = omega (arith, ap length same); ids = utf8 } in
       let r = user_exception_typed (instances t reach room more) (instances_typed t rules reach is room more) n first bytes ss opening end fits h fine in
-      (r.1, (λ m lt. subst (λ (l : List (List Slice)). IsInstance t Refer (slices_of l m)) same (r.0.done m (omega arith) (omega (arith, lt, ap length same)))), omega (arith, ap length same, r.0.fewer (omega arith)))
+      (r.1, type_ids (instances t reach room more) (instances_typed t rules reach is room more) n first bytes ss opening end h, (λ m lt. subst (λ (l : List (List Slice)). IsInstance t Refer (slices_of l m)) same (r.0.done m (omega arith) (omega (arith, lt, ap length same)))), omega (arith, ap length same, r.0.fewer (omega arith)))

@@ -23,7 +23,7 @@ use Rattle.ice_graphs.specs.Canonical.{Pen, Format, written_as, put_inline, writ
 use Rattle.graph_arena.specs.Arena.{AreBelow}
 pub use Rattle.graph_laws.proofs.TypedGraphs.{replaced_length, replaced_at, replaced_else}
 use Rattle.graph_laws.proofs.TypeIds.{Spelled, HaveTexts, null_at, back_at}
-use Rattle.graph_laws.proofs.Named.{AreNamed}
+use Rattle.graph_laws.proofs.ClassIds.{AreSpelled}
 use Rattle.graph_laws.proofs.Formed.{Asked}
 use Rattle.graph_laws.proofs.Upto.{upto, upto-one, visit-grows}
 use Rattle.graph_laws.proofs.Once.{listed-stays, entered, next, once-run}
@@ -58,7 +58,7 @@ pub record Inline (t : Tables) (reach : Reach) (format : Format) (room : ℕ) (p
   pub new : (more : ℕ) (declared : Option ℕ) (bytes : List ℕ) (n : ℕ) (from to : Spelled)
       → Begins room (λ b slices from to. IsWritten t format b slices × SpellsInstance (ports more) t reach b slices from to) declared bytes n from to → (ports (suc more)).Spells declared bytes (Some n) from to
 
-module _ (t : Tables) (named : AreNamed t) (reach : Reach) (format : Format) (k : Graph) (room : ℕ) (fits : length k.instances ≤ room) (small_graph : length k.instances + 2 < 2 ^ 31)
+module _ (t : Tables) (named : AreSpelled t) (reach : Reach) (format : Format) (k : Graph) (room : ℕ) (fits : length k.instances ≤ room) (small_graph : length k.instances + 2 < 2 ^ 31)
     (typed : (n : ℕ) → n < length k.instances → IsInstance t (RefersIn t k.instances) (slices_of k.instances n)) (asked : (n : ℕ) → n < length k.instances → Asked reach format (slices_of k.instances n) × HaveTexts t (slices_of k.instances n))
     (range : (n : ℕ) → n < length k.instances → AreBelow (length k.instances) (instance_names (slices_of k.instances n)))
     (ports : ℕ → Port (State ℕ) Spelled) (stand : Inline t reach format room ports) where
@@ -195,7 +195,7 @@ inline_instances t reach format room = record {
   new = λ more declared bytes n from to h. inl (h.0, h.1, h.2, h.3, h.4, h.5, h.6, h.7, h.8.1, h.9);
 }
 
-module _ (t : Tables) (named : AreNamed t) (reach : Reach) (format : Format) (k : Graph) (room : ℕ) (fits : length k.instances ≤ room) (small_graph : length k.instances + 2 < 2 ^ 31)
+module _ (t : Tables) (named : AreSpelled t) (reach : Reach) (format : Format) (k : Graph) (room : ℕ) (fits : length k.instances ≤ room) (small_graph : length k.instances + 2 < 2 ^ 31)
     (typed : (n : ℕ) → n < length k.instances → IsInstance t (RefersIn t k.instances) (slices_of k.instances n)) (asked : (n : ℕ) → n < length k.instances → Asked reach format (slices_of k.instances n) × HaveTexts t (slices_of k.instances n))
     (range : (n : ℕ) → n < length k.instances → AreBelow (length k.instances) (instance_names (slices_of k.instances n))) where
   pub content_spelled : (more : ℕ) (shape : Shape) → AreMembers t (RefersIn t k.instances) shape k.roots → length k.instances ≤ most → length k.instances ≤ more → visit_each (visit_at most k) (names_of k.roots) [] ≡ upto (length k.instances)

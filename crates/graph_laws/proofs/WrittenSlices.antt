@@ -1,13 +1,13 @@
 -- What is written for slices spells them, in both formats.
 use Rattle.std.proofs.Common.{ℕ, suc, ◌≤◌, ◌≡◌, Bool, true, false, ◌&&◌, List, [], ◌∷◌, ◌++◌, length, refl, sym, ap, ◌∙◌, subst, Option, Some, None}
 use Rattle.std.specs.Prelude.{is_none}
-use Rattle.std.specs.Str.{IsUtf8}
 use Rattle.std.proofs.lemmas.Bool.{eq-eqb}
 use Rattle.ice_types.specs.Tables.{Tables}
+use Rattle.ice_types.specs.CompactIds.{IsSliceId}
 use Rattle.ice_encoding.specs.Port.{Port}
 use Rattle.ice_encoding.specs.Writing.{Piece, exactly, ◌>>◌}
 use Rattle.ice_graphs.specs.OptionalMembers.{Members}
-use Rattle.ice_graphs.specs.Classes.{class_named, base_of}
+use Rattle.ice_graphs.specs.Classes.{class_by_id, base_of}
 use Rattle.ice_graphs.specs.Graph.{Slice, known, unknown, Graph}
 use Rattle.ice_graphs.specs.Names.{names_of, instance_names}
 use Rattle.ice_graphs.specs.References.{State}
@@ -17,11 +17,11 @@ use Rattle.ice_graphs.specs.Slices.{SpellsBody, FromId, SpellsSlices, SpellsInst
 use Rattle.ice_graphs.specs.Slices.{Behind as Others}
 use Rattle.ice_graphs.specs.Visiting.{visit_each}
 use Rattle.ice_graphs.specs.Typed.{IsKnown, AreBases, IsUnknown, IsInstance, RefersIn}
-use Rattle.ice_graphs.specs.Canonical.{Pen, is_there, each_once, flags_byte, id_in, id_of, written_head, is_end, sized_body, written_slices, members_bytes, written_bases, written_plain, Format, sliced, compact, written_as, Compact}
+use Rattle.ice_graphs.specs.Canonical.{Pen, is_there, each_once, flags_byte, spelled_by, row_id, written_id, written_head, is_end, sized_body, written_slices, members_bytes, written_bases, written_plain, Format, sliced, compact, written_as, Compact}
 use Rattle.graph_arena.specs.Arena.{AreBelow}
 use Rattle.graph_arena.proofs.Agreeing.{below-left, below-right}
 use Rattle.graph_laws.proofs.TypeIds.{Spelled, HaveTexts}
-use Rattle.graph_laws.proofs.Named.{AreNamed}
+use Rattle.graph_laws.proofs.ClassIds.{AreSpelled}
 use Rattle.graph_laws.proofs.Formed.{Asked}
 use Rattle.graph_laws.proofs.FlagBytes.{flags_back, flags_small}
 use Rattle.graph_laws.proofs.Upto.{upto, Grows}
@@ -29,7 +29,7 @@ use Rattle.graph_laws.proofs.WrittenValues.{Relation, Chain, ReferGood}
 use Rattle.graph_laws.proofs.WrittenBodies.{IsOpen, open_base, with_size, KnownBody, UnknownBody, PlainBody, known_good, unknown_good, plain_body}
 use Rattle.graph_laws.proofs.InlineRules.{Good, inline_rules, exact_good, joined_good, mapped_good, Head, HasId, head_good, IsNone, bare_good}
 
-module _ (t : Tables) (found : AreNamed t) (reach : Reach) (k : Graph) (visit : ℕ → List ℕ → List ℕ) (grows : Grows visit) (Ready : ℕ → Type 0) (ready : (i j : ℕ) → Ready i → i ≤ j → Ready j) (P : Port (State ℕ) (State (Unit {0}))) (refer : Option ℕ → Piece Pen)
+module _ (t : Tables) (found : AreSpelled t) (reach : Reach) (k : Graph) (visit : ℕ → List ℕ → List ℕ) (grows : Grows visit) (Ready : ℕ → Type 0) (ready : (i j : ℕ) → Ready i → i ≤ j → Ready j) (P : Port (State ℕ) (State (Unit {0}))) (refer : Option ℕ → Piece Pen)
     (port_good : ReferGood (inline_rules t k visit grows Ready ready) t P refer (RefersIn t k.instances)) (refer_long : (n : ℕ) (p : Pen) → 1 ≤ length (refer (Some n) p).0)
     (once : (ns : List ℕ) (i j : ℕ) → Ready i → AreBelow (length k.instances) ns → visit_each visit ns (upto i) ≡ upto j → visit_each visit (each_once [] ns) (upto i) ≡ upto j) where
   abbrev limit : ℕ
@@ -100,20 +100,20 @@ module _ (t : Tables) (found : AreNamed t) (reach : Reach) (k : Graph) (visit : 
 
   -- ---- with sizes
 
-  known_step : (ahead : Before) (class : ℕ) (content : Members) (ss : List Slice) → IsUtf8 (id_of t (known class content))
+  known_step : (ahead : Before) (class : ℕ) (content : Members) (ss : List Slice) → IsSliceId (written_id t (known class content))
       → ((form : IdForm) → HasId t k visit grows Ready ready form → may_stand ahead (flags_with (is_there content.optional) (is_there (each_once [] (names_of content))) true (is_end t refer ss) form) ≡ true)
-      → ((id : List ℕ) → class_in t ahead id ≡ class_named t id) → is_base ahead (Some class) ≡ true → IsKnown t (RefersIn t k.instances) class content → AreBases t (RefersIn t k.instances) (base_of t class) ss → AreBelow limit (names_of content)
+      → ((id : List ℕ) → class_in t ahead id ≡ class_by_id t id) → is_base ahead (Some class) ≡ true → IsKnown t (RefersIn t k.instances) class content → AreBases t (RefersIn t k.instances) (base_of t class) ss → AreBelow limit (names_of content)
       → Ends (written_slices t refer ss) (instance_names ss) (Later (is_end t refer ss) (before_base true (base_of t class)) ss)
       → Ends (written_slices t refer (known class content ∷ ss)) (instance_names (known class content ∷ ss)) (Slices ahead (known class content ∷ ss))
   known_step ahead class content ss text may named based known_class bases below rest =
       let s : Slice = known class content in
       let d = known_class.0 in
-      let id : List ℕ = id_of t s in
-      let id_is : id ≡ d.id = ap id_in known_class.1 in
+      let id : List ℕ = written_id t s in
+      let id_is : id ≡ spelled_by d = ap row_id known_class.1 in
       let own = found class d known_class.1 in
       let tabled = is_there (each_once [] (names_of content)) in
       step_good ahead (before_base true (base_of t class)) s ss (is_there content.optional) tabled true (is_end t refer ss) (HasId t k visit grows Ready ready) id (Some class) (KnownBody t t k visit grows Ready ready P refer port_good class content)
-      may (named id ∙ ap (class_named t) id_is ∙ own) based (λ form. refl) (λ form. ends_as class ss bases) (λ form. refl) (λ form b from to z. z)
+      may (named id ∙ ap (class_by_id t) id_is ∙ own) based (λ form. refl) (λ form. ends_as class ss bases) (λ form. refl) (λ form b from to z. z)
       (written_head (λ form. flags_byte form (is_there content.optional) tabled true (is_end t refer ss)) id) (sized_body t refer s) (written_slices t refer ss) (names_of content) (instance_names ss)
       (head_good t k visit grows Ready ready (λ form. flags_byte form (is_there content.optional) tabled true (is_end t refer ss)) id text)
       (known_good t t k visit grows Ready ready P refer port_good refer_long once class content known_class below) rest
@@ -131,7 +131,7 @@ module _ (t : Tables) (found : AreNamed t) (reach : Reach) (k : Graph) (visit : 
       (subst (λ (c : ℕ). IsKnown t (RefersIn t k.instances) c content) (sym same) known_class) bases (below-left limit (names_of content) (instance_names ss) below)
       (bases_good (base_of t other) ss texts.1 bases (below-right limit (names_of content) (instance_names ss) below))
 
-  open_class : (ahead : Before) → IsOpen ahead → (id : List ℕ) → class_in t ahead id ≡ class_named t id
+  open_class : (ahead : Before) → IsOpen ahead → (id : List ℕ) → class_in t ahead id ≡ class_by_id t id
   open_class first free id = refl
   open_class only_unknown free id = refl
   open_class (derived sized base) free id = absurd free
@@ -194,11 +194,11 @@ module _ (t : Tables) (found : AreNamed t) (reach : Reach) (k : Graph) (visit : 
   plain_good (known class content ∷ ss) asked texts (known_class, bases) below =
       let s : Slice = known class content in
       let d = known_class.0 in
-      let id : List ℕ = id_of t s in
-      let id_is : id ≡ d.id = ap id_in known_class.1 in
+      let id : List ℕ = written_id t s in
+      let id_is : id ≡ spelled_by d = ap row_id known_class.1 in
       let own = found class d known_class.1 in
       step_good first (before_base false (base_of t class)) s ss (is_there content.optional) false false (is_end t refer ss) (HasId t k visit grows Ready ready) id (Some class) (PlainBody t t k visit grows Ready ready P refer port_good class content)
-      (λ form ok. with_id (has_id form) true ok refl) (ap (class_named t) id_is ∙ own) refl (λ form. refl) (λ form. ends_as class ss bases) (λ form. refl) (λ form b from to z. z)
+      (λ form ok. with_id (has_id form) true ok refl) (ap (class_by_id t) id_is ∙ own) refl (λ form. refl) (λ form. ends_as class ss bases) (λ form. refl) (λ form b from to z. z)
       (written_head (λ form. flags_byte form (is_there content.optional) false false (is_end t refer ss)) id) (members_bytes t refer s) (written_bases t refer ss) (names_of content) (instance_names ss)
       (head_good t k visit grows Ready ready (λ form. flags_byte form (is_there content.optional) false false (is_end t refer ss)) id texts.0)
       (plain_body t t k visit grows Ready ready P refer port_good class content known_class) (plain_bases (base_of t class) ss bases (below-right limit (names_of content) (instance_names ss) below))

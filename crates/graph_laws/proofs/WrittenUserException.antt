@@ -1,11 +1,11 @@
 -- What is written for the slices of an exception spells them, in both formats.
 use Rattle.std.proofs.Common.{ℕ, zero, suc, ◌<◌, ◌≤◌, ◌^◌, ◌≡◌, Bool, true, false, ◌&&◌, ◌||◌, List, [], ◌∷◌, ◌++◌, length, refl, sym, ap, ◌∙◌, subst, arith, Option, Some, None}
 use Rattle.std.specs.Prelude.{is_none, not}
-use Rattle.std.specs.Str.{IsUtf8}
 use Rattle.std.proofs.lemmas.Bool.{eq-eqb}
 use Rattle.std.proofs.lemmas.List.{length-append}
 use Rattle.ice_types.specs.Tables.{Tables}
-use Rattle.ice_prims.specs.Number.{SpellsText}
+use Rattle.ice_types.specs.CompactIds.{is_numbered}
+use Rattle.graph_laws.proofs.ClassIds.{IsText, plain_named}
 use Rattle.ice_prims.specs.Bytes.{size_bytes, text_bytes}
 use Rattle.ice_encoding.specs.Port.{Port}
 use Rattle.ice_encoding.specs.Writing.{Piece, exactly, ◌>>◌}
@@ -16,14 +16,14 @@ use Rattle.ice_graphs.specs.Graph.{Slice, known, unknown, Graph}
 use Rattle.ice_graphs.specs.Names.{names_of, instance_names}
 use Rattle.ice_graphs.specs.References.{State}
 use Rattle.ice_graphs.specs.Flags.{no_id, Flags, Reach, all_slices, known_classes, is_all, Before, first, only_unknown, derived, SpellsFlags}
-use Rattle.ice_graphs.specs.TypeIds.{is_base, can_be_read, before_base, before_next}
+use Rattle.ice_graphs.specs.TypeIds.{SpellsTypeId, is_base, can_be_read, before_base, before_next}
 use Rattle.ice_graphs.specs.Slices.{SpellsBody, FromId}
 use Rattle.ice_graphs.specs.Visiting.{visit_each}
 use Rattle.ice_graphs.specs.Typed.{IsKnown, AreBases, IsUnknown, IsInstance, RefersIn}
 use Rattle.ice_graphs.specs.Canonical.{Pen, is_there, each_once, flags_byte, id_in, id_of, sized_body, members_bytes, Format, sliced, compact, Compact}
 use Rattle.graph_arena.specs.Arena.{AreBelow}
 use Rattle.graph_arena.proofs.Agreeing.{below-left, below-right}
-use Rattle.graph_laws.proofs.TypeIds.{Spelled, HaveTexts, text_spelled}
+use Rattle.graph_laws.proofs.TypeIds.{Spelled, HaveTypeTexts, text_spelled}
 use Rattle.graph_laws.proofs.Named.{AreNamed}
 use Rattle.graph_laws.proofs.Formed.{Asked}
 use Rattle.graph_laws.proofs.FlagBytes.{flags_back, flags_small}
@@ -68,14 +68,14 @@ module _ (t : Tables) (found : AreNamed (of_exceptions t)) (reach : Reach) (k : 
 
   -- the flags, and a text that is not counted
   abbrev Head : ℕ → List ℕ → Relation Spelled
-  Head flag id b from to = (id_bytes : List ℕ) × (b ≡ flag ∷ id_bytes) × SpellsText id_bytes id × (to ≡ from)
+  Head flag id b from to = (id_bytes : List ℕ) × (b ≡ flag ∷ id_bytes) × SpellsTypeId id_bytes id × (to ≡ from)
 
-  head_good : (flag : ℕ) (id : List ℕ) → IsUtf8 id → Ends (exactly (flag ∷ text_bytes id)) [] (Head flag id)
+  head_good : (flag : ℕ) (id : List ℕ) → IsText id → Ends (exactly (flag ∷ text_bytes id)) [] (Head flag id)
   head_good flag id utf8 from p j stands is_ready run small =
       let lt : length id < 2 ^ 31 = omega (arith, small, length-append (size_bytes (length id)) id) in
       exact (flag ∷ text_bytes id) (Head flag id) (λ s. (text_bytes id, refl, (text_spelled id s utf8 lt).0, refl)) from p j stands is_ready run small
 
-  module _ (ahead next : Before) (s : Slice) (ss : List Slice) (opt tabled sized last : Bool) (id : List ℕ) (class : Option ℕ) (Body : Relation Spelled) (utf8 : IsUtf8 id)
+  module _ (ahead next : Before) (s : Slice) (ss : List Slice) (opt tabled sized last : Bool) (id : List ℕ) (class : Option ℕ) (Body : Relation Spelled) (utf8 : IsText id)
       (may : may_be_raised ahead (flags_with opt tabled sized last) ≡ true) (class_is : class_named u id ≡ class) (based : is_base ahead class ≡ true)
       (readable : can_be_read reach class (flags_with opt tabled sized last) ≡ true) (ends : may_be_last u class (flags_with opt tabled sized last) ≡ true)
       (next_is : before_next u class (flags_with opt tabled sized last) ≡ next)
@@ -138,7 +138,7 @@ module _ (t : Tables) (found : AreNamed (of_exceptions t)) (reach : Reach) (k : 
 
   -- ---- of an exception of the tables
 
-  known_step : (ahead : Before) (class : ℕ) (content : Members) (ss : List Slice) (tabled sized : Bool) (Body : Relation Spelled) (wbody wrest : Piece Pen) → IsUtf8 (id_of u (known class content))
+  known_step : (ahead : Before) (class : ℕ) (content : Members) (ss : List Slice) (tabled sized : Bool) (Body : Relation Spelled) (wbody wrest : Piece Pen) → IsText (id_of u (known class content))
       → may_be_raised ahead (flags_with (is_there content.optional) tabled sized (not (is_there ss))) ≡ true → is_base ahead (Some class) ≡ true
       → ((b : List ℕ) (from to : Spelled) → Body b from to → SpellsBody P u (flags_with (is_there content.optional) tabled sized (not (is_there ss))) (id_of u (known class content)) sized (Some class) b (known class content) from to)
       → IsKnown u (RefersIn t k.instances) class content → AreBases u (RefersIn t k.instances) (base_of u class) ss
@@ -156,7 +156,7 @@ module _ (t : Tables) (found : AreNamed (of_exceptions t)) (reach : Reach) (k : 
   none_later next class = exact [] (Later next true (Some class) []) (λ s. (0, (refl, refl, refl)))
 
   -- with sizes
-  sized_bases : (base : Option ℕ) (class : ℕ) (ss : List Slice) → HaveTexts u ss → AreBases u (RefersIn t k.instances) base ss → AreBelow limit (instance_names ss) → Ends (user_exception_slices t refer ss) (instance_names ss) (Later (before_base true base) (is_none base) (Some class) ss)
+  sized_bases : (base : Option ℕ) (class : ℕ) (ss : List Slice) → HaveTypeTexts u ss → AreBases u (RefersIn t k.instances) base ss → AreBelow limit (instance_names ss) → Ends (user_exception_slices t refer ss) (instance_names ss) (Later (before_base true base) (is_none base) (Some class) ss)
   sized_bases None class ss texts are below = subst (λ (l : List Slice). Ends (user_exception_slices t refer l) (instance_names l) (Later only_unknown true (Some class) l)) (sym are) (none_later only_unknown class)
   sized_bases (Some base) class [] texts are below = absurd are
   sized_bases (Some base) class (unknown id bytes optionals table ∷ ss) texts are below = absurd are
@@ -168,7 +168,7 @@ module _ (t : Tables) (found : AreNamed (of_exceptions t)) (reach : Reach) (k : 
       (sized_bases (base_of u other) other ss texts.1 bases (below-right limit (names_of content) (instance_names ss) below))
 
   -- without
-  plain_bases : (base : Option ℕ) (class : ℕ) (ss : List Slice) → HaveTexts u ss → AreBases u (RefersIn t k.instances) base ss → AreBelow limit (instance_names ss) → Ends (user_exception_plain t refer ss) (instance_names ss) (Later (before_base false base) (is_none base) (Some class) ss)
+  plain_bases : (base : Option ℕ) (class : ℕ) (ss : List Slice) → HaveTypeTexts u ss → AreBases u (RefersIn t k.instances) base ss → AreBelow limit (instance_names ss) → Ends (user_exception_plain t refer ss) (instance_names ss) (Later (before_base false base) (is_none base) (Some class) ss)
   plain_bases None class ss texts are below = subst (λ (l : List Slice). Ends (user_exception_plain t refer l) (instance_names l) (Later only_unknown true (Some class) l)) (sym are) (none_later only_unknown class)
   plain_bases (Some base) class [] texts are below = absurd are
   plain_bases (Some base) class (unknown id bytes optionals table ∷ ss) texts are below = absurd are
@@ -192,15 +192,15 @@ module _ (t : Tables) (found : AreNamed (of_exceptions t)) (reach : Reach) (k : 
   not_empty (suc n) ahead ss bytes from to (f, a, b, mid, parts, flags, rest) e =
       let one : length a ≡ 1 = ap length flags.0.1 in omega (arith, ap length parts, length-append a b, ap length e, one)
 
-  unknown_step : is_all reach ≡ true → (ahead : Before) → IsOpen ahead → (id bytes : List ℕ) (optionals : Bool) (table : List ℕ) (ss : List Slice) → IsUnknown u (RefersIn t k.instances) id bytes table → AreBelow limit table
+  unknown_step : is_all reach ≡ true → (ahead : Before) → IsOpen ahead → (id bytes : List ℕ) (optionals : Bool) (table : List ℕ) (ss : List Slice) → is_numbered id ≡ false → IsUnknown u (RefersIn t k.instances) id bytes table → AreBelow limit table
       → Ends (user_exception_slices t refer ss) (instance_names ss) (Later only_unknown (not (is_there ss)) None ss)
       → Ends (user_exception_slices t refer (unknown id bytes optionals table ∷ ss)) (instance_names (unknown id bytes optionals table ∷ ss)) (Slices ahead (unknown id bytes optionals table ∷ ss))
-  unknown_step all ahead free id bytes optionals table ss lacks below rest =
-      step_good ahead only_unknown (unknown id bytes optionals table) ss optionals (is_there table) true (not (is_there ss)) id None (UnknownBody u t k visit grows Ready ready P refer port_good id bytes optionals table) lacks.1
-      (open_may ahead free optionals (is_there table) (not (is_there ss))) lacks.0 (open_base ahead free None) (with_size (is_all reach) all) refl refl (λ b from to z. z)
+  unknown_step all ahead free id bytes optionals table ss plain lacks below rest =
+      step_good ahead only_unknown (unknown id bytes optionals table) ss optionals (is_there table) true (not (is_there ss)) id None (UnknownBody u t k visit grows Ready ready P refer port_good id bytes optionals table) (lacks.1.0, plain)
+      (open_may ahead free optionals (is_there table) (not (is_there ss))) (sym (plain_named u id plain) ∙ lacks.0) (open_base ahead free None) (with_size (is_all reach) all) refl refl (λ b from to z. z)
       (sized_body u refer (unknown id bytes optionals table)) (user_exception_slices t refer ss) table (instance_names ss) (unknown_good u t k visit grows Ready ready P refer port_good refer_long once id bytes optionals table below) rest
 
-  known_first : (ahead : Before) → IsOpen ahead → (class : ℕ) (content : Members) (ss : List Slice) → HaveTexts u (known class content ∷ ss) → IsInstance u (RefersIn t k.instances) (known class content ∷ ss) → AreBelow limit (instance_names (known class content ∷ ss))
+  known_first : (ahead : Before) → IsOpen ahead → (class : ℕ) (content : Members) (ss : List Slice) → HaveTypeTexts u (known class content ∷ ss) → IsInstance u (RefersIn t k.instances) (known class content ∷ ss) → AreBelow limit (instance_names (known class content ∷ ss))
       → Ends (user_exception_slices t refer (known class content ∷ ss)) (instance_names (known class content ∷ ss)) (Slices ahead (known class content ∷ ss))
   known_first ahead free class content ss texts (known_class, bases) below =
       known_step ahead class content ss (is_there (each_once [] (names_of content))) true (KnownBody u t k visit grows Ready ready P refer port_good class content) (sized_body u refer (known class content)) (user_exception_slices t refer ss) texts.0
@@ -208,23 +208,23 @@ module _ (t : Tables) (found : AreNamed (of_exceptions t)) (reach : Reach) (k : 
       (known_good u t k visit grows Ready ready P refer port_good refer_long once class content known_class (below-left limit (names_of content) (instance_names ss) below))
       (sized_bases (base_of u class) class ss texts.1 bases (below-right limit (names_of content) (instance_names ss) below))
 
-  slices_good : is_all reach ≡ true → (ahead : Before) → IsOpen ahead → (ss : List Slice) → HaveTexts u ss → IsInstance u (RefersIn t k.instances) ss → AreBelow limit (instance_names ss) → Ends (user_exception_slices t refer ss) (instance_names ss) (Slices ahead ss)
+  slices_good : is_all reach ≡ true → (ahead : Before) → IsOpen ahead → (ss : List Slice) → HaveTypeTexts u ss → IsInstance u (RefersIn t k.instances) ss → AreBelow limit (instance_names ss) → Ends (user_exception_slices t refer ss) (instance_names ss) (Slices ahead ss)
   slices_good all ahead free [] texts is below = absurd is
   slices_good all ahead free (unknown id bytes optionals table ∷ []) texts is below =
-      unknown_step all ahead free id bytes optionals table [] is (below-left limit table [] below) (exact [] (Later only_unknown true None []) (λ s. (0, (refl, refl, refl))))
+      unknown_step all ahead free id bytes optionals table [] texts.0 is (below-left limit table [] below) (exact [] (Later only_unknown true None []) (λ s. (0, (refl, refl, refl))))
   slices_good all ahead free (unknown id bytes optionals table ∷ s ∷ ss) texts is below =
-      unknown_step all ahead free id bytes optionals table (s ∷ ss) is.0 (below-left limit table (instance_names (s ∷ ss)) below)
+      unknown_step all ahead free id bytes optionals table (s ∷ ss) texts.0 is.0 (below-left limit table (instance_names (s ∷ ss)) below)
       (mapped (user_exception_slices t refer (s ∷ ss)) (instance_names (s ∷ ss)) (Slices only_unknown (s ∷ ss)) (Later only_unknown false None (s ∷ ss))
       (λ b from to z. (z.0, ((λ e. absurd (not_empty z.0 only_unknown (s ∷ ss) b from to z.1 e)), λ some. z.1)))
-      (slices_good all only_unknown tt (s ∷ ss) texts is.1 (below-right limit table (instance_names (s ∷ ss)) below)))
+      (slices_good all only_unknown tt (s ∷ ss) texts.1 is.1 (below-right limit table (instance_names (s ∷ ss)) below)))
   slices_good all ahead free (known class content ∷ ss) texts is below = known_first ahead free class content ss texts is below
 
-  sized_good : (ss : List Slice) → Compact ss → HaveTexts u ss → IsInstance u (RefersIn t k.instances) ss → AreBelow limit (instance_names ss) → Ends (user_exception_slices t refer ss) (instance_names ss) (Slices first ss)
+  sized_good : (ss : List Slice) → Compact ss → HaveTypeTexts u ss → IsInstance u (RefersIn t k.instances) ss → AreBelow limit (instance_names ss) → Ends (user_exception_slices t refer ss) (instance_names ss) (Slices first ss)
   sized_good [] asked texts is below = absurd asked
   sized_good (unknown id bytes optionals table ∷ ss) asked texts is below = absurd asked
   sized_good (known class content ∷ ss) asked texts is below = known_first first tt class content ss texts is below
 
-  plain_good : (ss : List Slice) → Compact ss → HaveTexts u ss → IsInstance u (RefersIn t k.instances) ss → AreBelow limit (instance_names ss) → Ends (user_exception_plain t refer ss) (instance_names ss) (Slices first ss)
+  plain_good : (ss : List Slice) → Compact ss → HaveTypeTexts u ss → IsInstance u (RefersIn t k.instances) ss → AreBelow limit (instance_names ss) → Ends (user_exception_plain t refer ss) (instance_names ss) (Slices first ss)
   plain_good [] asked texts is below = absurd asked
   plain_good (unknown id bytes optionals table ∷ ss) asked texts is below = absurd asked
   plain_good (known class content ∷ ss) asked texts (known_class, bases) below =
@@ -233,12 +233,12 @@ module _ (t : Tables) (found : AreNamed (of_exceptions t)) (reach : Reach) (k : 
       (plain_bases (base_of u class) class ss texts.1 bases (below-right limit (names_of content) (instance_names ss) below))
 
   -- in either format
-  as_asked : (r : Reach) → reach ≡ r → (format : Format) (ss : List Slice) → Asked r format ss → HaveTexts u ss → IsInstance u (RefersIn t k.instances) ss → AreBelow limit (instance_names ss) → Ends (user_exception_as t refer format ss) (instance_names ss) (Slices first ss)
+  as_asked : (r : Reach) → reach ≡ r → (format : Format) (ss : List Slice) → Asked r format ss → HaveTypeTexts u ss → IsInstance u (RefersIn t k.instances) ss → AreBelow limit (instance_names ss) → Ends (user_exception_as t refer format ss) (instance_names ss) (Slices first ss)
   as_asked all_slices same sliced ss asked texts is below = slices_good (ap is_all same) first tt ss texts is below
   as_asked all_slices same compact ss asked texts is below = plain_good ss asked texts is below
   as_asked known_classes same sliced ss asked texts is below = sized_good ss asked texts is below
   as_asked known_classes same compact ss asked texts is below = plain_good ss asked texts is below
 
-  pub user_exception_good : (format : Format) (ss : List Slice) → Asked reach format ss → HaveTexts u ss → IsInstance u (RefersIn t k.instances) ss → AreBelow limit (instance_names ss)
+  pub user_exception_good : (format : Format) (ss : List Slice) → Asked reach format ss → HaveTypeTexts u ss → IsInstance u (RefersIn t k.instances) ss → AreBelow limit (instance_names ss)
       → Good t k visit grows Ready ready (user_exception_as t refer format ss) (instance_names ss) (λ b from to. (n : ℕ) × UserExceptionSlices P u reach n first b ss from to)
   user_exception_good = as_asked reach refl

@@ -4,10 +4,10 @@ use Rattle.ice_types.specs.declared.declarations.ClassDecl.{ClassDecl}
 use Rattle.ice_types.specs.Tables.{Tables, no_types}
 
 abbrev pub base : ClassDecl
-base = record { id = codes "::A"; base = None; members = [] }
+base = record { id = codes "::A"; base = None; compact = None; members = [] }
 
 abbrev pub derived : ClassDecl
-derived = record { id = codes "::B"; base = Some 1; members = [] }
+derived = record { id = codes "::B"; base = Some 1; compact = None; members = [] }
 
 abbrev pub whole : Tables
 whole = record no_types { classes = derived ∷ base ∷ []; defined_classes = true ∷ true ∷ [] }

@@ -4,7 +4,7 @@ use Rattle.ice_types.specs.declared.kind.RowRef.TheVariants as rows
 use Rattle.ice_types.specs.Tables.{Tables}
 use Rattle.ice_types.specs.Lacking.{SameId}
 use Rattle.ice_graphs.specs.OptionalMembers.{Members, SpellsSliceMembers}
-use Rattle.ice_graphs.specs.Classes.{class_named, own_members}
+use Rattle.ice_graphs.specs.Classes.{class_by_id, own_members}
 use Rattle.ice_graphs.specs.Graph.{Slice, known, unknown, Graph}
 use Rattle.ice_graphs.specs.References.{Reference, in_table, resolved, AreWithin}
 use Rattle.ice_graphs.specs.Slices.{by_table, unknown_bytes}
@@ -28,12 +28,12 @@ module _ (t u : Tables) where
     -- a slice of a class that the second schema lacks, kept
     abbrev pub UnknownAs : ℕ → Members → Slice → Type 0
     UnknownAs a content s = (id bytes : List ℕ) × (optionals : Bool) × (table : List ℕ) × (s ≡ unknown id bytes optionals table)
-        × (class_named t id ≡ Some a) × (class_named u id ≡ None) × OpensAs t is a bytes optionals table content
+        × (class_by_id t id ≡ Some a) × (class_by_id u id ≡ None) × OpensAs t is a bytes optionals table content
 
     -- A slice under the first schema, and the same under the second: of a class that is left, or kept.
     abbrev pub SeenAs : Slice → Slice → Type 0
     SeenAs (known a content) s = ((b : ℕ) × (s ≡ known b content) × SameClassId a b) ⊎ UnknownAs a content s
-    SeenAs (unknown id bytes optionals table) s = (s ≡ unknown id bytes optionals table) × (class_named u id ≡ None)
+    SeenAs (unknown id bytes optionals table) s = (s ≡ unknown id bytes optionals table) × (class_by_id u id ≡ None)
 
     -- one by one
     abbrev pub AllSeen : List Slice → List Slice → Type 0

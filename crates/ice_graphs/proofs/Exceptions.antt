@@ -4,7 +4,6 @@ use Rattle.std.proofs.lemmas.List.{length-append}
 use Rattle.ice_types.specs.Tables.{Tables}
 use Rattle.ice_prims.specs.declared.fault.Kind.TheVariants.{BadLast, WrongBase, UnknownClass}
 use Rattle.ice_prims.specs.Rest.{Rest, whole, ◌>>=◌, Took, IsBytes}
-use Rattle.ice_prims.specs.Number.{SpellsText, text_at}
 use Rattle.ice_prims.specs.Laws.{FoundPart}
 use Rattle.ice_prims.proofs.Parts.{then_ok, ok_is}
 use Rattle.ice_encoding.specs.Bounds.{ended}
@@ -12,19 +11,19 @@ use Rattle.ice_encoding.specs.Port.{Port, IsLawful, Reader, Speller}
 use Rattle.ice_encoding.specs.Spelling.{Plain}
 use Rattle.ice_encoding.specs.Encapsulation.{encapsulated_at}
 use Rattle.ice_encoding.proofs.Encapsulations.{OnlyAtEnd, encapsulated_found, encapsulated_only}
-use Rattle.ice_encoding.proofs.Values.{plain_lawful, text_lawful}
+use Rattle.ice_encoding.proofs.Values.{plain_lawful}
 use Rattle.ice_graphs.specs.Steps.{Followed}
 use Rattle.ice_graphs.proofs.Stepping.{given_lawful}
 use Rattle.ice_graphs.specs.Classes.{class_named}
 use Rattle.ice_graphs.specs.Graph.{Slice}
 use Rattle.ice_graphs.specs.References.{State, opening, seen, unplaced}
 use Rattle.ice_graphs.specs.Flags.{Flags, Reach, Before, first, SpellsFlags, flags_at}
-use Rattle.ice_graphs.specs.TypeIds.{is_base, can_be_read, before_next}
+use Rattle.ice_graphs.specs.TypeIds.{SpellsTypeId, type_id_at, is_base, can_be_read, before_next}
 use Rattle.ice_graphs.specs.Slices.{one_more, FromId, from_id}
 use Rattle.ice_graphs.specs.Instances.{references, AllFit, misfit, unless_misfit}
 use Rattle.ice_graphs.specs.Exceptions.{of_exceptions, may_be_raised, may_be_last, is_known_last, BehindUserException, unless_ended, behind_user_exception, UserExceptionSlices, user_exception_slices, UserException, SpellsUserException, user_exception_at, SpellsException, exception_at}
 use Rattle.ice_graphs.proofs.Ending.{LawfulToEnd, ends, took_all, ends_is, ended_ok, to_end, followed_to_end, placed_to_end, tested_to_end, made_to_end, alike_to_end, whole_found, whole_only}
-use Rattle.ice_graphs.proofs.Slices.{flags_lawful, body_lawful}
+use Rattle.ice_graphs.proofs.Slices.{flags_lawful, type_id_lawful, body_lawful}
 use Rattle.ice_graphs.proofs.Graphs.{references_seen, references_lawful, none_misfits, all_fit, unless_ok}
 
 abbrev Read : Type 0
@@ -72,7 +71,7 @@ module _ (port : Port (State ℕ) (State (Unit {0}))) (same : port.seen ≡ seen
   Within steps before bytes slices from to = (n : ℕ) × (n ≤ steps) × UserExceptionSlices port t reach n before bytes slices from to
 
   abbrev Step : (Before → Spelled) → Before → Spelled
-  Step Next before = Followed (Plain (SpellsFlags (may_be_raised before))) (λ f. Followed (Plain SpellsText)
+  Step Next before = Followed (Plain (SpellsFlags (may_be_raised before))) (λ f. Followed (Plain SpellsTypeId)
       (λ id. let class = class_named t id in FromId port t reach (BehindUserException (Next (before_next t class f)) (is_known_last t class f) class) (may_be_last t class f) before f id class))
 
   -- what is there of one count for some bytes is there where those follow
@@ -116,7 +115,7 @@ module _ (port : Port (State ℕ) (State (Unit {0}))) (same : port.seen ≡ seen
   slices_lawful (suc steps) before =
       alike_to_end seen (user_exception_slices port t reach (suc steps) before) (Step (Within steps) before) (Within (suc steps) before) (step_there steps before) (step_back steps before)
       (placed_to_end seen _ _ (λ flags_place. followed_to_end seen _ _ _ _ (plain_lawful seen (flags_at (may_be_raised before)) (SpellsFlags (may_be_raised before)) (flags_lawful (may_be_raised before)))
-      (λ f. placed_to_end seen _ _ (λ id_place. followed_to_end seen _ _ _ _ (plain_lawful seen text_at SpellsText text_lawful)
+      (λ f. placed_to_end seen _ _ (λ id_place. followed_to_end seen _ _ _ _ (plain_lawful seen type_id_at SpellsTypeId type_id_lawful)
       (λ id. let class = class_named t id in from_lawful _ _ (behind_lawful (user_exception_slices port t reach steps (before_next t class f)) (Within steps (before_next t class f)) (slices_lawful steps (before_next t class f)) (is_known_last t class f) class)
       (may_be_last t class f) before f flags_place id_place id class)))))
 

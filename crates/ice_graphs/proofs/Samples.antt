@@ -3,6 +3,7 @@ use Rattle.std.proofs.Common.{◌≡◌, ℕ, List, [], ◌∷◌, ◌++◌, tru
 use Rattle.std.specs.Prelude.{pos}
 use Rattle.std.specs.Str.{is_utf8, chars}
 use lib.Utf8.{encode}
+use Rattle.std.specs.Fmt.{digits}
 use Rattle.ice_types.specs.Measures.{measure}
 use Rattle.ice_types.specs.declared.kind.TypeRef.{TypeRef}
 use Rattle.ice_types.specs.declared.kind.TypeRef.TheVariants as kinds
@@ -40,27 +41,31 @@ one kind = record { required = always kind ∷ []; optional = [] }
 
 -- class N { int v; N next; } class P { int p; } class O { optional(1) int a; } class B { int b; } class D extends B { string d; B other; } class T { N a; N b; }
 abbrev pub classes : List ClassDecl
-classes = record { id = codes "::M::N"; base = None; members = always kinds.Int ∷ always (kinds.Class (Some 0)) ∷ [] }
-    ∷ record { id = codes "::M::P"; base = None; members = always kinds.Int ∷ [] }
-    ∷ record { id = codes "::M::O"; base = None; members = tagged 1 kinds.Int ∷ [] }
-    ∷ record { id = codes "::M::B"; base = None; members = always kinds.Int ∷ [] }
-    ∷ record { id = codes "::M::D"; base = Some 3; members = always kinds.Text ∷ always (kinds.Class (Some 3)) ∷ [] }
-    ∷ record { id = codes "::M::T"; base = None; members = always (kinds.Class (Some 0)) ∷ always (kinds.Class (Some 0)) ∷ [] } ∷ []
+classes = record { id = codes "::M::N"; base = None; compact = None; members = always kinds.Int ∷ always (kinds.Class (Some 0)) ∷ [] }
+    ∷ record { id = codes "::M::P"; base = None; compact = None; members = always kinds.Int ∷ [] }
+    ∷ record { id = codes "::M::O"; base = None; compact = None; members = tagged 1 kinds.Int ∷ [] }
+    ∷ record { id = codes "::M::B"; base = None; compact = None; members = always kinds.Int ∷ [] }
+    ∷ record { id = codes "::M::D"; base = Some 3; compact = None; members = always kinds.Text ∷ always (kinds.Class (Some 3)) ∷ [] }
+    ∷ record { id = codes "::M::T"; base = None; compact = None; members = always (kinds.Class (Some 0)) ∷ always (kinds.Class (Some 0)) ∷ [] } ∷ []
 
 abbrev pub tables : Tables
 tables = record no_types { seqs = record { id = codes "::M::Bytes"; element = kinds.Byte } ∷ []; classes = classes }
 
 -- B alone
 abbrev fewer : Tables
-fewer = record no_types { classes = record { id = codes "::M::B"; base = None; members = always kinds.Int ∷ [] } ∷ [] }
+fewer = record no_types { classes = record { id = codes "::M::B"; base = None; compact = None; members = always kinds.Int ∷ [] } ∷ [] }
 
 -- class X { optional(1) string s; optional(2) Pair p; optional(3) Bytes b; optional(4) Texts q; optional(5) X x; }
 abbrev optionals : Tables
 optionals = record no_types {
   seqs = record { id = codes "::Bytes"; element = kinds.Byte } ∷ record { id = codes "::Texts"; element = kinds.Text } ∷ [];
   structs = record { id = codes "::Pair"; members = always kinds.Short ∷ always kinds.Short ∷ [] } ∷ [];
-  classes = record { id = codes "::X"; base = None; members = tagged 1 kinds.Text ∷ tagged 2 (kinds.Struct 0) ∷ tagged 3 (kinds.Seq 0) ∷ tagged 4 (kinds.Seq 1) ∷ tagged 5 (kinds.Class (Some 0)) ∷ [] } ∷ [];
+  classes = record { id = codes "::X"; base = None; compact = None; members = tagged 1 kinds.Text ∷ tagged 2 (kinds.Struct 0) ∷ tagged 3 (kinds.Seq 0) ∷ tagged 4 (kinds.Seq 1) ∷ tagged 5 (kinds.Class (Some 0)) ∷ [] } ∷ [];
 }
+
+-- class N(4) { int v; N next; }
+abbrev numbered : Tables
+numbered = record no_types { classes = record { id = codes "::M::N"; base = None; compact = Some 4; members = always kinds.Int ∷ always (kinds.Class (Some 0)) ∷ [] } ∷ [] }
 
 -- type ids as texts
 
@@ -227,11 +232,6 @@ id_past : breaks tables (kinds.Class None) (1 ∷ 49 ∷ 6 ∷ 58 ∷ []) 9 faul
 unfolding graph_at most_instances measure is_utf8 chars encode
 id_past = refl
 
--- a type id that is a number
-compact_id : breaks tables (kinds.Class (Some 0)) (1 ∷ 59 ∷ node_id ++ 9 ∷ 0 ∷ 0 ∷ 0 ∷ 7 ∷ 0 ∷ 0 ∷ 0 ∷ 1 ∷ 1 ∷ 2 ∷ []) 7 faults.CompactId
-unfolding graph_at most_instances measure is_utf8 chars encode
-compact_id = refl
-
 -- a type id that is no text
 bad_text : breaks tables (kinds.Class (Some 0)) (1 ∷ 49 ∷ 1 ∷ 255 ∷ 4 ∷ 0 ∷ 0 ∷ 0 ∷ []) 9 faults.BadText
 unfolding graph_at most_instances measure is_utf8 chars encode
@@ -256,6 +256,48 @@ wrong_base = refl
 compact_unknown : breaks fewer (kinds.Class (Some 0)) (1 ∷ 1 ∷ derived_id ++ 1 ∷ 120 ∷ 0 ∷ 32 ∷ 1 ∷ 0 ∷ 0 ∷ 0 ∷ []) 8 faults.UnknownClass
 unfolding graph_at most_instances measure is_utf8 chars encode
 compact_unknown = refl
+
+-- ---- compact ids: a class that has one may stand under it, under its type id, and under the index of that
+
+-- a node that is its own next, under the number
+by_number : reads numbered (kinds.Class (Some 0)) (1 ∷ 59 ∷ 4 ∷ 9 ∷ 0 ∷ 0 ∷ 0 ∷ 7 ∷ 0 ∷ 0 ∷ 0 ∷ 1 ∷ 1 ∷ 2 ∷ []) (node 7 0 ∷ [])
+unfolding graph_at most_instances measure is_utf8 chars encode digits
+by_number = refl
+
+-- under the type id
+by_type_id : reads numbered (kinds.Class (Some 0)) (1 ∷ 57 ∷ node_id ++ 9 ∷ 0 ∷ 0 ∷ 0 ∷ 7 ∷ 0 ∷ 0 ∷ 0 ∷ 1 ∷ 1 ∷ 2 ∷ []) (node 7 0 ∷ [])
+unfolding graph_at most_instances measure is_utf8 chars encode digits
+by_type_id = refl
+
+-- under the number in compact format
+by_number_compact : reads numbered (kinds.Class (Some 0)) (1 ∷ 35 ∷ 4 ∷ 7 ∷ 0 ∷ 0 ∷ 0 ∷ 2 ∷ []) (node 7 0 ∷ [])
+unfolding graph_at most_instances measure is_utf8 chars encode digits
+by_number_compact = refl
+
+-- a number takes no index
+no_index : breaks numbered (kinds.Class (Some 0)) (1 ∷ 59 ∷ 4 ∷ 9 ∷ 0 ∷ 0 ∷ 0 ∷ 1 ∷ 0 ∷ 0 ∷ 0 ∷ 1 ∷ 1 ∷ 1 ∷ 58 ∷ 1 ∷ 9 ∷ 0 ∷ 0 ∷ 0 ∷ 2 ∷ 0 ∷ 0 ∷ 0 ∷ 1 ∷ 1 ∷ 2 ∷ []) 21 faults.BadTypeId
+unfolding graph_at most_instances measure is_utf8 chars encode digits
+no_index = refl
+
+-- a number that no class has is kept as `#4`
+unknown_number : reads tables (kinds.Class None) (1 ∷ 59 ∷ 4 ∷ 9 ∷ 0 ∷ 0 ∷ 0 ∷ 7 ∷ 0 ∷ 0 ∷ 0 ∷ 1 ∷ 1 ∷ 2 ∷ []) ((unknown (codes "#4") (7 ∷ 0 ∷ 0 ∷ 0 ∷ 1 ∷ []) false (0 ∷ []) ∷ []) ∷ [])
+unfolding graph_at most_instances measure is_utf8 chars encode digits
+unknown_number = refl
+
+-- and is refused without a size
+compact_number : breaks tables (kinds.Class None) (1 ∷ 35 ∷ 4 ∷ 7 ∷ 0 ∷ 0 ∷ 0 ∷ 2 ∷ []) 8 faults.UnknownClass
+unfolding graph_at most_instances measure is_utf8 chars encode digits
+compact_number = refl
+
+-- a string that begins with `#` is no type id
+hash_text : breaks tables (kinds.Class None) (1 ∷ 49 ∷ 2 ∷ 35 ∷ 52 ∷ 4 ∷ 0 ∷ 0 ∷ 0 ∷ []) 8 faults.BadTypeId
+unfolding graph_at most_instances measure is_utf8 chars encode digits
+hash_text = refl
+
+-- the flag of the last slice is tested behind the number
+number_not_last : breaks numbered (kinds.Class (Some 0)) (1 ∷ 27 ∷ 4 ∷ 9 ∷ 0 ∷ 0 ∷ 0 ∷ 7 ∷ 0 ∷ 0 ∷ 0 ∷ 1 ∷ 1 ∷ 2 ∷ []) 7 faults.BadLast
+unfolding graph_at most_instances measure is_utf8 chars encode digits
+number_not_last = refl
 
 -- ---- the flag of the last slice
 
@@ -494,6 +536,20 @@ write_two = refl
 write_base : canonical_graph tables (one (kinds.Class (Some 3))) sliced (graph ((known 4 (values (tree (text (codes "x")) (to 1))) ∷ known 3 (values (tree (int (pos 1)) none)) ∷ []) ∷ (known 3 (values (tree (int (pos 2)) none)) ∷ []) ∷ [])) ≡ 1 ∷ 25 ∷ derived_id ++ 7 ∷ 0 ∷ 0 ∷ 0 ∷ 1 ∷ 120 ∷ 1 ∷ 1 ∷ 1 ∷ 49 ∷ base_id ++ 8 ∷ 0 ∷ 0 ∷ 0 ∷ 2 ∷ 0 ∷ 0 ∷ 0 ∷ 50 ∷ 2 ∷ 8 ∷ 0 ∷ 0 ∷ 0 ∷ 1 ∷ 0 ∷ 0 ∷ 0 ∷ []
 unfolding canonical_graph form order most measure
 write_base = refl
+
+-- a class is written under its compact id
+write_number : canonical_graph numbered (one (kinds.Class (Some 0))) sliced (graph (node 7 0 ∷ [])) ≡ 1 ∷ 59 ∷ 4 ∷ 9 ∷ 0 ∷ 0 ∷ 0 ∷ 7 ∷ 0 ∷ 0 ∷ 0 ∷ 1 ∷ 1 ∷ 2 ∷ []
+unfolding canonical_graph form order most measure digits
+write_number = refl
+
+write_number_compact : canonical_graph numbered (one (kinds.Class (Some 0))) compact (graph (node 7 0 ∷ [])) ≡ 1 ∷ 35 ∷ 4 ∷ 7 ∷ 0 ∷ 0 ∷ 0 ∷ 2 ∷ []
+unfolding canonical_graph form order most measure digits
+write_number_compact = refl
+
+-- and what was kept as `#4` under the number
+write_kept_number : canonical_graph tables (one (kinds.Class None)) sliced (graph ((unknown (codes "#4") (7 ∷ 0 ∷ 0 ∷ 0 ∷ 1 ∷ []) false (0 ∷ []) ∷ []) ∷ [])) ≡ 1 ∷ 59 ∷ 4 ∷ 9 ∷ 0 ∷ 0 ∷ 0 ∷ 7 ∷ 0 ∷ 0 ∷ 0 ∷ 1 ∷ 1 ∷ 2 ∷ []
+unfolding canonical_graph form order most measure digits
+write_kept_number = refl
 
 -- a slice that was kept
 write_unknown : canonical_graph fewer (one (kinds.Class (Some 0))) sliced (graph ((unknown (codes "::M::D") (1 ∷ 120 ∷ 1 ∷ []) false (1 ∷ []) ∷ known 0 (values (tree (int (pos 1)) none)) ∷ []) ∷ (known 0 (values (tree (int (pos 2)) none)) ∷ []) ∷ [])) ≡ 1 ∷ 25 ∷ derived_id ++ 7 ∷ 0 ∷ 0 ∷ 0 ∷ 1 ∷ 120 ∷ 1 ∷ 1 ∷ 1 ∷ 49 ∷ base_id ++ 8 ∷ 0 ∷ 0 ∷ 0 ∷ 2 ∷ 0 ∷ 0 ∷ 0 ∷ 50 ∷ 2 ∷ 8 ∷ 0 ∷ 0 ∷ 0 ∷ 1 ∷ 0 ∷ 0 ∷ 0 ∷ []

@@ -4,7 +4,8 @@ use Rattle.std.specs.Prelude.{slice_get}
 use Rattle.std.proofs.lemmas.Bool.{ltb-true}
 use Rattle.std.proofs.lemmas.List.{length-append}
 use Rattle.ice_types.specs.Tables.{Tables}
-use Rattle.ice_prims.specs.declared.fault.Kind.TheVariants.{BadFlags, BadLast, WrongBase, UnknownClass}
+use Rattle.ice_types.specs.CompactIds.{is_numbered, numbered_id}
+use Rattle.ice_prims.specs.declared.fault.Kind.TheVariants.{BadFlags, BadLast, BadTypeId, WrongBase, UnknownClass}
 use Rattle.ice_prims.specs.Rest.{Rest, fault, ◌>>=◌, Took}
 use Rattle.ice_prims.specs.Number.{SpellsSize, byte_at, size_at, text_at}
 use Rattle.ice_prims.proofs.Parts.{chosen, then_ok, ok_is}
@@ -21,7 +22,7 @@ use Rattle.ice_graphs.specs.Classes.{own_members}
 use Rattle.ice_graphs.specs.Graph.{Slice, known, unknown}
 use Rattle.ice_graphs.specs.References.{State, Reference, seen, unplaced, in_table, SpellsTable, table_at}
 use Rattle.ice_graphs.specs.Flags.{Flags, Reach, IdForm, no_id, as_text, as_index, as_number, flags_of, Before, first, may_stand, SpellsFlags, flags_at}
-use Rattle.ice_graphs.specs.TypeIds.{with_id, SpellsId, id_found, id_indexed, id_at, class_in, is_base, can_be_read, ends_well, before_next}
+use Rattle.ice_graphs.specs.TypeIds.{SpellsTypeId, unless_numbered, type_id_at, with_id, SpellsId, id_found, id_indexed, id_at, class_in, is_base, can_be_read, ends_well, before_next}
 use Rattle.ice_graphs.specs.Slices.{slice_size, SpellsUnknown, unknown_at, by_table, SpellsBody, body_at, one_more, Behind, next_slices, FromId, from_id, SpellsSlices, slices_at, SpellsInstance, instance_at}
 use Rattle.ice_graphs.specs.Instances.{instances}
 use Rattle.ice_graphs.proofs.Joining.{placed_lawful, by_itself_lawful, alike}
@@ -53,7 +54,18 @@ flags_lawful may = record {
         small b true is other e = let lt : b < 64 = ltb-true b 64 is in omega (arith, lt)
         small b false is other e = absurd cc
 
--- ---- type ids
+-- ---- ids
+
+pub type_id_lawful : LawfulPart type_id_at SpellsTypeId
+type_id_lawful = record {
+  found = λ r x fits e. then_ok (text_at r) (unless_numbered r.place) x e λ id id_is last.
+      let f = text_found r id fits id_is in
+      elim (chosen (is_numbered id.0) (fault r.place BadTypeId) (Ok id) (Ok x) last) [
+        | inl c ↦ absurd cc
+        | inr c ↦ subst (λ (y : List ℕ × Rest). (bytes : List ℕ) × Took r bytes y.1 × SpellsTypeId bytes y.0) (ok_is id x c.1) (f.0, f.1, (f.2, c.0))
+      ];
+  only = λ r s bytes v k h. rw (text_only r s bytes v k h.0, h.1) refl;
+}
 
 id_indexed_ok : {C : Type 0} (place n : ℕ) (s : State ℕ) (r : Rest) (x : List ℕ × State ℕ × Rest) → id_indexed place n s r ≡ Ok x → ((i : ℕ) → n ≡ suc i → slice_get s.ids i ≡ Some x.0 → s ≡ x.1 → r ≡ x.2 → C) → C
 id_indexed_ok {C} place zero s r x e go = absurd cc
@@ -65,15 +77,15 @@ id_indexed_ok {C} place (suc i) s r x e go = by_row (slice_get s.ids i) refl e
         let same = ok_is (id, s, r) x e in
         go i refl (is ∙ ap (λ (y : List ℕ × State ℕ × Rest). Some y.0) same) (ap (λ (y : List ℕ × State ℕ × Rest). y.1) same) (ap (λ (y : List ℕ × State ℕ × Rest). y.2) same)
 
-id_lawful : (flags_place : ℕ) (form : IdForm) → Lawful seen (id_at flags_place form) (SpellsId form)
-id_lawful flags_place no_id = given_lawful seen []
-id_lawful flags_place as_text = record {
-  found = λ s r x fits e. then_ok (text_at r) (λ id. Ok (id.0, with_id id.0 s, id.1)) x e λ id id_is last.
-      let f = text_found r id fits id_is in
+id_lawful : (form : IdForm) → Lawful seen (id_at form) (SpellsId form)
+id_lawful no_id = given_lawful seen []
+id_lawful as_text = record {
+  found = λ s r x fits e. then_ok (type_id_at r) (λ id. Ok (id.0, with_id id.0 s, id.1)) x e λ id id_is last.
+      let f = type_id_lawful.found r id fits id_is in
       lands seen (SpellsId as_text) s r (id.0, with_id id.0 s, id.1) x f.0 f.1 (f.2, refl) last;
-  only = λ s to r after bytes v k h. (with_id v s, sym h.1, rw (text_only r after bytes v k h.0) refl);
+  only = λ s to r after bytes v k h. (with_id v s, sym h.1, rw (type_id_lawful.only r after bytes v k h.0) refl);
 }
-id_lawful flags_place as_index = record {
+id_lawful as_index = record {
   found = λ s r x fits e. then_ok (size_at r) (λ n. id_indexed r.place n.0 s n.1) x e λ n n_is last.
       id_indexed_ok r.place n.0 s n.1 x last λ i is row same end.
       let f = size_found r n fits n_is in
@@ -83,7 +95,15 @@ id_lawful flags_place as_index = record {
   where
     indexed_is : (s : State ℕ) (r after : Rest) (i : ℕ) (id : List ℕ) → size_at r ≡ Ok (suc i, after) → slice_get s.ids i ≡ Some id → (size_at r >>= λ n. id_indexed r.place n.0 s n.1) ≡ Ok (id, s, after)
     indexed_is s r after i id size row = rw (size, row) refl
-id_lawful flags_place as_number = record { found = λ s r x fits e. absurd cc; only = λ s to r after bytes v k h. absurd h }
+id_lawful as_number = record {
+  found = λ s r x fits e. then_ok (size_at r) (λ n. Ok (numbered_id n.0, s, n.1)) x e λ n n_is last.
+      let f = size_found r n fits n_is in
+      lands seen (SpellsId as_number) s r (numbered_id n.0, s, n.1) x f.0 f.1 (n.0, f.2, refl, refl) last;
+  only = λ s to r after bytes v k h. (s, sym h.3, numbered_is s r after h.0 v (size_only r after bytes h.0 k h.1) h.2);
+}
+  where
+    numbered_is : (s : State ℕ) (r after : Rest) (n : ℕ) (id : List ℕ) → size_at r ≡ Ok (n, after) → id ≡ numbered_id n → (◌>>=◌ {B = List ℕ × State ℕ × Rest} (size_at r) (λ n. Ok (numbered_id n.0, s, n.1))) ≡ Ok (id, s, after)
+    numbered_is s r after n id size is = rw size (ap (λ (id : List ℕ). Ok (id, s, after)) (sym is))
 
 -- ---- what stands behind the type id
 
@@ -158,7 +178,7 @@ module _ (port : Port (State ℕ) (State (Unit {0}))) (same : port.seen ≡ seen
     slices_lawful (suc steps) before =
         alike seen (slices_at port.read t reach (suc steps) before) (Step (Within steps) before) (Within (suc steps) before) (step_there steps before) (step_back steps before)
         (placed_lawful seen _ _ (λ flags_place. followed_lawful seen _ _ _ _ (plain_lawful seen (flags_at (may_stand before)) (SpellsFlags (may_stand before)) (flags_lawful (may_stand before)))
-        (λ f. placed_lawful seen _ _ (λ id_place. followed_lawful seen _ _ _ _ (id_lawful flags_place f.id)
+        (λ f. placed_lawful seen _ _ (λ id_place. followed_lawful seen _ _ _ _ (id_lawful f.id)
         (λ id. let class = class_in t before id in from_lawful _ _ (next_lawful (slices_at port.read t reach steps) (Within steps) (slices_lawful steps) f.is_last (before_next t class f)) (ends_well t class f) before f flags_place id_place id class)))))
 
     -- Each takes a byte at least, so there are no more of them than bytes.

@@ -88,7 +88,7 @@ module _ (start count : ℕ) where
   small n = fits_signed_from_abs w32 (pos (n % 1000)) (omega (arith, mod_below n 1000 (omega arith)))
 
   abbrev row : ClassDecl
-  row = record { id = codes "::D::N"; base = None; members = node_members }
+  row = record { id = codes "::D::N"; base = None; compact = None; members = node_members }
 
   node-typed : (x : ℕ) → IsInstance drill_tables Refer (node count x)
   node-typed x =

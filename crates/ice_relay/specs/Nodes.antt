@@ -16,7 +16,7 @@ node_declared = with_class no_types (codes "::D::N")
 
 -- the schema `module D { class N { int v; N left; N right; }; };`
 abbrev pub drill_tables : Tables
-drill_tables = define_class node_declared 0 None node_members
+drill_tables = define_class node_declared 0 None None node_members
 
 -- one value of the class, and nothing else that is known
 abbrev pub root : Member

@@ -14,7 +14,7 @@ pub(crate) fn node_schema(alloc: Global) -> Result<Schema, AllocError>
     let mut schema = Schema::new(alloc);
     schema.add_class(Name::of(alloc, "::D::N")?)?;
     let members = node_members(alloc)?;
-    schema.define_class(0, None, members);
+    schema.define_class(0, None, None, members);
     Ok(schema)
 }
 

@@ -1,5 +1,5 @@
 -- What a schema keeps when an exception is added, or a class or an interface is declared.
-use Rattle.std.proofs.Common.{◌≡◌, ℕ, zero, suc, ◌+◌, ◌<◌, ◌≤◌, Bool, true, false, cond, List, [], ◌∷◌, ◌++◌, length, map, Option, Some, None, refl, sym, ap, subst, ◌∙◌, arith, inl, inr, ◌⊎◌, bytes_eq}
+use Rattle.std.proofs.Common.{◌≡◌, ℕ, ◌+◌, ◌<◌, ◌≤◌, Bool, false, cond, List, [], ◌∷◌, ◌++◌, length, map, Option, Some, None, refl, sym, ap, subst, ◌∙◌, arith, inl, inr, ◌⊎◌, bytes_eq}
 use Rattle.std.specs.Prelude.{slice_get, is_some, IsTrue, unwrap_or}
 use Rattle.std.specs.Option.{option_map}
 use Rattle.std.proofs.lemmas.List.{length-append, length-map, map-append}
@@ -17,8 +17,10 @@ use Rattle.ice_types.specs.Fits.{SeqFits, DictFits, StructFits, EnumFits, IsOf, 
 use Rattle.ice_types.specs.Bases.{HasBases, HasBasesFrom, Lone, class_base, exception_base}
 use Rattle.ice_types.specs.Rules.{Beside, IsSchema, IsKept, defined}
 use Rattle.ice_types.specs.Kept.{tables_of, beside_of}
-use Rattle.ice_types.specs.Ids.{IsHeld}
+use Rattle.ice_types.specs.Ids.{AreNumbered, IsHeld}
 use Rattle.ice_types.proofs.Items.{slice_get-front, slice_get-push, slice_get-last}
+use Rattle.ice_types.proofs.Flags.{flag_front, defined_front}
+use Rattle.ice_types.proofs.CompactIds.{compact_of, compact_declared, numbered_declared}
 use Rattle.ice_types.proofs.Levels.{Keeps}
 use Rattle.ice_types.proofs.Staying.{Grows}
 use Rattle.ice_types.proofs.BaseChains.{mapped_front, bases_grow, based_on, all_counted}
@@ -64,6 +66,7 @@ schema_exception t new kept room type_id lacks fits counted = IsSchema-grown t (
   class_flags = kept.class_flags;
   interface_flags = kept.interface_flags;
   ids = ids_more t (with_exception t new) new.id (rows.Exception (length t.exceptions)) (last_exception t new) (ids_of t kept) type_id lacks;
+  compact = compact_of t kept;
   seqs = all_old t.seqs (λ q. SeqFits t q.element);
   dicts = all_old t.dicts (λ d. DictFits t d.key d.value);
   structs = all_old t.structs (λ d. StructFits t d.members);
@@ -122,26 +125,13 @@ added_exception old after t row_of now held view_is new bases row beside at end 
           (subst (λ (at : ℕ). (id : List ℕ) → now id ≡ cond (bytes_eq new.id id) (Some (rows.Exception at)) (row_of id)) (end ∙ ap (λ (t : Tables). length t.exceptions) view_is) put);
     }))
 
--- ---- flags
-
-flag_front : (flags : List Bool) (at : ℕ) → IsTrue (is_defined flags at) → IsTrue (is_defined (flags ++ false ∷ []) at)
-flag_front [] zero h = h
-flag_front [] (suc at) h = h
-flag_front (flag ∷ flags) zero h = h
-flag_front (flag ∷ flags) (suc at) h = flag_front flags at h
-
-defined_front : (flags : List Bool) → defined (flags ++ false ∷ []) ≡ defined flags
-defined_front [] = refl
-defined_front (true ∷ flags) = ap suc (defined_front flags)
-defined_front (false ∷ flags) = defined_front flags
+-- ---- a class that is only declared
 
 no_members_fit : (t : Tables) → MembersFit t []
 no_members_fit t = (All-nil (λ m. IsOf t m.kind), tt, (All-nil (λ n. n ≤ 2147483647), tt))
 
--- ---- a class that is only declared
-
 abbrev pub new_class : List ℕ → ClassDecl
-new_class id = record { id = id; base = None; members = [] }
+new_class id = record { id = id; base = None; compact = None; members = [] }
 
 last_class : (t : Tables) (id : List ℕ) → IsLast t (with_class t id) id (rows.Class (length t.classes))
 last_class t id = record { ids = more; at = sym (length-map t.classes (λ x. x.id)); others = others }
@@ -178,6 +168,7 @@ schema_class t id kept room type_id lacks counted = IsSchema-grown t (with_class
   class_flags = omega (arith, length-append t.defined_classes (false ∷ []), length-append t.classes (new_class id ∷ []), kept.class_flags);
   interface_flags = kept.interface_flags;
   ids = ids_more t (with_class t id) id (rows.Class (length t.classes)) (last_class t id) (ids_of t kept) type_id lacks;
+  compact = compact_declared t id (compact_of t kept);
   seqs = all_old t.seqs (λ q. SeqFits t q.element);
   dicts = all_old t.dicts (λ d. DictFits t d.key d.value);
   structs = all_old t.structs (λ d. StructFits t d.members);
@@ -240,6 +231,14 @@ added_class old after t row_of now held view_is id row beside at end put room ty
           (subst (λ (at : ℕ). (other : List ℕ) → now other ≡ cond (bytes_eq id other) (Some (rows.Class at)) (row_of other)) (end ∙ ap (λ (t : Tables). length t.classes) view_is) put);
     }))
 
+-- and of its compact ids, where there is room for one more
+pub numbered_class : (old : TableRows) (after : Rows ClassDecl (Option ℕ)) (t : Tables) (class_of now : ℕ → Option ℕ) (was_room room : ℕ) → AreNumbered (tables_of old) class_of was_room → tables_of old ≡ t → (id : List ℕ)
+    → after.decls ≡ old.classes.decls ++ new_class id ∷ [] → after.beside ≡ old.classes.beside ++ None ∷ [] → (at : ℕ) → at ≡ length old.classes.decls
+    → ((number : ℕ) → now number ≡ class_of number) → at + 1 ≤ room → AreNumbered (tables_of (record old { classes = after })) now room
+numbered_class old after t class_of now was_room room was view_is id row beside at end same enough =
+    subst (λ (u : Tables). AreNumbered u now room) (view_class old after t view_is id row beside)
+    (numbered_declared t id class_of now was_room room (subst (λ (u : Tables). AreNumbered u class_of was_room) view_is was) same (omega (arith, enough, end, ap (λ (u : Tables). length u.classes) view_is)))
+
 -- ---- an interface that is only declared
 
 abbrev pub new_interface : List ℕ → InterfaceDecl
@@ -280,6 +279,7 @@ schema_interface t id kept room type_id lacks = IsSchema-grown t (with_interface
   class_flags = kept.class_flags;
   interface_flags = omega (arith, length-append t.defined_interfaces (false ∷ []), length-append t.interfaces (new_interface id ∷ []), kept.interface_flags);
   ids = ids_more t (with_interface t id) id (rows.Interface (length t.interfaces)) (last_interface t id) (ids_of t kept) type_id lacks;
+  compact = compact_of t kept;
   seqs = all_old t.seqs (λ q. SeqFits t q.element);
   dicts = all_old t.dicts (λ d. DictFits t d.key d.value);
   structs = all_old t.structs (λ d. StructFits t d.members);

@@ -22,6 +22,7 @@ use Rattle.ice_types.proofs.Levels.{Keeps, measure_kept, members_kept}
 use Rattle.ice_types.proofs.Said.{seq_says, dict_says, struct_says, enum_says, no_seq, no_dict, no_struct, no_enum, of_seqs_says, of_dicts_says, of_structs_says, of_enums_says, are_pushed}
 use Rattle.ice_types.proofs.Staying.{Grows}
 use Rattle.ice_types.proofs.RowIds.{IsLast, ids_of, ids_more, id_last, found_more}
+use Rattle.ice_types.proofs.CompactIds.{compact_of}
 use Rattle.ice_types.proofs.Grown.{all_old, one_new, IsSchema-grown}
 use Rattle.ice_types.proofs.StructSizes.{small_fits}
 use Rattle.ice_types.proofs.Measured.{measured_kept}
@@ -63,6 +64,7 @@ schema_seq t new kept room type_id lacks fits = IsSchema-grown t (with_seq t new
   class_flags = kept.class_flags;
   interface_flags = kept.interface_flags;
   ids = ids_more t (with_seq t new) new.id (rows.Seq (length t.seqs)) (last_seq t new) (ids_of t kept) type_id lacks;
+  compact = compact_of t kept;
   seqs = one_new t.seqs (λ q. SeqFits t q.element) new fits;
   dicts = all_old t.dicts (λ d. DictFits t d.key d.value);
   structs = all_old t.structs (λ d. StructFits t d.members);
@@ -146,6 +148,7 @@ schema_dict t new kept room type_id lacks fits = IsSchema-grown t (with_dict t n
   class_flags = kept.class_flags;
   interface_flags = kept.interface_flags;
   ids = ids_more t (with_dict t new) new.id (rows.Dict (length t.dicts)) (last_dict t new) (ids_of t kept) type_id lacks;
+  compact = compact_of t kept;
   seqs = all_old t.seqs (λ q. SeqFits t q.element);
   dicts = one_new t.dicts (λ d. DictFits t d.key d.value) new fits;
   structs = all_old t.structs (λ d. StructFits t d.members);
@@ -230,6 +233,7 @@ schema_struct t new kept room type_id lacks fits = IsSchema-grown t (with_struct
   class_flags = kept.class_flags;
   interface_flags = kept.interface_flags;
   ids = ids_more t (with_struct t new) new.id (rows.Struct (length t.structs)) (last_struct t new) (ids_of t kept) type_id lacks;
+  compact = compact_of t kept;
   seqs = all_old t.seqs (λ q. SeqFits t q.element);
   dicts = all_old t.dicts (λ d. DictFits t d.key d.value);
   structs = one_new t.structs (λ d. StructFits t d.members) new fits;
@@ -313,6 +317,7 @@ schema_enum t new kept room type_id lacks fits = IsSchema-grown t (with_enum t n
   class_flags = kept.class_flags;
   interface_flags = kept.interface_flags;
   ids = ids_more t (with_enum t new) new.id (rows.Enum (length t.enums)) (last_enum t new) (ids_of t kept) type_id lacks;
+  compact = compact_of t kept;
   seqs = all_old t.seqs (λ q. SeqFits t q.element);
   dicts = all_old t.dicts (λ d. DictFits t d.key d.value);
   structs = all_old t.structs (λ d. StructFits t d.members);

@@ -1,6 +1,6 @@
 -- What a schema keeps when a class or an interface is defined.
-use Rattle.std.proofs.Common.{◌≡◌, ◌≢◌, ℕ, zero, suc, ◌<◌, ◌≤◌, Bool, true, false, List, [], ◌∷◌, length, map, Option, Some, None, refl, sym, ap, subst, ◌∙◌, arith, inl, inr}
-use Rattle.std.specs.Prelude.{slice_get, slice_set, slice_index_or, is_some, All, IsTrue, unwrap_or}
+use Rattle.std.proofs.Common.{◌≡◌, ◌≢◌, ℕ, zero, suc, ◌+◌, ◌<◌, ◌≤◌, Bool, true, false, cond, List, [], ◌∷◌, length, map, Option, Some, None, refl, sym, ap, subst, ◌∙◌, arith, inl, inr}
+use Rattle.std.specs.Prelude.{slice_get, slice_set, slice_index_or, is_some, All, nat_eq, unwrap_or}
 use Rattle.std.specs.Option.{option_map}
 use Rattle.std.proofs.lemmas.List.{length-map}
 use Rattle.ice_types.specs.declared.declarations.ClassDecl.{ClassDecl}
@@ -12,12 +12,14 @@ use Rattle.ice_types.specs.declared.kind.RowRef.TheVariants as rows
 use Rattle.ice_types.specs.declared.rows.TableRows.{TableRows}
 use Rattle.ice_types.specs.Tables.{Tables, changed, define_class, define_interface, is_defined, row_ids}
 use Rattle.ice_types.specs.Measures.{bases_in, paths_of}
-use Rattle.ice_types.specs.Fits.{SeqFits, DictFits, StructFits, EnumFits, ClassBaseFits, ClassFits, ExceptionFits, InterfaceFits, paths_over}
+use Rattle.ice_types.specs.Fits.{SeqFits, DictFits, StructFits, EnumFits, ClassBaseFits, ClassFits, CompactIdFits, ExceptionFits, InterfaceFits, paths_over}
 use Rattle.ice_types.specs.Bases.{HasBases, HasBasesFrom, class_base}
 use Rattle.ice_types.specs.Rules.{Beside, IsSchema, IsKept, defined}
 use Rattle.ice_types.specs.Kept.{tables_of, beside_of}
-use Rattle.ice_types.specs.Ids.{IsHeld}
+use Rattle.ice_types.specs.Ids.{AreNumbered, IsHeld}
 use Rattle.ice_types.proofs.Items.{set_to, length-changed, map-changed, map-kept, get_other, get_changed, where_from, still_there}
+use Rattle.ice_types.proofs.Flags.{flag_stays, defined_more, another}
+use Rattle.ice_types.proofs.CompactIds.{compact_of, compact_defined, one_more, numbered_without, numbered_with}
 use Rattle.ice_types.proofs.Levels.{Keeps}
 use Rattle.ice_types.proofs.Staying.{Grows}
 use Rattle.ice_types.proofs.BaseChains.{based_on, row_of_base, bases_stay, all_counted}
@@ -26,37 +28,14 @@ use Rattle.ice_types.proofs.RowIds.{ids_of, same_ids, same_found}
 use Rattle.ice_types.proofs.Grown.{all_old, IsSchema-grown}
 use Rattle.ice_types.proofs.Measured.{measured_kept}
 
--- ---- flags
-
-flag_stays : (flags : List Bool) (at other : ℕ) → IsTrue (is_defined flags other) → IsTrue (is_defined (changed (λ _. true) flags at) other)
-flag_stays [] at other h = h
-flag_stays (flag ∷ flags) zero zero h = refl
-flag_stays (flag ∷ flags) zero (suc other) h = h
-flag_stays (flag ∷ flags) (suc at) zero h = h
-flag_stays (flag ∷ flags) (suc at) (suc other) h = flag_stays flags at other h
-
-defined_more : (flags : List Bool) (at : ℕ) → at < length flags → is_defined flags at ≡ false → defined (changed (λ _. true) flags at) ≡ suc (defined flags)
-defined_more [] at lt h = absurd (omega (arith, lt))
-defined_more (true ∷ flags) zero lt h = absurd cc
-defined_more (false ∷ flags) zero lt h = refl
-defined_more (true ∷ flags) (suc at) lt h = ap suc (defined_more flags at (omega (arith, lt)) h)
-defined_more (false ∷ flags) (suc at) lt h = defined_more flags at (omega (arith, lt)) h
-
--- what is defined is not what is not
-another : (flags : List Bool) (at other : ℕ) → is_defined flags at ≡ false → IsTrue (is_defined flags other) → other ≢ at
-another flags at other not_yet is same = clash (sym (ap (is_defined flags) same) ∙ is) not_yet
-  where
-    clash : {b : Bool} → b ≡ true → b ≡ false → ⊥
-    clash p q = cc
-
 -- ---- a class
 
-abbrev pub filled_class : Option ℕ → List Member → ClassDecl → ClassDecl
-filled_class base members c = record { id = c.id; base = base; members = members }
+abbrev pub filled_class : Option ℕ → Option ℕ → List Member → ClassDecl → ClassDecl
+filled_class base compact members c = record { id = c.id; base = base; compact = compact; members = members }
 
-module _ (t : Tables) (at : ℕ) (base : Option ℕ) (members : List Member) where
+module _ (t : Tables) (at : ℕ) (base compact : Option ℕ) (members : List Member) where
   abbrev after_class : Tables
-  after_class = define_class t at base members
+  after_class = define_class t at base compact members
 
   types_class : Keeps t after_class
   types_class = record {
@@ -64,7 +43,7 @@ module _ (t : Tables) (at : ℕ) (base : Option ℕ) (members : List Member) whe
     dicts = λ at x e. e;
     structs = λ at x e. e;
     enums = λ at x e. e;
-    classes = still_there (filled_class base members) t.classes at;
+    classes = still_there (filled_class base compact members) t.classes at;
     interfaces = λ at x e. (x, e);
   }
 
@@ -73,26 +52,27 @@ module _ (t : Tables) (at : ℕ) (base : Option ℕ) (members : List Member) whe
   rows_class (rows.Dict place) = refl
   rows_class (rows.Struct place) = refl
   rows_class (rows.Enum place) = refl
-  rows_class (rows.Class place) = map-kept (λ c. c.id) (filled_class base members) (λ c. refl) t.classes at
+  rows_class (rows.Class place) = map-kept (λ c. c.id) (filled_class base compact members) (λ c. refl) t.classes at
   rows_class (rows.Exception place) = refl
   rows_class (rows.Interface place) = refl
 
-  module _ (kept : IsSchema t) (there : at < length t.classes) (not_yet : is_defined t.defined_classes at ≡ false) (fits : ClassFits t base members) where
+  module _ (kept : IsSchema t) (there : at < length t.classes) (not_yet : is_defined t.defined_classes at ≡ false) (fits : ClassFits t base members) (compact_fits : CompactIdFits t compact) where
     grows_class : Grows t after_class
     grows_class = record { types = types_class; classes = flag_stays t.defined_classes at; interfaces = λ at h. h; exceptions = omega arith; paths = λ at h. refl }
 
     schema_class : ((place : ℕ) → place < length after_class.classes → (bases : ℕ) × HasBases (class_base after_class) place bases) → IsSchema after_class
     schema_class counted = IsSchema-grown t after_class kept record {
       grows = grows_class;
-      room = record { seqs = kept.room.seqs; dicts = kept.room.dicts; structs = kept.room.structs; enums = kept.room.enums; classes = omega (arith, kept.room.classes, length-changed (filled_class base members) t.classes at); exceptions = kept.room.exceptions; interfaces = kept.room.interfaces };
-      class_flags = length-changed (λ _. true) t.defined_classes at ∙ kept.class_flags ∙ sym (length-changed (filled_class base members) t.classes at);
+      room = record { seqs = kept.room.seqs; dicts = kept.room.dicts; structs = kept.room.structs; enums = kept.room.enums; classes = omega (arith, kept.room.classes, length-changed (filled_class base compact members) t.classes at); exceptions = kept.room.exceptions; interfaces = kept.room.interfaces };
+      class_flags = length-changed (λ _. true) t.defined_classes at ∙ kept.class_flags ∙ sym (length-changed (filled_class base compact members) t.classes at);
       interface_flags = kept.interface_flags;
       ids = same_ids t after_class rows_class (ids_of t kept);
+      compact = compact_defined t at base compact members (compact_of t kept) compact_fits;
       seqs = all_old t.seqs (λ q. SeqFits t q.element);
       dicts = all_old t.dicts (λ d. DictFits t d.key d.value);
       structs = all_old t.structs (λ d. StructFits t d.members);
       enums = all_old t.enums (λ e. EnumFits e.entries);
-      classes = λ place c e. elim (where_from (filled_class base members) t.classes at place c e) [
+      classes = λ place c e. elim (where_from (filled_class base compact members) t.classes at place c e) [
         | inl old ↦ inl old.1
         | inr new ↦ inr (subst (λ (c : ClassDecl). ClassFits t c.base c.members) new.1.2 fits)
       ];
@@ -102,10 +82,10 @@ module _ (t : Tables) (at : ℕ) (base : Option ℕ) (members : List Member) whe
       exception_bases = kept.exception_bases;
     }
 
-module _ (t : Tables) (beside : Beside) (kept : IsKept t beside) (at : ℕ) (base : Option ℕ) (members : List Member) (there : at < length t.classes) (not_yet : is_defined t.defined_classes at ≡ false)
-    (fits : ClassFits t base members) (bases : ℕ) (from : HasBasesFrom (class_base t) base bases) (most : bases ≤ suc (defined t.defined_classes)) where
-  others : (other : ℕ) → other ≢ at → class_base t other ≡ class_base (define_class t at base members) other
-  others other apart = ap (option_map (λ c. c.base)) (sym (get_other (filled_class base members) t.classes at other apart))
+module _ (t : Tables) (beside : Beside) (kept : IsKept t beside) (at : ℕ) (base compact : Option ℕ) (members : List Member) (there : at < length t.classes) (not_yet : is_defined t.defined_classes at ≡ false)
+    (fits : ClassFits t base members) (compact_fits : CompactIdFits t compact) (bases : ℕ) (from : HasBasesFrom (class_base t) base bases) (most : bases ≤ suc (defined t.defined_classes)) where
+  others : (other : ℕ) → other ≢ at → class_base t other ≡ class_base (define_class t at base compact members) other
+  others other apart = ap (option_map (λ c. c.base)) (sym (get_other (filled_class base compact members) t.classes at other apart))
 
   no_base_yet : (other : ℕ) → ClassBaseFits t (Some other) → other ≢ at
   no_base_yet other h = another t.defined_classes at other not_yet h
@@ -115,14 +95,14 @@ module _ (t : Tables) (beside : Beside) (kept : IsKept t beside) (at : ℕ) (bas
       let row = row_of_base (λ c. c.base) (slice_get t.classes place) (Some over) e in
       no_base_yet over (subst (ClassBaseFits t) row.2 (kept.rules.classes place row.0 row.1).0)
 
-  stays_class : (place n : ℕ) → place ≢ at → HasBases (class_base t) place n → HasBases (class_base (define_class t at base members)) place n
-  stays_class = bases_stay (class_base t) (class_base (define_class t at base members)) at others base_apart
+  stays_class : (place n : ℕ) → place ≢ at → HasBases (class_base t) place n → HasBases (class_base (define_class t at base compact members)) place n
+  stays_class = bases_stay (class_base t) (class_base (define_class t at base compact members)) at others base_apart
 
-  filled_base : class_base (define_class t at base members) at ≡ Some base
+  filled_base : class_base (define_class t at base compact members) at ≡ Some base
   filled_base = by_row (slice_get t.classes at) refl
     where
-      by_row : (row : Option ClassDecl) → slice_get t.classes at ≡ row → class_base (define_class t at base members) at ≡ Some base
-      by_row (Some c) e = ap (option_map (λ c. c.base)) (get_changed (filled_class base members) t.classes at c e)
+      by_row : (row : Option ClassDecl) → slice_get t.classes at ≡ row → class_base (define_class t at base compact members) at ≡ Some base
+      by_row (Some c) e = ap (option_map (λ c. c.base)) (get_changed (filled_class base compact members) t.classes at c e)
       by_row None e = absurd (none_there t.classes at there e)
         where
           none_there : {A : Type 0} (xs : List A) (at : ℕ) → at < length xs → slice_get xs at ≡ None → ⊥
@@ -131,28 +111,28 @@ module _ (t : Tables) (beside : Beside) (kept : IsKept t beside) (at : ℕ) (bas
           none_there (x ∷ xs) (suc at) lt e = none_there xs at (omega (arith, lt)) e
 
   counts_class : (place : ℕ) (n : Option ℕ) → slice_get (changed (λ _. Some bases) beside.classes at) place ≡ Some n
-      → HasBases (class_base (define_class t at base members)) place (unwrap_or n 0) × (unwrap_or n 0 ≤ defined (changed (λ _. true) t.defined_classes at))
+      → HasBases (class_base (define_class t at base compact members)) place (unwrap_or n 0) × (unwrap_or n 0 ≤ defined (changed (λ _. true) t.defined_classes at))
   counts_class place n e =
       let more = defined_more t.defined_classes at (omega (arith, there, kept.rules.class_flags)) not_yet in
       elim (where_from (λ _. Some bases) beside.classes at place n e) [
         | inl old ↦ let was = kept.classes place n old.1 in (stays_class place (unwrap_or n 0) old.0 was.0, omega (arith, was.1, more))
         | inr new ↦ (
-          subst (λ (place : ℕ). HasBases (class_base (define_class t at base members)) place (unwrap_or n 0)) (sym new.0)
-              (subst (λ (n : Option ℕ). HasBases (class_base (define_class t at base members)) at (unwrap_or n 0)) new.1.2
-              (based_on (class_base t) (class_base (define_class t at base members)) at bases base (λ over more is h. stays_class over more (no_base_yet over (subst (ClassBaseFits t) is fits.0)) h) filled_base from)),
+          subst (λ (place : ℕ). HasBases (class_base (define_class t at base compact members)) place (unwrap_or n 0)) (sym new.0)
+              (subst (λ (n : Option ℕ). HasBases (class_base (define_class t at base compact members)) at (unwrap_or n 0)) new.1.2
+              (based_on (class_base t) (class_base (define_class t at base compact members)) at bases base (λ over more is h. stays_class over more (no_base_yet over (subst (ClassBaseFits t) is fits.0)) h) filled_base from)),
           subst (λ (n : Option ℕ). unwrap_or n 0 ≤ defined (changed (λ _. true) t.defined_classes at)) new.1.2 (omega (arith, most, more)),
         )
       ]
 
-  kept_class : IsKept (define_class t at base members) (record beside { classes = changed (λ _. Some bases) beside.classes at })
+  kept_class : IsKept (define_class t at base compact members) (record beside { classes = changed (λ _. Some bases) beside.classes at })
   kept_class =
-      let u = define_class t at base members in
-      let same = measured_kept t u (types_class t at base members) beside kept in
-      let as_many : length (changed (λ _. Some bases) beside.classes at) ≡ length (changed (filled_class base members) t.classes at) =
-      omega (arith, length-changed (λ _. Some bases) beside.classes at, length-changed (filled_class base members) t.classes at, length-map beside.classes is_some, ap length kept.class_flags, kept.rules.class_flags) in
+      let u = define_class t at base compact members in
+      let same = measured_kept t u (types_class t at base compact members) beside kept in
+      let as_many : length (changed (λ _. Some bases) beside.classes at) ≡ length (changed (filled_class base compact members) t.classes at) =
+      omega (arith, length-changed (λ _. Some bases) beside.classes at, length-changed (filled_class base compact members) t.classes at, length-map beside.classes is_some, ap length kept.class_flags, kept.rules.class_flags) in
       record {
-        rules = schema_class t at base members kept.rules there not_yet fits
-            (all_counted (changed (filled_class base members) t.classes at) (changed (λ _. Some bases) beside.classes at) (λ n. unwrap_or n 0) (class_base u) as_many (λ place n e. (counts_class place n e).0));
+        rules = schema_class t at base compact members kept.rules there not_yet fits compact_fits
+            (all_counted (changed (filled_class base compact members) t.classes at) (changed (λ _. Some bases) beside.classes at) (λ n. unwrap_or n 0) (class_base u) as_many (λ place n e. (counts_class place n e).0));
         seqs = same.seqs refl;
         dicts = same.dicts refl;
         structs = same.structs refl;
@@ -166,26 +146,49 @@ module _ (t : Tables) (beside : Beside) (kept : IsKept t beside) (at : ℕ) (bas
       }
 
 -- the tables that contracts see then
-pub view_class : (old : TableRows) (decls : List ClassDecl) (beside : List (Option ℕ)) (t : Tables) → tables_of old ≡ t → (at : ℕ) (base : Option ℕ) (members : List Member) (bases : ℕ) → decls ≡ changed (filled_class base members) old.classes.decls at → beside ≡ slice_set old.classes.beside at (Some bases)
-    → define_class t at base members ≡ tables_of (record old { classes = record { decls = decls; beside = beside } })
-view_class old decls beside t view_is at base members bases row count =
+pub view_class : (old : TableRows) (decls : List ClassDecl) (beside : List (Option ℕ)) (t : Tables) → tables_of old ≡ t → (at : ℕ) (base compact : Option ℕ) (members : List Member) (bases : ℕ) → decls ≡ changed (filled_class base compact members) old.classes.decls at → beside ≡ slice_set old.classes.beside at (Some bases)
+    → define_class t at base compact members ≡ tables_of (record old { classes = record { decls = decls; beside = beside } })
+view_class old decls beside t view_is at base compact members bases row count =
     let flags : map is_some beside ≡ changed (λ _. true) (map is_some old.classes.beside) at =
     ap (map is_some) (count ∙ set_to old.classes.beside at (Some bases)) ∙ map-changed is_some (λ _. Some bases) (λ _. true) (λ x. refl) old.classes.beside at in
     rw (row, flags, ← view_is) refl
 
 -- the same of a schema's fields, where contracts see them as these tables
 pub defined_class : (old : TableRows) (decls : List ClassDecl) (beside : List (Option ℕ)) (t : Tables) (row_of : List ℕ → Option RowRef) → IsHeld (tables_of old) (beside_of old) row_of → tables_of old ≡ t
-    → (at : ℕ) (base : Option ℕ) (members : List Member) (bases : ℕ) → decls ≡ changed (filled_class base members) old.classes.decls at → beside ≡ slice_set old.classes.beside at (Some bases)
-    → at < length t.classes → is_defined t.defined_classes at ≡ false → ClassFits t base members → HasBasesFrom (class_base t) base bases → bases ≤ suc (defined t.defined_classes)
+    → (at : ℕ) (base compact : Option ℕ) (members : List Member) (bases : ℕ) → decls ≡ changed (filled_class base compact members) old.classes.decls at → beside ≡ slice_set old.classes.beside at (Some bases)
+    → at < length t.classes → is_defined t.defined_classes at ≡ false → ClassFits t base members → CompactIdFits t compact → HasBasesFrom (class_base t) base bases → bases ≤ suc (defined t.defined_classes)
     → IsHeld (tables_of (record old { classes = record { decls = decls; beside = beside } })) (beside_of (record old { classes = record { decls = decls; beside = beside } })) row_of
-defined_class old decls beside t row_of held view_is at base members bases row count there not_yet fits from most =
+defined_class old decls beside t row_of held view_is at base compact members bases row count there not_yet fits compact_fits from most =
     let was : IsHeld t (beside_of old) row_of = subst (λ (t : Tables). IsHeld t (beside_of old) row_of) view_is held in
     let now : changed (λ _. Some bases) old.classes.beside at ≡ beside = sym (count ∙ set_to old.classes.beside at (Some bases)) in
-    subst (λ (u : Tables). IsHeld u (beside_of (record old { classes = record { decls = decls; beside = beside } })) row_of) (view_class old decls beside t view_is at base members bases row count)
-    (subst (λ (counts : List (Option ℕ)). IsHeld (define_class t at base members) (record (beside_of old) { classes = counts }) row_of) now (record {
-      kept = kept_class t (beside_of old) was.kept at base members there not_yet fits bases from most;
-      found = same_found t (define_class t at base members) (rows_class t at base members) row_of was.found;
+    subst (λ (u : Tables). IsHeld u (beside_of (record old { classes = record { decls = decls; beside = beside } })) row_of) (view_class old decls beside t view_is at base compact members bases row count)
+    (subst (λ (counts : List (Option ℕ)). IsHeld (define_class t at base compact members) (record (beside_of old) { classes = counts }) row_of) now (record {
+      kept = kept_class t (beside_of old) was.kept at base compact members there not_yet fits compact_fits bases from most;
+      found = same_found t (define_class t at base compact members) (rows_class t at base compact members) row_of was.found;
     }))
+
+-- and of its compact ids
+module _ (old : TableRows) (decls : List ClassDecl) (beside : List (Option ℕ)) (t : Tables) (row_of : List ℕ → Option RowRef) (held : IsHeld (tables_of old) (beside_of old) row_of) (view_is : tables_of old ≡ t)
+    (class_of : ℕ → Option ℕ) (room : ℕ) (numbered : AreNumbered (tables_of old) class_of room) (at : ℕ) (base compact : Option ℕ) (members : List Member) (bases : ℕ)
+    (row : decls ≡ changed (filled_class base compact members) old.classes.decls at) (count : beside ≡ slice_set old.classes.beside at (Some bases))
+    (there : at < length t.classes) (not_yet : is_defined t.defined_classes at ≡ false) where
+  flags_are : length t.defined_classes ≡ length t.classes
+  flags_are = (subst (λ (t : Tables). IsHeld t (beside_of old) row_of) view_is held).kept.rules.class_flags
+
+  was_numbered : AreNumbered t class_of room
+  was_numbered = subst (λ (t : Tables). AreNumbered t class_of room) view_is numbered
+
+  pub room_for_one : 0 < room
+  room_for_one = one_more t at base compact members there not_yet flags_are class_of room was_numbered
+
+  pub filled_without : compact ≡ None → AreNumbered (tables_of (record old { classes = record { decls = decls; beside = beside } })) class_of room
+  filled_without none = subst (λ (u : Tables). AreNumbered u class_of room) (view_class old decls beside t view_is at base compact members bases row count)
+      (numbered_without t at base compact members there not_yet flags_are class_of room was_numbered none)
+
+  pub filled_with : (number : ℕ) → compact ≡ Some number → (now : ℕ → Option ℕ) (left : ℕ) → ((other : ℕ) → now other ≡ cond (nat_eq number other) (Some at) (class_of other)) → room ≤ left + 1
+      → AreNumbered (tables_of (record old { classes = record { decls = decls; beside = beside } })) now left
+  filled_with number is now left put spare = subst (λ (u : Tables). AreNumbered u now left) (view_class old decls beside t view_is at base compact members bases row count)
+      (numbered_with t at base compact members there not_yet flags_are class_of room was_numbered number is now left put spare)
 
 -- ---- an interface
 
@@ -245,6 +248,7 @@ module _ (t : Tables) (at : ℕ) (bases : List ℕ) (ops : List OpDecl) where
       class_flags = kept.class_flags;
       interface_flags = length-changed (λ _. true) t.defined_interfaces at ∙ kept.interface_flags ∙ sym (length-changed (filled_interface bases ops) t.interfaces at);
       ids = same_ids t after_interface rows_interface (ids_of t kept);
+      compact = compact_of t kept;
       seqs = all_old t.seqs (λ q. SeqFits t q.element);
       dicts = all_old t.dicts (λ d. DictFits t d.key d.value);
       structs = all_old t.structs (λ d. StructFits t d.members);

@@ -1,12 +1,13 @@
 -- Tables that have grown keep the rules.
 use Rattle.std.proofs.Common.{◌≡◌, ℕ, List, [], ◌∷◌, ◌++◌, length, Some, subst, ◌⊎◌, inl, inr, ◌<◌}
 use Rattle.std.specs.Prelude.{slice_get}
-use Rattle.ice_types.specs.Tables.{Tables}
+use Rattle.ice_types.specs.Tables.{Tables, compact_ids}
 use Rattle.ice_types.specs.Fits.{SeqFits, DictFits, StructFits, EnumFits, ClassFits, ExceptionFits, InterfaceFits}
 use Rattle.ice_types.specs.Bases.{class_base, exception_base, HasBases}
 use Rattle.ice_types.specs.Rules.{HasRoom, EachRow, IsSchema}
 use Rattle.ice_types.proofs.Items.{slice_get-push}
 use Rattle.ice_types.proofs.RowIds.{AreIds}
+use Rattle.ice_types.proofs.CompactIds.{AreCompactIds}
 use Rattle.ice_types.proofs.Staying.{Grows, seq_stays, dict_stays, struct_stays, class_stays, exception_stays, interface_stays}
 
 -- each row is an old one at its place, or is so
@@ -35,6 +36,7 @@ pub record IsGrown (t u : Tables) : Type 0 where
   pub class_flags : length u.defined_classes ≡ length u.classes
   pub interface_flags : length u.defined_interfaces ≡ length u.interfaces
   pub ids : AreIds u
+  pub compact : AreCompactIds (compact_ids u)
   pub seqs : OldOr t.seqs u.seqs (λ q. SeqFits t q.element)
   pub dicts : OldOr t.dicts u.dicts (λ d. DictFits t d.key d.value)
   pub structs : OldOr t.structs u.structs (λ d. StructFits t d.members)
@@ -52,6 +54,8 @@ IsSchema-grown t u kept grown = record {
   interface_flags = grown.interface_flags;
   type_ids = grown.ids.type_ids;
   apart = grown.ids.apart;
+  compact_ids = grown.compact.most;
+  compact_apart = grown.compact.apart;
   seqs = each_row t.seqs u.seqs (λ q. SeqFits t q.element) (λ q. SeqFits u q.element) kept.seqs grown.seqs (λ q. seq_stays t u grown.grows q.element);
   dicts = each_row t.dicts u.dicts (λ d. DictFits t d.key d.value) (λ d. DictFits u d.key d.value) kept.dicts grown.dicts (λ d. dict_stays t u grown.grows d.key d.value);
   structs = each_row t.structs u.structs (λ d. StructFits t d.members) (λ d. StructFits u d.members) kept.structs grown.structs (λ d. struct_stays t u grown.grows d.members);

@@ -8,6 +8,9 @@ pub mod Staying
 pub mod RowIds
 pub mod BaseChains
 pub mod BasePaths
+pub mod Flags
+pub mod CompactIds
+pub mod SliceIds
 pub mod Grown
 pub mod Measured
 pub mod AddedTypes

@@ -3,8 +3,8 @@ use Rattle.std.proofs.Common.{◌≡◌, ℕ, List, refl, sym, subst, arith}
 use Rattle.ice_types.specs.declared.kind.RowRef.{RowRef}
 use Rattle.ice_types.specs.declared.kind.RowRef.TheVariants as rows
 use Rattle.std.specs.Prelude.{Option, None}
-use Rattle.ice_types.specs.Tables.{no_types, IsNewId, HasRowId, Finds}
-use Rattle.ice_types.specs.Ids.{IsHeld}
+use Rattle.ice_types.specs.Tables.{no_types, IsNewId, HasRowId, HasCompactId, Finds}
+use Rattle.ice_types.specs.Ids.{IsHeld, AreNumbered}
 use Rattle.ice_types.specs.Rules.{nothing, IsKept}
 use Rattle.ice_types.proofs.Said.{no_seq, no_dict, no_struct, no_enum}
 
@@ -25,6 +25,8 @@ kept_nothing = record {
     interface_flags = refl;
     type_ids = λ id row h. absurd (no_id id row h);
     apart = λ id a b h i. absurd (no_id id a h);
+    compact_ids = λ number at h. absurd cc;
+    compact_apart = λ number a b h i. absurd cc;
     seqs = λ at q e. absurd cc;
     dicts = λ at d e. absurd cc;
     structs = λ at d e. absurd cc;
@@ -49,3 +51,10 @@ kept_nothing = record {
 
 pub held_nothing : (row_of : List ℕ → Option RowRef) → ((id : List ℕ) → row_of id ≡ None) → IsHeld no_types nothing row_of
 held_nothing row_of none = record { kept = kept_nothing; found = λ id. subst (Finds (HasRowId no_types id)) (sym (none id)) (λ row h. no_id id row h) }
+
+pub numbered_nothing : (class_of : ℕ → Option ℕ) (room : ℕ) → ((number : ℕ) → class_of number ≡ None) → AreNumbered no_types class_of room
+numbered_nothing class_of room none = record {
+  found = λ number. subst (Finds (HasCompactId no_types number)) (sym (none number)) (λ at h. cc);
+  declared = λ number at h. absurd cc;
+  enough = omega arith;
+}

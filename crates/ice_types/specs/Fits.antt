@@ -7,7 +7,7 @@ use Rattle.ice_types.specs.declared.declarations.Shape.{Shape}
 use Rattle.ice_types.specs.declared.declarations.OpDecl.{OpDecl}
 use Rattle.ice_types.specs.declared.measure.Measure.{Measure}
 use Rattle.ice_types.specs.declared.schema.TheConstants.{MOST_DEPTH, MOST_SMALLEST, MOST_BASES, MOST_NUMBER}
-use Rattle.ice_types.specs.Tables.{Tables, is_defined}
+use Rattle.ice_types.specs.Tables.{Tables, IsNewCompactId, is_defined}
 use Rattle.ice_types.specs.Measures.{measure, measured, measure_members, paths_of}
 use Rattle.ice_types.specs.Names.{AreNew}
 
@@ -85,6 +85,11 @@ ClassBaseFits t (Some base) = IsTrue (is_defined t.defined_classes base)
 -- the base is there and defined, and the members fit
 abbrev pub ClassFits : Tables → Option ℕ → List Member → Type 0
 ClassFits t base members = ClassBaseFits t base × MembersFit t members
+
+-- a compact id is at most 2,147,483,647, and no class has it
+abbrev pub CompactIdFits : Tables → Option ℕ → Type 0
+CompactIdFits t None = Unit {0}
+CompactIdFits t (Some number) = (number ≤ MOST_NUMBER) × IsNewCompactId t number
 
 -- the base of an exception is there
 abbrev pub ExceptionBaseFits : Tables → Option ℕ → Type 0

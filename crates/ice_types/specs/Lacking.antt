@@ -84,7 +84,7 @@ module _ (t s : Tables) where
   SameEnum a b = AreSame SameEntry a.entries b.entries
 
   abbrev pub SameClass : ClassDecl → ClassDecl → Type 0
-  SameClass a b = SameBase rows.Class a.base b.base × AreSame SameMember a.members b.members
+  SameClass a b = SameBase rows.Class a.base b.base × AreSame SameMember a.members b.members × (a.compact ≡ b.compact)
 
   abbrev pub SameException : ExceptionDecl → ExceptionDecl → Type 0
   SameException a b = SameBase rows.Exception a.base b.base × AreSame SameMember a.members b.members

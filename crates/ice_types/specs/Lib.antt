@@ -1,6 +1,7 @@
 pub mod formers
 pub mod Names
 pub mod Tables
+pub mod CompactIds
 pub mod Measures
 pub mod Fits
 pub mod Bases

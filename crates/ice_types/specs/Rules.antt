@@ -6,8 +6,8 @@ use Rattle.ice_types.specs.declared.kind.TypeRef.TheVariants as kinds
 use Rattle.ice_types.specs.declared.kind.RowRef.{RowRef}
 use Rattle.ice_types.specs.declared.measure.Measure.{Measure}
 use Rattle.ice_types.specs.declared.rows.TheConstants.{MOST_ROWS}
-use Rattle.ice_types.specs.declared.schema.TheConstants.{MOST_DEPTH, MOST_BASES}
-use Rattle.ice_types.specs.Tables.{Tables, HasRowId, IsTypeId}
+use Rattle.ice_types.specs.declared.schema.TheConstants.{MOST_DEPTH, MOST_BASES, MOST_NUMBER}
+use Rattle.ice_types.specs.Tables.{Tables, HasRowId, HasCompactId, IsTypeId}
 use Rattle.ice_types.specs.Measures.{measure, paths_of}
 use Rattle.ice_types.specs.Fits.{SeqFits, DictFits, StructFits, EnumFits, ClassFits, ExceptionFits, InterfaceFits}
 use Rattle.ice_types.specs.Bases.{class_base, exception_base, HasBases}
@@ -26,8 +26,8 @@ pub record HasRoom (t : Tables) : Type 0 where
 abbrev pub EachRow : {A : Type 0} → List A → (A → Type 0) → Type 0
 EachRow {A} rows Is = (at : ℕ) (row : A) → slice_get rows at ≡ Some row → Is row
 
--- what every schema keeps: room, a flag for each class and interface, type ids of which none is of two rows, each row
--- of each table fits, and no class or exception is a base of its own
+-- what every schema keeps: room, a flag for each class and interface, type ids of which none is of two rows, compact ids of
+-- which none is of two classes, each row of each table fits, and no class or exception is a base of its own
 pub record IsSchema (t : Tables) : Type 0 where
   pub room : HasRoom t
   -- a flag for each class and each interface
@@ -36,6 +36,9 @@ pub record IsSchema (t : Tables) : Type 0 where
   -- type ids, none of two rows
   pub type_ids : (id : List ℕ) (row : RowRef) → HasRowId t id row → IsTypeId id
   pub apart : (id : List ℕ) (a b : RowRef) → HasRowId t id a → HasRowId t id b → a ≡ b
+  -- compact ids within the limit, none of two classes
+  pub compact_ids : (number at : ℕ) → HasCompactId t number at → number ≤ MOST_NUMBER
+  pub compact_apart : (number a b : ℕ) → HasCompactId t number a → HasCompactId t number b → a ≡ b
   -- each row is within the limits
   pub seqs : EachRow t.seqs (λ q. SeqFits t q.element)
   pub dicts : EachRow t.dicts (λ d. DictFits t d.key d.value)

@@ -3,7 +3,7 @@
 ghost use Rattle.std.specs.Prelude.{◌≡◌, ◌+◌, ◌<◌, false, IfOk, OnErr, length};
 ghost use Rattle.ice_types.specs.Tables.{IsTypeId, IsNewId, is_defined, with_class, with_interface, define_class};
 ghost use Rattle.ice_types.specs.Tables.{define_interface};
-ghost use Rattle.ice_types.specs.Fits.{ClassFits, InterfaceFits};
+ghost use Rattle.ice_types.specs.Fits.{ClassFits, CompactIdFits, InterfaceFits};
 ghost use Rattle.ice_types.specs.Rules.{IsSchema};
 
 use crate::declarations::{ClassDecl, InterfaceDecl, Member, OpDecl};
@@ -24,10 +24,13 @@ impl Schema {
         ensures err { OnErr result (self.new ≡ self.old) }
         ensures rules { IsSchema self.new }
     {
-        let at = self.rows.classes.decls.len() as u32;
+        let classes = self.rows.classes.decls.len();
+        self.compact_ids.make_room(classes + 1)?;
+        let at = classes as u32;
         let decl = ClassDecl {
             id,
             base: None,
+            compact: None,
             members: List::new(self.ids.alloc()),
         };
         add_row(
@@ -41,16 +44,26 @@ impl Schema {
     }
 
     /// Defines a class that is only declared so far. It takes no memory.
-    pub fn define_class(&mut self, at: u32, base: Option<u32>, members: List<Member>)
+    pub fn define_class(
+        &mut self,
+        at: u32,
+        base: Option<u32>,
+        compact: Option<u32>,
+        members: List<Member>,
+    )
         requires there { at < length self.old.classes }
         requires undefined { is_defined self.old.defined_classes at ≡ false }
         requires fits { ClassFits self.old base members }
-        ensures filled { self.new ≡ define_class self.old at base members }
+        requires compact { CompactIdFits self.old compact }
+        ensures filled { self.new ≡ define_class self.old at base compact members }
         ensures rules { IsSchema self.new }
     {
         let bases = self.class_bases_from(base);
-        fill_class(&mut self.rows.classes.decls, at, base, members);
+        fill_class(&mut self.rows.classes.decls, at, base, compact, members);
         self.rows.classes.beside.put(at as usize, Some(bases));
+        if let Some(number) = compact {
+            self.compact_ids.put(number, at);
+        }
     }
 
     /// Adds an interface that is only declared, and answers its place. Out of memory leaves the schema as it was.

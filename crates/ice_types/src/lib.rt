@@ -13,6 +13,9 @@
 //! - Beside a class or interface stands `Option` of a number: None while it is only declared, then how many
 //!   bases it has. The flags that contracts see are read off it, so that both cannot part. Those numbers fall
 //!   along bases, by which look-ups follow bases without recursion.
+//! - The classes by compact id are a hash map (`CompactIds`), since `define_*` cannot fail: `add_class` takes the room for
+//!   one of each class that is not yet defined, and an ordered map has no room to take beforehand.
+//! - A compact id that stands in place of a type id is the text `#n` where an id is kept as a text: no type id begins so.
 //! - A class or interface is declared by its id and defined once, as Slice does; `add_*` takes the memory, so
 //!   that `define_*` cannot fail.
 //! - What may be added is said in words that the checker has found already (`*Fits`), and an adding call tests
@@ -42,6 +45,7 @@
 
 mod adding;
 mod bases;
+mod compact_ids;
 mod declarations;
 mod defining;
 mod identity;
@@ -62,6 +66,7 @@ mod proxy;
 mod rows;
 mod same_rows;
 mod schema;
+mod slice_ids;
 
 pub use declarations::{
     ClassDecl, DictDecl, Entry, EnumDecl, ExceptionDecl, InterfaceDecl, Member, OpDecl, SeqDecl,
@@ -82,3 +87,4 @@ pub use own_names::have_own_names;
 pub use proxy::{Endpoint, Proxy};
 pub use rows::MOST_ROWS;
 pub use schema::{MOST_BASES, MOST_DEPTH, MOST_NUMBER, MOST_SMALLEST, Schema};
+pub use slice_ids::{number_in, numbered_id};

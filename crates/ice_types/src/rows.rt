@@ -146,18 +146,21 @@ pub(crate) fn add_row<T: Row + Drop, S: Drop>(
     added
 }
 
-/// Puts a base and members into the class at this place.
+/// Puts a base, a compact id and members into the class at this place.
 pub(crate) fn fill_class(
     classes: &mut List<ClassDecl>,
     at: u32,
     base: Option<u32>,
+    compact: Option<u32>,
     members: List<Member>,
 )
     requires { at < length classes.old }
-    ensures { classes.new ≡ changed (λ c. record { id = c.id; base = base; members = members }) classes.old at }
+    ensures { classes.new ≡ changed
+        (λ c. record { id = c.id; base = base; compact = compact; members = members }) classes.old at }
 {
     let class = &mut classes.items[at as usize];
     class.base = base;
+    class.compact = compact;
     class.members = members;
 }
 

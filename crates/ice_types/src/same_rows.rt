@@ -304,6 +304,7 @@ fn are_same_classes(one: &Schema, other: &Schema, own: u32, place: u32) -> bool
     };
     is_same_class_base(one, other, own.base, decl.base)
         && are_same_members(one, other, own.members.as_slice(), decl.members.as_slice())
+        && own.compact == decl.compact
 }
 
 /// Whether exceptions stand at both places, and are the same.

@@ -4,6 +4,7 @@ ghost use Rattle.std.specs.Prelude.{◌≡◌};
 ghost use Rattle.ice_types.specs.Tables.{no_types};
 ghost use Rattle.ice_types.specs.Rules.{IsSchema};
 
+use crate::compact_ids::CompactIds;
 use crate::declarations::{
     ClassDecl, DictDecl, EnumDecl, ExceptionDecl, InterfaceDecl, SeqDecl, StructDecl,
 };
@@ -30,18 +31,20 @@ pub const MOST_NUMBER: u32 = 2_147_483_647;
 pub struct Schema {
     pub(crate) rows: TableRows,
     pub(crate) ids: Ids,
+    pub(crate) compact_ids: CompactIds,
 }
 
 impl Model for Schema {
     ghost use Rattle.ice_types.specs.Tables.{Tables};
     ghost use Rattle.ice_types.specs.Kept.{beside_of, tables_of};
-    ghost use Rattle.ice_types.specs.Ids.{IsHeld, row_in};
+    ghost use Rattle.ice_types.specs.Ids.{AreNumbered, IsHeld, class_in, room_in, row_in};
 
     ghost Value = { Tables };
 
     ghost view = { λ s. tables_of s.rows };
 
-    ghost invariant = { λ s. IsHeld (tables_of s.rows) (beside_of s.rows) (row_in s.ids) };
+    ghost invariant = { λ s. IsHeld (tables_of s.rows) (beside_of s.rows) (row_in s.ids)
+        × AreNumbered (tables_of s.rows) (class_in s.compact_ids) (room_in s.compact_ids) };
 }
 
 impl Schema {
@@ -52,6 +55,7 @@ impl Schema {
         Schema {
             rows: TableRows::new(alloc),
             ids: Ids::new(alloc),
+            compact_ids: CompactIds::new(alloc),
         }
     }
 

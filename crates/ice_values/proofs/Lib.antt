@@ -2,6 +2,7 @@ pub mod Frames
 pub mod Costs
 pub mod Keys
 pub mod RowsNamed
+pub mod Hashed
 pub mod Levels
 pub mod Plain
 pub mod ByteSequences

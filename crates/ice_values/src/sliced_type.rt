@@ -6,10 +6,11 @@ ghost use Rattle.ice_graphs.specs.Canonical.{id_in};
 ghost use Rattle.ice_graphs.specs.Classes.{class_named, members_in};
 ghost use Rattle.ice_graphs.specs.Classes as classes;
 ghost use Rattle.ice_values.specs.Shapes.{handed};
-ghost use Rattle.ice_values.specs.SlicedType.{own_fields, rows_of};
+ghost use Rattle.ice_types.specs.CompactIds.{numbered_id};
+ghost use Rattle.ice_values.specs.SlicedType.{compact_in, own_fields, row_of, rows_of};
 
 use crate::fields::DeclaredMembers;
-use ice_types::{Member, Schema};
+use ice_types::{Member, Schema, number_in};
 
 /// What has slices: an instance, whose slices are of classes, or a user exception, whose slices are of
 /// exceptions. A class or an exception is named by its row in the schema.
@@ -32,6 +33,44 @@ impl SlicedType {
         match self {
             SlicedType::Class => schema.class(id),
             SlicedType::Exception => schema.exception(id),
+        }
+    }
+
+    /// The row that slices of this id are of, None where the schema has none: a class has its type id, and for `#n`
+    /// its compact id; an exception has its type id alone.
+    pub fn row_by_id(self, schema: &Schema, id: &str) -> Option<u32>
+        ensures { result ≡ row_of self (rows_of self schema.now) id.now }
+    {
+        schema.rules();
+        match self {
+            SlicedType::Class => match number_in(id) {
+                Some(number) => self.row_numbered(schema, number),
+                // No type id begins with `#`.
+                None => self.row_named(schema, id),
+            },
+            SlicedType::Exception => self.row_named(schema, id),
+        }
+    }
+
+    /// The row that slices of a compact id are of, None where the schema has none.
+    pub fn row_numbered(self, schema: &Schema, number: u32) -> Option<u32>
+        ensures { result ≡ row_of self (rows_of self schema.now) (numbered_id number) }
+    {
+        // No two classes have one compact id.
+        schema.rules();
+        match self {
+            SlicedType::Class => schema.class_numbered(number),
+            SlicedType::Exception => None,
+        }
+    }
+
+    /// The compact id of a row, None where it has none, or there is no such row.
+    pub fn compact_of(self, schema: &Schema, row: u32) -> Option<u32>
+        ensures { result ≡ compact_in (slice_get (rows_of self schema.now).classes row) }
+    {
+        match self {
+            SlicedType::Class => schema.classes().get(row as usize)?.compact,
+            SlicedType::Exception => None,
         }
     }
 

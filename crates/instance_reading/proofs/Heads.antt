@@ -91,7 +91,7 @@ module _ (refer : Option ℕ → Reader (State ℕ) (Option ℕ)) (t : Tables) (
 
   -- the flags are read
   pub flags_read : (sort : SlicedType) (before : Before) (f : Flags) (s : State ℕ) (r after : Rest) → flags_at (may_begin sort before) r ≡ Ok (f, after)
-      → slices_by refer sort t (suc steps) before s r ≡ (id_by sort r.place f.id s after >>= behind_id sort before f r.place after.place)
+      → slices_by refer sort t (suc steps) before s r ≡ (id_by sort f.id s after >>= behind_id sort before f r.place after.place)
   flags_read sorts.Class before f s r after is = rw is refl
   flags_read sorts.Exception before f s r after is = rw is refl
 
@@ -100,14 +100,14 @@ module _ (refer : Option ℕ → Reader (State ℕ) (Option ℕ)) (t : Tables) (
   flags_refused sorts.Exception before s r e is = rw is refl
 
   -- the type id is refused
-  pub id_refused : (sort : SlicedType) (before : Before) (f : Flags) (s : State ℕ) (r mid : Rest) (e : ReadFault) → flags_at (may_begin sort before) r ≡ Ok (f, mid) → Fails e (id_by sort r.place f.id s mid)
+  pub id_refused : (sort : SlicedType) (before : Before) (f : Flags) (s : State ℕ) (r mid : Rest) (e : ReadFault) → flags_at (may_begin sort before) r ≡ Ok (f, mid) → Fails e (id_by sort f.id s mid)
       → Fails e (slices_by refer sort t (suc steps) before s r)
   id_refused sort before f s r mid e flags h =
-      fault_along e _ _ (sym (flags_read sort before f s r mid flags)) (fails_then e (id_by sort r.place f.id s mid) (behind_id sort before f r.place mid.place) h)
+      fault_along e _ _ (sym (flags_read sort before f s r mid flags)) (fails_then e (id_by sort f.id s mid) (behind_id sort before f r.place mid.place) h)
 
   -- the type id is read
   pub id_read : (sort : SlicedType) (before : Before) (f : Flags) (id : List ℕ) (class : Option ℕ) (s s' : State ℕ) (r mid behind : Rest) → flags_at (may_begin sort before) r ≡ Ok (f, mid)
-      → id_by sort r.place f.id s mid ≡ Ok (id, s', behind) → class_by sort (rows_of sort t) before id ≡ class
+      → id_by sort f.id s mid ≡ Ok (id, s', behind) → class_by sort (rows_of sort t) before id ≡ class
       → slices_by refer sort t (suc steps) before s r ≡ from_class sort before f r.place mid.place id class s' behind
   id_read sort before f id class s s' r mid behind flags is_id named =
       flags_read sort before f s r mid flags
@@ -115,7 +115,7 @@ module _ (refer : Option ℕ → Reader (State ℕ) (Option ℕ)) (t : Tables) (
       ∙ ap (λ (c : Option ℕ). from_class sort before f r.place mid.place id c s' behind) named
 
   pub class_refused : (sort : SlicedType) (before : Before) (f : Flags) (id : List ℕ) (class : Option ℕ) (s s' : State ℕ) (r mid behind : Rest) (e : Fault) → flags_at (may_begin sort before) r ≡ Ok (f, mid)
-      → id_by sort r.place f.id s mid ≡ Ok (id, s', behind) → class_by sort (rows_of sort t) before id ≡ class
+      → id_by sort f.id s mid ≡ Ok (id, s', behind) → class_by sort (rows_of sort t) before id ≡ class
       → ((read : Reader (State ℕ) (List Slice)) (now : State ℕ) (left : Rest) → tested (is_base before class) mid.place WrongBase (tested (can_be_read all_slices class f) mid.place UnknownClass
       (tested (ends_by sort (rows_of sort t) class f) r.place BadLast read)) now left ≡ Err e)
       → slices_by refer sort t (suc steps) before s r ≡ Err e
@@ -206,7 +206,7 @@ module _ (inside : Inside (State ℕ)) (sort : SlicedType) (t : Tables) where
 -- ---- a slice from its flags on
 
 module _ (sort : SlicedType) (t : Tables) (before : Before) (f : Flags) (id : List ℕ) (class : Option ℕ) (s s' : State ℕ) (r mid behind after : Rest) (flags : flags_at (may_begin sort before) r ≡ Ok (f, mid))
-    (is_id : id_by sort r.place f.id s mid ≡ Ok (id, s', behind)) (named : class_by sort (rows_of sort t) before id ≡ class) (base : is_base before class ≡ true) (readable : can_be_read all_slices class f ≡ true)
+    (is_id : id_by sort f.id s mid ≡ Ok (id, s', behind)) (named : class_by sort (rows_of sort t) before id ≡ class) (base : is_base before class ≡ true) (readable : can_be_read all_slices class f ≡ true)
     (ends : ends_by sort (rows_of sort t) class f ≡ true) where
   begun : (refer : Option ℕ → Reader (State ℕ) (Option ℕ)) (steps : ℕ) → slices_by refer sort t (suc steps) before s r ≡ behind_tests refer sort t steps f class id s' behind
   begun refer steps =

@@ -1,5 +1,6 @@
 pub mod Arenas
 pub mod Places
+pub mod TypeIds
 pub mod Heads
 pub mod Reopened
 pub mod Stages

@@ -4,7 +4,6 @@ use Rattle.ice_types.specs.declared.declarations.Shape.{Shape}
 use Rattle.ice_types.specs.Tables.{Tables}
 use Rattle.ice_prims.specs.declared.fault.Fault.{Fault}
 use Rattle.ice_prims.specs.declared.fault.ReadFault.{ReadFault}
-use Rattle.ice_prims.specs.Number.{text_at}
 use Rattle.ice_prims.specs.Rest.{Rest, fault, ◌>>=◌}
 use Rattle.ice_prims.specs.declared.fault.Kind.TheVariants.{Short, WrongClass}
 use Rattle.ice_prims.specs.Taking.{Fails}
@@ -21,7 +20,7 @@ use Rattle.ice_graphs.specs.Instances.{most_instances, references, graph_at, mis
 use Rattle.ice_graphs.specs.Joining.{placed}
 use Rattle.ice_graphs.specs.References.{State, inline_at, opening}
 use Rattle.ice_graphs.specs.Slices.{from_id}
-use Rattle.ice_graphs.specs.TypeIds.{before_next}
+use Rattle.ice_graphs.specs.TypeIds.{type_id_at, before_next}
 use Rattle.ice_values.specs.declared.fields.Optionals.TheVariants.{ToEnd}
 use Rattle.ice_values.specs.Advancing.{fresh_members}
 use Rattle.ice_values.specs.Shapes.{told_apart}
@@ -41,7 +40,7 @@ use Rattle.instance_reading.proofs.Stack.{refer_is, whole_slices}
 -- slices are read by how their port reads
 same_port : (port : Port (State ℕ) (State (Unit {0}))) (refer : Option ℕ → Reader (State ℕ) (Option ℕ)) (u : Tables) → port.read ≡ refer → (steps : ℕ) → user_exception_slices port u all_slices steps ≡ user_exception_slices (port_by refer) u all_slices steps
 same_port port refer u e zero = λ i before s r. fault r.place Short
-same_port port refer u e (suc steps) = λ i before. placed (λ flags_place. followed (plain (flags_at (may_be_raised before))) (λ f. placed (λ id_place. followed (plain text_at)
+same_port port refer u e (suc steps) = λ i before. placed (λ flags_place. followed (plain (flags_at (may_be_raised before))) (λ f. placed (λ id_place. followed (plain type_id_at)
     (λ id. let class = class_named u id in from_id (e i) u all_slices (behind_user_exception (same_port port refer u e steps i (before_next u class f)) (is_known_last u class f) class) (may_be_last u class f) before f flags_place id_place id class))))
 
 module _ (t : Tables) where

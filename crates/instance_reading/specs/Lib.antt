@@ -1,3 +1,4 @@
+pub mod Ids
 pub mod Seen
 pub mod Sorts
 pub mod Slices

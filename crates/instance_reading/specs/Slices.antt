@@ -20,7 +20,7 @@ use Rattle.ice_graphs.specs.Graph.{known, unknown}
 use Rattle.ice_graphs.specs.Graph as graphs
 use Rattle.ice_graphs.specs.Flags.{Flags, flags_of, all_slices, flags_at}
 use Rattle.ice_graphs.specs.Flags as flags
-use Rattle.ice_graphs.specs.TypeIds.{id_indexed, is_base, can_be_read}
+use Rattle.ice_graphs.specs.TypeIds.{type_id_at, id_indexed, is_base, can_be_read}
 use Rattle.ice_graphs.specs.Instances.{most_instances}
 use Rattle.ice_graphs.specs.References.{State, inline_at, entry_at, entries_at, table_at, resolved, with_met}
 use Rattle.ice_graphs.specs.References as refs
@@ -29,12 +29,14 @@ use Rattle.graph_arena.specs.Seen.{view_content}
 use Rattle.ice_values.specs.Unread.{left_of_members}
 use Rattle.ice_values.specs.SlicedType.{own_fields, rows_of}
 use Rattle.ice_values.specs.declared.sliced_type.SlicedType.{SlicedType}
+use Rattle.instance_reading.specs.Ids.{id_of}
 use Rattle.instance_reading.specs.Seen.{view_before, view_next, view_references}
 use Rattle.instance_reading.specs.Sorts.{may_begin, id_by, ends_by, behind_slice, slices_by, slices_from}
 use Rattle.instance_reading.specs.declared.sized.SizedMembers.{SizedMembers}
 use Rattle.instance_reading.specs.declared.sized.Body.{Body}
 use Rattle.instance_reading.specs.declared.sized.Body.TheVariants as bodies
 use Rattle.instance_reading.specs.declared.sized.OpenSlice.{OpenSlice}
+use Rattle.instance_reading.specs.declared.slice_id.SliceId.{SliceId}
 use Rattle.instance_reading.specs.declared.slice.CompactSlice.{CompactSlice}
 use Rattle.instance_reading.specs.declared.slice.Stage.{Stage}
 use Rattle.instance_reading.specs.declared.slice.Stage.TheVariants as stages
@@ -48,7 +50,7 @@ pub data Front : Type 0 where
 
 abbrev pub view_body : Body → Front
 view_body (bodies.Members class content uses) = members_of class (view_content content) (view_references uses.items)
-view_body (bodies.Unknown id part) = bytes_of id.now part.bytes.now part.optionals
+view_body (bodies.Unknown id part) = bytes_of (id_of id) part.bytes.now part.optionals
 
 -- the slice with its table
 abbrev pub slice_with : Front → List ℕ → graphs.Slice
@@ -125,9 +127,14 @@ abbrev pub SeesFlags : SlicedType → flags.Before → Result ℕ Fault → Rest
 SeesFlags sort before (Ok b) r r' = flags_at (may_begin sort before) r ≡ Ok (flags_of b, r')
 SeesFlags sort before (Err e) r r' = flags_at (may_begin sort before) r ≡ Err e
 
-abbrev pub ReadsId : SlicedType → ℕ → ℕ → Result (Bor (List ℕ)) ReadFault → State ℕ → Rest → State ℕ → Rest → Type 0
-ReadsId sort place b (Ok id) s r s' r' = id_by sort place (flags_of b).id s r ≡ Ok (id.now, s', r')
-ReadsId sort place b (Err e) s r s' r' = Fails e (id_by sort place (flags_of b).id s r)
+abbrev pub ReadsId : SlicedType → ℕ → Result SliceId ReadFault → State ℕ → Rest → State ℕ → Rest → Type 0
+ReadsId sort b (Ok id) s r s' r' = id_by sort (flags_of b).id s r ≡ Ok (id_of id, s', r')
+ReadsId sort b (Err e) s r s' r' = Fails e (id_by sort (flags_of b).id s r)
+
+-- a type id as a text, with the same fault
+abbrev pub TakesTypeId : Result (Bor (List ℕ)) Fault → Rest → Rest → Type 0
+TakesTypeId (Ok id) r r' = type_id_at r ≡ Ok (id.now, r')
+TakesTypeId (Err e) r r' = type_id_at r ≡ Err e
 
 abbrev pub FindsId : Fault → ℕ → List (List ℕ) → Result (Bor (List ℕ)) ReadFault → Type 0
 FindsId wrong index ids (Ok id) = (i : ℕ) × (index ≡ suc i) × (slice_get ids i ≡ Some id.now)

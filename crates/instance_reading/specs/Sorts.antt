@@ -1,7 +1,6 @@
 -- The two sorts of slices: those of an instance, which are of classes, and those of an exception; and what differs between them.
 use Rattle.std.specs.Prelude.{ℕ, Bool, true, false, List, [], ◌∷◌, Option, None, Some}
 use Rattle.ice_types.specs.Tables.{Tables}
-use Rattle.ice_prims.specs.Number.{text_at}
 use Rattle.ice_encoding.specs.Port.{Port, Reader}
 use Rattle.ice_encoding.specs.Reading.{plain}
 use Rattle.ice_graphs.specs.Steps.{given}
@@ -9,7 +8,7 @@ use Rattle.ice_graphs.specs.Classes.{class_named, base_of}
 use Rattle.ice_graphs.specs.Graph.{Slice}
 use Rattle.ice_graphs.specs.Flags.{IdForm, Flags, all_slices, Before, first, only_unknown, derived, may_stand}
 use Rattle.ice_graphs.specs.References.{State, seen}
-use Rattle.ice_graphs.specs.TypeIds.{id_at, class_in, ends_well}
+use Rattle.ice_graphs.specs.TypeIds.{type_id_at, id_at, class_in, ends_well}
 use Rattle.ice_graphs.specs.Slices.{slices_at}
 use Rattle.ice_graphs.specs.Exceptions.{of_exceptions, may_be_raised, may_be_last, user_exception_slices}
 use Rattle.ice_values.specs.declared.sliced_type.SlicedType.{SlicedType}
@@ -20,12 +19,12 @@ abbrev pub may_begin : SlicedType → Before → Flags → Bool
 may_begin sorts.Class = may_stand
 may_begin sorts.Exception = may_be_raised
 
--- the type id, which of an exception is always a text and is not counted
-abbrev pub id_by : SlicedType → ℕ → IdForm → Reader (State ℕ) (List ℕ)
-id_by sorts.Class flags_place form = id_at flags_place form
-id_by sorts.Exception flags_place form = plain text_at
+-- the id, which of an exception is always a text and is not counted
+abbrev pub id_by : SlicedType → IdForm → Reader (State ℕ) (List ℕ)
+id_by sorts.Class form = id_at form
+id_by sorts.Exception form = plain type_id_at
 
--- what the type id stands for
+-- what the id stands for
 abbrev pub class_by : SlicedType → Tables → Before → List ℕ → Option ℕ
 class_by sorts.Class t before id = class_in t before id
 class_by sorts.Exception t before id = class_named t id

@@ -11,6 +11,7 @@ ghost use Rattle.ice_graphs.specs.Flags.{flags_of};
 ghost use Rattle.ice_values.specs.Advancing.{ReadsMembers};
 ghost use Rattle.ice_values.specs.SlicedType.{rows_of};
 ghost use Rattle.instance_reading.specs.Seen.{view_next, view_references};
+ghost use Rattle.instance_reading.specs.Ids.{id_of};
 ghost use Rattle.instance_reading.specs.Slices.{OpensUnknown, OpensSized, ReadsPlaces, ReadsSized};
 ghost use Rattle.instance_reading.specs.Slices.{SeesTable, first_outside};
 ghost use Rattle.instance_reading.specs.Sorts as sorts;
@@ -18,6 +19,7 @@ ghost use Rattle.instance_reading.specs.Sorts as sorts;
 use crate::arena::Reference;
 use crate::flags::{is_odd, optionals};
 use crate::slice::Before;
+use crate::slice_id::SliceId;
 use crate::table_port::{InTable, Untabled};
 use encaps_optionals::end;
 use graph_arena::Members;
@@ -47,7 +49,7 @@ pub(crate) enum Body<'a> {
     },
     /// What is kept of a class that is not known.
     Unknown {
-        id: &'a str,
+        id: SliceId<'a>,
         part: UnknownPart<'a>,
     },
 }
@@ -98,11 +100,11 @@ pub(crate) fn open_sized<'a>(
 /// its table.
 pub(crate) fn open_unknown<'a>(
     alloc: Global,
-    id: &'a str,
+    id: SliceId<'a>,
     flags: u8,
     cursor: &mut Cursor<'a>,
 ) -> Result<OpenSlice<'a>, Fault>
-    ensures { OpensUnknown id.now (flags_of flags) result cursor.old cursor.new }
+    ensures { OpensUnknown (id_of id) (flags_of flags) result cursor.old cursor.new }
 {
     let part = skip_slice(cursor, flags)?;
     let left = take_table(flags, &[], cursor)?;

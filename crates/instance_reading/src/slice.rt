@@ -1,18 +1,20 @@
-//! Where reading stands in the slices of an instance, and the head of a slice: its flags, its type id, and
-//! the tests of its class. (Ice manual, "Data Encoding for Class and Exception Types".)
+//! Where reading stands in the slices of an instance, and the head of a slice: its flags, its id, and the
+//! tests of its class. (Ice manual, "Data Encoding for Class and Exception Types".)
 
 ghost use Rattle.std.specs.Prelude.{◌≡◌, ◌<◌, ◌^◌, OnOk, Some};
 ghost use Rattle.ice_graphs.specs.Flags.{flags_of};
 ghost use Rattle.ice_values.specs.SlicedType.{rows_of};
 ghost use Rattle.ice_values.specs.declared.sliced_type.SlicedType.TheVariants as sorts;
+ghost use Rattle.instance_reading.specs.Ids.{id_of};
 ghost use Rattle.instance_reading.specs.Seen.{view_before};
-ghost use Rattle.instance_reading.specs.Slices.{BeginsSlice, FindsId, OpensKnown, OpensSlice, ReadsId, Tests};
+ghost use Rattle.instance_reading.specs.Slices.{BeginsSlice, FindsId, OpensKnown, OpensSlice, ReadsId, TakesTypeId, Tests};
 ghost use Rattle.instance_reading.specs.Slices.{stage_work};
 ghost use Rattle.instance_reading.specs.Sorts.{class_by, ends_by, is_over};
 
 use crate::arena::Arena;
 use crate::flags::{is_odd, optionals, take_flags};
 use crate::sized::{OpenSlice, behind_base, open_sized, open_unknown};
+use crate::slice_id::SliceId;
 use ice_prims::{Cursor, Fault, Kind, ReadFault};
 use ice_types::Schema;
 use ice_values::{MembersReader, SlicedType};
@@ -86,7 +88,7 @@ pub(crate) fn begin_slice<'a>(
         Err(fault) => return Err(ReadFault::Broken(fault)),
     };
     let id_place = cursor.place();
-    let id = match take_id(sort, flags, flags_place, cursor, arena) {
+    let id = match take_id(sort, flags, cursor, arena) {
         Ok(id) => id,
         Err(fault) => return Err(fault),
     };
@@ -103,11 +105,11 @@ fn open_slice<'a>(
     sort: SlicedType,
     schema: &Schema,
     class: Option<u32>,
-    id: &'a str,
+    id: SliceId<'a>,
     flags: u8,
     cursor: &mut Cursor<'a>,
 ) -> Result<Stage<'a>, ReadFault>
-    ensures { OpensSlice sort schema.now (flags_of flags) class id.now result cursor.old cursor.new }
+    ensures { OpensSlice sort schema.now (flags_of flags) class (id_of id) result cursor.old cursor.new }
 {
     match class {
         Some(class) => open_known(alloc, sort, schema, class, flags, cursor),
@@ -142,50 +144,57 @@ fn open_known<'a>(
     Ok(Stage::Compact(Box::new(alloc, slice)?))
 }
 
-/// The type id of a slice with these flags, which stand at `place`.
+/// The id of a slice with these flags.
 fn take_id<'a>(
     sort: SlicedType,
     flags: u8,
-    place: u64,
     cursor: &mut Cursor<'a>,
     arena: &mut Arena<'a>,
-) -> Result<&'a str, ReadFault>
-    ensures id { ReadsId sort place flags result arena.old cursor.old arena.new cursor.new }
+) -> Result<SliceId<'a>, ReadFault>
+    ensures id { ReadsId sort flags result arena.old cursor.old arena.new cursor.new }
     ensures instances { OnOk result (arena.new.instances ≡ arena.old.instances) }
 {
     match sort {
-        SlicedType::Class => take_counted_id(flags, place, cursor, arena),
-        SlicedType::Exception => Ok(cursor.take_str()?),
+        SlicedType::Class => take_counted_id(flags, cursor, arena),
+        SlicedType::Exception => Ok(SliceId::Text(take_type_id(cursor)?)),
     }
 }
 
-/// That of a slice of an instance: a text, which takes the next index, or the index of one.
+/// That of a slice of an instance: a type id, which takes the next index, or the index of one, or a compact id.
 fn take_counted_id<'a>(
     flags: u8,
-    place: u64,
     cursor: &mut Cursor<'a>,
     arena: &mut Arena<'a>,
-) -> Result<&'a str, ReadFault>
-    ensures id { ReadsId sorts.Class place flags result arena.old cursor.old arena.new cursor.new }
+) -> Result<SliceId<'a>, ReadFault>
+    ensures id { ReadsId sorts.Class flags result arena.old cursor.old arena.new cursor.new }
     ensures instances { OnOk result (arena.new.instances ≡ arena.old.instances) }
 {
     match flags % 4 {
-        0 => Ok(""),
+        0 => Ok(SliceId::Text("")),
         1 => {
-            let id = cursor.take_str()?;
+            let id = take_type_id(cursor)?;
             arena.add_id(id)?;
-            Ok(id)
+            Ok(SliceId::Text(id))
         }
         2 => {
             let unknown = cursor.fault(Kind::BadTypeId);
             let index = cursor.take_size()?;
-            id_at(arena, index, unknown)
+            Ok(SliceId::Text(id_at(arena, index, unknown)?))
         }
-        _ => Err(ReadFault::Broken(Fault {
-            place,
-            kind: Kind::CompactId,
-        })),
+        _ => Ok(SliceId::Number(cursor.take_size()?)),
     }
+}
+
+/// A type id as a text, which does not begin with `#`.
+fn take_type_id<'a>(cursor: &mut Cursor<'a>) -> Result<&'a str, Fault>
+    ensures { TakesTypeId result cursor.old cursor.new }
+{
+    let numbered = cursor.fault(Kind::BadTypeId);
+    let id = cursor.take_str()?;
+    if id.starts_with('#') {
+        return Err(numbered);
+    }
+    Ok(id)
 }
 
 /// The type id of an index, counted from 1.
@@ -201,17 +210,16 @@ fn id_at<'a>(arena: &Arena<'a>, index: u32, unknown: Fault) -> Result<&'a str, R
     }
 }
 
-/// The class of a slice, or the exception: by its type id, or of an instance without one the base that
-/// follows.
-fn class_in(sort: SlicedType, schema: &Schema, before: Before, id: &str) -> Option<u32>
-    ensures { result ≡ class_by sort (rows_of sort schema.now) (view_before before) id.now }
+/// The class of a slice, or the exception: by its id, or of an instance without one the base that follows.
+fn class_in(sort: SlicedType, schema: &Schema, before: Before, id: SliceId<'_>) -> Option<u32>
+    ensures { result ≡ class_by sort (rows_of sort schema.now) (view_before before) (id_of id) }
 {
     match sort {
-        SlicedType::Exception => sort.row_named(schema, id),
+        SlicedType::Exception => id.row(sort, schema),
         SlicedType::Class => match before {
             Before::Derived { sized: false, base } => Some(base),
             Before::First | Before::OnlyUnknown | Before::Derived { sized: true, .. } => {
-                sort.row_named(schema, id)
+                id.row(sort, schema)
             }
         },
     }

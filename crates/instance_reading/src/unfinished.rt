@@ -296,6 +296,6 @@ fn closed(
             resolve_members(&mut members, table.as_slice());
             Ok(Slice::Known { class, members })
         }
-        Body::Unknown { id, part } => keep(alloc, id, &part, table),
+        Body::Unknown { id, part } => keep(alloc, id.kept(alloc)?, &part, table),
     }
 }

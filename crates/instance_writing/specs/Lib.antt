@@ -1,4 +1,5 @@
 pub mod Formats
+pub mod Ids
 pub mod Sorts
 pub mod Tabling
 pub mod Pens

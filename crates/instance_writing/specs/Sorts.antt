@@ -6,28 +6,33 @@ use Rattle.ice_prims.specs.Bytes.{text_bytes}
 use Rattle.ice_encoding.specs.Writing.{Piece, exactly}
 use Rattle.ice_graphs.specs.Flags.{IdForm, no_id}
 use Rattle.ice_graphs.specs.Graph.{Slice}
-use Rattle.ice_graphs.specs.Canonical.{Pen, flags_byte, has_optional, id_of, written_head}
+use Rattle.ice_graphs.specs.Classes.{place_of}
+use Rattle.ice_graphs.specs.Canonical.{Pen, flags_byte, has_optional, head_as, written_id, written_head}
 use Rattle.ice_values.specs.SlicedType.{rows_of}
 use Rattle.ice_values.specs.declared.sliced_type.SlicedType.{SlicedType}
 use Rattle.ice_values.specs.declared.sliced_type.SlicedType.TheVariants.{Class, Exception}
 
--- The flags and a type id. Of an exception it always stands as a text, of which the flags tell nothing, and is not counted.
+-- the flags and a type id, as an index where it was written before, else as a text
+abbrev pub text_head : (IdForm → ℕ) → List ℕ → Piece Pen
+text_head flags id p = head_as (place_of p.ids id) flags id p
+
+-- The flags and an id. Of an exception it always stands as a text, of which the flags tell nothing, and is not counted.
 abbrev pub head_of : SlicedType → (IdForm → ℕ) → List ℕ → Piece Pen
 head_of Class flags id = written_head flags id
 head_of Exception flags id = exactly (flags no_id ∷ text_bytes id)
 
 -- those of a slice: whether it has a table, whether it has a size, and whether it is the last
 abbrev pub slice_head : SlicedType → Tables → Bool → Bool → Bool → Slice → Piece Pen
-slice_head sort t tabled sized is_last s = head_of sort (λ form. flags_byte form (has_optional s) tabled sized is_last) (id_of (rows_of sort t) s)
+slice_head sort t tabled sized is_last s = head_of sort (λ form. flags_byte form (has_optional s) tabled sized is_last) (written_id (rows_of sort t) s)
 
 -- ---- in compact format
 
--- The type id stands in the first slice of an instance, and in each of an exception.
+-- The id stands in the first slice of an instance, and in each of an exception.
 abbrev pub has_plain_id : SlicedType → Bool → Bool
 has_plain_id Class first = first
 has_plain_id Exception first = true
 
--- the flags, and the type id where it stands
+-- the flags, and the id where it stands
 abbrev pub plain_head : SlicedType → Tables → Bool → Bool → Slice → Piece Pen
 plain_head sort t first is_last s = elim (has_plain_id sort first) [
   | true ↦ slice_head sort t false false is_last s

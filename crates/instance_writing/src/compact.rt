@@ -14,9 +14,10 @@ ghost use Rattle.instance_writing.specs.Writable.{SliceCanBeWritten};
 use crate::encoder::Encoder;
 use crate::head::{Flags, put_head};
 use crate::open_slice::{OpenMembers, OpenSlice};
-use crate::parts::{has_optional, id_of};
+use crate::parts::has_optional;
 use crate::pen::Pen;
 use crate::position::Position;
+use crate::written_id::written_id;
 use graph_arena::Slice;
 use ice_prims::put_byte;
 use ice_values::{Ending, MembersWriter, SlicedType};
@@ -44,7 +45,7 @@ pub(crate) fn put_plain_head<'a>(
         is_last: position.is_last,
     };
     if has_id(sort, position.is_first) {
-        return put_head(sort, id_of(by.schema, sort, slice), flags, pen, out);
+        return put_head(sort, written_id(by.schema, sort, slice), flags, pen, out);
     }
     put_byte(out, flags.without_id())
 }

@@ -1,13 +1,16 @@
 //! What stands before the members of a slice.
 
-ghost use Rattle.std.specs.Prelude.{◌≡◌, ◌+◌, ◌<◌, ◌++◌, ◌∷◌, OnOk, OnErr};
-ghost use Rattle.ice_prims.specs.Bytes.{text_bytes};
-ghost use Rattle.ice_graphs.specs.Flags.{no_id};
-ghost use Rattle.ice_graphs.specs.Canonical.{flags_byte, written_head};
+ghost use Rattle.std.specs.Prelude.{◌≡◌, ◌+◌, ◌<◌, ◌≤◌, ◌++◌, ◌∷◌, OnOk, OnErr};
+ghost use Rattle.ice_prims.specs.Bytes.{size_bytes, text_bytes};
+ghost use Rattle.ice_types.specs.declared.schema.TheConstants.{MOST_NUMBER};
+ghost use Rattle.ice_graphs.specs.Flags.{as_number, no_id};
+ghost use Rattle.ice_graphs.specs.Canonical.{flags_byte};
 ghost use Rattle.ice_values.specs.WritingMembers.{WritesPiece};
-ghost use Rattle.instance_writing.specs.Sorts.{head_of};
+ghost use Rattle.instance_writing.specs.Ids.{IsTold, id_of};
+ghost use Rattle.instance_writing.specs.Sorts.{head_of, text_head};
 
 use crate::pen::Pen;
+use crate::written_id::WrittenId;
 use ice_prims::{put_byte, put_size, put_str};
 use ice_types::MOST_NUMBER;
 use ice_values::SlicedType;
@@ -18,6 +21,9 @@ const AS_TEXT: u8 = 1;
 
 /// One that stands as an index.
 const AS_INDEX: u8 = 2;
+
+/// A compact id, which stands as a size.
+const AS_NUMBER: u8 = 3;
 
 /// What the flags of a slice say beside how its type id stands.
 #[derive(Clone, Copy, Debug)]
@@ -42,23 +48,38 @@ impl Flags {
     }
 }
 
-/// Puts the flags and the type id of a slice. Out of memory leaves a part of it; so does a type id of more
-/// bytes than the greatest int. (Ice manual, "Data Encoding for Class and Exception Types".)
+/// Puts the flags and the id of a slice. Out of memory leaves a part of it; so does a type id of more bytes than
+/// the greatest int. (Ice manual, "Data Encoding for Class and Exception Types", "Compact Type IDs".)
 pub(crate) fn put_head<'a>(
     sort: SlicedType,
-    id: &'a str,
+    id: WrittenId<'a>,
     flags: Flags,
     pen: &mut Pen<'a>,
     out: &mut Vec<u8>,
 ) -> Result<(), AllocError>
+    requires told { IsTold sort id }
     ensures { WritesPiece
-        (head_of sort (λ form. flags_byte form flags.has_optional flags.has_table flags.has_size flags.is_last) id.now)
+        (head_of sort (λ form. flags_byte form flags.has_optional flags.has_table flags.has_size flags.is_last) (id_of id))
         result pen.old out.old.items pen.new out.new.items }
 {
-    match sort {
-        SlicedType::Class => put_class_head(id, flags, pen, out),
-        SlicedType::Exception => put_exception_head(id, flags, out),
+    match id {
+        WrittenId::Number(number) => put_number_head(number, flags, out),
+        WrittenId::Text(id) => match sort {
+            SlicedType::Class => put_class_head(id, flags, pen, out),
+            SlicedType::Exception => put_exception_head(id, flags, out),
+        },
     }
+}
+
+/// Of an instance: the compact id as a size, of which no index is counted.
+fn put_number_head(number: u32, flags: Flags, out: &mut Vec<u8>) -> Result<(), AllocError>
+    requires { number ≤ MOST_NUMBER }
+    ensures { OnOk result (out.new.items
+        ≡ out.old.items ++
+        (flags_byte as_number flags.has_optional flags.has_table flags.has_size flags.is_last ∷ size_bytes number)) }
+{
+    put_byte(out, AS_NUMBER + flags.without_id())?;
+    put_size(out, number)
 }
 
 /// Of an instance: the type id as an index where it was written before, else as a text.
@@ -69,7 +90,7 @@ fn put_class_head<'a>(
     out: &mut Vec<u8>,
 ) -> Result<(), AllocError>
     ensures { WritesPiece
-        (written_head (λ form. flags_byte form flags.has_optional flags.has_table flags.has_size flags.is_last) id.now)
+        (text_head (λ form. flags_byte form flags.has_optional flags.has_table flags.has_size flags.is_last) id.now)
         result pen.old out.old.items pen.new out.new.items }
 {
     let others = flags.without_id();

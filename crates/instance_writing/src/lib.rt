@@ -36,6 +36,7 @@ mod slice;
 mod table;
 mod unfinished;
 mod user_exception;
+mod written_id;
 
 pub use encode::write_numbered;
 pub use format::Format;

@@ -21,9 +21,10 @@ ghost use Rattle.instance_writing.specs.Writable.{SliceCanBeWritten};
 use crate::encoder::Encoder;
 use crate::head::{Flags, put_head};
 use crate::open_slice::OpenSlice;
-use crate::parts::{has_optional, id_of};
+use crate::parts::has_optional;
 use crate::pen::Pen;
 use crate::table::Table;
+use crate::written_id::written_id;
 use graph_arena::{Members, Slice};
 use ice_prims::put_size;
 use ice_types::MOST_NUMBER;
@@ -65,14 +66,14 @@ pub(crate) fn put_slice<'a>(
             let names = desk.table.take();
             let entries = names.as_slice();
             let flags = sized_flags(slice, entries, is_last);
-            put_head(sort, id_of(by.schema, sort, slice), flags, pen, out)?;
+            put_head(sort, written_id(by.schema, sort, slice), flags, pen, out)?;
             put_behind(desk.members.as_slice(), entries, out)?;
             Ok(OpenSlice::Found { next: 0, names })
         }
         Slice::Unknown { table, .. } => {
             let entries = table.as_slice();
             let flags = sized_flags(slice, entries, is_last);
-            put_head(sort, id_of(by.schema, sort, slice), flags, pen, out)?;
+            put_head(sort, written_id(by.schema, sort, slice), flags, pen, out)?;
             write_unknown(out, slice)?;
             put_table_size(entries, out)?;
             Ok(OpenSlice::Lent(entries))

@@ -236,6 +236,7 @@ KIND of a Slice file is one of these:
   Clash         the scope or the definition has this name, or one that differs in case alone
   BadKey        the type cannot be the key of a dictionary
   BadTag        a tag is no number from 0 to 2147483647, or comes twice
+  BadCompactId  a compact id is no number from 0 to 2147483647, or that of an earlier class
   BadBase       the base is not defined yet, or named twice
   BadValue      the value does not fit its type, or comes twice in an enum; or an in parameter
                 follows an out parameter
@@ -266,9 +267,9 @@ KIND of an input is one of these:
                 long form
   BadFormat     an optional member stands in another format than that of its type
   BadFlags      the flags of a slice are none that may stand here
-  CompactId     the type id of a slice is a compact one
   BadLast       a slice is the last where its class has a base, or is not where it has none
-  BadTypeId     the index of a type id is 0, or above the number of type ids so far
+  BadTypeId     the index of a type id is 0, or above the number of type ids so far; or a type id
+                begins with #
   WrongBase     the type id after a slice is not that of its class's base
   UnknownClass  FILE has no class of this type id
   BadReference  a reference to an instance that has not begun, a null in the indirection table of a

@@ -75,7 +75,6 @@ kind_short kinds.EqualKey = refl
 kind_short kinds.BadTag = refl
 kind_short kinds.BadFormat = refl
 kind_short kinds.BadFlags = refl
-kind_short kinds.CompactId = refl
 kind_short kinds.BadLast = refl
 kind_short kinds.BadTypeId = refl
 kind_short kinds.WrongBase = refl

@@ -101,16 +101,16 @@ fn without_marker<'a>(optionals: bool, bound: &Cursor<'a>) -> Result<&'a [u8], F
 /// leaves nothing.
 pub fn keep(
     alloc: Global,
-    id: &str,
+    id: Name,
     part: &UnknownPart<'_>,
     table: List<u32>,
 ) -> Result<Slice, AllocError>
-    ensures { IfOk result (λ slice. view_slice slice ≡ unknown id.now part.now.bytes.now part.now.optionals table) }
+    ensures { IfOk result (λ slice. view_slice slice ≡ unknown id part.now.bytes.now part.now.optionals table) }
 {
     let mut bytes = Vec::new(alloc);
     bytes.extend_from_slice(part.bytes)?;
     Ok(Slice::Unknown {
-        id: Name::of(alloc, id)?,
+        id,
         bytes: List::from_vec(bytes),
         optionals: part.optionals,
         table,

@@ -45,9 +45,9 @@ class_reaches : (n : ℕ) (k : Known) (word : Word) (s : Option Standing) → Re
 class_reaches n k word None h = name_reaches n k word standings.Module h
 class_reaches n k word (Some s) h = h
 
-class_body_reaches : (n : ℕ) (k : Known) (word : Word) (base : Option Path) (fields : Option (List Field)) → Reaches n k → Reaches n (with_class_body k word base fields)
-class_body_reaches n k word base None h = h
-class_body_reaches n k word base (Some fields) h = h
+class_body_reaches : (n : ℕ) (k : Known) (word : Word) (compact : Option Constant) (base : Option Path) (fields : Option (List Field)) → Reaches n k → Reaches n (with_class_body k word compact base fields)
+class_body_reaches n k word compact base None h = h
+class_body_reaches n k word compact base (Some fields) h = h
 
 interface_reaches : (n : ℕ) (k : Known) (word : Word) (s : Option Standing) → Reaches n k → Reaches n (elim s [ None ↦ with_new_interface k word | Some s ↦ k ])
 interface_reaches n k word None h = name_reaches n k word standings.Module h
@@ -65,7 +65,7 @@ after_reaches n k (items.Enum word entries) h = (h.0, entries_reach n k.file _ _
 after_reaches n k (items.Struct word fields) h = name_reaches n k word standings.Module h
 after_reaches n k (items.Seq word element) h = name_reaches n k word standings.Module h
 after_reaches n k (items.Dict word key value) h = name_reaches n k word standings.Module h
-after_reaches n k (items.Class word base fields) h = class_body_reaches n (with_class_name k word) word base fields (class_reaches n k word (standing_here k word) h)
+after_reaches n k (items.Class word compact base fields) h = class_body_reaches n (with_class_name k word) word compact base fields (class_reaches n k word (standing_here k word) h)
 after_reaches n k (items.Exception word base fields) h = name_reaches n k word standings.Module h
 after_reaches n k (items.Interface word bases ops) h = interface_body_reaches n (with_interface_name k word) word bases ops (interface_reaches n k word (standing_here k word) h)
 

@@ -125,7 +125,7 @@ more_classes t new id (rows.Seq at) h = inl h
 more_classes t new id (rows.Dict at) h = inl h
 more_classes t new id (rows.Struct at) h = inl h
 more_classes t new id (rows.Enum at) h = inl h
-more_classes t new id (rows.Class at) h = id_more (λ q. q.id) t.classes (record { id = new; base = None; members = [] }) at id h
+more_classes t new id (rows.Class at) h = id_more (λ q. q.id) t.classes (record { id = new; base = None; compact = None; members = [] }) at id h
 more_classes t new id (rows.Exception at) h = inl h
 more_classes t new id (rows.Interface at) h = inl h
 
@@ -144,16 +144,16 @@ ids_stay of change same [] at = refl
 ids_stay of change same (x ∷ xs) zero = ap (λ id. id ∷ map of xs) (same x)
 ids_stay of change same (x ∷ xs) (suc at) = ap (λ ids. of x ∷ ids) (ids_stay of change same xs at)
 
-class_ids : (t : Tables) (place : ℕ) (base : Option ℕ) (members : List Member) (id : List ℕ) (row : RowRef) → HasRowId (define_class t place base members) id row → HasRowId t id row
-class_ids t place base members id (rows.Seq at) h = h
-class_ids t place base members id (rows.Dict at) h = h
-class_ids t place base members id (rows.Struct at) h = h
-class_ids t place base members id (rows.Enum at) h = h
-class_ids t place base members id (rows.Class at) h =
-    let change : ClassDecl → ClassDecl = λ c. record { id = c.id; base = base; members = members } in
+class_ids : (t : Tables) (place : ℕ) (base compact : Option ℕ) (members : List Member) (id : List ℕ) (row : RowRef) → HasRowId (define_class t place base compact members) id row → HasRowId t id row
+class_ids t place base compact members id (rows.Seq at) h = h
+class_ids t place base compact members id (rows.Dict at) h = h
+class_ids t place base compact members id (rows.Struct at) h = h
+class_ids t place base compact members id (rows.Enum at) h = h
+class_ids t place base compact members id (rows.Class at) h =
+    let change : ClassDecl → ClassDecl = λ c. record { id = c.id; base = base; compact = compact; members = members } in
     ap (λ l. slice_get l at) (sym (ids_stay (λ c. c.id) change (λ _. refl) t.classes place)) ∙ h
-class_ids t place base members id (rows.Exception at) h = h
-class_ids t place base members id (rows.Interface at) h = h
+class_ids t place base compact members id (rows.Exception at) h = h
+class_ids t place base compact members id (rows.Interface at) h = h
 
 interface_ids : (t : Tables) (place : ℕ) (bases : List ℕ) (ops : List OpDecl) (id : List ℕ) (row : RowRef) → HasRowId (define_interface t place bases ops) id row → HasRowId t id row
 interface_ids t place bases ops id (rows.Seq at) h = h
@@ -269,9 +269,9 @@ interface_named k word plain kept = by_name (standing_here k word)
     by_name None = with_row k word (standings.Interface (length k.tables.interfaces)) (with_interface k.tables (id_here k word)) (more_interfaces k.tables (id_here k word)) plain kept
     by_name (Some s) = kept
 
-class_body : (k : Known) (word : Word) (base : Option Path) (fields : Option (List Field)) → HasNames k → HasNames (with_class_body k word base fields)
-class_body k word base None kept = kept
-class_body k word base (Some fields) kept = same_ids k (define_class k.tables _ _ _) (class_ids k.tables _ _ _) kept
+class_body : (k : Known) (word : Word) (compact : Option Constant) (base : Option Path) (fields : Option (List Field)) → HasNames k → HasNames (with_class_body k word compact base fields)
+class_body k word compact base None kept = kept
+class_body k word compact base (Some fields) kept = same_ids k (define_class k.tables _ _ _ _) (class_ids k.tables _ _ _ _) kept
 
 interface_body : (k : Known) (word : Word) (bases : List Path) (ops : Option (List OpTree)) → HasNames k → HasNames (with_interface_body k word bases ops)
 interface_body k word bases None kept = kept
@@ -294,7 +294,7 @@ names_after k (items.Seq word element) plain kept =
     with_row k word (standings.Type (kinds.Seq (length k.tables.seqs))) (with_seq k.tables (seq_decl k word element)) (more_seqs k.tables (seq_decl k word element)) plain.0 kept
 names_after k (items.Dict word key value) plain kept =
     with_row k word (standings.Type (kinds.Dict (length k.tables.dicts))) (with_dict k.tables (dict_decl k word key value)) (more_dicts k.tables (dict_decl k word key value)) plain.0 kept
-names_after k (items.Class word base fields) plain kept = class_body (with_class_name k word) word base fields (class_named k word plain.0 kept)
+names_after k (items.Class word compact base fields) plain kept = class_body (with_class_name k word) word compact base fields (class_named k word plain.0 kept)
 names_after k (items.Exception word base fields) plain kept =
     with_row k word (standings.Exception (length k.tables.exceptions)) (with_exception k.tables (exception_decl k word base fields)) (more_exceptions k.tables (exception_decl k word base fields)) plain.0 kept
 names_after k (items.Interface word bases ops) plain kept = interface_body (with_interface_name k word) word bases ops (interface_named k word plain.0 kept)

@@ -48,7 +48,7 @@ class_undefined k new word at t id named tables is rules =
     let place : class_at new word ≡ at = ap (λ (m : Known). class_at m word) named ∙ ap (at_of as_class) (here_new k word (standings.Type (kinds.Class (Some at)))) in
     let flags : new.tables.defined_classes ≡ t.defined_classes ++ false ∷ [] = ap (λ (m : Known). m.tables.defined_classes) named ∙ ap (λ (u : Tables). u.defined_classes) tables in
     let same : length (t.defined_classes ++ false ∷ []) ≡ length k.tables.classes = sym (ap (λ (u : Tables). length u.defined_classes) tables) ∙ rules.class_flags in
-    let more : length k.tables.classes ≡ length t.classes + 1 = ap (λ (u : Tables). length u.classes) tables ∙ length-append t.classes (record { id = id; base = None; members = [] } ∷ []) in
+    let more : length k.tables.classes ≡ length t.classes + 1 = ap (λ (u : Tables). length u.classes) tables ∙ length-append t.classes (record { id = id; base = None; compact = None; members = [] } ∷ []) in
     ap (λ (f : List Bool). is_defined f (class_at new word)) flags ∙ flag_at t.defined_classes (class_at new word) (length t.classes) (length k.tables.classes) same more (place ∙ is)
 
 -- an interface of a new name is not defined

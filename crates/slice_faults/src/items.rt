@@ -65,7 +65,12 @@ fn declare_item<'a>(
         Item::Struct { word, fields } => structure(alloc, known, word, fields),
         Item::Seq { word, element } => sequence(alloc, known, word, element),
         Item::Dict { word, key, value } => dictionary(alloc, known, word, key, value),
-        Item::Class { word, base, fields } => class(alloc, known, word, base, fields),
+        Item::Class {
+            word,
+            compact,
+            base,
+            fields,
+        } => class(alloc, known, word, compact, base, fields),
         Item::Exception { word, base, fields } => exception(alloc, known, word, base, fields),
         Item::Interface { word, bases, ops } => interface(alloc, known, word, bases, ops),
     }

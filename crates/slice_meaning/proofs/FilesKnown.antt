@@ -44,9 +44,9 @@ class_before n k word lt h = by_name n k (with_new_class k word) (standing_here 
 interface_before : (n : ℕ) (k : Known) (word : Word) → k.file < n → Before n k.declared → Before n (with_interface_name k word).declared
 interface_before n k word lt h = by_name n k (with_new_interface k word) (standing_here k word) (lt, h) h
 
-class_body : (n : ℕ) (k : Known) (word : Word) (base : Option Path) (fields : Option (List Field)) → Before n k.declared → Before n (with_class_body k word base fields).declared
-class_body n k word base None h = h
-class_body n k word base (Some fields) h = h
+class_body : (n : ℕ) (k : Known) (word : Word) (compact : Option Constant) (base : Option Path) (fields : Option (List Field)) → Before n k.declared → Before n (with_class_body k word compact base fields).declared
+class_body n k word compact base None h = h
+class_body n k word compact base (Some fields) h = h
 
 interface_body : (n : ℕ) (k : Known) (word : Word) (bases : List Path) (ops : Option (List OpTree)) → Before n k.declared → Before n (with_interface_body k word bases ops).declared
 interface_body n k word bases None h = h
@@ -60,7 +60,7 @@ after_before n k (items.Enum word entries) lt h = entries_before n k.file (lengt
 after_before n k (items.Struct word fields) lt h = (lt, h)
 after_before n k (items.Seq word element) lt h = (lt, h)
 after_before n k (items.Dict word key value) lt h = (lt, h)
-after_before n k (items.Class word base fields) lt h = class_body n (with_class_name k word) word base fields (class_before n k word lt h)
+after_before n k (items.Class word compact base fields) lt h = class_body n (with_class_name k word) word compact base fields (class_before n k word lt h)
 after_before n k (items.Exception word base fields) lt h = (lt, h)
 after_before n k (items.Interface word bases ops) lt h = interface_body n (with_interface_name k word) word bases ops (interface_before n k word lt h)
 

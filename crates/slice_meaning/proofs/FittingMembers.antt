@@ -1,6 +1,9 @@
 -- What has no fault may be added to the schema: exceptions and classes.
-use Rattle.std.proofs.Common.{◌≡◌, ℕ, ◌≤◌, ◌+◌, Bool, true, false, not, List, [], ◌∷◌, ◌++◌, map, Option, Some, None, Result, Ok, Err, refl, sym, subst, arith}
-use Rattle.std.specs.Prelude.{All, IsTrue, flat_map}
+use Rattle.std.proofs.Common.{◌≡◌, ℕ, zero, suc, ◌≤◌, ◌+◌, Bool, true, false, not, List, [], ◌∷◌, ◌++◌, map, Option, Some, None, Result, Ok, Err, refl, sym, ap, ◌∙◌, subst, arith}
+use Rattle.std.specs.Prelude.{All, IsTrue, flat_map, slice_get, ◌||◌}
+use Rattle.std.specs.Bool.{nat_eq}
+use Rattle.std.specs.List.{list_any}
+use Rattle.std.proofs.lemmas.Bool.{eq-eqb, eqb-true}
 use Rattle.std.proofs.lemmas.List.Elements.{All-nil, All-cons}
 use Rattle.slice_syntax.specs.declared.tree.Word.{Word}
 use Rattle.slice_syntax.specs.declared.tree.Path.{Path}
@@ -8,9 +11,10 @@ use Rattle.slice_syntax.specs.declared.tree.Constant.{Constant}
 use Rattle.slice_syntax.specs.declared.tree.Field.{Field}
 use Rattle.slice_syntax.specs.declared.tree.Item.TheVariants as items
 use Rattle.ice_types.specs.declared.kind.TypeRef.{TypeRef}
+use Rattle.ice_types.specs.declared.declarations.ClassDecl.{ClassDecl}
 use Rattle.ice_types.specs.declared.declarations.Member.{Member}
 use Rattle.ice_types.specs.Tables.{is_defined}
-use Rattle.ice_types.specs.Fits.{IsOf, AreOf, NumbersFit, MembersFit, ClassBaseFits, ClassFits, ExceptionBaseFits, ExceptionFits, names_of, tags_of}
+use Rattle.ice_types.specs.Fits.{IsOf, AreOf, NumbersFit, MembersFit, ClassBaseFits, ClassFits, CompactIdFits, ExceptionBaseFits, ExceptionFits, names_of, tags_of}
 use Rattle.slice_meaning.specs.declared.fault.CheckKind.{CheckKind}
 use Rattle.slice_meaning.specs.declared.fault.CheckKind.TheVariants as rows
 use Rattle.slice_meaning.specs.declared.fault.Fault.{Fault}
@@ -18,7 +22,7 @@ use Rattle.slice_meaning.specs.Known.{Known, with_class_name}
 use Rattle.slice_meaning.specs.Uses.{type_of, class_named, exception_of}
 use Rattle.slice_meaning.specs.Values.{number_of}
 use Rattle.slice_meaning.specs.Clashes.{new_name, reopened_name, second_names, is_class}
-use Rattle.slice_meaning.specs.Members.{has_number, new_number, with_number, tag_faults, field_faults, fields_faults, tag_of, members_of, with_field}
+use Rattle.slice_meaning.specs.Members.{has_number, new_number, with_number, numbers_of, compact_faults, compact_of, tag_faults, field_faults, fields_faults, tag_of, members_of, with_field}
 use Rattle.slice_meaning.specs.Faults.{faults, as_class_base, class_base_faults, exception_base_faults}
 use Rattle.slice_meaning.specs.After.{meant, base_at}
 use Rattle.slice_meaning.specs.Rows.{KnowsRows}
@@ -157,10 +161,76 @@ class_base_fits k (Some path) h = by_meaning (class_named k path) h
     by_meaning (Err row) h = absurd cc
     by_meaning (Ok at) h = by_flag (is_defined k.tables.defined_classes at) (test_off (not (is_defined k.tables.defined_classes at)) path.place rows.BadBase h)
 
-pub class_fits : (k : Known) (word : Word) (base : Option Path) (fields : List Field) → KnowsRows (with_class_name k word) → faults k (items.Class word base (Some fields)) ≡ []
-    → ClassFits (with_class_name k word).tables (base_at (class_named (with_class_name k word)) base) (members_of (with_class_name k word) fields)
-class_fits k word base fields knows h =
+-- ---- compact ids
+
+-- the compact id of a class is among those that classes have
+pub number_among : (classes : List ClassDecl) (n at : ℕ) → slice_get (map (λ (c : ClassDecl). c.compact) classes) at ≡ Some (Some n) → has_number (numbers_of classes) n ≡ true
+number_among [] n at e = absurd cc
+number_among (c ∷ cs) n zero e = by_compact c.compact (some_is c.compact e)
+  where
+    some_is : (o : Option ℕ) → Some o ≡ Some (Some n) → o ≡ Some n
+    some_is o e = cc
+
+    by_compact : (o : Option ℕ) → o ≡ Some n → has_number (elim o [ None ↦ numbers_of cs | Some m ↦ m ∷ numbers_of cs ]) n ≡ true
+    by_compact None e = absurd cc
+    by_compact (Some m) e = let same : m ≡ n = cc in ap (λ (b : Bool). b || list_any (nat_eq n) (numbers_of cs)) (eq-eqb n m (sym same))
+number_among (c ∷ cs) n (suc at) e = by_compact (number_among cs n at e) c.compact
+  where
+    by_compact : has_number (numbers_of cs) n ≡ true → (o : Option ℕ) → has_number (elim o [ None ↦ numbers_of cs | Some m ↦ m ∷ numbers_of cs ]) n ≡ true
+    by_compact later None = later
+    by_compact later (Some m) = or_second (nat_eq n m) (list_any (nat_eq n) (numbers_of cs)) later
+      where
+        or_second : (a b : Bool) → b ≡ true → (a || b) ≡ true
+        or_second true b e = refl
+        or_second false b e = e
+
+-- what is among those of the classes behind the first is among all
+abbrev Further : List ClassDecl → ClassDecl → ℕ → Type 0
+Further cs c n = has_number (numbers_of cs) n ≡ true → (at : ℕ) × (slice_get (map (λ (c : ClassDecl). c.compact) (c ∷ cs)) at ≡ Some (Some n))
+
+-- and each of those is one of a class
+pub number_at : (classes : List ClassDecl) (n : ℕ) → has_number (numbers_of classes) n ≡ true → (at : ℕ) × (slice_get (map (λ (c : ClassDecl). c.compact) classes) at ≡ Some (Some n))
+number_at [] n e = absurd cc
+number_at (c ∷ cs) n e = by_compact (λ h. let later = number_at cs n h in (suc later.0, later.1)) c.compact refl e
+  where
+    by_test : Further cs c n → (m : ℕ) (b : Bool) → c.compact ≡ Some m → nat_eq n m ≡ b → (b || list_any (nat_eq n) (numbers_of cs)) ≡ true → (at : ℕ) × (slice_get (map (λ (c : ClassDecl). c.compact) (c ∷ cs)) at ≡ Some (Some n))
+    by_test further m true is same e = (0, ap Some is ∙ ap (λ (k : ℕ). Some (Some k)) (sym (eqb-true n m same)))
+    by_test further m false is differ e = further e
+
+    by_compact : Further cs c n → (o : Option ℕ) → c.compact ≡ o → has_number (elim o [ None ↦ numbers_of cs | Some m ↦ m ∷ numbers_of cs ]) n ≡ true → (at : ℕ) × (slice_get (map (λ (c : ClassDecl). c.compact) (c ∷ cs)) at ≡ Some (Some n))
+    by_compact further None is e = further e
+    by_compact further (Some m) is e = by_test further m (nat_eq n m) is refl e
+
+compact_id_fits : (k : Known) (compact : Option Constant) → compact_faults k compact ≡ [] → CompactIdFits k.tables (compact_of k compact)
+compact_id_fits k None h = tt
+compact_id_fits k (Some c) h =
+    let new = new_off rows.BadCompactId c.place (numbers_of k.tables.classes) (number_of k rows.BadCompactId c) h in
+    by_number (number_of k rows.BadCompactId c) new.0 new.1 (number_within k rows.BadCompactId c new.0 new.1) new.2
+  where
+    clash : (b : Bool) → b ≡ true → b ≡ false → ⊥
+    clash b p q = cc
+
+    by_number : (r : Result ℕ CheckKind) (n : ℕ) → r ≡ Ok n → n ≤ 2147483647 → has_number (numbers_of k.tables.classes) n ≡ false → CompactIdFits k.tables (elim r [ Err row ↦ None | Ok n ↦ Some n ])
+    by_number (Err row) n e le lacks = absurd cc
+    by_number (Ok m) n e le lacks =
+        let same : m ≡ n = cc in (
+          subst (λ (k : ℕ). k ≤ 2147483647) (sym same) le,
+          λ at has. clash (has_number (numbers_of k.tables.classes) m) (number_among k.tables.classes m at has) (ap (has_number (numbers_of k.tables.classes)) same ∙ lacks),
+        )
+
+pub compact_fits : (k : Known) (word : Word) (compact : Option Constant) (base : Option Path) (fields : List Field) → faults k (items.Class word compact base (Some fields)) ≡ []
+    → CompactIdFits (with_class_name k word).tables (compact_of (with_class_name k word) compact)
+compact_fits k word compact base fields h =
     let inner : Known = with_class_name k word in
-    let a = both_none (reopened_name k (is_class k true) word) (class_base_faults inner base ++ fields_faults inner fields) h in
-    let b = both_none (class_base_faults inner base) (fields_faults inner fields) a.1 in
-    (class_base_fits inner base b.0, members_fit inner fields knows b.1)
+    let a = both_none (reopened_name k (is_class k true) word) (compact_faults inner compact ++ (class_base_faults inner base ++ fields_faults inner fields)) h in
+    let b = both_none (compact_faults inner compact) (class_base_faults inner base ++ fields_faults inner fields) a.1 in
+    compact_id_fits inner compact b.0
+
+pub class_fits : (k : Known) (word : Word) (compact : Option Constant) (base : Option Path) (fields : List Field) → KnowsRows (with_class_name k word) → faults k (items.Class word compact base (Some fields)) ≡ []
+    → ClassFits (with_class_name k word).tables (base_at (class_named (with_class_name k word)) base) (members_of (with_class_name k word) fields)
+class_fits k word compact base fields knows h =
+    let inner : Known = with_class_name k word in
+    let a = both_none (reopened_name k (is_class k true) word) (compact_faults inner compact ++ (class_base_faults inner base ++ fields_faults inner fields)) h in
+    let b = both_none (compact_faults inner compact) (class_base_faults inner base ++ fields_faults inner fields) a.1 in
+    let c = both_none (class_base_faults inner base) (fields_faults inner fields) b.1 in
+    (class_base_fits inner base c.0, members_fit inner fields knows c.1)

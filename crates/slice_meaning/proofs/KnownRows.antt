@@ -73,7 +73,7 @@ stays_exception t new = record { types = record { seqs = λ at q e. e; dicts = �
 
 stays_class : (t : Tables) (id : List ℕ) → Stays t (with_class t id)
 stays_class t id = record {
-  types = record { seqs = λ at q e. e; dicts = λ at d e. e; structs = λ at d e. e; enums = λ at x e. e; classes = λ at c e. (c, slice_get-front t.classes (record { id = id; base = None; members = [] } ∷ []) at c e); interfaces = λ at i e. (i, e) };
+  types = record { seqs = λ at q e. e; dicts = λ at d e. e; structs = λ at d e. e; enums = λ at x e. e; classes = λ at c e. (c, slice_get-front t.classes (record { id = id; base = None; compact = None; members = [] } ∷ []) at c e); interfaces = λ at i e. (i, e) };
   interfaces = omega arith;
   exceptions = omega arith;
 }
@@ -97,9 +97,9 @@ changed_length change [] at = refl
 changed_length change (x ∷ xs) zero = refl
 changed_length change (x ∷ xs) (suc at) = ap suc (changed_length change xs at)
 
-stays_defined_class : (t : Tables) (at : ℕ) (base : Option ℕ) (members : List Member) → Stays t (define_class t at base members)
-stays_defined_class t at base members = record {
-  types = record { seqs = λ at q e. e; dicts = λ at d e. e; structs = λ at d e. e; enums = λ at x e. e; classes = λ i c e. changed_there (λ d. record { id = d.id; base = base; members = members }) t.classes at i c e; interfaces = λ at i e. (i, e) };
+stays_defined_class : (t : Tables) (at : ℕ) (base compact : Option ℕ) (members : List Member) → Stays t (define_class t at base compact members)
+stays_defined_class t at base compact members = record {
+  types = record { seqs = λ at q e. e; dicts = λ at d e. e; structs = λ at d e. e; enums = λ at x e. e; classes = λ i c e. changed_there (λ d. record { id = d.id; base = base; compact = compact; members = members }) t.classes at i c e; interfaces = λ at i e. (i, e) };
   interfaces = omega arith;
   exceptions = omega arith;
 }
@@ -138,7 +138,7 @@ new_enum t new = (enumeration, rw (slice_get-last t.enums new) refl)
 
 new_class : (t : Tables) (id : List ℕ) → IsOf (with_class t id) (kinds.Class (Some (length t.classes)))
 unfolding measure
-new_class t id = (reference, rw (slice_get-last t.classes (record { id = id; base = None; members = [] })) refl)
+new_class t id = (reference, rw (slice_get-last t.classes (record { id = id; base = None; compact = None; members = [] })) refl)
 
 new_last : {A : Type 0} (xs : List A) (x : A) → length xs < length (xs ++ x ∷ [])
 new_last xs x = let e = length-append xs (x ∷ []) in omega (arith, e)
@@ -175,9 +175,9 @@ entries_known : (t : Tables) (file at : ℕ) (inside : Scope) (es : List (Word �
 entries_known t file at inside [] ds h = h
 entries_known t file at inside (e ∷ es) ds h = entries_known t file at inside es (enumerator file at inside e.0 ∷ ds) (tt, h)
 
-class_body : (k : Known) (word : Word) (base : Option Path) (fields : Option (List Field)) → KnowsRows k → KnowsRows (with_class_body k word base fields)
-class_body k word base None h = h
-class_body k word base (Some fields) h = rows_stay k.tables _ (stays_defined_class k.tables _ _ _) k.declared h
+class_body : (k : Known) (word : Word) (compact : Option Constant) (base : Option Path) (fields : Option (List Field)) → KnowsRows k → KnowsRows (with_class_body k word compact base fields)
+class_body k word compact base None h = h
+class_body k word compact base (Some fields) h = rows_stay k.tables _ (stays_defined_class k.tables _ _ _ _) k.declared h
 
 interface_body : (k : Known) (word : Word) (bases : List Path) (ops : Option (List OpTree)) → KnowsRows k → KnowsRows (with_interface_body k word bases ops)
 interface_body k word bases None h = h
@@ -200,7 +200,7 @@ rows_after k (items.Seq word element) h plain none =
 rows_after k (items.Dict word key value) h plain none =
     let new = dict_decl k word key value in
     (new_dict k.tables new (dict_fits k word key value none), rows_stay k.tables (with_dict k.tables new) (stays_dict k.tables new) k.declared h)
-rows_after k (items.Class word base fields) h plain none = class_body (with_class_name k word) word base fields (rows_class_name k word h)
+rows_after k (items.Class word compact base fields) h plain none = class_body (with_class_name k word) word compact base fields (rows_class_name k word h)
 rows_after k (items.Exception word base fields) h plain none =
     let new = exception_decl k word base fields in
     (new_last k.tables.exceptions new, rows_stay k.tables (with_exception k.tables new) (stays_exception k.tables new) k.declared h)

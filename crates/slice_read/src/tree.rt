@@ -44,7 +44,12 @@ fn write_item(alloc: Global, all: &mut String, item: &Item) -> Result<(), AllocE
             write_kind(alloc, all, "", key)?;
             write_kind(alloc, all, "", value)
         }
-        Item::Class { word, base, fields } => write_class(alloc, all, word, base, fields),
+        Item::Class {
+            word,
+            compact,
+            base,
+            fields,
+        } => write_class(alloc, all, word, compact, base, fields),
         Item::Exception { word, base, fields } => {
             write_word(alloc, all, "exception ", word)?;
             write_base(alloc, all, base)?;
@@ -72,10 +77,15 @@ fn write_class(
     alloc: Global,
     all: &mut String,
     word: &Word,
+    compact: &Option<Constant>,
     base: &Option<Path>,
     fields: &Option<List<Field>>,
 ) -> Result<(), AllocError> {
     write_word(alloc, all, "class ", word)?;
+    if compact.is_some() {
+        all.push_str(" id")?;
+    }
+    write_given(alloc, all, compact)?;
     write_base(alloc, all, base)?;
     match fields {
         Some(fields) => write_fields(alloc, all, fields),

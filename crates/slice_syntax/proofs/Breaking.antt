@@ -7,7 +7,7 @@ use Rattle.slice_syntax.specs.declared.tree.File.{File}
 use Rattle.slice_syntax.specs.Lexemes.{Lexeme, Lexemes, lexemes, has, next, terminal_of}
 use Rattle.slice_syntax.specs.Grammar.{Spells, one}
 use Rattle.slice_syntax.specs.Reading.{Reading, ◌>>=◌, is_empty, starts, read}
-use Rattle.slice_syntax.specs.Rules.{word, name, texts, file_metadata, metadata, names, scoped, plain_type, object_type, named_type, type_word, signed_number, number, text, truth, named, value, given, tag, close, constant_item, entry, entry_comma, entries, enum_item, member, members, struct_item, sequence_item, dictionary_item, tagged_member, tagged_members, body, base, class_body, class_item, exception_item, paths, bases, thrown, parameter, parameter_list, parameters, answered, operation, operations, interface_body, interface_item, definition}
+use Rattle.slice_syntax.specs.Rules.{word, name, texts, file_metadata, metadata, names, scoped, plain_type, object_type, named_type, type_word, signed_number, number, text, truth, named, value, given, tag, close, constant_item, entry, entry_comma, entries, enum_item, member, members, struct_item, sequence_item, dictionary_item, tagged_member, tagged_members, body, base, compact, class_body, class_item, exception_item, paths, bases, thrown, parameter, parameter_list, parameters, answered, operation, operations, interface_body, interface_item, definition}
 use Rattle.slice_syntax.specs.Files.{Head, head, directive, directives, Body, Closes, is_guarded, ReadsFile}
 use Rattle.slice_syntax.specs.Moving.{outer_move, inner_move, modules_at, closing_at, rest_at, file_of, file_at, end_at, whole_at}
 use Rattle.slice_lexer.specs.declared.token.Token.{Token}
@@ -66,7 +66,7 @@ abbrev Tail : Bool → Lexemes → List Item → Type 0
 Tail guarded ls items = (held : List Item) × (u : Unit {0}) × (before behind : Lexemes) × (ls ≡ before ++ behind) × Body false before held × Closed guarded behind u × (items ≡ held)
 
 ending_clear : disjoint ending end_terminals ≡ true
-unfolding word name texts file_metadata metadata names scoped plain_type object_type named_type type_word signed_number number text truth named value given tag close constant_item entry entry_comma entries enum_item member members struct_item sequence_item dictionary_item tagged_member tagged_members body base class_body class_item exception_item paths bases thrown parameter parameter_list parameters answered operation operations interface_body interface_item definition head outer_move inner_move
+unfolding word name texts file_metadata metadata names scoped plain_type object_type named_type type_word signed_number number text truth named value given tag close constant_item entry entry_comma entries enum_item member members struct_item sequence_item dictionary_item tagged_member tagged_members body base compact class_body class_item exception_item paths bases thrown parameter parameter_list parameters answered operation operations interface_body interface_item definition head outer_move inner_move
 ending_clear = refl
 
 abbrev tail_starts : List Terminal
@@ -82,7 +82,7 @@ abbrev Whole : Lexemes → File → Type 0
 Whole ls file = (heads : List Head) × (items : List Item) × (before behind : Lexemes) × (ls ≡ before ++ behind) × Spells directives before heads × Tail (is_guarded heads) behind items × (file ≡ file_of heads items)
 
 heads_clear : disjoint (goes directives) tail_starts ≡ true
-unfolding word name texts file_metadata metadata names scoped plain_type object_type named_type type_word signed_number number text truth named value given tag close constant_item entry entry_comma entries enum_item member members struct_item sequence_item dictionary_item tagged_member tagged_members body base class_body class_item exception_item paths bases thrown parameter parameter_list parameters answered operation operations interface_body interface_item definition head directive directives outer_move
+unfolding word name texts file_metadata metadata names scoped plain_type object_type named_type type_word signed_number number text truth named value given tag close constant_item entry entry_comma entries enum_item member members struct_item sequence_item dictionary_item tagged_member tagged_members body base compact class_body class_item exception_item paths bases thrown parameter parameter_list parameters answered operation operations interface_body interface_item definition head directive directives outer_move
 heads_clear = refl
 
 abbrev file_goes : List Terminal

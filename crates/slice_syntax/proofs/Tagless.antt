@@ -56,7 +56,9 @@ class_untagged : Gives Any HasNoTags rules.class_item
 unfolding rules.class_item rules.class_body
 class_untagged = by_both {H = λ x. Unit {0}} {K = MakesUntagged} by_any
     (by_or (by_made {H = λ x. Unit {0}} by_any (λ x a w. tt))
-    (by_both {H = λ (make : List Field → Word → Item). (fs : List Field) → MakesUntagged (make fs)} (by_made {H = λ x. Unit {0}} by_any (λ p a fs w. tt)) by_any (λ make fs a b. a fs)))
+    (by_both {H = λ (make : List Field → Word → Item). (fs : List Field) → MakesUntagged (make fs)}
+    (by_both {H = λ (make : Option Path → List Field → Word → Item). (p : Option Path) (fs : List Field) → MakesUntagged (make p fs)} (by_made {H = λ x. Unit {0}} by_any (λ n a p fs w. tt)) by_any (λ make p a b. a p))
+    by_any (λ make fs a b. a fs)))
     (λ w make a b. b w)
 
 exception_untagged : Gives Any HasNoTags rules.exception_item

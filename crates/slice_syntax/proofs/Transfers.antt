@@ -138,14 +138,20 @@ module _ (T : Lexeme → Type 0) (N : Word → Type 0) (P : ℕ → Type 0)
   unfolding rules.base
   base_in = by_optional (by_second scoped_in)
 
+  compact_in : Gives T (Where (λ (c : Constant). P c.place)) rules.compact
+  unfolding rules.compact
+  compact_in = by_optional (by_first (by_second value_in))
+
   abbrev MakesItem : (Word → Item) → Type 0
   MakesItem make = (w : Word) → N w → Item_in (make w)
 
   class_in : Gives T Item_in rules.class_item
   unfolding rules.class_item rules.class_body
   class_in = by_both {K = MakesItem} (by_second word_in)
-      (by_or (by_made {H = λ x. Unit {0}} by_any (λ x a w b. (b, tt, tt)))
-      (by_both {H = λ (make : List Field → Word → Item). (fs : List Field) → Each Field_in fs → MakesItem (make fs)} (by_made base_in (λ p a fs b w d. (d, a, b))) body_in (λ make fs a b. a fs b)))
+      (by_or (by_made {H = λ x. Unit {0}} by_any (λ x a w b. (b, tt, tt, tt)))
+      (by_both {H = λ (make : List Field → Word → Item). (fs : List Field) → Each Field_in fs → MakesItem (make fs)}
+      (by_both {H = λ (make : Option Path → List Field → Word → Item). (p : Option Path) → Where (λ (p : Path). P p.place) p → (fs : List Field) → Each Field_in fs → MakesItem (make p fs)}
+      (by_made compact_in (λ n c p a fs b w d. (d, c, a, b))) base_in (λ make p a b. a p b)) body_in (λ make fs a b. a fs b)))
       (λ w make a b. b w a)
 
   exception_in : Gives T Item_in rules.exception_item

@@ -49,7 +49,8 @@ module _ (IsName : Word → Type 0) (IsPlace : ℕ → Type 0) where
   InItem (items.Struct word fields) = IsName word × Each InField fields
   InItem (items.Seq word element) = IsName word × IsPlace (type_place element)
   InItem (items.Dict word key value) = IsName word × IsPlace (type_place key) × IsPlace (type_place value)
-  InItem (items.Class word base fields) = IsName word × Where (λ path. IsPlace path.place) base
+  InItem (items.Class word compact base fields) = IsName word × Where (λ c. IsPlace c.place) compact
+      × Where (λ path. IsPlace path.place) base
       × Where (Each InField) fields
   InItem (items.Exception word base fields) = IsName word × Where (λ path. IsPlace path.place) base
       × Each InField fields
@@ -83,7 +84,7 @@ HasNoTags (items.Enum word entries) = Unit {0}
 HasNoTags (items.Struct word fields) = Each (λ f. f.tag ≡ None) fields
 HasNoTags (items.Seq word element) = Unit {0}
 HasNoTags (items.Dict word key value) = Unit {0}
-HasNoTags (items.Class word base fields) = Unit {0}
+HasNoTags (items.Class word compact base fields) = Unit {0}
 HasNoTags (items.Exception word base fields) = Unit {0}
 HasNoTags (items.Interface word bases ops) = Unit {0}
 

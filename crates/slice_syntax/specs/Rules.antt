@@ -202,12 +202,16 @@ body = one open_brace ▸ tagged_members ◂ close
 unfoldable pub base : Grammar (Option Path)
 base = optional (one word_extends ▸ scoped)
 
-unfoldable pub class_body : Grammar (Word → Item)
-class_body = made (λ b fields w. items.Class w b (Some fields)) base ⊛ body
+-- compact = [ "(" value ")" ]
+unfoldable pub compact : Grammar (Option Constant)
+compact = optional (one open_round ▸ value ◂ one close_round)
 
--- class = "class" word ( ";" | [ "extends" scoped ] "{" { omember } "}" [ ";" ] )
+unfoldable pub class_body : Grammar (Word → Item)
+class_body = made (λ number b fields w. items.Class w number b (Some fields)) compact ⊛ base ⊛ body
+
+-- class = "class" word ( ";" | [ "(" value ")" ] [ "extends" scoped ] "{" { omember } "}" [ ";" ] )
 unfoldable pub class_item : Grammar Item
-class_item = both (λ w make. make w) (one word_class ▸ word) (or (made (λ c w. items.Class w None None) (one semicolon)) class_body)
+class_item = both (λ w make. make w) (one word_class ▸ word) (or (made (λ c w. items.Class w None None None) (one semicolon)) class_body)
 
 -- exception = "exception" word [ "extends" scoped ] "{" { omember } "}" [ ";" ]
 unfoldable pub exception_item : Grammar Item

@@ -1,19 +1,19 @@
 //! Classes and exceptions.
 
 ghost use Rattle.slice_syntax.specs.Reading.{read};
-ghost use Rattle.slice_syntax.specs.Rules.{base, body, class_item, exception_item, tagged_member, tagged_members};
+ghost use Rattle.slice_syntax.specs.Rules.{base, body, class_item, compact, exception_item, tagged_member, tagged_members};
 ghost use Rattle.slice_syntax.specs.Taking.{Takes};
 
 use crate::cursor::Cursor;
 use crate::definitions::close;
 use crate::fault::Stop;
-use crate::terminal::{CLASS, EXCEPTION, EXTENDS, OPEN_BRACE, SEMICOLON};
-use crate::tree::{Field, Item, Path};
-use crate::words::{TAGGED_MEMBERS, given_value, metadata, scoped, tag, type_word};
+use crate::terminal::{CLASS, CLOSE_ROUND, EXCEPTION, EXTENDS, OPEN_BRACE, OPEN_ROUND, SEMICOLON};
+use crate::tree::{Constant, Field, Item, Path};
+use crate::words::{TAGGED_MEMBERS, given_value, metadata, scoped, tag, type_word, value};
 use ice_types::List;
 use std::alloc::Global;
 
-/// `"class" word ( ";" | [ "extends" scoped ] "{" { omember } "}" [ ";" ] )`
+/// `"class" word ( ";" | [ "(" value ")" ] [ "extends" scoped ] "{" { omember } "}" [ ";" ] )`
 #[tactic(auto, unfolding(crate::specs::Rules::class_item, crate::specs::Rules::class_body))]
 pub(crate) fn class(alloc: Global, cursor: &mut Cursor) -> Result<Item, Stop>
     ensures { Takes (λ x. x) result cursor.new (read class_item cursor.old) }
@@ -23,14 +23,17 @@ pub(crate) fn class(alloc: Global, cursor: &mut Cursor) -> Result<Item, Stop>
     if cursor.take_if(SEMICOLON)?.is_some() {
         return Ok(Item::Class {
             word,
+            compact: None,
             base: None,
             fields: None,
         });
     }
+    let compact = compact(alloc, cursor)?;
     let base = base(alloc, cursor)?;
     let fields = body(alloc, cursor)?;
     Ok(Item::Class {
         word,
+        compact,
         base,
         fields: Some(fields),
     })
@@ -46,6 +49,21 @@ pub(crate) fn exception(alloc: Global, cursor: &mut Cursor) -> Result<Item, Stop
     let base = base(alloc, cursor)?;
     let fields = body(alloc, cursor)?;
     Ok(Item::Exception { word, base, fields })
+}
+
+/// `[ "(" value ")" ]`
+#[tactic(auto, unfolding(crate::specs::Rules::compact))]
+fn compact(alloc: Global, cursor: &mut Cursor) -> Result<Option<Constant>, Stop>
+    ensures { Takes (λ x. x) result cursor.new (read compact cursor.old) }
+{
+    if cursor.begins(&[OPEN_ROUND]) {
+        cursor.take(OPEN_ROUND)?;
+        let number = value(alloc, cursor)?;
+        cursor.take(CLOSE_ROUND)?;
+        Ok(Some(number))
+    } else {
+        Ok(None)
+    }
 }
 
 /// `[ "extends" scoped ]`

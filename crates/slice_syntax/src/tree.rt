@@ -112,9 +112,11 @@ pub enum Item {
         key: TypeWord,
         value: TypeWord,
     },
-    /// Without a body the fields are None.
+    /// Without a body the fields are None, and so are the compact id and the base.
     Class {
         word: Word,
+        /// The value in `(` and `)` behind the name.
+        compact: Option<Constant>,
         base: Option<Path>,
         fields: Option<List<Field>>,
     },

@@ -2,11 +2,12 @@
 //! Exceptions".)
 
 ghost use Rattle.std.specs.Prelude.{◌≡◌, ◌<◌, ◌↔◌, IsTrue, None, length};
-ghost use Rattle.std.specs.Str.{IsUtf8};
+ghost use Rattle.ice_types.specs.CompactIds.{IsSliceId};
 ghost use Rattle.ice_prims.specs.Rest.{IsBytes};
 ghost use Rattle.ice_graphs.specs.Classes as classes;
 ghost use Rattle.ice_graphs.specs.Exceptions.{of_exceptions};
 ghost use Rattle.ice_graphs.specs.Typed.{AreBases, AreReferred, IsInstance, IsKnown, RefersIn};
+ghost use Rattle.ice_graphs.specs.UserExceptionTyped.{HasTypeId, HaveTypeIds};
 ghost use Rattle.graph_arena.specs.Seen.{view_content, view_slice, view_slices};
 ghost use Rattle.ice_values.specs.SlicedType.{rows_of};
 ghost use Rattle.value_checks.specs.First.{AreSlices, IsFine, IsUnknownSlice, IsSlice};
@@ -14,7 +15,7 @@ ghost use Rattle.value_checks.specs.First.{AreSlices, IsFine, IsUnknownSlice, Is
 use crate::members::are_members;
 use crate::references::References;
 use graph_arena::{Graph, Members, Slice};
-use ice_types::{Name, Schema};
+use ice_types::{Name, Schema, number_in};
 use ice_values::SlicedType;
 
 /// Whether they are the slices of a user exception whose references stand for instances of the graph: kept
@@ -22,10 +23,32 @@ use ice_values::SlicedType;
 /// one at least. The values of its members are of their types; the instances may be of any.
 /// (Ice manual, "User Exceptions".)
 pub fn is_user_exception(schema: &Schema, graph: &Graph, slices: &[Slice]) -> bool
-    ensures { IsTrue result ↔ IsInstance (of_exceptions schema.now) (RefersIn schema.now graph.now.instances)
-        (view_slices slices.now) }
+    ensures { IsTrue result ↔ (IsInstance (of_exceptions schema.now) (RefersIn schema.now graph.now.instances)
+        (view_slices slices.now) × HaveTypeIds (view_slices slices.now)) }
 {
-    is_instance(schema, SlicedType::Exception, graph, slices)
+    is_instance(schema, SlicedType::Exception, graph, slices) && have_type_ids(slices)
+}
+
+/// Whether none of them is kept under a compact id, since an exception has none.
+fn have_type_ids(slices: &[Slice]) -> bool
+    ensures { IsTrue result ↔ HaveTypeIds (view_slices slices.now) }
+{
+    for slice in slices {
+        if !has_type_id(slice) {
+            return false;
+        }
+    }
+    true
+}
+
+/// Whether it is not kept under a compact id.
+fn has_type_id(slice: &Slice) -> bool
+    ensures { IsTrue result ↔ HasTypeId (view_slice slice.now) }
+{
+    match slice {
+        Slice::Known { .. } => true,
+        Slice::Unknown { id, .. } => !id.as_str().starts_with('#'),
+    }
 }
 
 /// Whether the instance at a place is of its class.
@@ -88,11 +111,22 @@ fn is_unknown(schema: &Schema, sort: SlicedType, graph: &Graph, slice: &Slice) -
     }
 }
 
-/// Whether the schema lacks the type id, which is UTF-8 as each text is.
+/// Whether it is an id under which a slice is kept, and the schema lacks it. It is UTF-8 as each text is.
 fn is_unknown_id(schema: &Schema, sort: SlicedType, id: &Name) -> bool
-    ensures { IsTrue result ↔ ((classes.class_named (rows_of sort schema.now) id.now ≡ None) × IsUtf8 id.now) }
+    ensures { IsTrue result
+        ↔ ((classes.class_by_id (rows_of sort schema.now) id.now ≡ None) × IsSliceId id.now) }
 {
-    sort.row_named(schema, id.as_str()).is_none()
+    let id = id.as_str();
+    match sort {
+        SlicedType::Class => schema.kept_id(id),
+        SlicedType::Exception => {
+            if id.starts_with('#') {
+                number_in(id).is_some()
+            } else {
+                schema.exception(id).is_none()
+            }
+        }
+    }
 }
 
 /// Each of them is a byte, as their type says.

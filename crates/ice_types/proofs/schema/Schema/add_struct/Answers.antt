@@ -1,15 +1,18 @@
-use Rattle.std.proofs.Common.{sym, ap, ◌∙◌}
+use Rattle.std.proofs.Common.{refl, sym, ap, ◌∙◌}
 use Rattle.ice_types.specs.Measures.{struct_of}
 use Rattle.ice_types.specs.Fits.{small_members}
 use Rattle.ice_types.specs.Ids.{row_in}
 use Rattle.ice_types.proofs.AddedTypes.{added_struct}
+use Rattle.ice_types.proofs.CompactIds.{numbered_same}
 use Rattle.ice_types.proofs.schema.Schema.add_struct.Goals as goal
 
 pub invariant_of-self-2 : goal.invariant_of-self-2
-invariant_of-self-2 c =
-    added_struct c.self.inside.rows c.add_row.new.rows c.args.self.now (row_in c.self.inside.ids) (row_in c.add_row.new.ids) c.self.invariant c.self.view_is c.args.decl c.in-Some.measure
-    c.in_ok-add_row.ensures.decls c.in_ok-add_row.ensures.beside c.len-at.result c.len-at.ensures c.in_ok-add_row.ensures.ids
-    c.requires.room c.requires.type_id c.requires.new_id c.requires.fits (sym c.in-Some.is ∙ c.measure_struct.ensures ∙ ap (λ members. struct_of (small_members c.args.self.now members)) c.as_slice.ensures)
+invariant_of-self-2 c = (
+  added_struct c.self.inside.rows c.add_row.new.rows c.args.self.now (row_in c.self.inside.ids) (row_in c.add_row.new.ids) c.self.invariant.0 c.self.view_is c.args.decl c.in-Some.measure
+      c.in_ok-add_row.ensures.decls c.in_ok-add_row.ensures.beside c.len-at.result c.len-at.ensures c.in_ok-add_row.ensures.ids
+      c.requires.room c.requires.type_id c.requires.new_id c.requires.fits (sym c.in-Some.is ∙ c.measure_struct.ensures ∙ ap (λ members. struct_of (small_members c.args.self.now members)) c.as_slice.ensures),
+  numbered_same refl refl c.self.invariant.1,
+)
 
 pub returns-clause-rules : goal.returns-clause-rules
-returns-clause-rules c = (invariant_of-self-2 c).kept.rules
+returns-clause-rules c = (invariant_of-self-2 c).0.kept.rules

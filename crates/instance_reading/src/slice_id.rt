@@ -1,0 +1,40 @@
+//! The id of a slice, as it is read. (Ice manual, "Compact Type IDs".)
+
+ghost use Rattle.std.specs.Prelude.{◌≡◌, IfOk};
+ghost use Rattle.ice_values.specs.SlicedType.{row_of, rows_of};
+ghost use Rattle.instance_reading.specs.Ids.{id_of};
+
+use ice_types::{Name, Schema, numbered_id};
+use ice_values::SlicedType;
+use std::alloc::{AllocError, Global};
+
+/// The id of a slice.
+#[derive(Clone, Copy, Debug)]
+pub(crate) enum SliceId<'a> {
+    /// A type id, which is empty where none stands.
+    Text(&'a str),
+    /// A compact id.
+    Number(u32),
+}
+
+impl SliceId<'_> {
+    /// The row that has it, None where the schema has none.
+    pub(crate) fn row(self, sort: SlicedType, schema: &Schema) -> Option<u32>
+        ensures { result ≡ row_of sort (rows_of sort schema.now) (id_of self) }
+    {
+        match self {
+            SliceId::Text(id) => sort.row_by_id(schema, id),
+            SliceId::Number(number) => sort.row_numbered(schema, number),
+        }
+    }
+
+    /// The id as it is kept.
+    pub(crate) fn kept(self, alloc: Global) -> Result<Name, AllocError>
+        ensures { IfOk result (λ id. id ≡ id_of self) }
+    {
+        match self {
+            SliceId::Text(id) => Name::of(alloc, id),
+            SliceId::Number(number) => numbered_id(alloc, number),
+        }
+    }
+}

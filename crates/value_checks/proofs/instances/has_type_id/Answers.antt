@@ -1,0 +1,11 @@
+use Rattle.std.proofs.Common.{arith}
+use Rattle.std.proofs.lemmas.Str.Pattern.{starts_char}
+use Rattle.ice_values.proofs.Hashed.{starts_hash}
+use Rattle.value_checks.proofs.Sliced.{plain_told}
+use Rattle.value_checks.proofs.instances.has_type_id.Goals as goal
+
+pub returns-in-Unknown : goal.returns-in-Unknown
+returns-in-Unknown c =
+    let text = c.as_str.result.now in
+    let starts = starts_hash text c.starts_with.result (starts_char 35 text c.starts_with.result c.starts_with.ensures.cases (omega arith) (omega arith)) in
+    plain_told c.in-Unknown.id text c.starts_with.result c.as_str.ensures starts
