@@ -104,7 +104,7 @@ pub(crate) fn open_unknown<'a>(
     flags: u8,
     cursor: &mut Cursor<'a>,
 ) -> Result<OpenSlice<'a>, Fault>
-    ensures { OpensUnknown (id_of id) (flags_of flags) result cursor.old cursor.new }
+    ensures { OpensUnknown (id_of id.entry) (flags_of flags) result cursor.old cursor.new }
 {
     let part = skip_slice(cursor, flags)?;
     let left = take_table(flags, &[], cursor)?;

@@ -109,7 +109,7 @@ fn open_slice<'a>(
     flags: u8,
     cursor: &mut Cursor<'a>,
 ) -> Result<Stage<'a>, ReadFault>
-    ensures { OpensSlice sort schema.now (flags_of flags) class (id_of id) result cursor.old cursor.new }
+    ensures { OpensSlice sort schema.now (flags_of flags) class (id_of id.entry) result cursor.old cursor.new }
 {
     match class {
         Some(class) => open_known(alloc, sort, schema, class, flags, cursor),
@@ -212,7 +212,7 @@ fn id_at<'a>(arena: &Arena<'a>, index: u32, unknown: Fault) -> Result<&'a str, R
 
 /// The class of a slice, or the exception: by its id, or of an instance without one the base that follows.
 fn class_in(sort: SlicedType, schema: &Schema, before: Before, id: SliceId<'_>) -> Option<u32>
-    ensures { result ≡ class_by sort (rows_of sort schema.now) (view_before before) (id_of id) }
+    ensures { result ≡ class_by sort (rows_of sort schema.now) (view_before before) (id_of id.entry) }
 {
     match sort {
         SlicedType::Exception => id.row(sort, schema),

@@ -20,7 +20,7 @@ pub(crate) enum SliceId<'a> {
 impl SliceId<'_> {
     /// The row that has it, None where the schema has none.
     pub(crate) fn row(self, sort: SlicedType, schema: &Schema) -> Option<u32>
-        ensures { result ≡ row_of sort (rows_of sort schema.now) (id_of self) }
+        ensures { result ≡ row_of sort (rows_of sort schema.now) (id_of self.entry) }
     {
         match self {
             SliceId::Text(id) => sort.row_by_id(schema, id),
@@ -30,7 +30,7 @@ impl SliceId<'_> {
 
     /// The id as it is kept.
     pub(crate) fn kept(self, alloc: Global) -> Result<Name, AllocError>
-        ensures { IfOk result (λ id. id ≡ id_of self) }
+        ensures { IfOk result (λ id. id ≡ id_of self.entry) }
     {
         match self {
             SliceId::Text(id) => Name::of(alloc, id),

@@ -14,7 +14,11 @@ use Rattle.ice_graphs.specs.Graph.{Slice, known, unknown}
 use Rattle.ice_graphs.specs.Names.{names_of, slice_names, instance_names}
 use Rattle.ice_graphs.specs.Visiting.{is_listed, most}
 use Rattle.ice_graphs.specs.Slices.{slice_size}
-use Rattle.ice_graphs.specs.Canonical.{Pen, Format, sliced, compact, each_once, table_of, sized_bytes, is_there, written_names, written_table, sized_body, members_bytes, written_as, written_slices, written_bases, is_end}
+use Rattle.ice_prims.specs.Bytes.{text_bytes}
+use Rattle.ice_graphs.specs.Canonical as spec
+use Rattle.ice_graphs.specs.Canonical.{flags_byte, has_optional, Pen, Format, sliced, compact, each_once, table_of, sized_bytes, is_there, written_names, written_table, sized_body, members_bytes, written_as, written_slices, written_bases, is_end}
+use Rattle.ice_graphs.specs.Exceptions.{of_exceptions}
+use Rattle.ice_graphs.specs.Flags.{no_id}
 use Rattle.ice_graphs.specs.UserExceptionWritten.{user_exception_slices, user_exception_plain}
 use Rattle.ice_graphs.proofs.Agreeing.{written_same}
 use Rattle.graph_arena.specs.declared.instance.Slice as arena
@@ -41,6 +45,7 @@ use Rattle.instance_writing.specs.Sorts.{slice_head, plain_head}
 use Rattle.instance_writing.specs.Remains.{slice_front, table_size, one_slice, others_left, instance_left, Fits, BeginsNext}
 use Rattle.instance_writing.specs.Writable.{SlicesCanBeWritten}
 use Rattle.instance_writing.proofs.Placed.{below-both}
+use Rattle.instance_writing.proofs.WrittenIds.{exception_id}
 
 -- ---- the entries of a table
 
@@ -217,6 +222,12 @@ last-same : (t : Tables) (refer : Option ℕ → Piece Pen) (ss : List Slice) �
 last-same t refer [] = refl
 last-same t refer (s ∷ ss) = refl
 
+-- an exception's slice has its type id
+exception-head : (t : Tables) (tabled sized last : Bool) (s : Slice) (behind : Piece Pen) (w : Written Pen)
+    → onto (exactly (flags_byte no_id (has_optional s) tabled sized last ∷ text_bytes (spec.id_of (of_exceptions t) s)) >> behind) w ≡ onto (slice_head Exception t tabled sized last s >> behind) w
+exception-head t tabled sized last s behind w =
+    ap (λ (id : List ℕ). onto (exactly (flags_byte no_id (has_optional s) tabled sized last ∷ text_bytes id) >> behind) w) (exception_id t s)
+
 -- the first of those that have not begun, and those behind it
 pub next-slice : (sort : SlicedType) (t : Tables) (refer : Option ℕ → Piece Pen) (f : Format) (first : Bool) (s : Slice) (ss : List Slice) (w : Written Pen)
     → onto (others_left sort t refer f first (s ∷ ss)) w ≡ onto (others_left sort t refer f false ss) (onto (one_slice sort t refer f first (is_end t refer ss) s) w)
@@ -224,10 +235,12 @@ next-slice Class t refer sliced first s ss w = in-turn (slice_head Class t (is_t
 next-slice Class t refer compact true s ss w = in-turn (plain_head Class t true (is_end t refer ss) s) (members_bytes t refer s) (written_bases t refer ss) w
 next-slice Class t refer compact false s ss w = in-turn (plain_head Class t false (is_end t refer ss) s) (members_bytes t refer s) (written_bases t refer ss) w
 next-slice Exception t refer sliced first s ss w =
-    in-turn (slice_head Exception t (is_there (table_of s)) true (not (is_there ss)) s) (sized_body (rows_of Exception t) refer s) (user_exception_slices t refer ss) w
+    exception-head t (is_there (table_of s)) true (not (is_there ss)) s (sized_body (rows_of Exception t) refer s >> user_exception_slices t refer ss) w
+    ∙ in-turn (slice_head Exception t (is_there (table_of s)) true (not (is_there ss)) s) (sized_body (rows_of Exception t) refer s) (user_exception_slices t refer ss) w
     ∙ ap (λ (last : Bool). onto (user_exception_slices t refer ss) (onto (one_slice Exception t refer sliced first last s) w)) (last-same t refer ss)
 next-slice Exception t refer compact first s ss w =
-    in-turn (plain_head Exception t first (not (is_there ss)) s) (members_bytes (rows_of Exception t) refer s) (user_exception_plain t refer ss) w
+    exception-head t false false (not (is_there ss)) s (members_bytes (rows_of Exception t) refer s >> user_exception_plain t refer ss) w
+    ∙ in-turn (plain_head Exception t first (not (is_there ss)) s) (members_bytes (rows_of Exception t) refer s) (user_exception_plain t refer ss) w
     ∙ ap (λ (last : Bool). onto (user_exception_plain t refer ss) (onto (one_slice Exception t refer compact first last s) w)) (last-same t refer ss)
 
 pub all-slices : (t : Tables) (refer : Option ℕ → Piece Pen) (f : Format) (ss : List Slice) (w : Written Pen) → onto (others_left Class t refer f true ss) w ≡ onto (written_as t refer f ss) w

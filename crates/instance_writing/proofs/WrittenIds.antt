@@ -11,7 +11,10 @@ use Rattle.ice_types.specs.Rules.{IsSchema}
 use Rattle.ice_types.proofs.SliceIds.{number_found, number_there, not_numbered, type_id_plain}
 use Rattle.ice_prims.specs.Bytes.{size_bytes, text_bytes}
 use Rattle.ice_graphs.specs.Flags.{IdForm, no_id, as_number}
+use Rattle.ice_graphs.specs.Canonical as spec
 use Rattle.ice_graphs.specs.Canonical.{Pen, id_in, row_id, head_under}
+use Rattle.ice_graphs.specs.Exceptions.{of_exceptions}
+use Rattle.ice_graphs.specs.Graph.{Slice, known, unknown}
 use Rattle.ice_values.specs.WritingMembers.{WritesPiece}
 use Rattle.ice_values.specs.SlicedType.{compact_in, rows_of}
 use Rattle.ice_values.specs.declared.sliced_type.SlicedType.{SlicedType}
@@ -31,6 +34,11 @@ number_of_row (Some d) n e = ap (λ (o : Option ℕ). elim o [ None ↦ d.id | S
 pub text_of_row : (row : Option ClassDecl) → None ≡ compact_in row → id_in row ≡ row_id row
 text_of_row None e = refl
 text_of_row (Some d) e = ap (λ (o : Option ℕ). elim o [ None ↦ d.id | Some number ↦ numbered_id number ]) e
+
+-- an exception has its type id alone
+pub exception_id : (t : Tables) (s : Slice) → spec.id_of (of_exceptions t) s ≡ spec.written_id (of_exceptions t) s
+exception_id t (known class content) = text_of_row (slice_get (of_exceptions t).classes class) (exception_compact Exception t class refl)
+exception_id t (unknown id bytes optionals table) = refl
 
 compact_there : (ds : List ClassDecl) (class n : ℕ) → Some n ≡ compact_in (slice_get ds class) → slice_get (map (λ c. c.compact) ds) class ≡ Some (Some n)
 compact_there [] class n e = absurd cc

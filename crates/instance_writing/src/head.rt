@@ -59,7 +59,8 @@ pub(crate) fn put_head<'a>(
 ) -> Result<(), AllocError>
     requires told { IsTold sort id }
     ensures { WritesPiece
-        (head_of sort (λ form. flags_byte form flags.has_optional flags.has_table flags.has_size flags.is_last) (id_of id))
+        (head_of sort (λ form. flags_byte form flags.has_optional flags.has_table flags.has_size flags.is_last)
+        (id_of id.entry))
         result pen.old out.old.items pen.new out.new.items }
 {
     match id {
