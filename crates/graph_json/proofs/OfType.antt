@@ -103,9 +103,9 @@ module _ (t : Tables) (Refer : Refers) where
 
 -- ---- a value
 
-proxy_typed : (d : Data) (p : Option Proxy) → NotesProxy d p → parts.proxy.Is p
+proxy_typed : (d : Data) (p : Option Proxy) → NotesProxy d p → parts.CanBeWritten p
 proxy_typed d None h = (((((IsUtf8-nil, omega arith), (IsUtf8-nil, omega arith)), refl), refl), refl)
-proxy_typed d (Some p) h = proxy_is h.0 p h.2 h.3 h.4
+proxy_typed d (Some p) h = proxy_is h.0 p h.2 h.3
 
 reference_typed : (d : Data) (n : Option ℕ) → NotesReference d n → size_of n < 2 ^ 31
 reference_typed d None h = omega arith
