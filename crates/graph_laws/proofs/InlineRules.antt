@@ -157,7 +157,7 @@ module _ (t : Tables) (k : Graph) where
         (as_text, refl, text_bytes id, refl, text_spelled id from text lt) refl refl refl (ap (λ (ids : List (List ℕ)). ids ++ id ∷ []) stands.ids) (omega (arith, length-append p.ids (id ∷ [])))
 
     -- by its number, or as a text that is no number
-    by_number : (flags : IdForm → ℕ) (id : List ℕ) → IsSliceId id → (number : Option ℕ) → number_in id ≡ number → (from : Spelled) (p : Pen) (j : ℕ) → Stands from p → upto p.begun ≡ upto j → length p.ids + length (head_under number flags id p).0 < 2 ^ 31
+    by_number : (flags : IdForm → ℕ) (id : List ℕ) → IsSliceId id → (number : Option ℕ) → number_in id ≡ number → (from : Spelled) (p : Pen) (j : ℕ) → Stands from p → upto p.begun ≡ upto j → length p.ids + length (head_under number flags id p).0 ≤ l.bound
         → Goes (Head HasId flags id) from p (head_under number flags id p) j
     by_number flags id (utf8, inl plain) None e from p j stands run small = head_cases flags id (utf8, plain) from p j stands run (place_of p.ids id) refl small
     by_number flags id (utf8, inl plain) (Some n) e from p j stands run small = let none : None ≡ Some n = sym (not_numbered id plain) ∙ e in absurd cc
