@@ -57,7 +57,7 @@ id_keeps : (form : IdForm) (bytes id : List ℕ) (from to : Spelled) → SpellsI
 id_keeps no_id bytes id from to h = stay from to h.2
 id_keeps as_text bytes id from to h = λ u. subst Good (sym h.1) u
 id_keeps as_index bytes id from to h = stay from to h.3
-id_keeps as_number bytes id from to h = absurd h
+id_keeps as_number bytes id from to h = stay from to h.3
 
 abbrev notable_keeping : Keeping Spelled
 notable_keeping = record { Keeps = Keeps; same = λ s h. h; joined = λ a b c p q h. q (p h) }

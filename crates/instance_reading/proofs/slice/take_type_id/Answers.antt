@@ -14,4 +14,4 @@ pub returns : goal.returns
 returns c =
     let text = c.in_ok-id.id.now in
     let starts = starts_hash text c.starts_with.result (starts_char 35 text c.starts_with.result c.starts_with.ensures.cases (omega arith) (omega arith)) in
-    text_taken c.args.cursor.now c.take_str.new.self text c.in_ok-id.ensures (sym starts ∙ c.else-starts_with.false)
+    text_taken c.args.cursor.now c.take_str.new.self text c.in_ok-id.ensures (sym starts ∙ c.if-starts_with.false)
