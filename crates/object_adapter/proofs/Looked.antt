@@ -19,11 +19,11 @@ use Rattle.ice_types.specs.declared.identity.Identity.{Identity}
 use Rattle.ice_types.specs.Tables.{Tables}
 use Rattle.ice_encoding.specs.Tree.{Tree, text, struct, Trees, none, tree}
 use Rattle.ice_encoding.specs.Typed.{EachOf, HasType, Refers}
-use Rattle.ice_graphs.specs.Exceptions.{UserException, as_class, of_exceptions}
+use Rattle.ice_graphs.specs.Exceptions.{UserException, as_class}
 use Rattle.ice_graphs.specs.Graph.{Graph}
-use Rattle.ice_graphs.specs.Typed.{IsInstance, OfType, RefersIn}
+use Rattle.ice_graphs.specs.Typed.{OfType, RefersIn}
 use Rattle.ice_values.specs.Shapes.{told_apart}
-use Rattle.class_slices.specs.ExceptionEncoding.{IsFirstIll}
+use Rattle.class_slices.specs.ExceptionEncoding.{AreUserException, IsFirstIll}
 use Rattle.locator_types.specs.Locator.{adapter_not_found, find_object, identity_decl, locator_tables, object_not_found}
 use Rattle.object_adapter.specs.declared.seeking.Sought.{Sought}
 use Rattle.object_adapter.specs.declared.seeking.Sought.TheVariants.{Object, Adapter}
@@ -111,11 +111,11 @@ acted k call sought g (Err Memory) named comes tells = tt
 
 -- ---- the exception
 
-of_its_type : (sought : Sought) → IsInstance (of_exceptions locator_tables) (RefersIn locator_tables []) (not_found sought).slices
-of_its_type Object = ((as_class object_not_found, refl, record { required = refl; optional = tt }), refl)
-of_its_type Adapter = ((as_class adapter_not_found, refl, record { required = refl; optional = tt }), refl)
+of_its_type : (sought : Sought) → AreUserException locator_tables (not_found sought)
+of_its_type Object = (((as_class object_not_found, refl, record { required = refl; optional = tt }), refl), (tt, tt))
+of_its_type Adapter = (((as_class adapter_not_found, refl, record { required = refl; optional = tt }), refl), (tt, tt))
 
 -- no part of it is not of its type
 pub nowhere_ill : (sought : Sought) (x : UserException) (at : Option ℕ) → x ≡ not_found sought → IsFirstIll locator_tables x at → ⊥
-nowhere_ill sought x None is ill = ill (subst (λ (y : UserException). IsInstance (of_exceptions locator_tables) (RefersIn locator_tables y.instances) y.slices) (sym is) (of_its_type sought))
+nowhere_ill sought x None is ill = ill (subst (AreUserException locator_tables) (sym is) (of_its_type sought))
 nowhere_ill sought x (Some n) is ill = omega (arith, ill.1.0, ap (λ (y : UserException). length y.instances) is)
