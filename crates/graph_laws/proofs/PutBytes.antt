@@ -16,7 +16,7 @@ use Rattle.ice_encoding.specs.Bounds.{size_with}
 use Rattle.ice_encoding.specs.Parts.{Each}
 use Rattle.ice_encoding.specs.Identity.{identity, facet}
 use Rattle.ice_encoding.specs.Endpoint.{endpoint, kind_of, said, said_bytes, endpoint_to}
-use Rattle.ice_encoding.specs.Proxy.{location, details_of, identity_of, proxy, location_to, named_to, proxy_to}
+use Rattle.ice_encoding.specs.Proxy.{location, details_of, identity_of, named, proxy, location_to, named_to, proxy_to}
 use Rattle.ice_encoding.specs.Skipping.{count}
 use Rattle.ice_encoding.specs.Tags.{leading_byte, tag_by, behind_leading, tag}
 use Rattle.ice_graphs.specs.Slices.{unknown_bytes}
@@ -120,7 +120,7 @@ module _ (most : ℕ) where
   location_put [] adapter is = both_bytes (size_bytes 0) (text_bytes adapter) (size_put 0) (text_put adapter is.1.0.0)
   location_put (e ∷ es) adapter is = both_bytes (size_bytes (suc (length es))) (flat_map endpoint.put (e ∷ es)) (size_put (suc (length es))) (flat_put endpoint.put (endpoint_to most).Is endpoint_put (e ∷ es) is.1.0.1)
 
-  named_put : (name : List ℕ) (p : Option Proxy) → (named_to most (identity_of p) name).Is p → IsBytes ((named_to most (identity_of p) name).put p)
+  named_put : (name : List ℕ) (p : Option Proxy) → (named_to most (identity_of p) name).Is p → IsBytes ((named (identity_of p) name).put p)
   named_put [] p is = none_bytes
   named_put (c ∷ cs) p is =
       let d = details_of p in
@@ -136,7 +136,7 @@ module _ (most : ℕ) where
   proxy_put_in : (p : Option Proxy) → (proxy_to most).Is p → IsBytes (proxy.put p)
   proxy_put_in p is =
       let i = identity_of p in
-      both_bytes (identity.put i) ((named_to most i i.name).put p) (both_bytes (text_bytes i.name) (text_bytes i.category) (text_put i.name is.0.0.0.0.0) (text_put i.category is.0.0.0.1.0)) (named_put i.name p is.1)
+      both_bytes (identity.put i) ((named i i.name).put p) (both_bytes (text_bytes i.name) (text_bytes i.category) (text_put i.name is.0.0.0.0.0) (text_put i.category is.0.0.0.1.0)) (named_put i.name p is.1)
 
 pub proxy_put : (most : ℕ) (p : Option Proxy) → (proxy_to most).Is p → IsBytes (proxy.put p)
 proxy_put most p is = proxy_put_in most p is
