@@ -2,7 +2,7 @@ use Rattle.std.proofs.Common.{refl, subst, None, Some}
 use Rattle.graph_arena.specs.Seen.{view_content}
 use Rattle.ice_values.specs.Shapes.{shape_seen}
 use Rattle.value_checks.specs.First.{IsFirstInstance}
-use Rattle.value_checks.proofs.FirstIll.{all_typed, are_roots, ill_not_typed, instance_first, not_roots, roots_first}
+use Rattle.value_checks.proofs.FirstIll.{all_typed, are_roots, ill_not_typed, instance_first, not_roots, on_err, roots_first}
 use Rattle.value_checks.proofs.first.first_ill_typed.Goals as goal
 
 pub returns-then-not-are_members : goal.returns-then-not-are_members
@@ -32,4 +32,5 @@ returns-in-None c =
 
 pub returns-in_err-place-clause-memory : goal.returns-in_err-place-clause-memory
 returns-in_err-place-clause-memory c =
-    are_roots c.args.schema.now c.args.graph.now (shape_seen c.args.fields) (view_content c.roots.result.now) c.roots.ensures.roots c.are_members.result c.are_members.ensures c.if-not-are_members.false
+    on_err c.from_residual.result
+    (are_roots c.args.schema.now c.args.graph.now (shape_seen c.args.fields) (view_content c.roots.result.now) c.roots.ensures.roots c.are_members.result c.are_members.ensures c.if-not-are_members.false)
