@@ -1,0 +1,89 @@
+//! Whether what was spelled of a type under one schema can be read of a type under another.
+
+ghost use Rattle.std.specs.Prelude.{IfOk, OnOk, IsTrue, MatchOption};
+ghost use Rattle.slice_compat.specs.Answers.{AreAnswers};
+ghost use Rattle.slice_compat.specs.Marks.{AreReached};
+ghost use Rattle.slice_compat.specs.Reading.{Reads};
+ghost use Rattle.slice_compat.specs.Tests.{ClassFails, ClassPasses};
+ghost use Rattle.slice_compat.specs.Verdicts.{IsVerdict};
+
+use crate::answers::Answers;
+use crate::classes::class_fault;
+use crate::reached::reached_classes;
+use crate::reading::reads;
+use crate::verdict::{Verdict, Why};
+use ice_types::{Schema, TypeRef};
+use std::alloc::{AllocError, Global};
+
+/// Whether what was spelled of a type under the old schema can be read of a type under the new one, and else what
+/// stands in the way first: the types themselves, or a class that they reach.
+pub fn compatible(
+    alloc: Global,
+    old: &Schema,
+    old_kind: TypeRef,
+    new: &Schema,
+    new_kind: TypeRef,
+) -> Result<Verdict, AllocError>
+    ensures { IfOk result (IsVerdict old.now new.now old_kind new_kind) }
+{
+    let mut answers = Answers::new(alloc);
+    if !reads(alloc, old, new, &mut answers, old_kind, new_kind)? {
+        return Ok(Verdict::NoRoot);
+    }
+    let flags = reached_classes(alloc, old, old_kind)?;
+    first_failing(
+        alloc,
+        old,
+        old_kind,
+        new,
+        new_kind,
+        &mut answers,
+        flags.as_slice(),
+    )
+}
+
+/// The verdict by the classes that are reached.
+fn first_failing(
+    alloc: Global,
+    old: &Schema,
+    old_kind: TypeRef,
+    new: &Schema,
+    new_kind: TypeRef,
+    answers: &mut Answers,
+    flags: &[bool],
+) -> Result<Verdict, AllocError>
+    requires answers { AreAnswers old.now new.now answers.old }
+    requires root { Reads old.now new.now old_kind new_kind }
+    requires flags { AreReached old.now old_kind flags.now }
+    ensures { IfOk result (IsVerdict old.now new.now old_kind new_kind) }
+{
+    old.rules();
+    for (at, reached) in flags.iter().enumerate() {
+        let class = at as u32;
+        if let Some(why) = fault_where(alloc, old, new, answers, *reached, class)? {
+            return Ok(Verdict::NoClass { class, why });
+        }
+    }
+    Ok(Verdict::Yes)
+}
+
+/// The first test that a class fails, where it is reached.
+fn fault_where(
+    alloc: Global,
+    old: &Schema,
+    new: &Schema,
+    answers: &mut Answers,
+    reached: bool,
+    class: u32,
+) -> Result<Option<Why>, AllocError>
+    requires { AreAnswers old.now new.now answers.old }
+    ensures why { IfOk result (λ why. MatchOption why
+        (IsTrue reached → ClassPasses old.now new.now class)
+        (λ why. IsTrue reached × ClassFails old.now new.now class why)) }
+    ensures answers { OnOk result (AreAnswers old.now new.now answers.new) }
+{
+    if !reached {
+        return Ok(None);
+    }
+    class_fault(alloc, old, new, answers, class)
+}
