@@ -15,7 +15,7 @@ use Rattle.ice_types.proofs.RowIdentity.{one_id}
 use Rattle.slice_compat.specs.declared.verdict.Why.{Why}
 use Rattle.slice_compat.specs.declared.verdict.Why.TheVariants as causes
 use Rattle.slice_compat.specs.Reading.{Reads}
-use Rattle.slice_compat.specs.Tests.{HaveOneTag, ReadsAt, ReadsEach, ReadsOption, ReadsOptions, IsUnreadTag, IsLeastUnread, ClassReads, Fails, ClassPasses, ClassFails}
+use Rattle.slice_compat.specs.Tests.{HaveOneTag, ReadsAt, ReadsEach, ReadsOption, ReadsOptions, IsUnreadTag, IsAtMost, IsLeastUnread, FirstUnread, KeepsBase, KeepsCompactId, HasAsMany, required_of, ClassReads, Fails, ClassPasses, ClassFails}
 use Rattle.slice_compat.proofs.Spreading.{either}
 
 same_row : {A : Type 0} (o : Option A) (x y : A) → o ≡ Some x → o ≡ Some y → x ≡ y
@@ -30,6 +30,12 @@ module _ (t u : Tables) (ks ls : List TypeRef) (place : ℕ) (x y : TypeRef) (fi
   pub reads_not : (Reads t u x y → ⊥) → ReadsAt t u ks ls place → ⊥
   reads_not none (k, l, k_is, l_is, h) =
       none (subst (λ (z : TypeRef). Reads t u x z) (same_row (slice_get ls place) l y l_is second) (subst (λ (z : TypeRef). Reads t u z l) (same_row (slice_get ks place) k x k_is first) h))
+
+-- each place before the next one
+pub read_more : (t u : Tables) (ks ls : List TypeRef) (at : ℕ) → ((place : ℕ) → place < at → ReadsAt t u ks ls place) → ReadsAt t u ks ls at → (place : ℕ) → place < at + 1 → ReadsAt t u ks ls place
+read_more t u ks ls at earlier here place lt = either (cases_eq place at)
+    (λ is. subst (λ (k : ℕ). ReadsAt t u ks ls k) (sym is) here)
+    (λ apart. earlier place (omega (arith, lt, apart)))
 
 -- ---- optional members
 
@@ -74,6 +80,58 @@ module _ (t u : Tables) (ms ns : List Member) (at : ℕ) (m : Member) (row : sli
       by_least : (o : Option ℕ) → ((other : ℕ) → o ≡ Some other → tag ≤ other) → IsLeastUnread t u at ms ns o → (k : ℕ) → IsUnreadTag t u at ms ns k → tag ≤ k
       by_least None up all k (place, x, lt, is, has_it, not_read) = absurd (not_read (all place x lt is))
       by_least (Some other) up found k un = omega (arith, up other refl, found.1 k un)
+
+  pub still_least : (least : Option ℕ) (tag : ℕ) → m.tag ≡ Some tag → IsAtMost least tag → IsLeastUnread t u at ms ns least → IsLeastUnread t u (at + 1) ms ns least
+  still_least None tag has le h = absurd le
+  still_least (Some other) tag has le h = not_below other tag has le h
+
+  pub less_now : (least : Option ℕ) (tag : ℕ) → m.tag ≡ Some tag → (ReadsOption t u m ns → ⊥) → (IsAtMost least tag → ⊥) → IsLeastUnread t u at ms ns least → IsLeastUnread t u (at + 1) ms ns (Some tag)
+  less_now least tag has unread above h = now_least least tag has unread
+      (λ other is. let no : other ≤ tag → ⊥ = λ (le : other ≤ tag). above (subst (λ (o : Option ℕ). IsAtMost o tag) (sym is) le) in omega (arith, no)) h
+
+-- behind the last member
+pub least_of_all : (t u : Tables) (ms ns : List Member) (count : ℕ) → length ms ≤ count → (least : Option ℕ) → IsLeastUnread t u count ms ns least → IsLeastUnread t u (length ms) ms ns least
+least_of_all t u ms ns count le None h = λ place m lt is. h place m (omega (arith, lt, le)) is
+least_of_all t u ms ns count le (Some tag) h = (
+  (h.0.0, h.0.1, slice_get_within ms h.0.0 h.0.1 h.0.3, h.0.3, h.0.4, h.0.5),
+  λ other un. h.1 other (un.0, un.1, omega (arith, un.2, le), un.3, un.4, un.5),
+)
+
+-- ---- a class whose base and compact id stand, by the types of its required members and by its optional ones
+
+module _ (t u : Tables) (c d : ClassDecl) (base : KeepsBase t u c d) (compact : KeepsCompactId t u c d) (ms ns : List Member) (own : ms ≡ c.members) (other : ns ≡ d.members)
+    (ks ls : List TypeRef) (kinds : ks ≡ required_of ms) (others : ls ≡ required_of ns) where
+  own_kinds : ks ≡ required_of c.members
+  own_kinds = kinds ∙ ap required_of own
+
+  other_kinds : ls ≡ required_of d.members
+  other_kinds = others ∙ ap required_of other
+
+  pub members_fail : (length ks ≡ length ls → ⊥) → Fails t u c d causes.Members
+  members_fail apart = (base, compact, λ same. apart (ap length own_kinds ∙ same ∙ ap length (sym other_kinds)))
+
+  module _ (same : length ks ≡ length ls) where
+    as_many : HasAsMany t u c d
+    as_many = ap length (sym own_kinds) ∙ same ∙ ap length other_kinds
+
+    pub required_fails : (place : ℕ) → FirstUnread t u ks ls place → Fails t u c d (causes.Required place)
+    required_fails place h = (
+      base, compact, as_many,
+      subst (λ (xs : List TypeRef). FirstUnread t u xs (required_of d.members) place) own_kinds (subst (λ (ys : List TypeRef). FirstUnread t u ks ys place) other_kinds h),
+    )
+
+    module _ (each : ReadsEach t u ks ls) where
+      required : ReadsEach t u (required_of c.members) (required_of d.members)
+      required = subst (λ (xs : List TypeRef). ReadsEach t u xs (required_of d.members)) own_kinds (subst (λ (ys : List TypeRef). ReadsEach t u ks ys) other_kinds each)
+
+      optional : (least : Option ℕ) → IsLeastUnread t u (length ms) ms ns least → IsLeastUnread t u (length c.members) c.members d.members least
+      optional least h = subst (λ (xs : List Member). IsLeastUnread t u (length xs) xs d.members least) own (subst (λ (ys : List Member). IsLeastUnread t u (length ms) ms ys least) other h)
+
+      pub optional_fails : (tag : ℕ) → IsLeastUnread t u (length ms) ms ns (Some tag) → Fails t u c d (causes.Optional tag)
+      optional_fails tag h = (base, compact, as_many, required, optional (Some tag) h)
+
+      pub members_read : IsLeastUnread t u (length ms) ms ns None → ClassReads t u c d
+      members_read h = record { base = base; compact = compact; as_many = as_many; required = required; optional = optional None h }
 
 -- ---- a class and the one of its type id
 

@@ -1,5 +1,5 @@
 -- A type of a schema can be read at every number of levels within which it nests, if at any.
-use Rattle.std.proofs.Common.{ℕ, zero, suc, ◌≡◌, List, [], ◌∷◌, ◌≤◌, refl, sym, ◌∙◌, subst, arith, max, ◌&&◌, Option, Some}
+use Rattle.std.proofs.Common.{ℕ, zero, suc, ◌+◌, ◌<◌, ◌≡◌, Bool, IsTrue, List, [], ◌∷◌, ◌≤◌, refl, sym, ◌∙◌, subst, arith, max, ◌&&◌, Option, Some}
 use Rattle.std.specs.Prelude.{◌↔◌, slice_get}
 use Rattle.ice_types.specs.declared.kind.TypeRef.{TypeRef}
 use Rattle.ice_types.specs.declared.kind.TypeRef.TheVariants as kinds
@@ -71,3 +71,17 @@ struct_levels t u levels a b m le e = (
       subst (λ (k : ℕ). BothAre (ReadsStruct t u (ReadsWithin t u levels)) (slice_get t.structs a) (slice_get u.structs k)) (struct_place b w.0 w.1) w.2,
   λ h. levels_suffice t u (suc levels) MOST_DEPTH (kinds.Struct a) (kinds.Struct b) m (measure_more t (suc levels) MOST_DEPTH le (kinds.Struct a) m e) (b, refl, h),
 )
+
+-- ---- what is remembered, at the levels at hand
+
+module _ (t u : Tables) (levels a b : ℕ) (m : Measure) (lt : levels < MOST_DEPTH) (nests : measure t (levels + 1) (kinds.Struct a) ≡ Some m) (yes : Bool) where
+  both_levels : Reads t u (kinds.Struct a) (kinds.Struct b) ↔ BothAre (ReadsStruct t u (ReadsWithin t u levels)) (slice_get t.structs a) (slice_get u.structs b)
+  both_levels =
+      let one : levels + 1 ≡ suc levels = omega arith in
+      struct_levels t u levels a b m (omega (arith, lt)) (subst (λ (n : ℕ). measure t n (kinds.Struct a) ≡ Some m) one nests)
+
+  pub remembered : (IsTrue yes ↔ Reads t u (kinds.Struct a) (kinds.Struct b)) → IsTrue yes ↔ BothAre (ReadsStruct t u (ReadsWithin t u levels)) (slice_get t.structs a) (slice_get u.structs b)
+  remembered h = (λ on. both_levels.0 (h.0 on), λ both. h.1 (both_levels.1 both))
+
+  pub to_remember : (IsTrue yes ↔ BothAre (ReadsStruct t u (ReadsWithin t u levels)) (slice_get t.structs a) (slice_get u.structs b)) → IsTrue yes ↔ Reads t u (kinds.Struct a) (kinds.Struct b)
+  to_remember h = (λ on. both_levels.1 (h.0 on), λ reads. h.1 (both_levels.0 reads))

@@ -10,3 +10,4 @@ pub mod Linked
 pub mod Failing
 pub mod Meeting
 pub mod Putting
+pub mod Verdicts

@@ -1,9 +1,9 @@
 -- Lists of the classes that extend a class, with one class more.
-use Rattle.std.proofs.Common.{ℕ, ◌+◌, ◌<◌, ◌≤◌, ◌≡◌, ◌⊎◌, List, [], ◌∷◌, length, replicate, set, get_or, Option, None, Some, refl, sym, ◌∙◌, ap, subst, inl, inr, arith}
-use Rattle.std.specs.Prelude.{◌↔◌, ◌≢◌, slice_get, unwrap_or}
+use Rattle.std.proofs.Common.{ℕ, suc, ◌+◌, ◌<◌, ◌≤◌, ◌≡◌, ◌⊎◌, List, [], ◌∷◌, length, replicate, set, get_or, Option, None, Some, refl, sym, ◌∙◌, ap, subst, inl, inr, arith}
+use Rattle.std.specs.Prelude.{◌↔◌, ◌≢◌, slice_get, option_and_then, unwrap_or}
 use Rattle.std.proofs.lemmas.Bool.{cases_eq, cases_lt}
 use Rattle.std.proofs.lemmas.List.{length-replicate, get_or-replicate, get_or-set_same, get_or-set_other, length-set}
-use Rattle.std.proofs.lemmas.Option.{slice_get_past, unwrap_or-slice_get}
+use Rattle.std.proofs.lemmas.Option.{slice_get_past, slice_get-get_or, unwrap_or-slice_get}
 use Rattle.ice_types.specs.declared.declarations.ClassDecl.{ClassDecl}
 use Rattle.ice_types.specs.Inherited.{base_in}
 use Rattle.slice_compat.specs.Children.{link_at, OnList, First, Later, AreLinked}
@@ -21,6 +21,17 @@ link_here links at link lt = unwrap_or-slice_get (set links at link) at None ∙
 
 link_elsewhere : (links : List (Option ℕ)) (at other : ℕ) (link : Option ℕ) → other ≢ at → link_at (set links at link) other ≡ link_at links other
 link_elsewhere links at other link apart = unwrap_or-slice_get (set links at link) other None ∙ get_or-set_other links at other link None apart ∙ sym (unwrap_or-slice_get links other None)
+
+-- ---- how far a link is from the end
+
+abbrev pub still : Option ℕ → ℕ
+still None = 0
+still (Some class) = suc class
+
+-- each step leads nearer
+pub nearer : (next : List (Option ℕ)) → ((class other : ℕ) → link_at next class ≡ Some other → other < class) → (head : ℕ) (link : Option ℕ) → link ≡ link_at next head → still link < suc head
+nearer next falls head None is = omega arith
+nearer next falls head (Some other) is = omega (arith, falls head other (sym is))
 
 -- ---- what stands on a list
 
@@ -49,6 +60,11 @@ module _ (next : List (Option ℕ)) (at : ℕ) (link : Option ℕ) (falls : (cla
       let same : link_at (set next at link) class ≡ link_at next class = link_elsewhere next at class link (λ is. omega (arith, is, lt)) in
       Later class other (subst (λ (from : Option ℕ). OnList next from other) same
       (back (link_at (set next at link) class) other (λ further is. omega (arith, falls class further (sym same ∙ is), lt)) rest))
+
+-- ---- the base that a row states
+
+pub own_base : (classes : List ClassDecl) (at : ℕ) (row : ClassDecl) (base : Option ℕ) → at < length classes → (get_or classes at row).base ≡ base → base_in classes at ≡ base
+own_base classes at row base lt stated = ap (option_and_then (λ (c : ClassDecl). c.base)) (slice_get-get_or classes at row lt) ∙ stated
 
 -- ---- nothing is linked
 

@@ -213,3 +213,25 @@ pub less_left : (t : Tables) (node : Node) (before now : Marks) (waiting : Vec N
 less_left t node before now waiting taken s =
     let fewer : length before.pending.items ≡ length waiting.items + 1 = ap length taken ∙ length-append waiting.items (node ∷ []) in
     omega (arith, s.total, fewer)
+
+-- a list of no items
+pub no_items : {A : Type 0} (xs : List A) → length xs ≡ 0 → xs ≡ []
+no_items [] e = refl
+no_items (x ∷ xs) e = absurd (omega arith)
+
+-- nothing was taken off
+module _ (t : Tables) (root : TypeRef) (m : Marks) (waiting : Vec Node Global) (same : waiting.items ≡ m.pending.items) (way : IsUnderWay t root m) where
+  done_still : (n : Node) → is_done (record m { pending = waiting }) n ≡ is_done m n
+  done_still n = ap (λ (l : List Bool). is_set l (place_in n)) (flags_stay m waiting n)
+
+  met_still : (n : Node) → is_met (record m { pending = waiting }) n ≡ is_met m n
+  met_still n = ap (λ (l : List Bool). is_defined l (place_in n)) (flags_stay m waiting n)
+
+  pub stood_still : IsUnderWay t root (record m { pending = waiting })
+  stood_still = record {
+    rows = way.rows;
+    start = λ n is. done_still n ∙ way.start n is;
+    closed = λ n next e steps. either (way.closed n next (sym (done_still n) ∙ e) steps) (λ d. inl (done_still next ∙ d)) (λ w. inr (subst (λ (ns : List Node). Contains ns n) (sym same) w));
+    sound = λ n e. way.sound n (sym (met_still n) ∙ e);
+    waiting = λ n h. met_still n ∙ way.waiting n (subst (λ (ns : List Node). Contains ns n) same h);
+  }

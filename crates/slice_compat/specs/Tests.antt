@@ -24,6 +24,11 @@ KeepsNumber (Some number) other = other ≡ Some number
 abbrev pub HaveOneTag : Member → Member → Type 0
 HaveOneTag m n = (tag : ℕ) × (m.tag ≡ Some tag) × (n.tag ≡ Some tag)
 
+-- there is a tag that is not above this one
+abbrev pub IsAtMost : Option ℕ → ℕ → Type 0
+IsAtMost None tag = ⊥
+IsAtMost (Some other) tag = other ≤ tag
+
 module _ (t u : Tables) where
   -- ---- the tests
 

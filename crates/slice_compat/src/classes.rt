@@ -4,8 +4,8 @@ ghost use Rattle.std.specs.Prelude.{◌↔◌, ◌≡◌, ◌+◌, length, Match
 ghost use Rattle.slice_compat.specs.Answers.{AreAnswers};
 ghost use Rattle.slice_compat.specs.Reading.{Reads};
 ghost use Rattle.slice_compat.specs.Tests.{ClassFails, ClassPasses, ClassReads, Fails, FirstUnread};
-ghost use Rattle.slice_compat.specs.Tests.{HaveOneTag, IsLeastUnread, KeepsBase, KeepsCompactId};
-ghost use Rattle.slice_compat.specs.Tests.{KeepsNumber, ReadsEach, ReadsOption, required_of};
+ghost use Rattle.slice_compat.specs.Tests.{HaveOneTag, IsAtMost, IsLeastUnread, KeepsBase, KeepsCompactId};
+ghost use Rattle.slice_compat.specs.Tests.{KeepsNumber, ReadsAt, ReadsEach, ReadsOption, required_of};
 
 use crate::answers::Answers;
 use crate::ids::is_same_base;
@@ -80,34 +80,31 @@ fn members_fault(
         MatchOption why (ClassReads old.now new.now own.now decl.now) (Fails old.now new.now own.now decl.now)) }
     ensures answers { OnOk result (AreAnswers old.now new.now answers.new) }
 {
-    let required = required_of(alloc, own.members.as_slice())?;
-    let others = required_of(alloc, decl.members.as_slice())?;
-    if required.len() != others.len() {
+    let members = own.members.as_slice();
+    let others = decl.members.as_slice();
+    let required = required_of(alloc, members)?;
+    let wanted = required_of(alloc, others)?;
+    let kinds = required.as_slice();
+    let other_kinds = wanted.as_slice();
+    if !are_as_many(kinds, other_kinds) {
         return Ok(Some(Why::Members));
     }
-    let unread = first_unread(
-        alloc,
-        old,
-        new,
-        answers,
-        required.as_slice(),
-        others.as_slice(),
-    )?;
+    let unread = first_unread(alloc, old, new, answers, kinds, other_kinds)?;
     if let Some(place) = unread {
         return Ok(Some(Why::Required(place)));
     }
-    let least = least_unread(
-        alloc,
-        old,
-        new,
-        answers,
-        own.members.as_slice(),
-        decl.members.as_slice(),
-    )?;
+    let least = least_unread(alloc, old, new, answers, members, others)?;
     match least {
         Some(tag) => Ok(Some(Why::Optional(tag))),
         None => Ok(None),
     }
+}
+
+/// Whether the lists have as many types.
+fn are_as_many(kinds: &[TypeRef], others: &[TypeRef]) -> bool
+    ensures { IsTrue result ↔ (length kinds.now ≡ length others.now) }
+{
+    kinds.len() == others.len()
 }
 
 /// Whether a compact id stays as it is. A class without one may get one.
@@ -140,19 +137,42 @@ fn first_unread(
     own: &[TypeRef],
     others: &[TypeRef],
 ) -> Result<Option<usize>, AllocError>
-    requires answers { AreAnswers old.now new.now answers.old }
-    requires as_many { length own.now ≡ length others.now }
+    requires { AreAnswers old.now new.now answers.old }
     ensures place { IfOk result (λ place.
         MatchOption place (ReadsEach old.now new.now own.now others.now)
         (FirstUnread old.now new.now own.now others.now)) }
     ensures answers { OnOk result (AreAnswers old.now new.now answers.new) }
 {
-    for (at, first) in own.iter().enumerate() {
-        if !reads(alloc, old, new, answers, *first, others[at])? {
+    for at in 0..own.len() {
+        let can_read = reads_at(alloc, old, new, answers, own, others, at)?;
+        if !can_read {
             return Ok(Some(at));
         }
     }
     Ok(None)
+}
+
+/// Whether types stand at this place of both lists, of which the first can be read.
+fn reads_at(
+    alloc: Global,
+    old: &Schema,
+    new: &Schema,
+    answers: &mut Answers,
+    own: &[TypeRef],
+    others: &[TypeRef],
+    at: usize,
+) -> Result<bool, AllocError>
+    requires { AreAnswers old.now new.now answers.old }
+    ensures yes { IfOk result (λ yes. IsTrue yes ↔ ReadsAt old.now new.now own.now others.now at) }
+    ensures answers { OnOk result (AreAnswers old.now new.now answers.new) }
+{
+    let Some(first) = own.get(at).copied() else {
+        return Ok(false);
+    };
+    let Some(second) = others.get(at).copied() else {
+        return Ok(false);
+    };
+    reads(alloc, old, new, answers, first, second)
 }
 
 /// The least tag of the members that cannot be read as the one of their tag, None where each can.
@@ -196,13 +216,24 @@ fn least_with(
     let Some(tag) = member.tag else {
         return Ok(least);
     };
-    if matches!(least, Some(other) if other <= tag) {
+    if is_at_most(least, tag) {
         return Ok(least);
     }
-    if reads_option(alloc, old, new, answers, member, members)? {
+    let can_read = reads_option(alloc, old, new, answers, member, members)?;
+    if can_read {
         return Ok(least);
     }
     Ok(Some(tag))
+}
+
+/// Whether there is a tag already that is not above this one.
+fn is_at_most(least: Option<u32>, tag: u32) -> bool
+    ensures { IsTrue result ↔ IsAtMost least tag }
+{
+    match least {
+        Some(other) => other <= tag,
+        None => false,
+    }
 }
 
 /// Whether each of the members that have its tag can read it.

@@ -1,6 +1,7 @@
 //! Whether what was spelled of a type under one schema can be read of a type under another.
 
-ghost use Rattle.std.specs.Prelude.{IfOk, OnOk, IsTrue, MatchOption};
+ghost use Rattle.std.specs.Prelude.{◌≡◌, IfOk, OnOk, IsTrue, MatchOption};
+ghost use Rattle.ice_types.specs.Tables.{is_defined};
 ghost use Rattle.slice_compat.specs.Answers.{AreAnswers};
 ghost use Rattle.slice_compat.specs.Marks.{AreReached};
 ghost use Rattle.slice_compat.specs.Reading.{Reads};
@@ -27,7 +28,8 @@ pub fn compatible(
     ensures { IfOk result (IsVerdict old.now new.now old_kind new_kind) }
 {
     let mut answers = Answers::new(alloc);
-    if !reads(alloc, old, new, &mut answers, old_kind, new_kind)? {
+    let can_read = reads(alloc, old, new, &mut answers, old_kind, new_kind)?;
+    if !can_read {
         return Ok(Verdict::NoRoot);
     }
     let flags = reached_classes(alloc, old, old_kind)?;
@@ -58,9 +60,10 @@ fn first_failing(
     ensures { IfOk result (IsVerdict old.now new.now old_kind new_kind) }
 {
     old.rules();
-    for (at, reached) in flags.iter().enumerate() {
+    for at in 0..flags.len() {
         let class = at as u32;
-        if let Some(why) = fault_where(alloc, old, new, answers, *reached, class)? {
+        let fault = fault_where(alloc, old, new, answers, flags, class)?;
+        if let Some(why) = fault {
             return Ok(Verdict::NoClass { class, why });
         }
     }
@@ -73,17 +76,24 @@ fn fault_where(
     old: &Schema,
     new: &Schema,
     answers: &mut Answers,
-    reached: bool,
+    flags: &[bool],
     class: u32,
 ) -> Result<Option<Why>, AllocError>
     requires { AreAnswers old.now new.now answers.old }
     ensures why { IfOk result (λ why. MatchOption why
-        (IsTrue reached → ClassPasses old.now new.now class)
-        (λ why. IsTrue reached × ClassFails old.now new.now class why)) }
+        (IsTrue (is_defined flags.now class) → ClassPasses old.now new.now class)
+        (λ why. IsTrue (is_defined flags.now class) × ClassFails old.now new.now class why)) }
     ensures answers { OnOk result (AreAnswers old.now new.now answers.new) }
 {
-    if !reached {
+    if !is_marked(flags, class) {
         return Ok(None);
     }
     class_fault(alloc, old, new, answers, class)
+}
+
+/// The flag at a place, clear behind the end.
+fn is_marked(flags: &[bool], at: u32) -> bool
+    ensures { result ≡ is_defined flags.now at }
+{
+    flags.get(at as usize).copied().unwrap_or(false)
 }

@@ -19,6 +19,7 @@ pub(crate) fn reached_classes(
 ) -> Result<Vec<bool>, AllocError>
     ensures { IfOk result (λ flags. AreReached schema.now kind flags.items) }
 {
+    schema.rules();
     let children = Children::of(alloc, schema)?;
     let mut marks = Marks::new(alloc, schema)?;
     marks.meet_kind(kind)?;
