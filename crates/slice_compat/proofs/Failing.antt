@@ -9,7 +9,6 @@ use Rattle.ice_types.specs.declared.kind.RowRef.TheVariants as rows
 use Rattle.ice_types.specs.declared.declarations.ClassDecl.{ClassDecl}
 use Rattle.ice_types.specs.declared.declarations.Member.{Member}
 use Rattle.ice_types.specs.Tables.{Tables, HasId, class_ids}
-use Rattle.ice_types.specs.Rules.{IsSchema}
 use Rattle.ice_types.specs.Lacking.{SameId}
 use Rattle.ice_types.proofs.RowIdentity.{one_id}
 use Rattle.slice_compat.specs.declared.verdict.Why.{Why}
@@ -150,7 +149,7 @@ module _ (t u : Tables) (at : ℕ) where
     pub no_other : ((b : ℕ) → HasId (class_ids u) own.id b → ⊥) → ClassFails t u at causes.Missing
     no_other none b (id, here, there) = none b (subst (λ (i : List ℕ). HasId (class_ids u) i b) (one_id t (rows.Class at) id own.id here own_id) there)
 
-    module _ (rules : IsSchema u) (place : ℕ) (there : HasId (class_ids u) own.id place) where
+    module _ (place : ℕ) (there : HasId (class_ids u) own.id place) where
       -- a class of a type id has a row
       pub has_row : slice_get u.classes place ≡ None → ⊥
       has_row none =

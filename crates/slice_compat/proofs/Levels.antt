@@ -74,14 +74,14 @@ struct_levels t u levels a b m le e = (
 
 -- ---- what is remembered, at the levels at hand
 
-module _ (t u : Tables) (levels a b : ℕ) (m : Measure) (lt : levels < MOST_DEPTH) (nests : measure t (levels + 1) (kinds.Struct a) ≡ Some m) (yes : Bool) where
+module _ (t u : Tables) (levels a b : ℕ) (m : Measure) (lt : levels < MOST_DEPTH) (nests : measure t (levels + 1) (kinds.Struct a) ≡ Some m) (said : Bool) where
   both_levels : Reads t u (kinds.Struct a) (kinds.Struct b) ↔ BothAre (ReadsStruct t u (ReadsWithin t u levels)) (slice_get t.structs a) (slice_get u.structs b)
   both_levels =
       let one : levels + 1 ≡ suc levels = omega arith in
       struct_levels t u levels a b m (omega (arith, lt)) (subst (λ (n : ℕ). measure t n (kinds.Struct a) ≡ Some m) one nests)
 
-  pub remembered : (IsTrue yes ↔ Reads t u (kinds.Struct a) (kinds.Struct b)) → IsTrue yes ↔ BothAre (ReadsStruct t u (ReadsWithin t u levels)) (slice_get t.structs a) (slice_get u.structs b)
+  pub remembered : (IsTrue said ↔ Reads t u (kinds.Struct a) (kinds.Struct b)) → IsTrue said ↔ BothAre (ReadsStruct t u (ReadsWithin t u levels)) (slice_get t.structs a) (slice_get u.structs b)
   remembered h = (λ on. both_levels.0 (h.0 on), λ both. h.1 (both_levels.1 both))
 
-  pub to_remember : (IsTrue yes ↔ BothAre (ReadsStruct t u (ReadsWithin t u levels)) (slice_get t.structs a) (slice_get u.structs b)) → IsTrue yes ↔ Reads t u (kinds.Struct a) (kinds.Struct b)
+  pub to_remember : (IsTrue said ↔ BothAre (ReadsStruct t u (ReadsWithin t u levels)) (slice_get t.structs a) (slice_get u.structs b)) → IsTrue said ↔ Reads t u (kinds.Struct a) (kinds.Struct b)
   to_remember h = (λ on. both_levels.1 (h.0 on), λ reads. h.1 (both_levels.0 reads))

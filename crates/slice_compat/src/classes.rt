@@ -27,8 +27,6 @@ pub(crate) fn class_fault(
         MatchOption why (ClassPasses old.now new.now at) (ClassFails old.now new.now at)) }
     ensures answers { OnOk result (AreAnswers old.now new.now answers.new) }
 {
-    old.rules();
-    new.rules();
     let Some(own) = old.classes().get(at as usize) else {
         return Ok(Some(Why::Missing));
     };

@@ -6,9 +6,6 @@ use Rattle.slice_compat.specs.Tests.{ClassFails, ClassPasses}
 use Rattle.slice_compat.proofs.Verdicts.{passes_more, reached_before}
 use Rattle.slice_compat.proofs.compatibility.first_failing.Goals as goal
 
-pub overflow_cast-class : goal.overflow_cast-class
-overflow_cast-class c = omega (arith, c.rules.ensures.room.classes, c.requires.flags.rows)
-
 pub loop-at-init : goal.loop-at-init
 loop-at-init c = record { earlier = λ class lt. absurd (omega (arith, lt)); answers = c.requires.answers }
 

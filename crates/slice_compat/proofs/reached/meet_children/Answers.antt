@@ -19,14 +19,14 @@ loop-link-init c =
 pub loop-link-smaller : goal.loop-link-smaller
 loop-link-smaller c =
     let next = c.args.children.now.next.items in
-    let is = c.link_of-link-2.ensures ∙ ap (λ (links : List (Option ℕ)). link_at links c.in-Some.class) c.as_slice-2.ensures.value in
-    subst (λ (link : Option ℕ). still c.link_of-link-2.result < still link) (sym c.in-Some.is) (nearer next c.requires.falls c.in-Some.class c.link_of-link-2.result is)
+    let is = c.link_of-link-in-Some.ensures ∙ ap (λ (links : List (Option ℕ)). link_at links c.in-Some.class) c.as_slice-in-Some.ensures.value in
+    subst (λ (link : Option ℕ). still c.link_of-link-in-Some.result < still link) (sym c.in-Some.is) (nearer next c.requires.falls c.in-Some.class c.link_of-link-in-Some.result is)
 
 pub loop-link-preserved : goal.loop-link-preserved
 loop-link-preserved c =
     let next = c.args.children.now.next.items in
     let start = link_at c.args.children.now.first.items c.args.base in
-    let is = c.link_of-link-2.ensures ∙ ap (λ (links : List (Option ℕ)). link_at links c.in-Some.class) c.as_slice-2.ensures.value in
+    let is = c.link_of-link-in-Some.ensures ∙ ap (λ (links : List (Option ℕ)). link_at links c.in-Some.class) c.as_slice-in-Some.ensures.value in
     let here = subst (λ (link : Option ℕ). IsRest next start link) c.in-Some.is c.loop-link.invariant.rest in
     let before = subst (λ (link : Option ℕ). Spreads (VisitedOf next start link) c.args.marks.now c.loop-link.marks) c.in-Some.is c.loop-link.invariant.met in
     record {
