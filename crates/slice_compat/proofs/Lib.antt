@@ -11,3 +11,4 @@ pub mod Failing
 pub mod Meeting
 pub mod Putting
 pub mod Verdicts
+pub mod Pairs

@@ -32,8 +32,8 @@ returns-in-Some-least-clause-why c =
     (subst (λ (least : Option ℕ). IsLeastUnread c.args.old.now c.args.new.now (length c.as_slice-members.result.now) c.as_slice-members.result.now c.as_slice-others.result.now least)
     c.in-Some-least.is c.in_ok-least.ensures.least)
 
-pub returns-in-None-clause-why : goal.returns-in-None-clause-why
-returns-in-None-clause-why c =
+pub returns-clause-why : goal.returns-clause-why
+returns-clause-why c =
     members_read c.args.old.now c.args.new.now c.args.own.now c.args.decl.now c.requires.base c.requires.compact c.as_slice-members.result.now c.as_slice-others.result.now
     c.as_slice-members.ensures c.as_slice-others.ensures c.as_slice-kinds.result.now c.as_slice-other_kinds.result.now
     (c.as_slice-kinds.ensures.value ∙ c.in_ok-required.ensures) (c.as_slice-other_kinds.ensures.value ∙ c.in_ok-wanted.ensures)
