@@ -1,6 +1,6 @@
 -- The tests of a class: what each answer says of those before it.
-use Rattle.std.proofs.Common.{ℕ, ◌+◌, ◌<◌, ◌≤◌, ◌≡◌, ◌⊎◌, List, [], ◌∷◌, length, map, Option, None, Some, MatchOption, refl, sym, ◌∙◌, ap, subst, inl, inr, arith}
-use Rattle.std.specs.Prelude.{◌↔◌, slice_get}
+use Rattle.std.proofs.Common.{ℕ, ◌+◌, ◌<◌, ◌≤◌, ◌≡◌, ◌⊎◌, List, [], ◌∷◌, length, Option, None, Some, MatchOption, refl, sym, ◌∙◌, ap, subst, inl, inr, arith}
+use Rattle.std.specs.Prelude.{slice_get}
 use Rattle.std.specs.Option.{option_map}
 use Rattle.std.proofs.lemmas.Bool.{cases_eq}
 use Rattle.std.proofs.lemmas.Option.{slice_get-map, slice_get_within}
@@ -14,7 +14,7 @@ use Rattle.ice_types.proofs.RowIdentity.{one_id}
 use Rattle.slice_compat.specs.declared.verdict.Why.{Why}
 use Rattle.slice_compat.specs.declared.verdict.Why.TheVariants as causes
 use Rattle.slice_compat.specs.Reading.{Reads}
-use Rattle.slice_compat.specs.Tests.{HaveOneTag, ReadsAt, ReadsEach, ReadsOption, ReadsOptions, IsUnreadTag, IsAtMost, IsLeastUnread, FirstUnread, KeepsBase, KeepsCompactId, HasAsMany, required_of, ClassReads, Fails, ClassPasses, ClassFails}
+use Rattle.slice_compat.specs.Tests.{ReadsAt, ReadsEach, ReadsOption, IsUnreadTag, IsAtMost, IsLeastUnread, FirstUnread, KeepsBase, KeepsCompactId, HasAsMany, required_of, ClassReads, Fails, ClassPasses, ClassFails}
 use Rattle.slice_compat.proofs.Spreading.{either}
 
 same_row : {A : Type 0} (o : Option A) (x y : A) → o ≡ Some x → o ≡ Some y → x ≡ y
@@ -64,8 +64,11 @@ module _ (t u : Tables) (ms ns : List Member) (at : ℕ) (m : Member) (row : sli
   read_on (Some tag) reads h = (unread_more tag h.0, λ other un. either (unread_less other un) (λ old. h.1 other old) (λ new. absurd (new.1 reads)))
 
   pub not_below : (other tag : ℕ) → m.tag ≡ Some tag → other ≤ tag → IsLeastUnread t u at ms ns (Some other) → IsLeastUnread t u (at + 1) ms ns (Some other)
-  not_below other tag has le h = (unread_more other h.0, λ k un. either (unread_less k un) (λ old. h.1 k old)
-      (λ new. let both : Some tag ≡ Some k = sym has ∙ new.0 in let same : tag ≡ k = cc in omega (arith, same, le)))
+  not_below other tag has le h = (
+    unread_more other h.0,
+    λ k un. either (unread_less k un) (λ old. h.1 k old)
+        (λ new. let both : Some tag ≡ Some k = sym has ∙ new.0 in let same : tag ≡ k = cc in omega (arith, same, le)),
+  )
 
   pub now_least : (least : Option ℕ) (tag : ℕ) → m.tag ≡ Some tag → (ReadsOption t u m ns → ⊥) → ((other : ℕ) → least ≡ Some other → tag ≤ other) → IsLeastUnread t u at ms ns least
       → IsLeastUnread t u (at + 1) ms ns (Some tag)
@@ -115,7 +118,9 @@ module _ (t u : Tables) (c d : ClassDecl) (base : KeepsBase t u c d) (compact : 
 
     pub required_fails : (place : ℕ) → FirstUnread t u ks ls place → Fails t u c d (causes.Required place)
     required_fails place h = (
-      base, compact, as_many,
+      base,
+      compact,
+      as_many,
       subst (λ (xs : List TypeRef). FirstUnread t u xs (required_of d.members) place) own_kinds (subst (λ (ys : List TypeRef). FirstUnread t u ks ys place) other_kinds h),
     )
 

@@ -1,6 +1,6 @@
 -- Lists of the classes that extend a class, with one class more.
-use Rattle.std.proofs.Common.{ℕ, suc, ◌+◌, ◌<◌, ◌≤◌, ◌≡◌, ◌⊎◌, List, [], ◌∷◌, length, replicate, set, get_or, Option, None, Some, refl, sym, ◌∙◌, ap, subst, inl, inr, arith}
-use Rattle.std.specs.Prelude.{◌↔◌, ◌≢◌, slice_get, option_and_then, unwrap_or}
+use Rattle.std.proofs.Common.{ℕ, suc, ◌+◌, ◌<◌, ◌≡◌, ◌⊎◌, List, length, replicate, set, get_or, Option, None, Some, refl, sym, ◌∙◌, ap, subst, inl, inr, arith}
+use Rattle.std.specs.Prelude.{◌↔◌, ◌≢◌, option_and_then, unwrap_or}
 use Rattle.std.proofs.lemmas.Bool.{cases_eq, cases_lt}
 use Rattle.std.proofs.lemmas.List.{length-replicate, get_or-replicate, get_or-set_same, get_or-set_other, length-set}
 use Rattle.std.proofs.lemmas.Option.{slice_get_past, slice_get-get_or, unwrap_or-slice_get}
@@ -115,7 +115,7 @@ module _ (classes : List ClassDecl) (at : ℕ) (first next : List (Option ℕ)) 
         (λ is. (omega (arith, is), subst (λ (k : ℕ). base_in classes k ≡ Some base) is own))
         (λ rest.
         let tail : OnList (set next at (link_at first base)) (link_at first base) class = subst (λ (from : Option ℕ). OnList (set next at (link_at first base)) from class)
-            (link_here next at (link_at first base) (omega (arith, lt, linked.places))) rest in
+        (link_here next at (link_at first base) (omega (arith, lt, linked.places))) rest in
         let h = (linked.listed base class).0 (back next at (link_at first base) linked.falls (link_at first base) class (begins_below base) tail) in
         (omega (arith, h.0), h.1))
 

@@ -1,7 +1,7 @@
 -- What a loop meets, one after the other.
-use Rattle.std.proofs.Common.{ℕ, ◌+◌, ◌<◌, ◌≤◌, ◌≡◌, ◌⊎◌, Bool, true, List, [], ◌∷◌, length, Option, None, Some, refl, sym, ◌∙◌, ap, subst, inl, inr, arith}
-use Rattle.std.specs.Prelude.{◌↔◌, slice_get}
-use Rattle.std.proofs.lemmas.Bool.{cases_eq, cases_lt}
+use Rattle.std.proofs.Common.{ℕ, ◌+◌, ◌<◌, ◌≤◌, ◌≡◌, ◌⊎◌, List, length, Option, None, Some, refl, sym, ◌∙◌, ap, subst, inl, inr, arith}
+use Rattle.std.specs.Prelude.{slice_get}
+use Rattle.std.proofs.lemmas.Bool.{cases_eq}
 use Rattle.std.proofs.lemmas.Option.{slice_get_within, same_Some}
 use Rattle.ice_types.specs.declared.declarations.Member.{Member}
 use Rattle.ice_types.specs.Inherited.{base_in}
@@ -9,8 +9,8 @@ use Rattle.ice_types.specs.Tables.{Tables}
 use Rattle.slice_compat.specs.declared.marks.Marks.{Marks}
 use Rattle.slice_compat.specs.declared.node.Node.{Node}
 use Rattle.slice_compat.specs.declared.node.Node.TheVariants as nodes
-use Rattle.slice_compat.specs.Nodes.{IsNodeOf, AmongMembers, IsChild, IsClass}
-use Rattle.slice_compat.specs.Marks.{is_done, Spreads}
+use Rattle.slice_compat.specs.Nodes.{IsNodeOf, AmongMembers, IsChild}
+use Rattle.slice_compat.specs.Marks.{Spreads}
 use Rattle.slice_compat.specs.Children.{link_at, OnList, First, Later, AreLinked}
 use Rattle.slice_compat.proofs.Spreading.{either, nothing_met, both_met, met_as}
 

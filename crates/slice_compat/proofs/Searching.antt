@@ -1,6 +1,6 @@
 -- The search: what is met is reached, and in the end what is reached is met.
 use Rattle.std.proofs.Common.{ℕ, ◌+◌, ◌<◌, ◌≤◌, ◌≡◌, ◌⊎◌, Bool, true, false, List, [], ◌∷◌, ◌++◌, length, replicate, get_or, Option, None, Some, Vec, refl, sym, ◌∙◌, ap, subst, inl, inr, arith}
-use Rattle.std.specs.Prelude.{◌↔◌, Contains, IsTrue, slice_get, option_and_then, unwrap_or}
+use Rattle.std.specs.Prelude.{Contains, slice_get, option_and_then, unwrap_or}
 use Rattle.std.proofs.lemmas.Bool.{cases_lt}
 use Rattle.std.specs.declared.alloc.Global.{Global}
 use Rattle.std.proofs.lemmas.List.{length-append, length-replicate, get_or-replicate}
@@ -11,14 +11,14 @@ use Rattle.ice_types.specs.declared.kind.TypeRef.TheVariants as kinds
 use Rattle.ice_types.specs.declared.declarations.ClassDecl.{ClassDecl}
 use Rattle.ice_types.specs.Tables.{Tables, is_defined}
 use Rattle.ice_types.specs.Rules.{IsSchema}
-use Rattle.ice_types.specs.Inherited.{base_in, IsA, Here, Onward}
+use Rattle.ice_types.specs.Inherited.{IsA, Here, Onward}
 use Rattle.ice_types.proofs.BaseChains.{flag_within}
 use Rattle.slice_compat.specs.declared.marks.Marks.{Marks}
 use Rattle.slice_compat.specs.declared.node.Node.{Node}
 use Rattle.slice_compat.specs.declared.node.Node.TheVariants as nodes
 use Rattle.slice_compat.specs.Nodes.{node_of, IsNodeOf, Steps}
 use Rattle.slice_compat.specs.Marks.{table_of, place_in, is_met, is_done, is_set, left, NothingMet, Spreads, Stands, IsUnderWay, AreReached}
-use Rattle.slice_compat.specs.Reached.{IsOfPlace, MayName, Names, AtPlace, InElement, InValue, InMember, IsReached, AtOnce, Through}
+use Rattle.slice_compat.specs.Reached.{MayName, Names, AtPlace, InElement, InValue, InMember, IsReached, AtOnce, Through}
 use Rattle.slice_compat.proofs.Reaching.{base_within, base_reached, child_names, reached_within}
 use Rattle.slice_compat.proofs.Spreading.{either, flags_stay}
 

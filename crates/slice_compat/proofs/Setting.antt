@@ -1,11 +1,10 @@
 -- What setting one flag of a table changes.
-use Rattle.std.proofs.Common.{ℕ, ◌+◌, ◌<◌, ◌≡◌, ◌⊎◌, Bool, true, false, not, cond, List, length, set, get_or, refl, sym, ◌∙◌, ap, subst, inl, inr, arith, Option}
+use Rattle.std.proofs.Common.{ℕ, ◌+◌, ◌<◌, ◌≡◌, ◌⊎◌, Bool, true, false, not, cond, List, length, set, get_or, sym, ◌∙◌, ap, subst, inl, inr, arith, Option}
 use Rattle.std.specs.Prelude.{unwrap_or, slice_get, ◌≢◌}
 use Rattle.std.proofs.lemmas.Bool.{cases_eq, cases_lt}
 use Rattle.std.proofs.lemmas.List.{get_or-set_same, get_or-set_other}
 use Rattle.std.proofs.lemmas.List.Sums.{sum_by-set}
 use Rattle.std.proofs.lemmas.Option.{unwrap_or-slice_get, slice_get_past}
-use Rattle.ice_types.specs.Tables.{is_defined}
 use Rattle.slice_compat.specs.Marks.{is_set, clear}
 use Rattle.slice_compat.proofs.Spreading.{either}
 

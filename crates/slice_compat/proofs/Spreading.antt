@@ -1,5 +1,5 @@
 -- How what is met spreads: nothing, one node, and one spreading behind another.
-use Rattle.std.proofs.Common.{ℕ, ◌+◌, ◌≡◌, ◌⊎◌, Bool, true, false, List, [], ◌∷◌, ◌++◌, length, Option, None, Some, Result, Ok, Err, Vec, refl, sym, ◌∙◌, ap, subst, inl, inr, arith}
+use Rattle.std.proofs.Common.{◌≡◌, ◌⊎◌, Bool, true, false, List, [], ◌∷◌, ◌++◌, length, Option, None, Some, Result, Ok, Err, Vec, refl, sym, ◌∙◌, ap, subst, inl, inr, arith}
 use Rattle.std.specs.Prelude.{Contains, OnOk, unwrap_or, slice_get}
 use Rattle.std.proofs.lemmas.List.{length-append}
 use Rattle.std.proofs.lemmas.List.Elements.{Contains-push, Contains-push_cases, Contains-append_left}
@@ -7,7 +7,7 @@ use Rattle.std.specs.declared.alloc.Global.{Global}
 use Rattle.slice_compat.specs.declared.marks.Marks.{Marks}
 use Rattle.slice_compat.specs.declared.node.Node.{Node}
 use Rattle.slice_compat.specs.declared.node.Node.TheVariants as nodes
-use Rattle.slice_compat.specs.Marks.{table_of, place_in, is_met, is_done, unmet, left, Sets, Spreads}
+use Rattle.slice_compat.specs.Marks.{table_of, place_in, is_met, is_done, unmet, Sets, Spreads}
 
 pub either : {A B C : Type 0} → A ⊎ B → (A → C) → (B → C) → C
 either (inl a) f g = f a

@@ -1,5 +1,5 @@
 -- What each node leads to is met.
-use Rattle.std.proofs.Common.{ℕ, ◌≡◌, ◌⊎◌, Bool, true, List, Option, None, Some, refl, sym, ◌∙◌, ap, subst, inl, inr}
+use Rattle.std.proofs.Common.{ℕ, ◌≡◌, ◌⊎◌, Option, None, Some, refl, sym, ◌∙◌, ap, subst, inl, inr}
 use Rattle.std.specs.Prelude.{slice_get}
 use Rattle.std.proofs.lemmas.Option.{same_Some}
 use Rattle.ice_types.specs.declared.kind.TypeRef.{TypeRef}
@@ -7,13 +7,12 @@ use Rattle.ice_types.specs.declared.declarations.SeqDecl.{SeqDecl}
 use Rattle.ice_types.specs.declared.declarations.DictDecl.{DictDecl}
 use Rattle.ice_types.specs.declared.declarations.StructDecl.{StructDecl}
 use Rattle.ice_types.specs.declared.declarations.ClassDecl.{ClassDecl}
-use Rattle.ice_types.specs.declared.declarations.Member.{Member}
 use Rattle.ice_types.specs.Tables.{Tables}
 use Rattle.slice_compat.specs.declared.marks.Marks.{Marks}
 use Rattle.slice_compat.specs.declared.node.Node.{Node}
 use Rattle.slice_compat.specs.declared.node.Node.TheVariants as nodes
 use Rattle.slice_compat.specs.Nodes.{node_of, IsNodeOf, AmongMembers, IsBase, IsChild, IsClass, Steps}
-use Rattle.slice_compat.specs.Marks.{is_done, Spreads}
+use Rattle.slice_compat.specs.Marks.{Spreads}
 use Rattle.slice_compat.proofs.Spreading.{nothing_met, both_met, met_as}
 
 some_same : {A : Type 0} (o : Option A) (x y : A) → o ≡ Some x → o ≡ Some y → x ≡ y

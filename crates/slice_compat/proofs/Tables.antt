@@ -1,12 +1,12 @@
 -- The flag of one node is set: which flags change, by the table that it is of.
-use Rattle.std.proofs.Common.{ℕ, ◌+◌, ◌≡◌, ◌⊎◌, Bool, true, false, List, [], ◌∷◌, length, set, refl, sym, ◌∙◌, ap, subst, inl, inr, arith}
+use Rattle.std.proofs.Common.{ℕ, ◌+◌, ◌≡◌, ◌⊎◌, Bool, true, false, List, [], ◌∷◌, length, set, refl, sym, ◌∙◌, ap, inl, inr, arith}
 use Rattle.std.specs.Prelude.{unwrap_or, slice_get}
 use Rattle.std.proofs.lemmas.List.{length-set}
 use Rattle.slice_compat.specs.declared.marks.Marks.{Marks}
 use Rattle.slice_compat.specs.declared.node.Node.{Node}
 use Rattle.slice_compat.specs.declared.node.Node.TheVariants as nodes
 use Rattle.ice_types.specs.Tables.{is_defined}
-use Rattle.slice_compat.specs.Marks.{table_of, place_in, is_met, is_done, is_set, clear, if_clear, unmet, Sets}
+use Rattle.slice_compat.specs.Marks.{table_of, place_in, is_done, is_set, clear, if_clear, unmet, Sets}
 use Rattle.slice_compat.proofs.Spreading.{either}
 use Rattle.slice_compat.proofs.Setting.{here, was, kept, fewer}
 

@@ -1,5 +1,5 @@
 -- What has been met on the way, and what of it is still to be gone through.
-use Rattle.std.specs.Prelude.{ℕ, ◌≡◌, ◌+◌, ◌<◌, ◌⊎◌, ◌↔◌, ◌∷◌, ◌++◌, [], Bool, true, false, IsTrue, List, length, replicate, count_by, not, unwrap_or, slice_get, Contains, Some}
+use Rattle.std.specs.Prelude.{ℕ, ◌≡◌, ◌+◌, ◌<◌, ◌⊎◌, ◌↔◌, ◌∷◌, [], Bool, true, false, IsTrue, List, length, replicate, count_by, not, unwrap_or, slice_get, Contains, Some}
 use Rattle.ice_types.specs.declared.kind.TypeRef.{TypeRef}
 use Rattle.ice_types.specs.declared.kind.TypeRef.TheVariants as kinds
 use Rattle.ice_types.specs.Tables.{Tables, is_defined}

@@ -6,7 +6,7 @@ use Rattle.ice_types.specs.declared.kind.RowRef.TheVariants as rows
 use Rattle.ice_types.specs.declared.declarations.ClassDecl.{ClassDecl}
 use Rattle.ice_types.specs.declared.declarations.Member.{Member}
 use Rattle.ice_types.specs.Tables.{Tables}
-use Rattle.ice_types.specs.Lacking.{AreSame, BothAre, SameId, SameBase}
+use Rattle.ice_types.specs.Lacking.{BothAre, SameId, SameBase}
 use Rattle.slice_compat.specs.declared.verdict.Why.{Why}
 use Rattle.slice_compat.specs.declared.verdict.Why.TheVariants as causes
 use Rattle.slice_compat.specs.Reading.{Reads}

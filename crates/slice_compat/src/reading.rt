@@ -270,7 +270,13 @@ fn reads_enum(
 }
 
 /// The same, number by number.
-fn compares_enums(alloc: Global, old: &Schema, new: &Schema, a: u32, b: u32) -> Result<bool, AllocError>
+fn compares_enums(
+    alloc: Global,
+    old: &Schema,
+    new: &Schema,
+    a: u32,
+    b: u32,
+) -> Result<bool, AllocError>
     ensures { IfOk result (λ yes. IsTrue yes ↔
         BothAre ReadsEnum (slice_get old.now.enums a) (slice_get new.now.enums b)) }
 {

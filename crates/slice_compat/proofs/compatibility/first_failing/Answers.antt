@@ -13,7 +13,7 @@ pub loop-at-preserved : goal.loop-at-preserved
 loop-at-preserved c =
     let flag = IsTrue (is_defined c.args.flags.now c.loop-at.at) in
     let here = MatchOption-at_none (flag → ClassPasses c.args.old.now c.args.new.now c.loop-at.at)
-        (λ (why : Why). flag × ClassFails c.args.old.now c.args.new.now c.loop-at.at why) c.in_default.is c.in_ok-fault.ensures.why in
+    (λ (why : Why). flag × ClassFails c.args.old.now c.args.new.now c.loop-at.at why) c.in_default.is c.in_ok-fault.ensures.why in
     record {
       earlier = passes_more c.args.old.now c.args.new.now c.args.old_kind c.args.flags.now c.requires.flags c.loop-at.at c.loop-at.invariant.earlier here;
       answers = c.in_ok-fault.ensures.answers;
@@ -23,7 +23,7 @@ pub returns-in-Some : goal.returns-in-Some
 returns-in-Some c =
     let flag = IsTrue (is_defined c.args.flags.now c.loop-at.at) in
     let told = MatchOption-at_some (flag → ClassPasses c.args.old.now c.args.new.now c.loop-at.at)
-        (λ (why : Why). flag × ClassFails c.args.old.now c.args.new.now c.loop-at.at why) c.in-Some.why c.in-Some.is c.in_ok-fault.ensures.why in
+    (λ (why : Why). flag × ClassFails c.args.old.now c.args.new.now c.loop-at.at why) c.in-Some.why c.in-Some.is c.in_ok-fault.ensures.why in
     record {
       root = c.requires.root;
       reached = (c.requires.flags.reached c.loop-at.at).0 told.0;

@@ -1,4 +1,4 @@
-use Rattle.std.proofs.Common.{ℕ, ◌<◌, Option, List, None, Some, sym, ap, ◌∙◌, subst}
+use Rattle.std.proofs.Common.{ℕ, ◌<◌, Option, List, sym, ap, ◌∙◌, subst}
 use Rattle.slice_compat.specs.Children.{link_at}
 use Rattle.slice_compat.specs.Marks.{Spreads}
 use Rattle.slice_compat.proofs.Linked.{nearer, still}

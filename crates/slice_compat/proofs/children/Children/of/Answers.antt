@@ -1,7 +1,6 @@
 use Rattle.std.proofs.Common.{ℕ, ◌≡◌, ◌<◌, ◌∙◌, sym, subst, List, Some, length}
 use Rattle.ice_types.specs.declared.declarations.ClassDecl.{ClassDecl}
 use Rattle.ice_types.specs.Inherited.{base_in}
-use Rattle.slice_compat.proofs.Linked.{nothing_linked}
 use Rattle.slice_compat.proofs.Reaching.{base_within}
 use Rattle.slice_compat.proofs.children.Children.of.Goals as goal
 

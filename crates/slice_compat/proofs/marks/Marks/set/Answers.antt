@@ -3,7 +3,7 @@ use Rattle.std.specs.Vec.{with_item}
 use Rattle.slice_compat.specs.Marks.{Sets, is_done}
 use Rattle.slice_compat.specs.declared.node.Node.{Node}
 use Rattle.slice_compat.specs.declared.node.Node.TheVariants as nodes
-use Rattle.slice_compat.proofs.Tables.{sets_seq, sets_dict, sets_struct, sets_place, sets_class, sets_anywhere}
+use Rattle.slice_compat.proofs.Tables.{sets_seq, sets_dict, sets_struct, sets_place, sets_class}
 use Rattle.slice_compat.proofs.marks.Marks.set.Goals as goal
 
 pub returns-in-Seq : goal.returns-in-Seq
