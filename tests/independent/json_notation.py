@@ -17,7 +17,6 @@ import graphs
 import json_texts
 import kinds
 import proxies
-import values
 from graphs import Graph, Kept, Known, Ref
 
 # The name of the one root, the number of the first instance, and how many may be listed.
@@ -143,14 +142,11 @@ def integer(it, least, most):
 
 
 def proxy(it):
-    """Returns the proxy of a text, of which each endpoint has room in an encapsulation."""
+    """Returns the proxy of a text."""
     try:
-        found = proxies.read(text(it))
+        return proxies.read(text(it))
     except proxies.Refused as why:
         raise Misfit(f"no proxy: {why}") from None
-    # Two bytes of its type stand before an endpoint's encapsulation.
-    demand(all(len(values.spelled_endpoint(it)) - 2 <= values.MOST_BYTES for it in found.endpoints), "a long endpoint")
-    return found
 
 
 class Reader:

@@ -20,14 +20,15 @@ use Rattle.ice_graphs.specs.Instances.{most_instances, SpellsNumbered}
 use Rattle.ice_graphs.specs.Members.{written_content}
 use Rattle.ice_graphs.specs.Names.{names_of}
 use Rattle.ice_graphs.specs.Same.{form}
-use Rattle.ice_graphs.specs.Typed.{RefersIn, OfType}
+use Rattle.ice_graphs.specs.Typed.{IsHeldIn, RefersIn, OfType}
 use Rattle.ice_graphs.specs.Visiting.{order, visit_each, visit_at, most, place}
 use Rattle.ice_graphs.specs.Canonical.{Pen, sliced, put_inline, written_instance, blank, canonical_graph, graph_bytes}
 use Rattle.graph_laws.proofs.Canonicity.{same_bytes}
 use Rattle.graph_laws.proofs.Schemas.{canonical_spelled}
 use Rattle.canonical_values.specs.Standing.{only_null, IsCanonical}
 use Rattle.canonical_inputs.specs.Inputs.{IsOwnForm, one_member}
-use Rattle.canonical_inputs.proofs.Plain.{NullAlone, value_plain, typed_more}
+use Rattle.ice_encoding.proofs.Wider.{typed_wider}
+use Rattle.canonical_inputs.proofs.Plain.{NullAlone, value_plain}
 
 -- the graph of a value without instances
 abbrev pub alone : Tree → Graph
@@ -42,8 +43,8 @@ inline t g = written_in_place put_inline (written_instance t sliced g most)
 null_inline : (t : Tables) (g : Graph) (p : Pen) → inline t g None p ≡ (size_bytes 0, p)
 null_inline t g p = refl
 
-may_refer : (t : Tables) (declared n : Option ℕ) → only_null declared n → RefersIn t [] declared n
-may_refer t declared n e = subst (λ (m : Option ℕ). RefersIn t [] declared m) (sym e) tt
+may_refer : (t : Tables) (declared n : Option ℕ) → only_null.Held declared n → IsHeldIn t [] declared n
+may_refer t declared n e = subst (λ (m : Option ℕ). IsHeldIn t [] declared m) (sym e) tt
 
 no_order : (v : Tree) → names_of (alone v).roots ≡ [] → order (alone v) ≡ []
 unfolding order
@@ -79,7 +80,7 @@ value_written t name kind content (v, typed, is) short =
     let free : names_of (alone v).roots ≡ [] = append-nil _ ∙ append-nil _ ∙ p.free in
     record {
       graph = alone v;
-      typed = record { roots = record { required = (v, none, refl, typed_more t only_null (RefersIn t []) (may_refer t) 100 kind v typed, refl); optional = tt }; instances = λ n lt. absurd (omega (arith, lt)) };
+      typed = record { roots = record { required = (v, none, refl, typed_wider t only_null (RefersIn t []) (omega arith) (may_refer t) 100 kind v typed, refl); optional = tt }; instances = λ n lt. absurd (omega (arith, lt)) };
       few = few_listed (order (alone v)) (no_order v free);
       short = short;
       are = ap encapsulated_bytes (is ∙ sym (written_alone t name kind v typed));

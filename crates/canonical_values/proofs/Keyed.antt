@@ -59,7 +59,7 @@ key_apart : (t : Tables) (levels : ℕ) (kind : TypeRef) (k l : Tree) (x y : Lis
     → canonical k ++ x ≡ canonical l ++ y → (canonical k ≡ canonical l) × (k ≡ l)
 key_apart t levels kind k l x y h g e =
     let spelled : (v : Tree) → HasType t no_reference levels kind v → SpellsValue by_number t levels kind (canonical v) v tt tt
-    = λ v typed. value_written by_number t as_number (λ u. u) no_reference (λ declared n never. absurd never) levels kind v typed tt in
+    = λ v typed. value_written by_number t as_number (λ u. u) no_reference (omega arith, λ declared n never. absurd never) levels kind v typed tt in
     let p = spelled_apart (λ u. u) (value_at by_number.read t levels kind) (SpellsValue by_number t levels kind) (value_lawful by_number number_lawful t levels kind).only
     (canonical k) (canonical l) x y k l tt tt tt (spelled k h) (spelled l g) e in
     (p.0, p.1)

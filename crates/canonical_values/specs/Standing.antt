@@ -7,6 +7,7 @@ use Rattle.ice_types.specs.declared.declarations.StructDecl.{StructDecl}
 use Rattle.ice_types.specs.declared.schema.TheConstants.{MOST_DEPTH}
 use Rattle.ice_types.specs.Tables.{Tables}
 use Rattle.ice_prims.specs.Rest.{IsBytes}
+use Rattle.ice_encoding.specs.declared.limits.TheConstants.{LARGEST}
 use Rattle.ice_encoding.specs.Tree.{Tree}
 use Rattle.ice_encoding.specs.Typed.{HasType, Refers, no_reference}
 use Rattle.ice_encoding.specs.Canonical.{canonical}
@@ -15,7 +16,7 @@ use Rattle.std.specs.declared.cmp.Ordering.TheVariants.{Less}
 
 -- null alone may stand as a reference
 abbrev pub only_null : Refers
-only_null declared n = n ≡ None
+only_null = record { Held = λ declared n. n ≡ None; most = LARGEST }
 
 -- the types of members
 abbrev pub kinds_of : List Member → List TypeRef

@@ -9,17 +9,18 @@ use Rattle.ice_types.specs.declared.schema.TheConstants.{MOST_DEPTH}
 use Rattle.ice_types.specs.Tables.{Tables}
 use Rattle.ice_encoding.specs.Tree.{Tree, Trees, none, tree, Entries, no_entry, entry, Everywhere, InEach, InPairs}
 use Rattle.ice_encoding.specs.Canonical.{HasSize, HasSizes}
+use Rattle.ice_encoding.specs.Port.{size_of}
 use Rattle.ice_encoding.specs.Typed.{AllOf, EachOf, PairsOf, Refers, no_reference, by_size, HasType}
 use Rattle.ice_graphs.specs.Optionals.{Present}
 use Rattle.ice_graphs.specs.OptionalMembers.{Members, required_kinds}
 use Rattle.ice_graphs.specs.Classes.{base_of, own_members}
 use Rattle.ice_graphs.specs.Graph.{Slice, known, unknown, Graph}
-use Rattle.ice_graphs.specs.Names.{names, names_each, names_pairs, renamed_members, renamed_slice}
+use Rattle.ice_graphs.specs.Names.{names, names_each, names_pairs, renamed_name, renamed_members, renamed_slice}
 use Rattle.ice_graphs.specs.Instances.{slices_of}
 use Rattle.ice_graphs.specs.Visiting.{place, order}
 use Rattle.ice_graphs.specs.Same.{form}
 use Rattle.ice_graphs.specs.Typed as typed
-use Rattle.ice_graphs.specs.Typed.{AreMembers, IsKnown, AreBases, IsInstance, RefersIn, OfType}
+use Rattle.ice_graphs.specs.Typed.{AreMembers, IsKnown, AreBases, IsInstance, IsHeldIn, RefersIn, OfType}
 use Rattle.graph_laws.proofs.Fitting.{typed_sizes}
 use Rattle.graph_laws.proofs.Renamed.{Moves, members-renamed}
 use Rattle.graph_arena.specs.Arena.{AreBelow, IsSound}
@@ -102,7 +103,7 @@ module _ (t : Tables) where
   -- ---- members whose references are numbers that a size can have
 
   value-sized : (kind : TypeRef) (v : Tree) → HasType t by_size MOST_DEPTH kind v → HasSizes v
-  value-sized = typed_sizes t by_size (λ declared n h. h) MOST_DEPTH
+  value-sized = typed_sizes t by_size (omega arith, λ declared n h. h) MOST_DEPTH
 
   options-sized : (members : List Member) (last : Option ℕ) (os : Present) → typed.AreOptions t by_size members last os → OptionsFit os
   options-sized members last [] h = tt
@@ -161,9 +162,12 @@ module _ (t : Tables) (is : List (List Slice)) (f : ℕ → ℕ) (moves : Moves 
   each-writable (m ∷ ns) below zero = instance-writable t (RefersIn t is) f moves (slices_of is m) (one m below.0)
   each-writable (m ∷ ns) below (suc n) = each-writable ns below.1 n
 
+size-of-place : (t : Tables) (g : Graph) → IsSound g → (declared n : Option ℕ) → IsHeldIn t g.instances declared n → size_of (renamed_name (place (order g)) n) < 2 ^ 31
+size-of-place t g sound declared None h = omega arith
+size-of-place t g sound declared (Some n) h = omega (arith, place-few (order g) n, order-few g sound, sound.few, most-is)
+
 pub moves-to-places : (t : Tables) (g : Graph) → IsSound g → Moves (place (order g)) (RefersIn t g.instances) by_size
-moves-to-places t g sound declared None h = omega arith
-moves-to-places t g sound declared (Some n) h = omega (arith, place-few (order g) n, order-few g sound, sound.few, most-is)
+moves-to-places t g sound = (omega arith, size-of-place t g sound)
 
 pub form-writable : (t : Tables) (shape : Shape) (g : Graph) → OfType t shape g → IsSound g → GraphCanBeWritten t (form g)
 unfolding form

@@ -5,7 +5,7 @@ use Rattle.ice_types.specs.declared.declarations.Shape.{Shape}
 use Rattle.ice_types.specs.Tables.{Tables}
 use Rattle.ice_graphs.specs.Graph.{Slice, known, unknown, Graph}
 use Rattle.ice_graphs.specs.Instances.{slices_of}
-use Rattle.ice_graphs.specs.Typed.{OfType}
+use Rattle.ice_graphs.specs.Typed.{AreMembers, OfType, RefersIn}
 use Rattle.ice_graphs.specs.Visiting.{place, order}
 use Rattle.ice_graphs.specs.Canonical.{Format, sliced, compact, graph_bytes, IsWritable}
 use Rattle.value_checks.specs.First.{IsFirstIll}
@@ -51,10 +51,11 @@ of_write (write_faults.UnknownNeedsSliced n) = encode_faults.UnknownNeedsSliced 
 of_write (write_faults.TooLong n) = encode_faults.TooLong n
 of_write write_faults.Memory = encode_faults.Memory
 
--- the same of a graph of the type, and of any other its first part that is not of its type
+-- The same of a graph of the type, and of any other its first part that is not of its type. Roots that are not of their types
+-- are told whatever memory there is.
 abbrev pub EncodesGraph : Tables → Shape → Format → Graph → ℕ → Result (Vec ℕ Global) EncodeFault → Type 0
 EncodesGraph t shape f g limit (Ok out) = OfType t shape g × Writes t shape f g limit (Ok out)
 EncodesGraph t shape f g limit (Err (encode_faults.IllTyped at)) = IsFirstIll t g shape at
 EncodesGraph t shape f g limit (Err (encode_faults.UnknownNeedsSliced n)) = OfType t shape g × Writes t shape f g limit (Err (write_faults.UnknownNeedsSliced n))
 EncodesGraph t shape f g limit (Err (encode_faults.TooLong n)) = OfType t shape g × Writes t shape f g limit (Err (write_faults.TooLong n))
-EncodesGraph t shape f g limit (Err encode_faults.Memory) = Unit {0}
+EncodesGraph t shape f g limit (Err encode_faults.Memory) = AreMembers t (RefersIn t g.instances) shape g.roots

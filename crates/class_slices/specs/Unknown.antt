@@ -2,7 +2,7 @@
 use Rattle.std.specs.Prelude.{ℕ, ◌<◌, ◌≡◌, List, length, Option, None, Some, Result, Ok, Err, slice_index}
 use Rattle.ice_graphs.specs.Graph.{Graph}
 use Rattle.ice_graphs.specs.Instances.{slices_of}
-use Rattle.ice_graphs.specs.Canonical.{Format}
+use Rattle.ice_graphs.specs.Canonical.{Format, sliced, compact}
 use Rattle.class_slices.specs.declared.write_fault.WriteFault.{WriteFault}
 use Rattle.class_slices.specs.declared.write_fault.WriteFault.TheVariants.{UnknownNeedsSliced, TooLong, Memory}
 use Rattle.class_slices.specs.Encoding.{BeginsUnknown, ReachesUnknown, NeedsSliced, IsFirstUnknown}
@@ -22,9 +22,14 @@ module _ (g : Graph) (places : List ℕ) where
   IsFirstUnknownOf None = (k : ℕ) → k < length places → IsUnknownAt k → ⊥
   IsFirstUnknownOf (Some n) = (i : ℕ) × (i < length places) × (slice_index places i ≡ n) × BeginsUnknown (slices_of g.instances n) × ((k : ℕ) → k < i → IsUnknownAt k → ⊥)
 
+-- only for compact format the instances are looked at, which may want memory
+abbrev pub LooksAtAll : Format → Type 0
+LooksAtAll sliced = ⊥
+LooksAtAll compact = Unit {0}
+
 -- refused exactly where the format cannot carry the graph
 abbrev pub Allows : Format → Graph → Result (Unit {0}) WriteFault → Type 0
 Allows f g (Ok done) = NeedsSliced f g → ⊥
 Allows f g (Err (UnknownNeedsSliced n)) = NeedsSliced f g × IsFirstUnknown g n
 Allows f g (Err (TooLong n)) = ⊥
-Allows f g (Err Memory) = Unit {0}
+Allows f g (Err Memory) = LooksAtAll f

@@ -13,8 +13,8 @@ use graph_arena::{Graph, Slice};
 use instance_writing::Format;
 use std::alloc::AllocError;
 
-/// Refuses a graph that the format cannot carry, by the first instance with an unknown slice. It is refused too
-/// where there is no memory to look. (Ice manual, "Data Encoding for Class and Exception Types".)
+/// Refuses a graph that the format cannot carry, by the first instance with an unknown slice. In compact format it
+/// is refused too where there is no memory to look. (Ice manual, "Data Encoding for Class and Exception Types".)
 pub(crate) fn allow(graph: &Graph, format: Format) -> Result<(), WriteFault>
     ensures { Allows (view_format format) graph.now result }
 {

@@ -26,7 +26,7 @@ use Rattle.graph_json.specs.ValueNotation.{Noting, NotesProxy, NotesReference, N
 use Rattle.graph_json.specs.CanonicalValues.{Write, proxy_noted, reference_noted, each_noted, pairs_noted, members_noted, notation_levels, notation}
 use Rattle.graph_json.specs.TypedValues.{HasShortText, IsShort, HasShortTexts}
 use Rattle.graph_json.proofs.Names.{LacksName, AreApart, are_apart, numbered}
-use Rattle.graph_json.proofs.Proxies.{proxy_again, proxy_within}
+use Rattle.graph_json.proofs.Proxies.{proxy_again}
 
 integer_again : (z : ℤ) → as_integer (of_integer z) ≡ Some z
 integer_again (pos n) = refl
@@ -123,9 +123,9 @@ all_new (m ∷ ms) = (refl, all_new ms)
 
 -- ---- proxies, references
 
-proxy_canon : (p : Option Proxy) → parts.proxy.Is p → HasShortText p → NotesProxy (proxy_noted p) p
-proxy_canon None is short = refl
-proxy_canon (Some p) is short = (_, refl, short, proxy_again p is, proxy_within p is)
+proxy_canon : (most : ℕ) (p : Option Proxy) → (parts.proxy_to most).Is p → HasShortText p → NotesProxy (proxy_noted p) p
+proxy_canon most None is short = refl
+proxy_canon most (Some p) is short = (_, refl, short, proxy_again most p is)
 
 reference_canon : (n : Option ℕ) → size_of n < 2 ^ 31 → NotesReference (reference_noted n) n
 reference_canon None small = refl
@@ -135,7 +135,7 @@ reference_canon (Some n) small = (small, refl)
 
 -- each reference that may stand is a size
 abbrev pub AreSizes : Refers → Type 0
-AreSizes Refer = (declared n : Option ℕ) → Refer declared n → size_of n < 2 ^ 31
+AreSizes Refer = (declared n : Option ℕ) → Refer.Held declared n → size_of n < 2 ^ 31
 
 module _ (t : Tables) (rules : IsSchema t) where
   pub value_canon : (Refer : Refers) → AreSizes Refer → (levels : ℕ) (kind : TypeRef) → Canon (HasType t Refer levels kind) (NotesLevels t levels kind) (notation_levels t levels kind)
@@ -179,7 +179,7 @@ module _ (t : Tables) (rules : IsSchema t) where
       rw (is, row, found.1) (e, refl, k, (found.0, refl, found.2), refl)
   value_canon Refer sizes (suc n) (kinds.Proxy at) v (p, there, is) short =
       let brief = subst HasShortTexts is short in
-      rw is (p, proxy_canon p there brief, refl)
+      rw is (p, proxy_canon Refer.most p there brief, refl)
   value_canon Refer sizes (suc n) (kinds.Class declared) v (k, refers, is) short = rw is (k, reference_canon k (sizes declared k refers), refl)
 
 pub plain_canon : (t : Tables) (kind : TypeRef) (v : Tree) → IsSchema t → IsValue t kind v → HasShortTexts v → Notes t kind (notation t kind v) v

@@ -11,6 +11,7 @@ use Rattle.ice_types.specs.Fits.{names_of}
 use Rattle.ice_types.specs.Tables.{Tables}
 use Rattle.ice_types.specs.Rules.{IsSchema}
 use Rattle.ice_prims.specs.Rest.{IsBytes}
+use Rattle.ice_encoding.specs.declared.limits.TheConstants.{GREATEST}
 use Rattle.ice_encoding.specs.Port.{size_of}
 use Rattle.ice_encoding.specs.Typed.{Refers}
 use Rattle.ice_graphs.specs.Classes.{class_named, base_of, own_members}
@@ -20,7 +21,7 @@ use Rattle.ice_graphs.specs.Flags.{all_slices}
 use Rattle.ice_graphs.specs.Instances.{slices_of}
 use Rattle.ice_graphs.specs.Names.{renamed_slice}
 use Rattle.ice_graphs.specs.Same.{AreListed, form}
-use Rattle.ice_graphs.specs.Typed.{AreReferred, IsKnown, AreBases, IsInstance, RefersIn, OfType}
+use Rattle.ice_graphs.specs.Typed.{AreReferred, IsKnown, AreBases, IsInstance, IsHeldIn, RefersIn, OfType}
 use Rattle.ice_graphs.specs.Visiting.{place, order, most}
 use Rattle.graph_laws.proofs.Formed.{Reached, form-typed, form-same-graph}
 use Rattle.graph_laws.proofs.Named.{are_named}
@@ -62,7 +63,7 @@ both_are P Q (x ∷ xs) p q = ((p.0, q.0), both_are P Q xs p.1 q.1)
 
 -- ---- slices and instances
 
-module _ (t : Tables) (rules : IsSchema t) (Refer : Refers) (sizes : (declared n : Option ℕ) → Refer declared n → size_of n < 2 ^ 31) where
+module _ (t : Tables) (rules : IsSchema t) (Refer : Refers) (sizes : (declared n : Option ℕ) → Refer.Held declared n → size_of n < 2 ^ 31) where
   -- a slice of its type
   abbrev IsSlice : Slice → Type 0
   IsSlice (known class content) = IsKnown t Refer class content
@@ -127,7 +128,7 @@ module _ (t : Tables) (rules : IsSchema t) (Refer : Refers) (sizes : (declared n
 -- ---- graphs
 
 -- a reference to one of so many instances can be written as a size
-sizes_in : (t : Tables) (is : List (List Slice)) → length is ≤ most → (declared n : Option ℕ) → RefersIn t is declared n → size_of n < 2 ^ 31
+sizes_in : (t : Tables) (is : List (List Slice)) → length is ≤ most → (declared n : Option ℕ) → IsHeldIn t is declared n → size_of n < 2 ^ 31
 unfolding most
 sizes_in t is few declared None h = omega arith
 sizes_in t is few declared (Some n) h = let lt = h.0 in omega (arith, lt, few)
@@ -159,7 +160,7 @@ notable_form g ns notable (m ∷ ms) listed = (instance_renamed (place ns) (slic
 
 pub form_of_type : (t : Tables) → IsSchema t → (shape : Shape) (g : Graph) → Reached g → OfType t shape g → OfType t shape (form g)
 unfolding form
-form_of_type t rules shape g reached typed = (form-typed t shape all_slices sliced g reached typed (λ n lt. (tt, utf8_texts t rules (slices_of g.instances n)))).typed
+form_of_type t rules shape g reached typed = (form-typed t GREATEST shape all_slices sliced g reached typed (λ n lt. (tt, utf8_texts t rules (slices_of g.instances n)))).typed
 
 pub form_listed : (t : Tables) → IsSchema t → (shape : Shape) → HasOwnNames shape → (g : Graph) → Reached g → OfType t shape (form g) → IsNotable g → NotesListed t shape (canonical_noted t shape g) (form g)
 unfolding form

@@ -22,7 +22,6 @@ pub mod OfType
 pub mod WalkingValues
 pub mod Sizes
 pub mod WritingValues
-pub mod FittingValues
 pub mod ContentNoted
 pub mod ContentWalking
 pub mod ContentCanon

@@ -1,9 +1,8 @@
 -- JSON is read as what it notes, and as nothing else.
 use Rattle.std.proofs.Common.{◌≡◌, ℕ, ℤ, pos, negsuc, zero, suc, ◌<◌, ◌-◌, ◌^◌, true, List, [], ◌∷◌, length, map, Option, Some, None, Ok, Err, refl, sym, ap, subst, ◌∙◌, arith}
-use Rattle.std.specs.Prelude.{codes, slice_get, option_map, option_and_then, nat_lt, nat_le, nat_eq, ◌&&◌, FitsSigned, IsTrue}
+use Rattle.std.specs.Prelude.{codes, slice_get, option_map, option_and_then, nat_lt, nat_le, nat_eq, ◌&&◌, FitsSigned}
 use Rattle.std.specs.Int.{Width, w16, w32, w64}
 use mir.Val.{hbits}
-use Rattle.std.specs.List.{list_all}
 use Rattle.std.specs.Str.{is_utf8}
 use Rattle.std.specs.Ordering.{nat_cmp, match_ordering}
 use Rattle.std.specs.Cmp.Lexicographic.{slice_cmp}
@@ -32,8 +31,8 @@ use Rattle.ice_encoding.proofs.Order.{is_new, has_none}
 use Rattle.ice_encoding.specs.Port.{size_of}
 use Rattle.proxy_text.specs.Looking.{Parsed}
 use Rattle.proxy_text.specs.Grammar.{proxy_text}
-use Rattle.graph_json.specs.ValueNotation.{Noting, NotesInteger, NotesSigned, NotesEnumerator, NotesProxy, NotesName, NotesReference, NotesEach, NotesMembers, NotesPairs, NotesLevels, Notes, is_within, name_noted}
-use Rattle.graph_json.specs.ReadingValues.{Read, where_true, fits, integer_of, some, number_named, enumerator_of, parsed, text_proxy, writable, proxy_from, some_proxy_of, proxy_of, name_from, name_in, name_of, reference_of, signed_of, byte_from, text_from, each_of, members_of, pair_from, pair_of, both_of, where_new, pairs_of, few, whole, value_levels, noted_value}
+use Rattle.graph_json.specs.ValueNotation.{Noting, NotesInteger, NotesSigned, NotesEnumerator, NotesProxy, NotesName, NotesReference, NotesEach, NotesMembers, NotesPairs, NotesLevels, Notes, name_noted}
+use Rattle.graph_json.specs.ReadingValues.{Read, where_true, fits, integer_of, some, number_named, enumerator_of, parsed, text_proxy, some_proxy_of, proxy_of, name_from, name_in, name_of, reference_of, signed_of, byte_from, text_from, each_of, members_of, pair_from, pair_of, both_of, where_new, pairs_of, few, whole, value_levels, noted_value}
 use Rattle.graph_json.proofs.Shapes.{then_some, map_some, false_then, true_then, bool_is, number_is, str_is, array_is, object_is, pair_is}
 use Rattle.graph_json.proofs.Names.{are_apart, named_found, named_only}
 
@@ -89,18 +88,11 @@ text_is text p e =
     let short = true_then (nat_lt (length text) (2 ^ 30)) (parsed (proxy_text text)) p e in
     (ltb-true (length text) (2 ^ 30) short.0, parsed_is (proxy_text text) p short.1)
 
-written_is : (text : List ℕ) (p : Proxy) → proxy_from text ≡ Some p → (length text < 2 ^ 30) × (proxy_text text ≡ Ok p) × IsTrue (list_all is_within p.endpoints)
-written_is text p e =
-    let q = then_some (text_proxy text) writable p e in
-    let fits = cond_some (list_all is_within q.0.endpoints) q.0 p q.2 in
-    let is = text_is text q.0 q.1 in
-    subst (λ (x : Proxy). (length text < 2 ^ 30) × (proxy_text text ≡ Ok x) × IsTrue (list_all is_within x.endpoints)) fits.1 (is.0, is.1, fits.0)
-
 some_proxy_found : (s : List ℕ) (p : Option Proxy) → some_proxy_of (string s) ≡ Some p → NotesProxy (string s) p
 some_proxy_found s p e =
-    let q = map_some (proxy_from s) some p e in
-    let is = written_is s q.0 q.1 in
-    subst (NotesProxy (string s)) q.2 (s, refl, is.0, is.1, is.2)
+    let q = map_some (text_proxy s) some p e in
+    let is = text_is s q.0 q.1 in
+    subst (NotesProxy (string s)) q.2 (s, refl, is.0, is.1)
 
 proxy_found : (d : Data) (p : Option Proxy) → proxy_of d ≡ Some p → NotesProxy d p
 proxy_found null p e = subst (NotesProxy null) (same_Some None p e) refl
@@ -112,7 +104,7 @@ proxy_found (object ms) p e = absurd (none-some p e)
 
 proxy_only : (d : Data) (p : Option Proxy) → NotesProxy d p → proxy_of d ≡ Some p
 proxy_only d None h = rw h refl
-proxy_only d (Some p) h = rw (h.1, lt-ltb (length h.0) (2 ^ 30) h.2, h.3, h.4) refl
+proxy_only d (Some p) h = rw (h.1, lt-ltb (length h.0) (2 ^ 30) h.2, h.3) refl
 
 name_is : (x : Num) (n : ℕ) → name_from x ≡ Some n → (size_of (Some n) < 2 ^ 31) × (x ≡ unsigned (suc (suc n)))
 name_is (unsigned k) n e =

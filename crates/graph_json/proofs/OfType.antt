@@ -14,7 +14,7 @@ use Rattle.ice_types.specs.declared.proxy.Proxy.{Proxy}
 use Rattle.ice_types.specs.declared.schema.TheConstants.{MOST_DEPTH}
 use Rattle.ice_types.specs.Tables.{Tables}
 use Rattle.ice_types.specs.Rules.{IsSchema}
-use Rattle.ice_types.specs.Measures.{reference as null, measure, measured, measure_members, with_member, container, structure, sequence_of, dictionary_of, struct_of}
+use Rattle.ice_types.specs.Measures.{reference as null, proxy as served, measure, measured, measure_members, with_member, container, structure, sequence_of, dictionary_of, struct_of}
 use Rattle.ice_types.proofs.Levels.{found_by, some_is}
 use Rattle.ice_encoding.specs.Proxy as parts
 use Rattle.ice_encoding.specs.Tree.{Tree, Trees, tree_count, Entries, no_entry, entry, entry_count}
@@ -79,8 +79,8 @@ module _ (t : Tables) (Refer : Refers) where
   key_typed (suc levels) (suc other) kinds.Long m e k v h = h
   key_typed (suc levels) (suc other) kinds.Text m e k v h = h
   key_typed (suc levels) (suc other) (kinds.Enum at) m e k v h = h
-  key_typed (suc levels) (suc other) (kinds.Proxy None) m e k v h = h
-  key_typed (suc levels) (suc other) (kinds.Proxy (Some at)) m e k v h = h
+  key_typed (suc levels) (suc other) (kinds.Proxy None) m e k v h = no_key served m e refl k
+  key_typed (suc levels) (suc other) (kinds.Proxy (Some at)) m e k v h = found_by (slice_get t.interfaces at) (λ i. Some served) m e λ i i_is last. no_key served m last refl k
   key_typed (suc levels) (suc other) (kinds.Class None) m e k v h = no_key null m e refl k
   key_typed (suc levels) (suc other) (kinds.Class (Some at)) m e k v h = found_by (slice_get t.classes at) (λ c. Some null) m e λ c c_is last. no_key null m last refl k
   key_typed (suc levels) (suc other) (kinds.Seq at) m e k v h =
@@ -103,9 +103,9 @@ module _ (t : Tables) (Refer : Refers) where
 
 -- ---- a value
 
-proxy_typed : (d : Data) (p : Option Proxy) → NotesProxy d p → parts.proxy.Is p
+proxy_typed : (d : Data) (p : Option Proxy) → NotesProxy d p → parts.CanBeWritten p
 proxy_typed d None h = (((((IsUtf8-nil, omega arith), (IsUtf8-nil, omega arith)), refl), refl), refl)
-proxy_typed d (Some p) h = proxy_is h.0 p h.2 h.3 h.4
+proxy_typed d (Some p) h = proxy_is h.0 p h.2 h.3
 
 reference_typed : (d : Data) (n : Option ℕ) → NotesReference d n → size_of n < 2 ^ 31
 reference_typed d None h = omega arith

@@ -249,5 +249,5 @@ pub spelled_short : (bytes : List ℕ) (p : Option Proxy) → IsBytes bytes → 
 spelled_short bytes None fits small h = tt
 spelled_short bytes (Some p) fits small h =
     let is = proxy_lawful.sort bytes (Some p) fits h in
-    let has = has_text p is in
+    let has = has_text LARGEST p is in
     omega (arith, printed_few p has, proxy_put p has.place is.1, proxy_lawful.shortest bytes (Some p) fits h, small)

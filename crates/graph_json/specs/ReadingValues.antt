@@ -2,7 +2,6 @@
 use Rattle.std.specs.Prelude.{ℕ, ℤ, pos, negsuc, zero, suc, ◌-◌, ◌^◌, ◌&&◌, ◌==◌, Bool, List, [], ◌∷◌, length, Option, None, Some, Ok, Err, slice_get, codes, option_map, option_and_then, nat_lt, nat_le, if◌then◌else◌}
 use Rattle.std.specs.Int.{Width, w16, w32, w64}
 use mir.Val.{hbits}
-use Rattle.std.specs.List.{list_all}
 use Rattle.std.specs.Str.{bytes_eq, is_utf8}
 use Rattle.serde_json.specs.Data.{Num, unsigned, negative, float, Data, null, boolean, number, string, array, object, Items, no_items, item, Members}
 use Rattle.serde_json.specs.Find.{as_bool, as_number, as_str, as_array, as_object, as_integer, get_member}
@@ -19,7 +18,6 @@ use Rattle.ice_encoding.specs.Tree.{Tree, Trees, none, Entries, no_entry}
 use Rattle.ice_encoding.specs.Order.{has_key, insert}
 use Rattle.proxy_text.specs.Looking.{Parsed}
 use Rattle.proxy_text.specs.Grammar.{proxy_text}
-use Rattle.graph_json.specs.ValueNotation.{is_within}
 
 abbrev pub Read : Type 0 → Type 0
 Read A = Data → Option A
@@ -63,18 +61,11 @@ parsed (Err place) = None
 abbrev pub text_proxy : List ℕ → Option Proxy
 text_proxy text = if nat_lt (length text) (2 ^ 30) then parsed (proxy_text text) else None
 
--- where each endpoint can be written
-abbrev pub writable : Proxy → Option Proxy
-writable p = where_true (list_all is_within p.endpoints) p
-
-abbrev pub proxy_from : List ℕ → Option Proxy
-proxy_from text = option_and_then writable (text_proxy text)
-
 abbrev pub some : {A : Type 0} → A → Option A
 some x = Some x
 
 abbrev pub some_proxy_of : Read (Option Proxy)
-some_proxy_of d = option_map some (option_and_then proxy_from (as_str d))
+some_proxy_of d = option_map some (option_and_then text_proxy (as_str d))
 
 abbrev pub proxy_of : Read (Option Proxy)
 proxy_of null = Some None

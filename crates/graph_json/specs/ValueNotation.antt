@@ -1,8 +1,8 @@
 -- Which JSON notes a value of a type. JSON is what `serde_json` reads a text as: of a name that comes twice in an object, the
 -- last value stays.
-use Rattle.std.specs.Prelude.{ℕ, ℤ, pos, zero, suc, ◌<◌, ◌^◌, ◌≡◌, Bool, IsTrue, nat_le, List, [], ◌∷◌, length, Option, None, Some, Ok, slice_get, codes, FitsSigned}
+use Rattle.std.specs.Prelude.{ℕ, ℤ, pos, zero, suc, ◌<◌, ◌^◌, ◌≡◌, Bool, List, [], ◌∷◌, length, Option, None, Some, Ok, slice_get, codes, FitsSigned}
 use Rattle.std.specs.Int.{Width, w16, w32, w64}
-use Rattle.std.specs.List.{Any, list_all}
+use Rattle.std.specs.List.{Any}
 use Rattle.std.specs.Str.{IsUtf8}
 use Rattle.serde_json.specs.Data.{Num, unsigned, Data, null, boolean, number, string, array, object, Items, no_items, item, Members, no_members, member}
 use Rattle.serde_json.specs.Find.{as_integer, get_member}
@@ -15,13 +15,9 @@ use Rattle.ice_types.specs.declared.declarations.StructDecl.{StructDecl}
 use Rattle.ice_types.specs.declared.declarations.EnumDecl.{EnumDecl}
 use Rattle.ice_types.specs.declared.declarations.Entry.{Entry}
 use Rattle.ice_types.specs.declared.declarations.Member.{Member}
-use Rattle.ice_types.specs.declared.proxy.Endpoint.{Endpoint}
 use Rattle.ice_types.specs.declared.proxy.Proxy.{Proxy}
 use Rattle.ice_types.specs.declared.schema.TheConstants.{MOST_DEPTH}
 use Rattle.ice_types.specs.Tables.{Tables}
-use Rattle.ice_encoding.specs.declared.limits.TheConstants.{LARGEST}
-use Rattle.ice_encoding.specs.Bounds.{size_with}
-use Rattle.ice_encoding.specs.Endpoint.{kind_of, said}
 use Rattle.ice_encoding.specs.Tree as tree
 use Rattle.ice_encoding.specs.Tree.{Tree, Trees, none, Entries, no_entry}
 use Rattle.ice_encoding.specs.Order.{LacksKey, insert}
@@ -49,14 +45,10 @@ IsEnumerator entries name n = Any (λ e. (e.name ≡ name) × (e.number ≡ n)) 
 abbrev pub NotesEnumerator : List Entry → Noting ℕ
 NotesEnumerator entries d n = (name : List ℕ) × (d ≡ string name) × IsEnumerator entries name n
 
--- each endpoint can be written: its encapsulation is within the limit
-abbrev pub is_within : Endpoint → Bool
-is_within e = nat_le (size_with (said (kind_of e)) e) LARGEST
-
--- a text of it, which is shorter than 1,073,741,824 bytes, where each endpoint can be written; null for the null proxy
+-- a text of it, which is shorter than 1,073,741,824 bytes; null for the null proxy
 abbrev pub NotesProxy : Noting (Option Proxy)
 NotesProxy d None = d ≡ null
-NotesProxy d (Some p) = (text : List ℕ) × (d ≡ string text) × (length text < 2 ^ 30) × (proxy_text text ≡ Ok p) × IsTrue (list_all is_within p.endpoints)
+NotesProxy d (Some p) = (text : List ℕ) × (d ≡ string text) × (length text < 2 ^ 30) × (proxy_text text ≡ Ok p)
 
 -- an object whose one name is `$`, with a number that is two more
 abbrev pub name_noted : ℕ → Data

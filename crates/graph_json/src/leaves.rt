@@ -9,11 +9,10 @@ ghost use Rattle.graph_arena.specs.View.{view};
 ghost use Rattle.graph_json.specs.ReadingValues as spec;
 
 use graph_arena::Value;
-use ice_types::{Entry, Name, Proxy, Schema, TypeRef};
+use ice_types::{Entry, Name, Proxy, Schema};
 use proxy_text::{TextFault, parse_text};
 use serde_json::{Map, Value as Json};
 use std::alloc::{AllocError, Global};
-use value_checks::fits;
 
 pub(crate) fn bool_of(json: &Json) -> Option<Value>
     ensures { option_map view result ≡ option_map boolean (as_bool (json_view json.now)) }
@@ -103,35 +102,26 @@ fn number_named(entries: &[Entry], name: &str) -> Option<u32>
 }
 
 /// A proxy from its text, the null proxy from null. (Ice manual, "Proxy and Endpoint Syntax".)
-pub(crate) fn proxy_of(
-    alloc: Global,
-    schema: &Schema,
-    json: &Json,
-) -> Result<Option<Value>, AllocError>
+pub(crate) fn proxy_of(alloc: Global, json: &Json) -> Result<Option<Value>, AllocError>
     ensures { IfOk result (λ o. option_map view o ≡ option_map proxy (spec.proxy_of (json_view json.now))) }
 {
     if json.is_null() {
         return Ok(Some(Value::Proxy(None)));
     }
     match json.as_str() {
-        Some(text) => written_proxy(alloc, schema, text),
+        Some(text) => written_proxy(alloc, text),
         None => Ok(None),
     }
 }
 
-/// The proxy of a text that is not too long, where each endpoint can be written.
-fn written_proxy(alloc: Global, schema: &Schema, text: &str) -> Result<Option<Value>, AllocError>
+/// The proxy of a text that is not too long.
+fn written_proxy(alloc: Global, text: &str) -> Result<Option<Value>, AllocError>
     ensures { IfOk result (λ o. option_map view o
-        ≡ option_map proxy (option_map spec.some (spec.proxy_from text.now))) }
+        ≡ option_map proxy (option_map spec.some (spec.text_proxy text.now))) }
 {
-    let Some(proxy) = text_proxy(alloc, text)? else {
-        return Ok(None);
-    };
-    let value = Value::Proxy(Some(Box::new(alloc, proxy)?));
-    if fits(schema, TypeRef::Proxy(None), &value) {
-        Ok(Some(value))
-    } else {
-        Ok(None)
+    match text_proxy(alloc, text)? {
+        Some(proxy) => Ok(Some(Value::Proxy(Some(Box::new(alloc, proxy)?)))),
+        None => Ok(None),
     }
 }
 

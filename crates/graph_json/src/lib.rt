@@ -12,8 +12,7 @@
 //! - A reference is told by a number alone, whatever it refers to: whether an instance has that number and its
 //!   class fits is known once the whole graph is.
 //! - A proxy's text is shorter than 1,073,741,824 bytes, so that its places can be told and its sizes can be
-//!   written; and each of its endpoints is within the limit of an encapsulation, so that what is noted is a
-//!   value of the type. `value_checks` tests that.
+//!   written: so what is noted is a value of the type.
 //! - What is not of its type is noted as null, so that `json_of` asks nothing of a value.
 //! - What is listed comes before what is noted: `NotesListed` is read off JSON alone, instance by instance, and
 //!   whether the graph is of the type is asked of the whole. So a graph is noted by whatever lists one that is

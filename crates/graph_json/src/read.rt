@@ -72,7 +72,7 @@ fn read_parts(
         TypeRef::Dict(at) => read_dictionary(alloc, schema, levels, at, json),
         TypeRef::Struct(at) => read_struct(alloc, schema, levels, at, json),
         TypeRef::Enum(at) => Ok(enumerator_of(schema, at, json)),
-        TypeRef::Proxy(_) => proxy_of(alloc, schema, json),
+        TypeRef::Proxy(_) => proxy_of(alloc, json),
         TypeRef::Class(_) => Ok(reference_of(json)),
     }
 }

@@ -12,7 +12,7 @@ use Rattle.ice_graphs.specs.Graph.{Slice, Graph}
 use Rattle.ice_graphs.specs.Instances.{instances, slices_of, most_instances, AllFit}
 use Rattle.ice_graphs.specs.Names.{instance_names, renamed_slice}
 use Rattle.ice_graphs.specs.References.{opening}
-use Rattle.ice_graphs.specs.Typed.{IsInstance, RefersIn}
+use Rattle.ice_graphs.specs.Typed.{IsInstance, RefersUpTo}
 use Rattle.ice_graphs.specs.Visiting.{place, visit_each, visit_at, most, order}
 use Rattle.ice_graphs.proofs.Exceptions.{exception_apart}
 use Rattle.graph_arena.specs.Arena.{AreBelow}
@@ -28,13 +28,14 @@ use Rattle.graph_laws.proofs.Upto.{upto, visit-grows}
 use Rattle.ice_graphs.specs.UserExceptionTyped.{OfUserException}
 use Rattle.ice_graphs.specs.UserExceptionWritten.{graph_of, order_of, numbered_user_exception, form_of, SameUserException, SpellsSame, user_exception_bytes, canonical_user_exception, exception_bytes, CanBeWritten}
 use Rattle.graph_laws.proofs.UserExceptionForms.{exceptions_named, exception_texts, type_ids-renamed, root_names, graph_numbered, shape_of, graph_typed, slices_typed, form_same}
+use Rattle.graph_laws.proofs.WrittenValues.{written_limits}
 use Rattle.graph_laws.proofs.WrittenGraphs.{rising, refer_long, inline_instances}
 use Rattle.graph_laws.proofs.WrittenUserException.{user_exception_good}
 
 -- ---- an exception whose names are numbers by first visit
 
 module _ (t : Tables) (named : AreSpelled t) (named_user_exception : AreNamed (of_exceptions t)) (reach : Reach) (format : Format) (k : UserException) (room : ℕ) (fits : length k.instances ≤ room) (small_graph : length k.instances + 2 < 2 ^ 31)
-    (typed : (n : ℕ) → n < length k.instances → IsInstance t (RefersIn t k.instances) (slices_of k.instances n)) (asked : (n : ℕ) → n < length k.instances → Asked reach format (slices_of k.instances n) × HaveTexts t (slices_of k.instances n))
+    (typed : (n : ℕ) → n < length k.instances → IsInstance t (RefersUpTo t written_limits.most k.instances) (slices_of k.instances n)) (asked : (n : ℕ) → n < length k.instances → Asked reach format (slices_of k.instances n) × HaveTexts t (slices_of k.instances n))
     (range : (n : ℕ) → n < length k.instances → AreBelow (length k.instances) (instance_names (slices_of k.instances n))) where
   abbrev g : Graph
   g = graph_of k
@@ -42,14 +43,14 @@ module _ (t : Tables) (named : AreSpelled t) (named_user_exception : AreNamed (o
   abbrev limit : ℕ
   limit = length k.instances
 
-  slices_written : (more : ℕ) → Asked reach format k.slices → HaveTypeTexts (of_exceptions t) k.slices → IsInstance (of_exceptions t) (RefersIn t k.instances) k.slices → AreBelow limit (instance_names k.slices) → limit ≤ most → limit ≤ more
-      → visit_each (visit_at most g) (instance_names k.slices) [] ≡ upto limit → length (user_exception_bytes t format k) < 2 ^ 31
+  slices_written : (more : ℕ) → Asked reach format k.slices → HaveTypeTexts (of_exceptions t) k.slices → IsInstance (of_exceptions t) (RefersUpTo t written_limits.most k.instances) k.slices → AreBelow limit (instance_names k.slices) → limit ≤ most → limit ≤ more
+      → visit_each (visit_at most g) (instance_names k.slices) [] ≡ upto limit → length (user_exception_bytes t format k) ≤ LARGEST
       → (end : Spelled) × ((n : ℕ) × UserExceptionSlices (instances t reach room more) (of_exceptions t) reach n first (user_exception_bytes t format k) k.slices opening end) × (end.instances ≡ k.instances) × AllFit t k.instances end.met
   slices_written more can texts is below deep wide run small =
-      let e = user_exception_good t named_user_exception reach g (visit_at most g) (visit-grows most g) (λ i. (limit ≤ most + i) × (limit ≤ more + i)) (λ i j h le. (omega (arith, h.0, le), omega (arith, h.1, le))) (instances t reach room more)
+      let e = user_exception_good t named_user_exception reach g written_limits (visit_at most g) (visit-grows most g) (λ i. (limit ≤ most + i) × (limit ≤ more + i)) (λ i j h le. (omega (arith, h.0, le), omega (arith, h.1, le))) (instances t reach room more)
       (written_in_place put_inline (written_instance t format g most))
-      (rising t named reach format g room fits small_graph typed asked range (instances t reach room) (inline_instances t reach format room) most more)
-      (refer_long t named reach format g room fits small_graph typed asked range (instances t reach room) (inline_instances t reach format room) most)
+      (written_limits.fit, rising t named reach format written_limits g room fits small_graph typed asked range (instances t reach room) (inline_instances t reach format room) most more)
+      (refer_long t named reach format written_limits g room fits small_graph typed asked range (instances t reach room) (inline_instances t reach format room) most)
       (λ ns i j h below run. once-run g limit most [] ns i j h.0 tt below run) format k.slices can texts is below opening blank limit (record { count = refl; ids = refl }) (omega (arith, deep), omega (arith, wide)) run (omega (arith, small)) in
       (e.end, e.spelled, ext_get_or [] e.end.instances k.instances e.count (λ n lt. e.inside n (omega arith) (omega (arith, e.count, lt))), e.fit tt)
 
@@ -67,14 +68,14 @@ module _ (t : Tables) (rules : IsSchema t) (reach : Reach) (format : Format) (x 
   each_asked : EachAsked t reach format (graph_of x)
   each_asked n lt = (asked n lt, utf8_texts t rules (slices_of x.instances n))
 
-  form_spelled : length (canonical_user_exception t format x) < 2 ^ 31 → SpellsUserException t reach (canonical_user_exception t format x) (form_of x)
+  form_spelled : length (canonical_user_exception t format x) ≤ LARGEST → SpellsUserException t reach (canonical_user_exception t format x) (form_of x)
   unfolding canonical_user_exception form_of SpellsUserException order
   form_spelled small =
       let ns : List ℕ = order_of x in
       let k : UserException = numbered_user_exception ns x in
       let size : length k.instances ≡ length ns = length-map ns (λ n. map (renamed_slice (place ns)) (slices_of x.instances n)) in
       let in_order : InOrder (graph_of k) = subst InOrder (sym (graph_numbered ns x)) (form-in_order (graph_of x) reached) in
-      let of_type = form-typed t (shape_of x) reach format (graph_of x) reached (graph_typed t x typed) each_asked in
+      let of_type = form-typed t written_limits.most (shape_of x) reach format (graph_of x) reached (graph_typed t x typed) each_asked in
       let tiny : length k.instances + 2 < 2 ^ 31 = small_enough (length k.instances) (length ns) size few in
       let w = slices_written t (are_spelled t rules) (exceptions_named t rules) reach format k most_instances (omega (arith, size, few)) tiny of_type.typed.instances of_type.asked in_order.instances most_instances
       (asked-renamed reach format (place ns) x.slices can) (exception_texts t rules k.slices (type_ids-renamed (place ns) x.slices typed.type_ids)) (slices_typed t x typed reached) (subst (AreBelow (length k.instances)) (root_names k) in_order.roots) in_order.size (omega (arith, size, few))

@@ -17,7 +17,7 @@ use Rattle.ice_graphs.specs.Flags.{Reach, all_slices}
 use Rattle.ice_graphs.specs.Instances.{instances, slices_of, most_instances, AllFit, SpellsGraph, SpellsNumbered}
 use Rattle.ice_graphs.specs.Visiting.{place, order, most}
 use Rattle.ice_graphs.specs.Same.{Same, form, numbered, Spells}
-use Rattle.ice_graphs.specs.Typed.{OfType}
+use Rattle.ice_graphs.specs.Typed.{OfTypeTo, OfType}
 use Rattle.ice_graphs.specs.Canonical.{Format, bytes_of, canonical_graph, graph_bytes}
 use Rattle.ice_graphs.proofs.Slices.{instances_seen, instances_lawful}
 use Rattle.graph_laws.proofs.TypeIds.{Spelled}
@@ -25,6 +25,7 @@ use Rattle.graph_laws.proofs.Weaker.{content_weaker}
 use Rattle.graph_laws.proofs.ClassIds.{AreSpelled}
 use Rattle.graph_laws.proofs.Renumbered.{form-same}
 use Rattle.graph_laws.proofs.Formed.{EachAsked, Reached, form-in_order, form-typed, form-same-graph}
+use Rattle.graph_laws.proofs.WrittenValues.{Limits, written_limits}
 use Rattle.graph_laws.proofs.WrittenGraphs.{content_spelled}
 
 -- ---- no bytes spell two numbered graphs
@@ -79,26 +80,26 @@ same_from_form g h g-in h-in e = record { left = order g; right = order h; left_
 
 -- ---- the form is spelled
 
-module _ (t : Tables) (named : AreSpelled t) (shape : Shape) (reach : Reach) (format : Format) where
-  form_spelled : (room more : ℕ) (g : Graph) → Reached g → OfType t shape g → EachAsked t reach format g → length (form g).instances ≤ room → length (form g).instances ≤ more → length (canonical_graph t shape format g) < 2 ^ 31
+module _ (l : Limits) (t : Tables) (named : AreSpelled t) (shape : Shape) (reach : Reach) (format : Format) where
+  form_spelled : (room more : ℕ) (g : Graph) → Reached g → OfTypeTo t l.most shape g → EachAsked t reach format g → length (form g).instances ≤ room → length (form g).instances ≤ more → length (canonical_graph t shape format g) ≤ l.bound
       → (end : Spelled) × SpellsContent (instances t reach room more) t shape (canonical_graph t shape format g) (form g).roots opening end × (end.instances ≡ (form g).instances) × AllFit t (form g).instances end.met
   unfolding canonical_graph form order most
   form_spelled room more g reached typed asked fits wide small =
       let k : Graph = numbered (order g) g in
       let in_order = form-in_order g reached in
-      let of_type = form-typed t shape reach format g reached typed asked in
-      content_spelled t named reach format k room fits (omega (arith, in_order.size)) of_type.typed.instances of_type.asked in_order.instances more shape of_type.typed.roots in_order.size wide in_order.order small
+      let of_type = form-typed t l.most shape reach format g reached typed asked in
+      content_spelled t named reach format l k room fits (omega (arith, in_order.size)) of_type.typed.instances of_type.asked in_order.instances more shape of_type.typed.roots in_order.size wide in_order.order small
 
 form_small : (g : Graph) → Reached g → length (form g).instances ≤ most
 form_small g reached = omega (arith, form_fewer g, reached.few)
 
-pub same_from_bytes : (t : Tables) → AreSpelled t → (shape : Shape) (reach : Reach) (format : Format) (g h : Graph) → Reached g → Reached h → OfType t shape g → OfType t shape h → EachAsked t reach format g → EachAsked t reach format h
-    → length (graph_bytes t shape format g) < 2 ^ 31 → graph_bytes t shape format g ≡ graph_bytes t shape format h → Same g h
-same_from_bytes t named shape reach format g h g-in h-in g-typed h-typed g-can h-can small equal =
+pub same_from_bytes : (l : Limits) (t : Tables) → AreSpelled t → (shape : Shape) (reach : Reach) (format : Format) (g h : Graph) → Reached g → Reached h → OfTypeTo t l.most shape g → OfTypeTo t l.most shape h → EachAsked t reach format g → EachAsked t reach format h
+    → length (graph_bytes t shape format g) ≤ l.bound → graph_bytes t shape format g ≡ graph_bytes t shape format h → Same g h
+same_from_bytes l t named shape reach format g h g-in h-in g-typed h-typed g-can h-can small equal =
     let e = inside_is (canonical_graph t shape format g) (canonical_graph t shape format h) equal in
-    let content_small : length (canonical_graph t shape format g) < 2 ^ 31 = omega (arith, longer t shape format g, small) in
-    let one = form_spelled t named shape reach format most most g g-in g-typed g-can (form_small g g-in) (form_small g g-in) content_small in
-    let two = form_spelled t named shape reach format most most h h-in h-typed h-can (form_small h h-in) (form_small h h-in) (subst (λ (b : List ℕ). length b < 2 ^ 31) e content_small) in
+    let content_small : length (canonical_graph t shape format g) ≤ l.bound = omega (arith, longer t shape format g, small) in
+    let one = form_spelled l t named shape reach format most most g g-in g-typed g-can (form_small g g-in) (form_small g g-in) content_small in
+    let two = form_spelled l t named shape reach format most most h h-in h-typed h-can (form_small h h-in) (form_small h h-in) (subst (λ (b : List ℕ). length b ≤ l.bound) e content_small) in
     let same = spelled_once t reach shape most most (canonical_graph t shape format g) (form g).roots (form h).roots one.0 two.0 one.1
     (subst (λ (b : List ℕ). SpellsContent (instances t reach most most) t shape b (form h).roots opening two.0) (sym e) two.1) in
     let instances_are : (form g).instances ≡ (form h).instances = sym one.2 ∙ ap (λ (s : Spelled). s.instances) same.1 ∙ two.2 in
@@ -111,7 +112,7 @@ unfolding SpellsGraph
 read_is_form t named reach shape format g h reached typed asked few (content, is, short, (end, spelled, instances_are, fit)) =
     let c = canonical_graph t shape format g in
     let fewer : length (form g).instances ≤ most_instances = omega (arith, form_fewer g, few) in
-    let one = form_spelled t named shape all_slices format most_instances most_instances g reached typed asked fewer fewer (omega (arith, longer t shape format g, short)) in
+    let one = form_spelled written_limits t named shape all_slices format most_instances most_instances g reached typed asked fewer fewer (omega (arith, longer t shape format g, short)) in
     let two : SpellsContent (instances t all_slices most_instances most_instances) t shape c h.roots opening end =
     subst (λ (b : List ℕ). SpellsContent (instances t all_slices most_instances most_instances) t shape b h.roots opening end) (sym (inside_is c content is)) (content_weaker t reach most_instances most_instances shape content h.roots opening end spelled) in
     let same = spelled_once t all_slices shape most_instances most_instances c (form g).roots h.roots one.0 end one.1 two in
@@ -131,7 +132,7 @@ module _ (t : Tables) (named : AreSpelled t) (shape : Shape) (reach : Reach) (fo
   numbered_spelled g reached typed asked few small =
       let c = canonical_graph t shape format g in
       let fewer : length (form g).instances ≤ most_instances = omega (arith, form_fewer g, few) in
-      let one = form_spelled t named shape reach format most_instances most_instances g reached typed asked fewer fewer (omega (arith, longer t shape format g, small)) in
+      let one = form_spelled written_limits t named shape reach format most_instances most_instances g reached typed asked fewer fewer (omega (arith, longer t shape format g, small)) in
       (c, refl, small, (one.0, one.1, one.2, subst (λ (is : List (List Slice)). AllFit t is one.0.met) (sym one.2) one.3))
 
   pub graph_spelled : (g : Graph) → Reached g → OfType t shape g → EachAsked t reach format g → length (order g) ≤ most_instances → length (graph_bytes t shape format g) ≤ LARGEST → Spells t reach shape (graph_bytes t shape format g) g

@@ -34,10 +34,10 @@ pub record Steps (S : Type 0) : Type 1 where
 
 -- the port of which no more is known than what may stand as a reference
 abbrev pub known_by : {R S : Type 0} → Refers → Port R S → Port R S
-known_by Refer port = record { seen = port.seen; read = port.read; Spells = λ declared bytes n from to. Refer declared n }
+known_by Refer port = record { seen = port.seen; read = port.read; Spells = λ declared bytes n from to. Refer.Held declared n }
 
 module _ {R S : Type 0} (port : Port R S) (t : Tables) (steps : Steps S) (Refer : Refers)
-    (refers : (declared n : Option ℕ) (bytes : List ℕ) (from to : S) → IsBytes bytes → port.Spells declared bytes n from to → steps.Fine to → steps.Step from to × Refer declared n) where
+    (refers : (declared n : Option ℕ) (bytes : List ℕ) (from to : S) → IsBytes bytes → port.Spells declared bytes n from to → steps.Fine to → steps.Step from to × Refer.Held declared n) where
   abbrev other : Port R S
   other = known_by Refer port
 

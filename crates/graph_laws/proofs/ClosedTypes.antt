@@ -1,5 +1,5 @@
 -- What is kept as it is written is of its type under the schema that lacks classes.
-use Rattle.std.proofs.Common.{ℕ, zero, suc, ◌≡◌, ◌<◌, Bool, ◌⊎◌, List, [], ◌∷◌, length, map, refl, sym, ap, ◌∙◌, subst, Option, Some, None, inl, inr, arith}
+use Rattle.std.proofs.Common.{◌≤◌, ℕ, zero, suc, ◌≡◌, ◌<◌, Bool, ◌⊎◌, List, [], ◌∷◌, length, map, refl, sym, ap, ◌∙◌, subst, Option, Some, None, inl, inr, arith}
 use Rattle.std.specs.Prelude.{slice_get}
 use Rattle.ice_types.specs.declared.kind.TypeRef.{TypeRef}
 use Rattle.ice_types.specs.declared.kind.TypeRef.TheVariants as kinds
@@ -12,6 +12,7 @@ use Rattle.ice_types.specs.Tables.{Tables}
 use Rattle.ice_types.specs.Lacking.{SameKind, SameShape, SameBase}
 use Rattle.ice_encoding.specs.Tree.{Tree, Trees, none, tree, Entries, no_entry, entry}
 use Rattle.ice_encoding.specs.Typed.{AllOf, EachOf, PairsOf, Refers, no_reference, HasType}
+use Rattle.ice_encoding.proofs.Within.{proxy_grown}
 use Rattle.ice_encoding.specs.Enum.{HasNumber}
 use Rattle.ice_graphs.specs.Optionals.{Present, kind_tagged}
 use Rattle.ice_graphs.specs.OptionalMembers.{Members, required_kinds}
@@ -19,7 +20,7 @@ use Rattle.ice_graphs.specs.Classes.{class_by_id, base_of, own_members}
 use Rattle.ice_graphs.specs.Graph.{Slice, known, unknown, Graph}
 use Rattle.ice_graphs.specs.Names.{names_of, instance_names}
 use Rattle.ice_graphs.specs.Instances.{slices_of}
-use Rattle.ice_graphs.specs.Typed.{AreReferred, AreOptions, AreMembers, IsKnown, AreBases, IsUnknown, IsInstance, RefersIn, OfType}
+use Rattle.ice_graphs.specs.Typed.{AreReferred, AreOptions, AreMembers, IsKnown, AreBases, IsUnknown, IsInstance, IsHeldIn, RefersIn, OfType}
 use Rattle.ice_graphs.specs.Slices.{unknown_bytes}
 use Rattle.ice_graphs.specs.Canonical.{is_there, written_id, table_of, sized_bytes}
 use Rattle.ice_prims.specs.Rest.{IsBytes}
@@ -38,9 +39,9 @@ use Rattle.graph_laws.proofs.Closing.{AllClosed, EachClosed, closed_slices, clos
 use Rattle.graph_laws.proofs.Standing.{Stands}
 use Rattle.graph_laws.proofs.There.{stands_in}
 
--- what may stand as a reference may stand there in the other schema
+-- what may stand as a reference may stand there in the other schema, and each endpoint too
 abbrev Moves : Tables → Tables → Refers → Refers → Type 0
-Moves t u Refer Other = (a b n : Option ℕ) → SameBase t u rows.Class a b → Refer a n → Other b n
+Moves t u Refer Other = (Refer.most ≤ Other.most) × ((a b n : Option ℕ) → SameBase t u rows.Class a b → Refer.Held a n → Other.Held b n)
 
 module _ (t u : Tables) (agrees : Agrees t u) where
   all_typed : (One Two : Tree → Type 0) → ((v : Tree) → One v → Two v) → (vs : Trees) → AllOf One vs → AllOf Two vs
@@ -68,11 +69,11 @@ module _ (t u : Tables) (agrees : Agrees t u) where
   value_typed Refer Other moves (suc levels) kinds.Int l e v h = subst (λ (l : TypeRef). HasType u Other (suc levels) l v) (sym e) h
   value_typed Refer Other moves (suc levels) kinds.Long l e v h = subst (λ (l : TypeRef). HasType u Other (suc levels) l v) (sym e) h
   value_typed Refer Other moves (suc levels) kinds.Text l e v h = subst (λ (l : TypeRef). HasType u Other (suc levels) l v) (sym e) h
-  value_typed Refer Other moves (suc levels) (kinds.Proxy None) l e v h = subst (λ (l : TypeRef). HasType u Other (suc levels) l v) (sym e) h
-  value_typed Refer Other moves (suc levels) (kinds.Proxy (Some a)) l (b, is, same) v h = subst (λ (l : TypeRef). HasType u Other (suc levels) l v) (sym is) h
-  value_typed Refer Other moves (suc levels) (kinds.Class None) l e v (n, refers, v_is) = subst (λ (l : TypeRef). HasType u Other (suc levels) l v) (sym e) (n, moves None None n refl refers, v_is)
+  value_typed Refer Other moves (suc levels) (kinds.Proxy None) l e v h = subst (λ (l : TypeRef). HasType u Other (suc levels) l v) (sym e) (h.0, proxy_grown Refer.most Other.most moves.0 h.0 h.1, h.2)
+  value_typed Refer Other moves (suc levels) (kinds.Proxy (Some a)) l (b, is, same) v h = subst (λ (l : TypeRef). HasType u Other (suc levels) l v) (sym is) (h.0, proxy_grown Refer.most Other.most moves.0 h.0 h.1, h.2)
+  value_typed Refer Other moves (suc levels) (kinds.Class None) l e v (n, refers, v_is) = subst (λ (l : TypeRef). HasType u Other (suc levels) l v) (sym e) (n, moves.1 None None n refl refers, v_is)
   value_typed Refer Other moves (suc levels) (kinds.Class (Some a)) l (b, is, same) v (n, refers, v_is) =
-      subst (λ (l : TypeRef). HasType u Other (suc levels) l v) (sym is) (n, moves (Some a) (Some b) n (b, refl, same) refers, v_is)
+      subst (λ (l : TypeRef). HasType u Other (suc levels) l v) (sym is) (n, moves.1 (Some a) (Some b) n (b, refl, same) refers, v_is)
   value_typed Refer Other moves (suc levels) (kinds.Enum a) l (b, is, same) v (e, row, n, has, small, v_is) =
       let r = agrees.enums a b same in
       same_one r.0 e (slice_get t.enums a) r.2 row λ one.
@@ -96,7 +97,7 @@ module _ (t u : Tables) (agrees : Agrees t u) where
         many,
         rising,
         pairs_typed (HasType t no_reference levels d.key) (HasType t Refer levels d.value) (HasType u no_reference levels r.1.key) (HasType u Other levels r.1.value)
-            (value_typed no_reference no_reference (λ a b n tied h. h) levels d.key r.1.key both.0) (value_typed Refer Other moves levels d.value r.1.value both.1) pairs all,
+            (value_typed no_reference no_reference (omega arith, λ a b n tied h. h) levels d.key r.1.key both.0) (value_typed Refer Other moves levels d.value r.1.value both.1) pairs all,
       )
   value_typed Refer Other moves (suc levels) (kinds.Struct a) l (b, is, same) v (d, row, members, v_is, all) =
       let r = agrees.structs a b same in
@@ -136,10 +137,13 @@ module _ (t u : Tables) (both : Both t u) (ks js : List (List Slice)) (closed : 
   abbrev Other : Refers
   Other = RefersIn u js
 
-  moves_there : Moves t u Refer Other
-  moves_there a b None tied h = tt
-  moves_there a b (Some n) tied h =
+  held_there : (a b n : Option ℕ) → SameBase t u rows.Class a b → IsHeldIn t ks a n → IsHeldIn u js b n
+  held_there a b None tied h = tt
+  held_there a b (Some n) tied h =
       (omega (arith, h.0, closed_length t u ks js closed), fits_there t u both ks js (λ m. all_like_closed t u (slices_of ks m) (slices_of js m) (closed_slices t u ks js m closed)) stands a b n tied h.1)
+
+  moves_there : Moves t u Refer Other
+  moves_there = (omega arith, held_there)
 
   known_there : (a b : ℕ) (content : Members) → SameClassId t u a b → IsKnown t Refer a content → IsKnown u Other b content
   known_there a b content tied h =
@@ -152,7 +156,7 @@ module _ (t u : Tables) (both : Both t u) (ks js : List (List Slice)) (closed : 
 
   referred_there : (table : List ℕ) → AreReferred Refer table → AreReferred Other table
   referred_there [] h = tt
-  referred_there (n ∷ ns) h = (moves_there None None (Some n) refl h.0, referred_there ns h.1)
+  referred_there (n ∷ ns) h = (held_there None None (Some n) refl h.0, referred_there ns h.1)
 
   -- a slice that is kept as it is written
   unknown_there : (a : ℕ) (content : Members) (id bytes : List ℕ) (o : Bool) → class_by_id t id ≡ Some a → class_by_id u id ≡ None → unknown_bytes o bytes ≡ sized_bytes t (known a content) → IsKnown t Refer a content → AreBelow (length ks) (names_of content)

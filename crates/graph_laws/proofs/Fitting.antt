@@ -16,7 +16,7 @@ use Rattle.ice_encoding.proofs.Typed.{typed_ordered}
 use Rattle.ice_graphs.specs.Optionals.{Present}
 use Rattle.ice_graphs.specs.OptionalMembers.{Members, required_kinds}
 use Rattle.ice_graphs.specs.Graph.{Slice}
-use Rattle.ice_graphs.specs.Typed.{AreOptions, AreMembers, RefersIn}
+use Rattle.ice_graphs.specs.Typed.{AreOptions, AreMembers, IsHeldIn, RefersIn}
 
 -- ---- of values of types, what holds of each value of a type
 
@@ -52,9 +52,9 @@ module _ (P : Tree → Type 0) where
 
 -- ---- sizes
 
--- the size of a reference that may stand is at most the greatest int
+-- the sizes of references and endpoints that may stand are at most the greatest int
 abbrev pub HaveSizes : Refers → Type 0
-HaveSizes Refer = (declared n : Option ℕ) → Refer declared n → size_of n < 2 ^ 31
+HaveSizes Refer = (Refer.most < 2 ^ 31) × ((declared n : Option ℕ) → Refer.Held declared n → size_of n < 2 ^ 31)
 
 module _ (t : Tables) where
   pub typed_sizes : (Refer : Refers) → HaveSizes Refer → (levels : ℕ) (kind : TypeRef) (v : Tree) → HasType t Refer levels kind v → HasSizes v
@@ -66,11 +66,11 @@ module _ (t : Tables) where
   typed_sizes Refer sized (suc levels) kinds.Long v h = rw h.2 tt
   typed_sizes Refer sized (suc levels) kinds.Text v h = rw h.3 h.2
   typed_sizes Refer sized (suc levels) (kinds.Enum at) v h = rw h.5 h.4
-  typed_sizes Refer sized (suc levels) (kinds.Proxy at) v h = rw h.2 (proxy_sizes h.0 h.1)
-  typed_sizes Refer sized (suc levels) (kinds.Class declared) v h = rw h.2 (sized declared h.0 h.1)
+  typed_sizes Refer sized (suc levels) (kinds.Proxy at) v h = rw h.2 (proxy_sizes Refer.most h.0 sized.0 h.1)
+  typed_sizes Refer sized (suc levels) (kinds.Class declared) v h = rw h.2 (sized.1 declared h.0 h.1)
   typed_sizes Refer sized (suc levels) (kinds.Seq at) v (q, row, items, is, many, all) = rw is (many, all_inside HasSize (HasType t Refer levels q.element) (typed_sizes Refer sized levels q.element) items all)
   typed_sizes Refer sized (suc levels) (kinds.Dict at) v (d, row, pairs, is, many, rising, all) =
-      rw is (many, pairs_inside HasSize (HasType t no_reference levels d.key) (HasType t Refer levels d.value) (typed_sizes no_reference (λ declared n h. absurd h) levels d.key) (typed_sizes Refer sized levels d.value) pairs all)
+      rw is (many, pairs_inside HasSize (HasType t no_reference levels d.key) (HasType t Refer levels d.value) (typed_sizes no_reference (omega arith, λ declared n h. absurd h) levels d.key) (typed_sizes Refer sized levels d.value) pairs all)
   typed_sizes Refer sized (suc levels) (kinds.Struct at) v (d, row, members, is, all) = rw is (tt, each_inside HasSize (HasType t Refer levels) (typed_sizes Refer sized levels) (map (λ m. m.kind) d.members) members all)
 
 -- ---- in a graph
@@ -84,9 +84,12 @@ module _ (t : Tables) (is : List (List Slice)) where
 
   -- where each name can be a size
   module _ (few : length is < 2 ^ 31 - 1) where
+    name_sized : (declared n : Option ℕ) → IsHeldIn t is declared n → size_of n < 2 ^ 31
+    name_sized declared None h = omega arith
+    name_sized declared (Some n) h = omega (arith, h.0, few)
+
     names_sized : HaveSizes (RefersIn t is)
-    names_sized declared None h = omega arith
-    names_sized declared (Some n) h = omega (arith, h.0, few)
+    names_sized = (omega arith, name_sized)
 
     pub value_sized : (levels : ℕ) (kind : TypeRef) (v : Tree) → HasType t (RefersIn t is) levels kind v → HasSizes v
     value_sized = typed_sizes t (RefersIn t is) names_sized

@@ -8,11 +8,11 @@ use Rattle.ice_encoding.specs.Typed.{Refers}
 use Rattle.ice_graphs.specs.OptionalMembers.{Members}
 use Rattle.ice_graphs.specs.Classes.{base_of, own_members}
 use Rattle.ice_graphs.specs.Graph.{Slice, known, unknown, Graph}
-use Rattle.ice_graphs.specs.Names.{names_of, instance_names, renamed_members, renamed_slice}
+use Rattle.ice_graphs.specs.Names.{listed_name, names_of, instance_names, renamed_name, renamed_members, renamed_slice}
 use Rattle.ice_graphs.specs.Instances.{class_of, slices_of, class_fits}
 use Rattle.ice_graphs.specs.Visiting.{place, order, most}
 use Rattle.ice_graphs.specs.Same.{AreListed, HasEachOnce, Holds, numbered, Same, form}
-use Rattle.ice_graphs.specs.Typed.{AreReferred, IsKnown, AreBases, IsInstance, RefersIn, OfType}
+use Rattle.ice_graphs.specs.Typed.{AreReferred, IsKnown, AreBases, IsInstance, IsHeldIn, RefersUpTo, OfTypeTo}
 use Rattle.ice_graphs.specs.Flags.{Reach, all_slices, known_classes}
 use Rattle.ice_graphs.specs.Canonical.{Format, sliced, compact, Compact, Writable}
 use Rattle.graph_laws.proofs.Renamed.{Moves, members-renamed}
@@ -53,7 +53,7 @@ module _ (t : Tables) (f : ℕ → ℕ) (ns : List ℕ) (Refer Other : Refers) (
 
   referred-renamed : (table : List ℕ) → AreListed ns table → AreReferred Refer table → AreReferred Other (map f table)
   referred-renamed [] listed h = tt
-  referred-renamed (n ∷ table) listed h = (moves None (Some n) (h.0, (listed.0, tt)), referred-renamed table listed.1 h.1)
+  referred-renamed (n ∷ table) listed h = (moves.1 None (Some n) (h.0, (listed.0, tt)), referred-renamed table listed.1 h.1)
 
   pub instance-typed : (ss : List Slice) → AreListed ns (instance_names ss) → IsInstance t Refer ss → IsInstance t Other (map (renamed_slice f) ss)
   instance-typed [] listed h = absurd h
@@ -152,33 +152,36 @@ listed-below limit (m ∷ ns) n below lt = elim (cases_eq m n) [
 ]
 
 -- a class fits under the other name
-pub form-moves : (t : Tables) (g : Graph) → Moves (place (order g)) (Narrow (RefersIn t g.instances) (order g)) (RefersIn t (numbered (order g) g).instances)
-form-moves t g declared None h = tt
-form-moves t g declared (Some n) h =
+form-held : (t : Tables) (g : Graph) (declared n : Option ℕ) → IsHeldIn t g.instances declared n × AreListed (order g) (listed_name n) → IsHeldIn t (numbered (order g) g).instances declared (renamed_name (place (order g)) n)
+form-held t g declared None h = tt
+form-held t g declared (Some n) h =
     let ns : List ℕ = order g in
     let class : class_of (slices_of (numbered ns g).instances (place ns n)) ≡ class_of (slices_of g.instances n) = ap class_of (instance-numbered ns g n h.1.0) ∙ class-renamed (place ns) (slices_of g.instances n) in
     (omega (arith, h.1.0, length-map ns (λ n. map (renamed_slice (place ns)) (slices_of g.instances n))), ap (class_fits t declared) class ∙ h.0.1)
 
-pub record Typed (t : Tables) (shape : Shape) (reach : Reach) (format : Format) (g : Graph) : Type 0 where
-  pub typed : OfType t shape g
+pub form-moves : (t : Tables) (most : ℕ) (g : Graph) → Moves (place (order g)) (Narrow (RefersUpTo t most g.instances) (order g)) (RefersUpTo t most (numbered (order g) g).instances)
+form-moves t most g = (omega arith, form-held t g)
+
+pub record Typed (t : Tables) (most : ℕ) (shape : Shape) (reach : Reach) (format : Format) (g : Graph) : Type 0 where
+  pub typed : OfTypeTo t most shape g
   pub asked : (n : ℕ) → n < length g.instances → Asked reach format (slices_of g.instances n) × HaveTexts t (slices_of g.instances n)
 
-pub form-typed : (t : Tables) (shape : Shape) (reach : Reach) (format : Format) (g : Graph) → Reached g → OfType t shape g → EachAsked t reach format g → Typed t shape reach format (numbered (order g) g)
-form-typed t shape reach format g reached h asked =
+pub form-typed : (t : Tables) (most : ℕ) (shape : Shape) (reach : Reach) (format : Format) (g : Graph) → Reached g → OfTypeTo t most shape g → EachAsked t reach format g → Typed t most shape reach format (numbered (order g) g)
+form-typed t most shape reach format g reached h asked =
     let ns : List ℕ = order g in
     let is : IsOrder g ns = reached.is in
     let k : Graph = numbered ns g in
     let size : length k.instances ≡ length ns = length-map ns (λ n. map (renamed_slice (place ns)) (slices_of g.instances n)) in
-    let Refer : Refers = RefersIn t g.instances in
-    let Other : Refers = RefersIn t k.instances in
+    let Refer : Refers = RefersUpTo t most g.instances in
+    let Other : Refers = RefersUpTo t most k.instances in
     record {
       typed = record {
-        roots = members-renamed t (place ns) (Narrow Refer ns) Other (form-moves t g) shape g.roots (members-narrowed t ns Refer shape g.roots is.holds.roots h.roots);
+        roots = members-renamed t (place ns) (Narrow Refer ns) Other (form-moves t most g) shape g.roots (members-narrowed t ns Refer shape g.roots is.holds.roots h.roots);
         instances = λ n lt.
             let m = named g reached n (omega (arith, size, lt)) in
             let slices : slices_of k.instances n ≡ map (renamed_slice (place ns)) (slices_of g.instances m.name) = ap (slices_of k.instances) m.is ∙ instance-numbered ns g m.name m.listed in
             let one = h.instances m.name (listed-below (length g.instances) ns m.name is.below m.listed) in
-            subst (IsInstance t Other) (sym slices) (instance-typed t (place ns) ns Refer Other (form-moves t g) (slices_of g.instances m.name) (is.holds.instances m.name m.listed) one);
+            subst (IsInstance t Other) (sym slices) (instance-typed t (place ns) ns Refer Other (form-moves t most g) (slices_of g.instances m.name) (is.holds.instances m.name m.listed) one);
       };
       asked = λ n lt.
           let m = named g reached n (omega (arith, size, lt)) in

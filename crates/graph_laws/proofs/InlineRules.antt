@@ -22,7 +22,7 @@ use Rattle.ice_graphs.specs.Members.{with_length}
 use Rattle.graph_laws.proofs.ClassIds.{IsText, place_is}
 use Rattle.graph_laws.proofs.TypeIds.{Spelled, text_spelled, index_spelled, number_spelled}
 use Rattle.graph_laws.proofs.Upto.{upto, upto-one, Grows, parts}
-use Rattle.graph_laws.proofs.WrittenValues.{Relation, Chain, Behind, Rules}
+use Rattle.graph_laws.proofs.WrittenValues.{Relation, Chain, Behind, Limits, Rules}
 
 pub all_fit_more : (t : Tables) (is : List (List Slice)) (a b : List (Reference (Unit {0}))) → AllFit t is a → AllFit t is b → AllFit t is (a ++ b)
 all_fit_more t is [] b p q = q
@@ -75,12 +75,14 @@ module _ (t : Tables) (k : Graph) where
         fit = λ h. subst (AllFit t k.instances) (sym met) h;
       }
 
-  module _ (visit : ℕ → List ℕ → List ℕ) (grows : Grows visit) (Ready : ℕ → Type 0) (ready : (i j : ℕ) → Ready i → i ≤ j → Ready j) where
+  module _ (l : Limits) (visit : ℕ → List ℕ → List ℕ) (grows : Grows visit) (Ready : ℕ → Type 0) (ready : (i j : ℕ) → Ready i → i ≤ j → Ready j) where
     abbrev pub Good : Piece Pen → List ℕ → Relation Spelled → Type 0
-    Good w ns R = (from : Spelled) (p : Pen) (j : ℕ) → Stands from p → Ready p.begun → visit_each visit ns (upto p.begun) ≡ upto j → length p.ids + length (w p).0 < 2 ^ 31 → Goes R from p (w p) j
+    Good w ns R = (from : Spelled) (p : Pen) (j : ℕ) → Stands from p → Ready p.begun → visit_each visit ns (upto p.begun) ≡ upto j → length p.ids + length (w p).0 ≤ l.bound → Goes R from p (w p) j
 
-    pub exact_good : (bytes : List ℕ) (R : Relation Spelled) → ((s : Spelled) → R bytes s s) → Good (exactly bytes) [] R
-    exact_good bytes R h from p j stands is_ready run small = still R from from p p bytes j stands run (h from) refl refl refl stands.ids (omega arith)
+    pub exact_good : (bytes : List ℕ) (R : Relation Spelled) → (length bytes ≤ l.bound → (s : Spelled) → R bytes s s) → Good (exactly bytes) [] R
+    exact_good bytes R h from p j stands is_ready run small =
+        let few : length p.ids + length bytes ≤ l.bound = small in
+        still R from from p p bytes j stands run (h (omega (arith, few)) from) refl refl refl stands.ids (omega arith)
 
     pub joined_good : (w w' : Piece Pen) (a b : List ℕ) (R R' : Relation Spelled) → Good w a R → Good w' b R' → Good (w >> w') (a ++ b) (Chain R R')
     joined_good w w' a b R R' first second from p j stands is_ready run small =
@@ -116,7 +118,7 @@ module _ (t : Tables) (k : Graph) where
         let g = good from p j stands is_ready run (omega (arith, small, long)) in
         record {
           end = g.end;
-          spelled = (number.put (length x.0), x.0, refl, spelled (length x.0) (omega (arith, small, long)), g.spelled);
+          spelled = (number.put (length x.0), x.0, refl, spelled (length x.0) (omega (arith, l.bounded, small, long)), g.spelled);
           count = g.count;
           begun = g.begun;
           ids = g.ids;
@@ -126,7 +128,7 @@ module _ (t : Tables) (k : Graph) where
           fit = g.fit;
         }
 
-    abbrev pub inline_rules : Rules Pen Spelled
+    abbrev pub inline_rules : Rules Pen Spelled l
     inline_rules = record { Good = Good; exact = λ bytes R fits h. exact_good bytes R h; joined = joined_good; mapped = mapped_good; behind = λ number spelled fits w ns R good. behind_good number spelled w ns R good }
 
     -- references are known, each to a class that fits
@@ -142,20 +144,20 @@ module _ (t : Tables) (k : Graph) where
     abbrev pub HasId : IdForm → Type 0
     HasId form = has_id form ≡ true
 
-    head_cases : (flags : IdForm → ℕ) (id : List ℕ) → IsText id → (from : Spelled) (p : Pen) (j : ℕ) → Stands from p → upto p.begun ≡ upto j → (o : Option ℕ) → place_of p.ids id ≡ o → length p.ids + length (head_as o flags id p).0 < 2 ^ 31
+    head_cases : (flags : IdForm → ℕ) (id : List ℕ) → IsText id → (from : Spelled) (p : Pen) (j : ℕ) → Stands from p → upto p.begun ≡ upto j → (o : Option ℕ) → place_of p.ids id ≡ o → length p.ids + length (head_as o flags id p).0 ≤ l.bound
         → Goes (Head HasId flags id) from p (head_as o flags id p) j
     head_cases flags id text from p j stands run (Some i) e small =
         let at = place_is p.ids id i e in
         let row : slice_get from.ids i ≡ Some id = ap (λ (ids : List (List ℕ)). slice_get ids i) stands.ids ∙ at.0 in
-        still (Head HasId flags id) from from p p (flags as_index ∷ size_bytes (suc i)) j stands run (as_index, refl, size_bytes (suc i), refl, index_spelled i id from (omega (arith, at.1, small)) row) refl refl refl stands.ids (omega arith)
+        still (Head HasId flags id) from from p p (flags as_index ∷ size_bytes (suc i)) j stands run (as_index, refl, size_bytes (suc i), refl, index_spelled i id from (omega (arith, l.bounded, at.1, small)) row) refl refl refl stands.ids (omega arith)
     head_cases flags id text from p j stands run None e small =
         let q : Pen = record { begun = p.begun; ids = p.ids ++ id ∷ [] } in
-        let lt : length id < 2 ^ 31 = omega (arith, small, length-append (size_bytes (length id)) id) in
+        let lt : length id < 2 ^ 31 = omega (arith, l.bounded, small, length-append (size_bytes (length id)) id) in
         still (Head HasId flags id) from (with_id id from) p q (flags as_text ∷ text_bytes id) j stands run
         (as_text, refl, text_bytes id, refl, text_spelled id from text lt) refl refl refl (ap (λ (ids : List (List ℕ)). ids ++ id ∷ []) stands.ids) (omega (arith, length-append p.ids (id ∷ [])))
 
     -- by its number, or as a text that is no number
-    by_number : (flags : IdForm → ℕ) (id : List ℕ) → IsSliceId id → (number : Option ℕ) → number_in id ≡ number → (from : Spelled) (p : Pen) (j : ℕ) → Stands from p → upto p.begun ≡ upto j → length p.ids + length (head_under number flags id p).0 < 2 ^ 31
+    by_number : (flags : IdForm → ℕ) (id : List ℕ) → IsSliceId id → (number : Option ℕ) → number_in id ≡ number → (from : Spelled) (p : Pen) (j : ℕ) → Stands from p → upto p.begun ≡ upto j → length p.ids + length (head_under number flags id p).0 ≤ l.bound
         → Goes (Head HasId flags id) from p (head_under number flags id p) j
     by_number flags id (utf8, inl plain) None e from p j stands run small = head_cases flags id (utf8, plain) from p j stands run (place_of p.ids id) refl small
     by_number flags id (utf8, inl plain) (Some n) e from p j stands run small = let none : None ≡ Some n = sym (not_numbered id plain) ∙ e in absurd cc
@@ -174,4 +176,4 @@ module _ (t : Tables) (k : Graph) where
 
     -- no type id
     pub bare_good : (flags : IdForm → ℕ) → Good (exactly (flags no_id ∷ [])) [] (Head IsNone flags [])
-    bare_good flags = exact_good (flags no_id ∷ []) (Head IsNone flags []) (λ s. (no_id, refl, [], refl, (refl, refl, refl)))
+    bare_good flags = exact_good (flags no_id ∷ []) (Head IsNone flags []) (λ small s. (no_id, refl, [], refl, (refl, refl, refl)))

@@ -8,6 +8,7 @@ pub mod TypedMembers
 pub mod Ranged
 pub mod TypedGraphs
 pub mod Fitting
+pub mod Wider
 pub mod Sound
 pub mod Related
 pub mod Places

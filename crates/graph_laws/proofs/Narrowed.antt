@@ -17,7 +17,7 @@ use Rattle.graph_laws.proofs.Places.{AreListed-left, AreListed-right}
 
 -- what may stand as a reference, and stands in the list
 abbrev pub Narrow : Refers → List ℕ → Refers
-Narrow Refer ns declared n = Refer declared n × AreListed ns (listed_name n)
+Narrow Refer ns = record { Held = λ declared n. Refer.Held declared n × AreListed ns (listed_name n); most = Refer.most }
 
 module _ (t : Tables) (ns : List ℕ) where
   all-narrowed : (One Two : Tree → Type 0) → ((v : Tree) → AreListed ns (names v) → One v → Two v) → (vs : Trees) → AreListed ns (names_each vs) → AllOf One vs → AllOf Two vs

@@ -54,7 +54,7 @@ abbrev Spelled : Type 0
 Spelled = State (Unit {0})
 
 abbrev any_reference : Refers
-any_reference declared n = Unit {0}
+any_reference = record { Held = λ declared n. Unit {0}; most = 0 }
 
 abbrev Good : Spelled → Type 0
 Good s = EachKnown s.instances
@@ -86,7 +86,7 @@ module _ (t : Tables) where
     table_keeps true uses bytes table from to fits (n, front, body, end, parts, size, within, entries, to_is) u =
         subst Good (sym to_is) (entries_keep n body table from end (rest_fits bytes front body parts fits) entries u)
 
-    refers : (declared n : Option ℕ) (bytes : List ℕ) (from to : Spelled) → IsBytes bytes → port.Spells declared bytes n from to → Unit {0} → Keeps from to × any_reference declared n
+    refers : (declared n : Option ℕ) (bytes : List ℕ) (from to : Spelled) → IsBytes bytes → port.Spells declared bytes n from to → Unit {0} → Keeps from to × any_reference.Held declared n
     refers declared n bytes from to fits h fine = (port_keeps declared n bytes from to fits h, tt)
 
     -- a slice of a known class

@@ -15,8 +15,8 @@ use Rattle.ice_prims.proofs.Parts.{IsBytes-front}
 use Rattle.ice_encoding.specs.Bounds.{size_with}
 use Rattle.ice_encoding.specs.Parts.{Each}
 use Rattle.ice_encoding.specs.Identity.{identity, facet}
-use Rattle.ice_encoding.specs.Endpoint.{endpoint, kind_of, said, said_bytes}
-use Rattle.ice_encoding.specs.Proxy.{location, details_of, identity_of, named, proxy}
+use Rattle.ice_encoding.specs.Endpoint.{endpoint, kind_of, said, said_bytes, endpoint_to}
+use Rattle.ice_encoding.specs.Proxy.{location, details_of, identity_of, named, proxy, location_to, named_to, proxy_to}
 use Rattle.ice_encoding.specs.Skipping.{count}
 use Rattle.ice_encoding.specs.Tags.{leading_byte, tag_by, behind_leading, tag}
 use Rattle.ice_graphs.specs.Slices.{unknown_bytes}
@@ -101,41 +101,45 @@ facet_put : (f : List ℕ) → facet.Is f → IsBytes (facet.put f)
 facet_put [] is = both_bytes (size_bytes 0) [] (size_put 0) none_bytes
 facet_put (c ∷ cs) is = both_bytes (size_bytes 1) (text_bytes (c ∷ cs) ++ []) (size_put 1) (both_bytes (text_bytes (c ∷ cs)) [] (text_put (c ∷ cs) is.0.1.1.0.0) none_bytes)
 
-said_put : (e : Endpoint) → endpoint.Is e → IsBytes (said_bytes e)
-said_put (Tcp host port timeout compress) is =
-    let rest = signed_bytes w32 port ++ (signed_bytes w32 timeout ++ bool_bytes compress) in
-    more_bytes 1 (1 ∷ (text_bytes host ++ rest)) (omega arith) (more_bytes 1 (text_bytes host ++ rest) (omega arith)
-    (both_bytes (text_bytes host) rest (text_put host is.1.0.1.0.0.0)
-    (both_bytes (signed_bytes w32 port) (signed_bytes w32 timeout ++ bool_bytes compress) (signed_put w32 port) (both_bytes (signed_bytes w32 timeout) (bool_bytes compress) (signed_put w32 timeout) (bool_put compress)))))
-said_put (Opaque other major minor bytes) is = let parts = is.1.0 in more_bytes major (minor ∷ bytes) parts.1 (more_bytes minor bytes parts.2 parts.4)
+module _ (most : ℕ) where
+  said_put : (e : Endpoint) → (endpoint_to most).Is e → IsBytes (said_bytes e)
+  said_put (Tcp host port timeout compress) is =
+      let rest = signed_bytes w32 port ++ (signed_bytes w32 timeout ++ bool_bytes compress) in
+      more_bytes 1 (1 ∷ (text_bytes host ++ rest)) (omega arith) (more_bytes 1 (text_bytes host ++ rest) (omega arith)
+      (both_bytes (text_bytes host) rest (text_put host is.1.0.1.0.0.0)
+      (both_bytes (signed_bytes w32 port) (signed_bytes w32 timeout ++ bool_bytes compress) (signed_put w32 port) (both_bytes (signed_bytes w32 timeout) (bool_bytes compress) (signed_put w32 timeout) (bool_put compress)))))
+  said_put (Opaque other major minor bytes) is = let parts = is.1.0 in more_bytes major (minor ∷ bytes) parts.1 (more_bytes minor bytes parts.2 parts.4)
 
-endpoint_put : (e : Endpoint) → endpoint.Is e → IsBytes (endpoint.put e)
-endpoint_put e is =
-    let kind = kind_of e in
-    let size = pos (size_with (said kind) e) in
-    both_bytes (signed_bytes w16 kind) (signed_bytes w32 size ++ said_bytes e) (signed_put w16 kind) (both_bytes (signed_bytes w32 size) (said_bytes e) (signed_put w32 size) (said_put e is))
+  endpoint_put : (e : Endpoint) → (endpoint_to most).Is e → IsBytes (endpoint.put e)
+  endpoint_put e is =
+      let kind = kind_of e in
+      let size = pos (size_with (said kind) e) in
+      both_bytes (signed_bytes w16 kind) (signed_bytes w32 size ++ said_bytes e) (signed_put w16 kind) (both_bytes (signed_bytes w32 size) (said_bytes e) (signed_put w32 size) (said_put e is))
 
-location_put : (es : List Endpoint) (adapter : List ℕ) → location.Is (es, adapter) → IsBytes (location.put (es, adapter))
-location_put [] adapter is = both_bytes (size_bytes 0) (text_bytes adapter) (size_put 0) (text_put adapter is.1.0.0)
-location_put (e ∷ es) adapter is = both_bytes (size_bytes (suc (length es))) (flat_map endpoint.put (e ∷ es)) (size_put (suc (length es))) (flat_put endpoint.put endpoint.Is endpoint_put (e ∷ es) is.1.0.1)
+  location_put : (es : List Endpoint) (adapter : List ℕ) → (location_to most).Is (es, adapter) → IsBytes (location.put (es, adapter))
+  location_put [] adapter is = both_bytes (size_bytes 0) (text_bytes adapter) (size_put 0) (text_put adapter is.1.0.0)
+  location_put (e ∷ es) adapter is = both_bytes (size_bytes (suc (length es))) (flat_map endpoint.put (e ∷ es)) (size_put (suc (length es))) (flat_put endpoint.put (endpoint_to most).Is endpoint_put (e ∷ es) is.1.0.1)
 
-named_put : (name : List ℕ) (p : Option Proxy) → (named (identity_of p) name).Is p → IsBytes ((named (identity_of p) name).put p)
-named_put [] p is = none_bytes
-named_put (c ∷ cs) p is =
-    let d = details_of p in
-    let versions = (d.1.1.1.0.0 ∷ d.1.1.1.0.1 ∷ []) ++ ((d.1.1.1.1.0.0 ∷ d.1.1.1.1.0.1 ∷ []) ++ location.put d.1.1.1.1.1) in
-    let i = is.0 in
-    let two : (v : ℕ × ℕ) → (v.0 < 256) × (v.1 < 256) → IsBytes (v.0 ∷ v.1 ∷ []) = λ v h. more_bytes v.0 (v.1 ∷ []) h.0 (more_bytes v.1 [] h.1 none_bytes) in
-    both_bytes (facet.put d.0) ((d.1.0 ∷ []) ++ (bool_bytes d.1.1.0 ++ versions)) (facet_put d.0 i.0)
-    (more_bytes d.1.0 (bool_bytes d.1.1.0 ++ versions) i.1.0.0
-    (both_bytes (bool_bytes d.1.1.0) versions (bool_put d.1.1.0)
-    (both_bytes (d.1.1.1.0.0 ∷ d.1.1.1.0.1 ∷ []) ((d.1.1.1.1.0.0 ∷ d.1.1.1.1.0.1 ∷ []) ++ location.put d.1.1.1.1.1) (two d.1.1.1.0 i.1.1.1.0)
-    (both_bytes (d.1.1.1.1.0.0 ∷ d.1.1.1.1.0.1 ∷ []) (location.put d.1.1.1.1.1) (two d.1.1.1.1.0 i.1.1.1.1.0) (location_put d.1.1.1.1.1.0 d.1.1.1.1.1.1 i.1.1.1.1.1)))))
+  named_put : (name : List ℕ) (p : Option Proxy) → (named_to most (identity_of p) name).Is p → IsBytes ((named (identity_of p) name).put p)
+  named_put [] p is = none_bytes
+  named_put (c ∷ cs) p is =
+      let d = details_of p in
+      let versions = (d.1.1.1.0.0 ∷ d.1.1.1.0.1 ∷ []) ++ ((d.1.1.1.1.0.0 ∷ d.1.1.1.1.0.1 ∷ []) ++ location.put d.1.1.1.1.1) in
+      let i = is.0 in
+      let two : (v : ℕ × ℕ) → (v.0 < 256) × (v.1 < 256) → IsBytes (v.0 ∷ v.1 ∷ []) = λ v h. more_bytes v.0 (v.1 ∷ []) h.0 (more_bytes v.1 [] h.1 none_bytes) in
+      both_bytes (facet.put d.0) ((d.1.0 ∷ []) ++ (bool_bytes d.1.1.0 ++ versions)) (facet_put d.0 i.0)
+      (more_bytes d.1.0 (bool_bytes d.1.1.0 ++ versions) i.1.0.0
+      (both_bytes (bool_bytes d.1.1.0) versions (bool_put d.1.1.0)
+      (both_bytes (d.1.1.1.0.0 ∷ d.1.1.1.0.1 ∷ []) ((d.1.1.1.1.0.0 ∷ d.1.1.1.1.0.1 ∷ []) ++ location.put d.1.1.1.1.1) (two d.1.1.1.0 i.1.1.1.0)
+      (both_bytes (d.1.1.1.1.0.0 ∷ d.1.1.1.1.0.1 ∷ []) (location.put d.1.1.1.1.1) (two d.1.1.1.1.0 i.1.1.1.1.0) (location_put d.1.1.1.1.1.0 d.1.1.1.1.1.1 i.1.1.1.1.1)))))
 
-pub proxy_put : (p : Option Proxy) → proxy.Is p → IsBytes (proxy.put p)
-proxy_put p is =
-    let i = identity_of p in
-    both_bytes (identity.put i) ((named i i.name).put p) (both_bytes (text_bytes i.name) (text_bytes i.category) (text_put i.name is.0.0.0.0.0) (text_put i.category is.0.0.0.1.0)) (named_put i.name p is.1)
+  proxy_put_in : (p : Option Proxy) → (proxy_to most).Is p → IsBytes (proxy.put p)
+  proxy_put_in p is =
+      let i = identity_of p in
+      both_bytes (identity.put i) ((named i i.name).put p) (both_bytes (text_bytes i.name) (text_bytes i.category) (text_put i.name is.0.0.0.0.0) (text_put i.category is.0.0.0.1.0)) (named_put i.name p is.1)
+
+pub proxy_put : (most : ℕ) (p : Option Proxy) → (proxy_to most).Is p → IsBytes (proxy.put p)
+proxy_put most p is = proxy_put_in most p is
 
 -- ---- what stands before an optional member
 

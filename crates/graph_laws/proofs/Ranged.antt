@@ -14,7 +14,7 @@ use Rattle.ice_graphs.specs.Classes.{base_of, own_members}
 use Rattle.ice_graphs.specs.Graph.{Slice, known, unknown, Graph}
 use Rattle.ice_graphs.specs.Names.{listed_name, names, names_each, names_pairs, names_present, names_of, instance_names}
 use Rattle.ice_graphs.specs.Instances.{slices_of}
-use Rattle.ice_graphs.specs.Typed.{AreReferred, AreOptions, AreMembers, IsKnown, AreBases, IsInstance, RefersIn, OfType}
+use Rattle.ice_graphs.specs.Typed.{AreReferred, AreOptions, AreMembers, IsKnown, AreBases, IsInstance, IsHeldIn, RefersIn, OfType}
 
 -- each name is below the limit
 abbrev pub AreBelow : ℕ → List ℕ → Type 0
@@ -30,7 +30,7 @@ below_both : (limit : ℕ) (a b : List ℕ) → AreBelow limit a → AreBelow li
 below_both limit [] b p q = q
 below_both limit (n ∷ a) b p q = (p.0, below_both limit a b p.1 q)
 
-module _ (t : Tables) (limit : ℕ) (Refer : Refers) (bounded : (declared n : Option ℕ) → Refer declared n → AreBelow limit (listed_name n)) where
+module _ (t : Tables) (limit : ℕ) (Refer : Refers) (bounded : (declared n : Option ℕ) → Refer.Held declared n → AreBelow limit (listed_name n)) where
   -- ---- in values
 
   all_below : (One : Tree → Type 0) → ((v : Tree) → One v → AreBelow limit (names v)) → (vs : Trees) → AllOf One vs → AreBelow limit (names_each vs)
@@ -93,7 +93,7 @@ module _ (t : Tables) (limit : ℕ) (Refer : Refers) (bounded : (declared n : Op
   instance_below (unknown id bytes optionals table ∷ s ∷ ss) h = below_both limit table (instance_names (s ∷ ss)) (table_below table h.0.2) (instance_below (s ∷ ss) h.1)
   instance_below (known class content ∷ ss) h = below_both limit (names_of content) (instance_names ss) (known_below class content h.0) (bases_below (base_of t class) ss h.1)
 
-pub in_instances : (t : Tables) (is : List (List Slice)) (declared n : Option ℕ) → RefersIn t is declared n → AreBelow (length is) (listed_name n)
+pub in_instances : (t : Tables) (is : List (List Slice)) (declared n : Option ℕ) → IsHeldIn t is declared n → AreBelow (length is) (listed_name n)
 in_instances t is declared None h = tt
 in_instances t is declared (Some n) h = (h.0, tt)
 

@@ -1,5 +1,5 @@
 -- Under other names that may stand in their places too, values stay of their types.
-use Rattle.std.proofs.Common.{ℕ, zero, suc, ◌<◌, ◌^◌, ◌≡◌, List, [], ◌∷◌, map, refl, sym, ap, subst, Option, Some, None}
+use Rattle.std.proofs.Common.{◌≤◌, ℕ, zero, suc, ◌<◌, ◌^◌, ◌≡◌, List, [], ◌∷◌, map, refl, sym, ap, subst, Option, Some, None}
 use Rattle.ice_types.specs.declared.kind.TypeRef.{TypeRef}
 use Rattle.ice_types.specs.declared.kind.TypeRef.TheVariants as kinds
 use Rattle.ice_types.specs.declared.declarations.Member.{Member}
@@ -8,6 +8,7 @@ use Rattle.ice_types.specs.declared.schema.TheConstants.{MOST_DEPTH}
 use Rattle.ice_types.specs.Tables.{Tables}
 use Rattle.ice_encoding.specs.Tree.{Tree, Trees, none, tree, tree_count, Entries, no_entry, entry, entry_count}
 use Rattle.ice_encoding.specs.Order.{IsRising}
+use Rattle.ice_encoding.proofs.Within.{proxy_grown}
 use Rattle.ice_encoding.specs.Typed.{AllOf, EachOf, PairsOf, Refers, no_reference, HasType}
 use Rattle.ice_graphs.specs.Optionals.{Present}
 use Rattle.ice_graphs.specs.OptionalMembers.{Members, required_kinds}
@@ -27,9 +28,9 @@ rising-renamed f no_entry h = tt
 rising-renamed f (entry k v no_entry) h = tt
 rising-renamed f (entry k v (entry l w rest)) h = (h.0, rising-renamed f (entry l w rest) h.1)
 
--- what may stand as a reference, may stand there under its other name
+-- what may stand as a reference, may stand there under its other name, and each endpoint too
 abbrev pub Moves : (ℕ → ℕ) → Refers → Refers → Type 0
-Moves f Refer Other = (declared n : Option ℕ) → Refer declared n → Other declared (renamed_name f n)
+Moves f Refer Other = (Refer.most ≤ Other.most) × ((declared n : Option ℕ) → Refer.Held declared n → Other.Held declared (renamed_name f n))
 
 module _ (t : Tables) (f : ℕ → ℕ) where
   all-renamed : (One Two : Tree → Type 0) → ((v : Tree) → One v → Two (renamed f v)) → (vs : Trees) → AllOf One vs → AllOf Two (renamed_each f vs)
@@ -54,7 +55,7 @@ module _ (t : Tables) (f : ℕ → ℕ) where
     typed-renamed (suc levels) kinds.Long v h = (h.0, h.1, ap (renamed f) h.2)
     typed-renamed (suc levels) kinds.Text v h = (h.0, h.1, h.2, ap (renamed f) h.3)
     typed-renamed (suc levels) (kinds.Enum at) v h = (h.0, h.1, h.2, h.3, h.4, ap (renamed f) h.5)
-    typed-renamed (suc levels) (kinds.Proxy at) v h = (h.0, h.1, ap (renamed f) h.2)
+    typed-renamed (suc levels) (kinds.Proxy at) v h = (h.0, proxy_grown Refer.most Other.most moves.0 h.0 h.1, ap (renamed f) h.2)
     typed-renamed (suc levels) (kinds.Seq at) v (q, row, items, is, many, all) = (
       q,
       row,
@@ -74,7 +75,7 @@ module _ (t : Tables) (f : ℕ → ℕ) where
     )
     typed-renamed (suc levels) (kinds.Struct at) v (d, row, members, is, all) =
         (d, row, renamed_each f members, ap (renamed f) is, each-renamed (HasType t Refer levels) (HasType t Other levels) (typed-renamed levels) (map (λ m. m.kind) d.members) members all)
-    typed-renamed (suc levels) (kinds.Class declared) v (n, refer, is) = (renamed_name f n, moves declared n refer, ap (renamed f) is)
+    typed-renamed (suc levels) (kinds.Class declared) v (n, refer, is) = (renamed_name f n, moves.1 declared n refer, ap (renamed f) is)
 
     options-renamed : (members : List Member) (last : Option ℕ) (os : Present) → AreOptions t Refer members last os → AreOptions t Other members last (renamed_present f os)
     options-renamed members last [] h = tt

@@ -8,15 +8,17 @@ use Rattle.ice_types.specs.Tables.{Tables}
 use Rattle.ice_types.specs.CompactIds.{IsSliceId}
 use Rattle.ice_types.specs.Rules.{IsSchema}
 use Rattle.ice_prims.specs.Rest.{IsBytes}
-use Rattle.ice_encoding.specs.declared.limits.TheConstants.{LARGEST}
+use Rattle.ice_encoding.specs.declared.limits.TheConstants.{GREATEST, LARGEST}
 use Rattle.ice_graphs.specs.Graph.{Slice, known, unknown, Graph}
 use Rattle.ice_graphs.specs.Flags.{Reach, all_slices, known_classes}
 use Rattle.ice_graphs.specs.Instances.{slices_of, most_instances, SpellsNumbered}
 use Rattle.ice_graphs.specs.Visiting.{most, order}
 use Rattle.ice_graphs.specs.Same.{Same, Spells, form}
-use Rattle.ice_graphs.specs.Typed.{OfType}
+use Rattle.ice_graphs.specs.Typed.{OfTypeTo, OfType, OfReadType}
 use Rattle.ice_graphs.specs.Canonical.{Format, compact, graph_bytes, spelled_by, row_id, IsWritable}
-use Rattle.graph_laws.proofs.Sound.{numbered_typed}
+use Rattle.graph_laws.proofs.Sound.{numbered_read, numbered_typed}
+use Rattle.graph_laws.proofs.Wider.{graph_wider}
+use Rattle.graph_laws.proofs.WrittenValues.{Limits, written_limits, read_limits}
 use Rattle.graph_arena.proofs.Closed.{few}
 use Rattle.graph_laws.proofs.TypeIds.{HaveTexts}
 use Rattle.graph_laws.proofs.ClassIds.{are_spelled, spelled_id}
@@ -36,13 +38,22 @@ utf8_texts t rules [] = tt
 utf8_texts t rules (known class content ∷ ss) = (row_text (slice_get t.classes class) (λ d is. spelled_id t rules class d is), utf8_texts t rules ss)
 utf8_texts t rules (unknown id bytes optionals table ∷ ss) = utf8_texts t rules ss
 
-pub equal_is_same : (t : Tables) (shape : Shape) (format : Format) (g h : Graph) → IsSchema t → OfType t shape g → OfType t shape h → IsWritable format g → IsWritable format h
-    → length g.instances ≤ most → length h.instances ≤ most → length (graph_bytes t shape format g) < 2 ^ 31 → (graph_bytes t shape format g ≡ graph_bytes t shape format h) ↔ Same g h
-equal_is_same t shape format g h rules g-typed h-typed g-can h-can g-few h-few small = (
-  λ e. same_from_bytes t (are_spelled t rules) shape all_slices format g h (reached-small t shape g g-typed g-few) (reached-small t shape h h-typed h-few) g-typed h-typed
+equal_within : (l : Limits) (t : Tables) (shape : Shape) (format : Format) (g h : Graph) → l.most ≤ GREATEST → IsSchema t → OfTypeTo t l.most shape g → OfTypeTo t l.most shape h → IsWritable format g → IsWritable format h
+    → length g.instances ≤ most → length h.instances ≤ most → length (graph_bytes t shape format g) ≤ l.bound → (graph_bytes t shape format g ≡ graph_bytes t shape format h) ↔ Same g h
+equal_within l t shape format g h le rules g-typed h-typed g-can h-can g-few h-few small = (
+  λ e. same_from_bytes l t (are_spelled t rules) shape all_slices format g h (reached-small t shape g (graph_wider t l.most GREATEST le shape g g-typed) g-few) (reached-small t shape h (graph_wider t l.most GREATEST le shape h h-typed) h-few) g-typed h-typed
       (λ n lt. (g-can n lt, utf8_texts t rules (slices_of g.instances n))) (λ n lt. (h-can n lt, utf8_texts t rules (slices_of h.instances n))) small e,
   same_bytes t shape format g h,
 )
+
+-- of graphs whose proxies can be read again, and of all that are no longer than what can be read
+pub equal_is_same : (t : Tables) (shape : Shape) (format : Format) (g h : Graph) → IsSchema t → OfReadType t shape g → OfReadType t shape h → IsWritable format g → IsWritable format h
+    → length g.instances ≤ most → length h.instances ≤ most → length (graph_bytes t shape format g) < 2 ^ 31 → (graph_bytes t shape format g ≡ graph_bytes t shape format h) ↔ Same g h
+equal_is_same t shape format g h rules g-typed h-typed g-can h-can g-few h-few small = equal_within read_limits t shape format g h (omega arith) rules g-typed h-typed g-can h-can g-few h-few (omega (arith, small))
+
+pub written_equal_is_same : (t : Tables) (shape : Shape) (format : Format) (g h : Graph) → IsSchema t → OfType t shape g → OfType t shape h → IsWritable format g → IsWritable format h
+    → length g.instances ≤ most → length h.instances ≤ most → length (graph_bytes t shape format g) ≤ LARGEST → (graph_bytes t shape format g ≡ graph_bytes t shape format h) ↔ Same g h
+written_equal_is_same t shape format g h rules g-typed h-typed g-can h-can g-few h-few small = equal_within written_limits t shape format g h (omega arith) rules g-typed h-typed g-can h-can g-few h-few small
 
 pub few-enough : (n : ℕ) → n ≤ most_instances → n < most
 unfolding most_instances most
@@ -83,6 +94,9 @@ form_read t reach shape format g h rules typed can few =
 -- ---- what was read and is written again
 
 module _ (t : Tables) (reach : Reach) (shape : Shape) (rules : IsSchema t) (bytes : List ℕ) (g : Graph) (fits : IsBytes bytes) (h : SpellsNumbered t reach shape bytes g) where
+  read : OfReadType t shape g
+  read = (numbered_read t reach shape rules bytes g fits h).0
+
   typed : OfType t shape g
   typed = (numbered_typed t reach shape rules bytes g fits h).0
 
@@ -104,7 +118,7 @@ module _ (t : Tables) (reach : Reach) (shape : Shape) (rules : IsSchema t) (byte
 pub read_equal_is_same : (t : Tables) (reach : Reach) (shape : Shape) (format : Format) (a b : List ℕ) (g h : Graph) → IsSchema t → IsBytes a → IsBytes b → SpellsNumbered t reach shape a g → SpellsNumbered t reach shape b h
     → IsWritable format g → IsWritable format h → length (graph_bytes t shape format g) < 2 ^ 31 → (graph_bytes t shape format g ≡ graph_bytes t shape format h) ↔ Same g h
 read_equal_is_same t reach shape format a b g h rules a-fits b-fits g-read h-read g-can h-can small =
-    equal_is_same t shape format g h rules (typed t reach shape rules a g a-fits g-read) (typed t reach shape rules b h b-fits h-read) g-can h-can (few_there t reach shape rules a g a-fits g-read) (few_there t reach shape rules b h b-fits h-read) small
+    equal_is_same t shape format g h rules (read t reach shape rules a g a-fits g-read) (read t reach shape rules b h b-fits h-read) g-can h-can (few_there t reach shape rules a g a-fits g-read) (few_there t reach shape rules b h b-fits h-read) small
 
 -- where known classes are read alone
 pub known_relayed : (t : Tables) (shape : Shape) (format : Format) → IsSchema t → (bytes : List ℕ) (g : Graph) → IsBytes bytes → SpellsNumbered t known_classes shape bytes g

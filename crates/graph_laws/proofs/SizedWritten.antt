@@ -26,7 +26,7 @@ use Rattle.graph_laws.proofs.FlagBytes.{flags_back}
 use Rattle.graph_laws.proofs.Formed.{Reached, form-in_order, form-typed}
 use Rattle.graph_laws.proofs.Reached.{reached-few}
 use Rattle.graph_laws.proofs.Schemas.{utf8_texts, few-enough}
-use Rattle.graph_laws.proofs.WrittenValues.{size_spelled}
+use Rattle.graph_laws.proofs.WrittenValues.{written_limits, size_spelled}
 use Rattle.graph_laws.proofs.WrittenGraphs.{IsWritten, Inline, content_written}
 use Rattle.graph_laws.specs.Sized.{starts_sized, sized_instances, SpellsSizedGraph, SpellsSizedNumbered, SpellsSized}
 use Rattle.graph_laws.proofs.Numbered.{numbered-length, numbered-same}
@@ -89,7 +89,7 @@ module _ (t : Tables) (rules : IsSchema t) (shape : Shape) where
       → order h ≡ upto (length h.instances) → length (encapsulated_bytes (bytes_of t shape sliced h)) ≤ LARGEST → SpellsSizedNumbered t shape (encapsulated_bytes (bytes_of t shape sliced h)) h
   unfolding SpellsSizedGraph
   own_sized h typed few range own small =
-      let c = content_written t (are_spelled t rules) all_slices sliced h most_instances few (few_for_size (length h.instances) few) typed.instances (λ n lt. (tt, utf8_texts t rules (slices_of h.instances n))) range
+      let c = content_written t (are_spelled t rules) all_slices sliced written_limits h most_instances few (few_for_size (length h.instances) few) typed.instances (λ n lt. (tt, utf8_texts t rules (slices_of h.instances n))) range
       (sized_instances t most_instances) (inline_sized t most_instances) most_instances shape typed.roots (omega (arith, few-enough (length h.instances) few)) few (order_is h (length h.instances) own) (omega (arith, small)) in
       (bytes_of t shape sliced h, refl, small, (c.0, c.1, c.2, subst (λ (is : List (List Slice)). AllFit t is c.0.met) (sym c.2) c.3))
 
@@ -98,7 +98,7 @@ module _ (t : Tables) (rules : IsSchema t) (shape : Shape) where
   form_sized g reached typed few small =
       let k : Graph = numbered (order g) g in
       let in_order = form-in_order g reached in
-      let of_type = form-typed t shape all_slices sliced g reached typed (λ n lt. (tt, utf8_texts t rules (slices_of g.instances n))) in
+      let of_type = form-typed t written_limits.most shape all_slices sliced g reached typed (λ n lt. (tt, utf8_texts t rules (slices_of g.instances n))) in
       let few_k : length k.instances ≤ most_instances = omega (arith, few, numbered-length (order g) g) in
       subst (λ (b : List ℕ). SpellsSizedNumbered t shape (encapsulated_bytes b) k) (sym (canonical_is t shape g))
       (own_sized k of_type.typed few_k in_order.instances in_order.order (subst (λ (b : List ℕ). length (encapsulated_bytes b) ≤ LARGEST) (canonical_is t shape g) small))

@@ -35,7 +35,7 @@ abbrev text_steps : Steps Spelled
 text_steps = record { Fine = λ s. Unit {0}; Step = Texts; same = λ s h. h; joined = λ a b c p q h. q (p h); back = λ a b step fine. tt }
 
 abbrev any_reference : Refers
-any_reference declared n = Unit {0}
+any_reference = record { Held = λ declared n. Unit {0}; most = 0 }
 
 pub stay : (from to : Spelled) → to ≡ from → Texts from to
 stay from to e u = subst (λ (s : Spelled). AllTexts s.ids) (sym e) u
@@ -52,7 +52,7 @@ module _ (t : Tables) (reach : Reach) where
     table_texts true uses bytes table from to fits (n, front, body, end, parts, size, within, entries, to_is) u =
         subst (λ (s : Spelled). AllTexts s.ids) (sym to_is) (entries_texts n body table from end (rest_fits bytes front body parts fits) entries u)
 
-    refers : (declared n : Option ℕ) (bytes : List ℕ) (from to : Spelled) → IsBytes bytes → port.Spells declared bytes n from to → Unit {0} → Texts from to × any_reference declared n
+    refers : (declared n : Option ℕ) (bytes : List ℕ) (from to : Spelled) → IsBytes bytes → port.Spells declared bytes n from to → Unit {0} → Texts from to × any_reference.Held declared n
     refers declared n bytes from to fits h fine = (port_texts declared n bytes from to fits h, tt)
 
     pub body_texts : (f : Flags) (id : List ℕ) (sized : Bool) (class : Option ℕ) (bytes : List ℕ) (s : Slice) (from to : Spelled) → IsBytes bytes → SpellsBody port t f id sized class bytes s from to → Texts from to

@@ -9,19 +9,20 @@ use Rattle.ice_types.specs.Tables.{Tables}
 use Rattle.ice_types.specs.CompactIds.{IsSliceId}
 use Rattle.ice_types.specs.Rules.{IsSchema}
 use Rattle.ice_prims.specs.Rest.{IsBytes}
+use Rattle.ice_encoding.specs.declared.limits.TheConstants.{LARGEST}
 use Rattle.ice_encoding.specs.Port.{Port, Speller}
 use Rattle.ice_encoding.specs.Typed.{Refers}
 use Rattle.ice_graphs.specs.OptionalMembers.{Members, SpellsSliceMembers, SpellsContent}
 use Rattle.ice_graphs.specs.Classes.{class_by_id, base_of, own_members}
 use Rattle.ice_graphs.specs.Graph.{Slice, known, unknown}
-use Rattle.ice_graphs.specs.Names.{renamed_members}
+use Rattle.ice_graphs.specs.Names.{renamed_members, renamed_name}
 use Rattle.ice_graphs.specs.References.{State, Reference, met_at, SpellsEntry, in_table, entry_in, resolved, AreWithin, SpellsEntries, SpellsTable, SpellsInline, with_met, with_ended, replaced, beginning, opening}
 use Rattle.ice_graphs.specs.Flags.{IdForm, no_id, as_text, as_index, as_number, Flags, Reach, Before, first, only_unknown, derived}
 use Rattle.ice_graphs.specs.TypeIds.{SpellsId, class_in, is_base, same_bool, ends_well, before_base, before_next}
 use Rattle.ice_graphs.specs.Slices.{unknown_bytes, SpellsBody, SpellsSlices, SpellsInstance}
 use Rattle.ice_graphs.specs.Slices.{Behind as Others}
 use Rattle.ice_graphs.specs.Instances.{instances, slices_of, class_of, class_fits, AllFit}
-use Rattle.ice_graphs.specs.Typed.{AreReferred, AreMembers, IsKnown, AreBases, IsUnknown, IsInstance, RefersIn}
+use Rattle.ice_graphs.specs.Typed.{AreReferred, AreMembers, IsKnown, AreBases, IsUnknown, IsInstance, IsHeldIn, RefersUpTo}
 use Rattle.graph_laws.proofs.PutBytes.{kept_bytes}
 use Rattle.graph_laws.proofs.Texts.{AllTexts}
 use Rattle.graph_laws.proofs.Ranged.{AreBelow}
@@ -72,7 +73,7 @@ module _ (t : Tables) (rules : IsSchema t) (reach : Reach) (is : List (List Slic
   limit = length is
 
   abbrev pub Refer : Refers
-  Refer = RefersIn t is
+  Refer = RefersUpTo t LARGEST is
 
   fit_front : (a b : Uses) → AllFit t is (a ++ b) → AllFit t is a
   fit_front [] b h = tt
@@ -99,11 +100,14 @@ module _ (t : Tables) (rules : IsSchema t) (reach : Reach) (is : List (List Slic
     abbrev table_steps : Steps Uses
     table_steps = record { Fine = Placed; Step = λ a b. Placed b → Placed a; same = λ s h. h; joined = λ a b c p q h. p (q h); back = λ a b step h. step h }
 
-    abbrev RefersTo : Refers
-    RefersTo declared None = Unit {0}
-    RefersTo declared (Some place) = (place < length table) × (class_fits t declared (class_of (slices_of is (entry_in table place))) ≡ true)
+    abbrev IsPlaced : Option ℕ → Option ℕ → Type 0
+    IsPlaced declared None = Unit {0}
+    IsPlaced declared (Some place) = (place < length table) × (class_fits t declared (class_of (slices_of is (entry_in table place))) ≡ true)
 
-    entry_refers : (declared n : Option ℕ) (bytes : List ℕ) (from to : Uses) → IsBytes bytes → SpellsEntry tabled declared bytes n from to → Placed to → (Placed to → Placed from) × RefersTo declared n
+    abbrev RefersTo : Refers
+    RefersTo = record { Held = IsPlaced; most = LARGEST }
+
+    entry_refers : (declared n : Option ℕ) (bytes : List ℕ) (from to : Uses) → IsBytes bytes → SpellsEntry tabled declared bytes n from to → Placed to → (Placed to → Placed from) × IsPlaced declared n
     entry_refers declared None bytes from to fits h fine = ((λ p. subst Placed h.1 p), tt)
     entry_refers declared (Some n) bytes from to fits h fine =
         let m : Reference (Unit {0}) = met_at tt declared n in
@@ -111,13 +115,16 @@ module _ (t : Tables) (rules : IsSchema t) (reach : Reach) (is : List (List Slic
         let at = last h.1 in
         ((λ p e. ((within_front from m at.0).0, (resolved_front from m at.1).0)), ((within_front from m at.0).1, (resolved_front from m at.1).1))
 
+    to_name : (declared n : Option ℕ) → IsPlaced declared n → IsHeldIn t is declared (renamed_name (entry_in table) n)
+    to_name declared None h = tt
+    to_name declared (Some place) h = (below place h.0, h.1)
+
     to_names : Moves (entry_in table) RefersTo Refer
-    to_names declared None h = tt
-    to_names declared (Some place) h = (below place h.0, h.1)
+    to_names = (omega arith, to_name)
 
     sized_typed : (flagged : Bool) (shape : Shape) (bytes : List ℕ) (raw : Members) (uses : Uses) → IsBytes bytes → SpellsSliceMembers (in_table tabled) t flagged shape bytes raw [] uses → Placed uses → AreMembers t Refer shape (renamed_members (entry_in table) raw)
     sized_typed flagged shape bytes raw uses fits h fine =
-        let typed = slice_typed (in_table tabled) t rules table_steps RefersTo entry_refers flagged shape bytes raw [] uses fits h fine in
+        let typed = slice_typed (in_table tabled) t rules table_steps RefersTo (omega arith) entry_refers flagged shape bytes raw [] uses fits h fine in
         members-renamed t (entry_in table) RefersTo Refer to_names shape raw typed.1
 
   -- ---- states
@@ -229,7 +236,7 @@ module _ (t : Tables) (rules : IsSchema t) (reach : Reach) (is : List (List Slic
 
   -- ---- slices, by what references refer to
 
-  module _ (port : Port (State ℕ) Spelled) (refers : (declared n : Option ℕ) (bytes : List ℕ) (from to : Spelled) → IsBytes bytes → port.Spells declared bytes n from to → Fine to → Step from to × Refer declared n) where
+  module _ (port : Port (State ℕ) Spelled) (refers : (declared n : Option ℕ) (bytes : List ℕ) (from to : Spelled) → IsBytes bytes → port.Spells declared bytes n from to → Fine to → Step from to × IsHeldIn t is declared n) where
     entries_typed : (n : ℕ) (bytes names : List ℕ) (from to : Spelled) → IsBytes bytes → SpellsEntries port n bytes names from to → Fine to → Step from to × AreBelow limit names × (length names ≡ n)
     entries_typed zero bytes names from to fits h fine = (stays from to h.2, subst (AreBelow limit) (sym h.1) tt, ap length h.1)
     entries_typed (suc n) bytes names from to fits (name, others, a, b, mid, is_names, parts, one, more) fine =
@@ -278,7 +285,7 @@ module _ (t : Tables) (rules : IsSchema t) (reach : Reach) (is : List (List Slic
         (joined_step from mid to (stays from mid still) tb.step, (content, f.has_optional, table, s_is, tb.below, kept_bytes f.has_optional content (rest_fits a front (unknown_bytes f.has_optional content) cut (front_fits bytes a b parts fits))))
     body_typed u alike f id false (Some class) bytes s from to fits (content, s_is, h) fine =
         let shape : Shape = own_members u class in
-        let m = slice_typed port t rules state_steps Refer refers f.has_optional shape bytes content from to fits (alike.inline f.has_optional shape bytes content from to h) fine in
+        let m = slice_typed port t rules state_steps Refer (omega arith) refers f.has_optional shape bytes content from to fits (alike.inline f.has_optional shape bytes content from to h) fine in
         (m.0, (content, s_is, alike.members shape content m.1))
     body_typed u alike f id false None bytes s from to fits h fine = absurd h
 
@@ -367,7 +374,7 @@ module _ (t : Tables) (rules : IsSchema t) (reach : Reach) (is : List (List Slic
   -- ---- references outside of sized slices
 
   module _ (Slices : Speller Spelled (List Slice)) (one : (bytes : List ℕ) (ss : List Slice) (from to : Spelled) → IsBytes bytes → Slices bytes ss from to → Fine to → Step from to × Done ss) where
-    begins_typed : (declared : Option ℕ) (n : ℕ) (ss : List Slice) (from end : Spelled) → n ≡ length from.instances → n < room → Step (beginning tt declared from) end × Done ss → Fine end → Step from (with_ended n ss end) × Refer declared (Some n)
+    begins_typed : (declared : Option ℕ) (n : ℕ) (ss : List Slice) (from end : Spelled) → n ≡ length from.instances → n < room → Step (beginning tt declared from) end × Done ss → Fine end → Step from (with_ended n ss end) × IsHeldIn t is declared (Some n)
     begins_typed declared n ss from end at small (inner, done) fine =
         let start : Spelled = beginning tt declared from in
         let m : Reference (Unit {0}) = met_at tt declared (length from.instances) in
@@ -393,7 +400,7 @@ module _ (t : Tables) (rules : IsSchema t) (reach : Reach) (is : List (List Slic
     fine_ended : (n : ℕ) (ss : List Slice) (end : Spelled) → Fine (with_ended n ss end) → Fine end
     fine_ended n ss end f = record { met = f.met; many = omega (arith, f.many, replaced_length n ss end.instances); ids = f.ids }
 
-    inline_typed : (declared n : Option ℕ) (bytes : List ℕ) (from to : Spelled) → IsBytes bytes → SpellsInline room Slices declared bytes n from to → Fine to → Step from to × Refer declared n
+    inline_typed : (declared n : Option ℕ) (bytes : List ℕ) (from to : Spelled) → IsBytes bytes → SpellsInline room Slices declared bytes n from to → Fine to → Step from to × IsHeldIn t is declared n
     inline_typed declared None bytes from to fits h fine = (stays from to h.1, tt)
     inline_typed declared (Some n) bytes from to fits (inl (ss, front, rest, end, parts, size, at, small, h, to_is)) fine =
         let fine_end = fine_ended n ss end (subst Fine to_is fine) in
@@ -404,7 +411,7 @@ module _ (t : Tables) (rules : IsSchema t) (reach : Reach) (is : List (List Slic
         let last : Fine (with_met (m ∷ []) from) = subst Fine to_is fine in
         (subst (λ (s : Spelled). Step from s) (sym to_is) (noted from (m ∷ [])), (omega (arith, there, last.many), (fit_rest from.met (m ∷ []) last.met).0))
 
-  pub instances_typed : (more : ℕ) (declared n : Option ℕ) (bytes : List ℕ) (from to : Spelled) → IsBytes bytes → (instances t reach room more).Spells declared bytes n from to → Fine to → Step from to × Refer declared n
+  pub instances_typed : (more : ℕ) (declared n : Option ℕ) (bytes : List ℕ) (from to : Spelled) → IsBytes bytes → (instances t reach room more).Spells declared bytes n from to → Fine to → Step from to × IsHeldIn t is declared n
   instances_typed zero declared n bytes from to fits h fine = inline_typed (λ bytes slices from to. ⊥) (λ bytes ss from to fits h fine. absurd h) declared n bytes from to fits h fine
   instances_typed (suc more) declared n bytes from to fits h fine =
       inline_typed (SpellsInstance (instances t reach room more) t reach) (all_typed (instances t reach room more) (instances_typed more)) declared n bytes from to fits h fine
@@ -415,5 +422,5 @@ module _ (t : Tables) (rules : IsSchema t) (reach : Reach) (is : List (List Slic
       → AreMembers t Refer shape roots × ((n : ℕ) → n < limit → IsInstance t Refer (slices_of is n)) × (limit ≤ room)
   graph_typed more shape bytes roots end fits h same fit utf8 =
       let fine : Fine end = record { met = fit; many = omega (arith, ap length same); ids = utf8 } in
-      let r = content_typed (instances t reach room more) t rules state_steps Refer (instances_typed more) shape bytes roots opening end fits h fine in
+      let r = content_typed (instances t reach room more) t rules state_steps Refer (omega arith) (instances_typed more) shape bytes roots opening end fits h fine in
       (r.1, (λ n lt. subst (λ (l : List (List Slice)). Done (slices_of l n)) same (r.0.done n (omega arith) (omega (arith, lt, ap length same)))), omega (arith, ap length same, r.0.fewer (omega arith)))

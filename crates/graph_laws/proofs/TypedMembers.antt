@@ -1,5 +1,5 @@
 -- The members that bytes spell are of their types, where each reference may stand.
-use Rattle.std.proofs.Common.{ℕ, zero, suc, ◌<◌, ◌^◌, ◌≡◌, ◌==◌, ltb, Bool, true, false, List, [], ◌∷◌, ◌++◌, refl, sym, subst, arith, Option, Some, None}
+use Rattle.std.proofs.Common.{◌≤◌, ℕ, zero, suc, ◌<◌, ◌^◌, ◌≡◌, ◌==◌, ltb, Bool, true, false, List, [], ◌∷◌, ◌++◌, refl, sym, subst, arith, Option, Some, None}
 use Rattle.std.proofs.lemmas.Bool.{ltb-true, lt-ltb}
 use Rattle.ice_types.specs.declared.kind.TypeRef.{TypeRef}
 use Rattle.ice_types.specs.declared.declarations.Member.{Member}
@@ -10,6 +10,7 @@ use Rattle.ice_types.specs.Tables.{Tables}
 use Rattle.ice_types.specs.Rules.{IsSchema}
 use Rattle.ice_prims.specs.Rest.{IsBytes}
 use Rattle.ice_prims.proofs.Parts.{IsBytes-front, IsBytes-rest}
+use Rattle.ice_encoding.specs.declared.limits.TheConstants.{LARGEST}
 use Rattle.ice_encoding.specs.Tags.{tag, rises}
 use Rattle.ice_encoding.proofs.Tagged.{tag_lawful, tag_within}
 use Rattle.ice_encoding.specs.Tree.{Tree}
@@ -35,9 +36,9 @@ each_typed One Typed one [] bytes values from to fits h = h.1
 each_typed One Typed one (kind ∷ ks) bytes values from to fits h =
     (h.0, h.1, h.5, one kind h.2 h.0 from h.4 (front_fits bytes h.2 h.3 h.6 fits) h.7, each_typed One Typed one ks h.3 h.1 h.4 to (rest_fits bytes h.2 h.3 h.6 fits) h.8)
 
-module _ {R S : Type 0} (port : Port R S) (t : Tables) (rules : IsSchema t) (Refer : Refers) (refers : (declared : Option ℕ) → Spelled (port.Spells declared) (Refer declared)) where
+module _ {R S : Type 0} (port : Port R S) (t : Tables) (rules : IsSchema t) (Refer : Refers) (wide : LARGEST ≤ Refer.most) (refers : (declared : Option ℕ) → Spelled (port.Spells declared) (Refer.Held declared)) where
   one_typed : (kind : TypeRef) → Spelled (SpellsValue port t MOST_DEPTH kind) (HasType t Refer MOST_DEPTH kind)
-  one_typed = value_typed port t rules Refer refers MOST_DEPTH
+  one_typed = value_typed port t rules Refer wide refers MOST_DEPTH
 
   framed_typed : (prefix : Prefix) (Spells : Speller S Tree) (Is : Tree → Type 0) → Spelled Spells Is → Spelled (Framed prefix Spells) Is
   framed_typed no_length Spells Is one = one
@@ -104,8 +105,8 @@ module _ {R S : Type 0} (port : Port R S) (t : Tables) (rules : IsSchema t) (Ref
 
 -- ---- where references refer well if the state is well at the end
 
-module _ {R S : Type 0} (port : Port R S) (t : Tables) (rules : IsSchema t) (steps : Steps S) (Refer : Refers)
-    (refers : (declared n : Option ℕ) (bytes : List ℕ) (from to : S) → IsBytes bytes → port.Spells declared bytes n from to → steps.Fine to → steps.Step from to × Refer declared n) where
+module _ {R S : Type 0} (port : Port R S) (t : Tables) (rules : IsSchema t) (steps : Steps S) (Refer : Refers) (wide : LARGEST ≤ Refer.most)
+    (refers : (declared n : Option ℕ) (bytes : List ℕ) (from to : S) → IsBytes bytes → port.Spells declared bytes n from to → steps.Fine to → steps.Step from to × Refer.Held declared n) where
   abbrev other : Port R S
   other = known_by Refer port
 
@@ -115,9 +116,9 @@ module _ {R S : Type 0} (port : Port R S) (t : Tables) (rules : IsSchema t) (ste
   pub slice_typed : (flagged : Bool) (shape : Shape) → Sound (SpellsSliceMembers port t flagged shape) (AreMembers t Refer shape)
   slice_typed flagged shape bytes c from to fits h fine =
       let r = slice_carried port t steps Refer refers flagged shape bytes c from to fits h fine in
-      (r.0, slice_known other t rules Refer (λ declared bytes n from to fits h. h) flagged shape bytes c from to fits r.1)
+      (r.0, slice_known other t rules Refer wide (λ declared bytes n from to fits h. h) flagged shape bytes c from to fits r.1)
 
   pub content_typed : (shape : Shape) → Sound (SpellsContent port t shape) (AreMembers t Refer shape)
   content_typed shape bytes c from to fits h fine =
       let r = content_carried port t steps Refer refers shape bytes c from to fits h fine in
-      (r.0, content_known other t rules Refer (λ declared bytes n from to fits h. h) shape bytes c from to fits r.1)
+      (r.0, content_known other t rules Refer wide (λ declared bytes n from to fits h. h) shape bytes c from to fits r.1)

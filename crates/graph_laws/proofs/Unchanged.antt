@@ -3,7 +3,7 @@ use Rattle.std.proofs.Common.{ℕ, ◌≤◌, ◌<◌, ◌≡◌, ◌∙◌, Lis
 use Rattle.ice_types.specs.declared.declarations.Shape.{Shape}
 use Rattle.ice_types.specs.Tables.{Tables}
 use Rattle.ice_types.specs.Lacking.{SameShape}
-use Rattle.ice_encoding.specs.declared.limits.TheConstants.{LARGEST}
+use Rattle.ice_encoding.specs.declared.limits.TheConstants.{GREATEST, LARGEST}
 use Rattle.ice_encoding.specs.Opening.{encapsulated_bytes}
 use Rattle.ice_graphs.specs.Graph.{Graph}
 use Rattle.ice_graphs.specs.Names.{names_of, instance_names}
@@ -67,7 +67,7 @@ module _ (t u : Tables) (both : Both t u) (shape other : Shape) (tied : SameShap
       let reached = reached-few t shape g typed (few-enough (length (order g)) few) in
       let k : Graph = numbered (order g) g in
       let in_order = form-in_order g reached in
-      let of_type = form-typed t shape all_slices sliced g reached typed (λ n lt. (tt, utf8_texts t both.reader (slices_of g.instances n))) in
+      let of_type = form-typed t GREATEST shape all_slices sliced g reached typed (λ n lt. (tt, utf8_texts t both.reader (slices_of g.instances n))) in
       let few_k : length k.instances ≤ most_instances = omega (arith, few, numbered-length (order g) g) in
       subst (Closed u other) (ap encapsulated_bytes (sym (canonical_is t shape g)))
       (closed_own k in_order of_type.typed few_k (subst (λ (b : List ℕ). length (encapsulated_bytes b) ≤ LARGEST) (canonical_is t shape g) small))

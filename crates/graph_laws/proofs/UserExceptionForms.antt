@@ -10,6 +10,7 @@ use Rattle.ice_types.specs.declared.declarations.Shape.{Shape}
 use Rattle.ice_types.specs.declared.schema.TheConstants.{MOST_DEPTH}
 use Rattle.ice_types.specs.Tables.{Tables, exception_ids}
 use Rattle.ice_types.specs.Rules.{IsSchema}
+use Rattle.ice_encoding.specs.declared.limits.TheConstants.{GREATEST}
 use Rattle.ice_encoding.specs.Tree.{Trees, reference, tree}
 use Rattle.ice_encoding.specs.Typed.{Refers, EachOf, HasType}
 use Rattle.ice_graphs.specs.OptionalMembers.{with_optional}
@@ -118,7 +119,7 @@ pub slices_typed : (t : Tables) (x : UserException) → OfUserException t x → 
 slices_typed t x typed reached =
     let g : Graph = graph_of x in
     let ns : List ℕ = order_of x in
-    instance-typed (of_exceptions t) (place ns) ns (RefersIn t g.instances) (RefersIn t (numbered ns g).instances) (form-moves t g) x.slices (names_listed x reached) typed.slices
+    instance-typed (of_exceptions t) (place ns) ns (RefersIn t g.instances) (RefersIn t (numbered ns g).instances) (form-moves t GREATEST g) x.slices (names_listed x reached) typed.slices
 
 -- ---- it is the same exception
 

@@ -4,6 +4,7 @@ use Rattle.std.specs.Prelude.{is_none}
 use Rattle.ice_types.specs.Tables.{Tables}
 use Rattle.ice_types.specs.Rules.{IsSchema}
 use Rattle.ice_prims.specs.Rest.{IsBytes}
+use Rattle.ice_encoding.specs.declared.limits.TheConstants.{LARGEST}
 use Rattle.ice_encoding.specs.Port.{Port, Speller}
 use Rattle.ice_encoding.specs.Typed.{Refers}
 use Rattle.ice_graphs.specs.OptionalMembers.{Members}
@@ -14,7 +15,7 @@ use Rattle.ice_graphs.specs.References.{State, in_table, opening}
 use Rattle.ice_graphs.specs.Flags.{Flags, Reach, Before, first, only_unknown, derived}
 use Rattle.ice_graphs.specs.TypeIds.{before_base, before_next}
 use Rattle.ice_graphs.specs.Instances.{instances, slices_of, AllFit}
-use Rattle.ice_graphs.specs.Typed.{AreBases, IsInstance, RefersIn}
+use Rattle.ice_graphs.specs.Typed.{AreBases, IsInstance, IsHeldIn, RefersUpTo}
 use Rattle.ice_graphs.specs.UserExceptionTyped.{HaveTypeIds}
 use Rattle.ice_types.specs.CompactIds.{is_numbered}
 use Rattle.ice_graphs.proofs.Agreeing.{spelled_same, members_to}
@@ -31,7 +32,7 @@ module _ (t : Tables) (rules : IsSchema t) (reach : Reach) (is : List (List Slic
   limit = length is
 
   abbrev Refer : Refers
-  Refer = RefersIn t is
+  Refer = RefersUpTo t LARGEST is
 
   abbrev u : Tables
   u = of_exceptions t
@@ -56,7 +57,7 @@ module _ (t : Tables) (rules : IsSchema t) (reach : Reach) (is : List (List Slic
 
   -- ---- the slices of an exception
 
-  module _ (port : Port (State ℕ) Spelled) (refers : (declared n : Option ℕ) (bytes : List ℕ) (from to : Spelled) → IsBytes bytes → port.Spells declared bytes n from to → Fine to → Step from to × Refer declared n) where
+  module _ (port : Port (State ℕ) Spelled) (refers : (declared n : Option ℕ) (bytes : List ℕ) (from to : Spelled) → IsBytes bytes → port.Spells declared bytes n from to → Fine to → Step from to × IsHeldIn t is declared n) where
     alike : Alike t rules reach is room port refers u
     alike = record {
       placed = λ tabled flagged shape bytes c from to h. subst (λ (X : Speller Uses Members). X bytes c from to) (spelled_same t (in_table tabled) flagged shape) h;

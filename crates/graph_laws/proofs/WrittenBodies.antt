@@ -21,7 +21,7 @@ use Rattle.ice_graphs.specs.TypeIds.{is_base}
 use Rattle.ice_graphs.specs.Slices.{slice_size, unknown_bytes, by_table, SpellsBody}
 use Rattle.ice_graphs.specs.Instances.{AllFit}
 use Rattle.ice_graphs.specs.Visiting.{place, visit_each}
-use Rattle.ice_graphs.specs.Typed.{IsKnown, RefersIn}
+use Rattle.ice_graphs.specs.Typed.{IsKnown, RefersUpTo}
 use Rattle.ice_graphs.specs.Canonical.{Pen, is_there, each_once, table_of, sized_bytes, written_names, written_table, sized_body, members_bytes}
 use Rattle.ice_graphs.proofs.Sizes.{slice_size_lawful}
 use Rattle.graph_arena.specs.Arena.{AreBelow}
@@ -29,7 +29,7 @@ use Rattle.graph_laws.proofs.TypeIds.{Spelled}
 use Rattle.graph_laws.proofs.Upto.{upto, Grows}
 use Rattle.graph_laws.proofs.Once.{once-listed, once-below}
 use Rattle.graph_laws.proofs.Places.{members-back}
-use Rattle.graph_laws.proofs.WrittenValues.{Relation, Chain, ReferGood, size_spelled}
+use Rattle.graph_laws.proofs.WrittenValues.{Relation, Chain, Limits, ReferGood, size_spelled}
 use Rattle.graph_laws.proofs.WrittenMembers.{members_good}
 use Rattle.graph_laws.proofs.TableRules.{Uses, sized_members}
 use Rattle.graph_laws.proofs.InlineRules.{Good, inline_rules, exact_good, joined_good, mapped_good, noted_good}
@@ -56,22 +56,22 @@ still_there f (o ∷ os) = refl
 slice_size_spelled : (n : ℕ) → n + 4 < 2 ^ 31 → slice_size.Spells (slice_size.put n) n
 slice_size_spelled n lt = slice_size_lawful.put n ((((fits_signed_from_abs w32 (pos (n + 4)) lt, refl), refl), le-leb 4 (n + 4) (omega arith)), omega arith)
 
-module _ (u t : Tables) (k : Graph) (visit : ℕ → List ℕ → List ℕ) (grows : Grows visit) (Ready : ℕ → Type 0) (ready : (i j : ℕ) → Ready i → i ≤ j → Ready j) (P : Port (State ℕ) (State (Unit {0}))) (refer : Option ℕ → Piece Pen)
-    (port_good : ReferGood (inline_rules t k visit grows Ready ready) t P refer (RefersIn t k.instances)) where
+module _ (u t : Tables) (k : Graph) (l : Limits) (visit : ℕ → List ℕ → List ℕ) (grows : Grows visit) (Ready : ℕ → Type 0) (ready : (i j : ℕ) → Ready i → i ≤ j → Ready j) (P : Port (State ℕ) (State (Unit {0}))) (refer : Option ℕ → Piece Pen)
+    (port_good : ReferGood (inline_rules t k l visit grows Ready ready) t P refer (RefersUpTo t l.most k.instances)) where
   abbrev limit : ℕ
   limit = length k.instances
 
   abbrev Ends : Piece Pen → List ℕ → Relation Spelled → Type 0
-  Ends = Good t k visit grows Ready ready
+  Ends = Good t k l visit grows Ready ready
 
   abbrev exact : (bytes : List ℕ) (R : Relation Spelled) → ((s : Spelled) → R bytes s s) → Ends (exactly bytes) [] R
-  exact = exact_good t k visit grows Ready ready
+  exact = λ bytes R h. exact_good t k l visit grows Ready ready bytes R (λ small. h)
 
   abbrev joined : (w w' : Piece Pen) (a b : List ℕ) (R R' : Relation Spelled) → Ends w a R → Ends w' b R' → Ends (w >> w') (a ++ b) (Chain R R')
-  joined = joined_good t k visit grows Ready ready
+  joined = joined_good t k l visit grows Ready ready
 
   abbrev mapped : (w : Piece Pen) (ns : List ℕ) (R R' : Relation Spelled) → ((bytes : List ℕ) (from to : Spelled) → R bytes from to → R' bytes from to) → Ends w ns R → Ends w ns R'
-  mapped = mapped_good t k visit grows Ready ready
+  mapped = mapped_good t k l visit grows Ready ready
 
   -- ---- tables
 
@@ -80,7 +80,7 @@ module _ (u t : Tables) (k : Graph) (visit : ℕ → List ℕ → List ℕ) (gro
   names_good (n ∷ ns) below =
       mapped (refer (Some n) >> written_names u refer ns) (n ∷ ns) (Chain (λ b from to. P.Spells None b (Some n) from to) (λ b from to. SpellsEntries P (length ns) b ns from to)) (λ b from to. SpellsEntries P (suc (length ns)) b (n ∷ ns) from to)
       (λ b from to z. (n, ns, z.0, z.1, z.2, refl, z.3, z.4, z.5))
-      (joined (refer (Some n)) (written_names u refer ns) (n ∷ []) ns (λ b from to. P.Spells None b (Some n) from to) (λ b from to. SpellsEntries P (length ns) b ns from to) (port_good None (Some n) (below.0, refl)) (names_good ns below.1))
+      (joined (refer (Some n)) (written_names u refer ns) (n ∷ []) ns (λ b from to. P.Spells None b (Some n) from to) (λ b from to. SpellsEntries P (length ns) b ns from to) (port_good.1 None (Some n) (below.0, refl)) (names_good ns below.1))
 
   -- ---- the bodies of sized slices
 
@@ -105,11 +105,11 @@ module _ (u t : Tables) (k : Graph) (visit : ℕ → List ℕ → List ℕ) (gro
   abbrev pub PlainBody : ℕ → Members → Relation Spelled
   PlainBody class content b from to = SpellsBody P u (record { id = no_id; has_optional = is_there content.optional; has_table = false; has_size = false; is_last = true }) [] false (Some class) b (known class content) from to
 
-  pub plain_body : (class : ℕ) (content : Members) → IsKnown u (RefersIn t k.instances) class content → Ends (members_bytes u refer (known class content)) (names_of content) (PlainBody class content)
+  pub plain_body : (class : ℕ) (content : Members) → IsKnown u (RefersUpTo t l.most k.instances) class content → Ends (members_bytes u refer (known class content)) (names_of content) (PlainBody class content)
   plain_body class content (d, row, h) =
       let shape : Shape = own_members u class in
       mapped (members_bytes u refer (known class content)) (names_of content) (λ b from to. SpellsSliceMembers P u (is_there content.optional) shape b content from to) (PlainBody class content) (λ b from to z. (content, refl, z))
-      (members_good (inline_rules t k visit grows Ready ready) u P refer (RefersIn t k.instances) port_good shape content h)
+      (members_good (inline_rules t k l visit grows Ready ready) u P refer (RefersUpTo t l.most k.instances) port_good shape content h)
 
   -- ---- with one
 
@@ -131,10 +131,10 @@ module _ (u t : Tables) (k : Graph) (visit : ℕ → List ℕ → List ℕ) (gro
         let Names : Relation Spelled = λ b from to. SpellsEntries P (length all) b all from to in
         mapped (exactly (size_bytes (length all)) >> written_names u refer all) all (λ b from to. (end : Spelled) × Chain Size Names b from end × (to ≡ with_met (resolved all uses) end)) (λ b from to. SpellsTable P true uses b all from to)
         (λ b from to z. (length all, z.1.0, z.1.1, z.0, z.1.3, z.1.4.0, within, subst (λ (s : Spelled). SpellsEntries P (length all) z.1.1 all s z.0) z.1.4.1 z.1.5, z.2))
-        (noted_good t k visit grows Ready ready (exactly (size_bytes (length all)) >> written_names u refer all) all (Chain Size Names) (resolved all uses) fit
+        (noted_good t k l visit grows Ready ready (exactly (size_bytes (length all)) >> written_names u refer all) all (Chain Size Names) (resolved all uses) fit
         (joined (exactly (size_bytes (length all))) (written_names u refer all) [] all Size Names (exact (size_bytes (length all)) Size (λ s. (size_spelled (length all) few, refl))) (names_good all below)))
 
-    pub known_good : (class : ℕ) (content : Members) → IsKnown u (RefersIn t k.instances) class content → AreBelow limit (names_of content) → Ends (sized_body u refer (known class content)) (names_of content) (KnownBody class content)
+    pub known_good : (class : ℕ) (content : Members) → IsKnown u (RefersUpTo t l.most k.instances) class content → AreBelow limit (names_of content) → Ends (sized_body u refer (known class content)) (names_of content) (KnownBody class content)
     known_good class content (d, row, h) below from p j stands is_ready run small =
         let s : Slice = known class content in
         let ns : List ℕ = names_of content in
@@ -142,10 +142,10 @@ module _ (u t : Tables) (k : Graph) (visit : ℕ → List ℕ → List ℕ) (gro
         let raw : Members = renamed_members (place table) content in
         let bytes : List ℕ = sized_bytes u s in
         let parts = sized_parts s p in
-        let few : length table < 2 ^ 31 = omega (arith, small, parts, table_long table p) in
-        let fits : length bytes + 4 < 2 ^ 31 = omega (arith, small, parts) in
+        let few : length table < 2 ^ 31 = omega (arith, l.bounded, small, parts, table_long table p) in
+        let fits : length bytes + 4 < 2 ^ 31 = omega (arith, l.bounded, small, parts) in
         let shape : Shape = own_members u class in
-        let m = sized_members u t k.instances shape content table (once-listed ns) few h (omega (arith, fits)) in
+        let m = sized_members l u t k.instances shape content table (once-listed ns) few h (omega (arith, small, parts)) in
         let spelled : SpellsSliceMembers (in_table (is_there table)) u (is_there content.optional) shape bytes raw [] m.0 =
         subst (λ (o : Bool). SpellsSliceMembers (in_table (is_there table)) u o shape bytes raw [] m.0) (still_there (place table) content.optional) m.1 in
         let back : known class content ≡ by_table class raw table = ap (known class) (sym (members-back table content (once-listed ns))) in
@@ -161,8 +161,8 @@ module _ (u t : Tables) (k : Graph) (visit : ℕ → List ℕ → List ℕ) (gro
         let s : Slice = unknown id bytes optionals table in
         let all : List ℕ = unknown_bytes optionals bytes in
         let parts = sized_parts s p in
-        let few : length table < 2 ^ 31 = omega (arith, small, parts, table_long table p) in
-        let fits : length all + 4 < 2 ^ 31 = omega (arith, small, parts) in
+        let few : length table < 2 ^ 31 = omega (arith, l.bounded, small, parts, table_long table p) in
+        let fits : length all + 4 < 2 ^ 31 = omega (arith, l.bounded, small, parts) in
         let Table : Relation Spelled = λ b from to. SpellsTable P (is_there table) [] b table from to in
         mapped (sized_body u refer s) table (Chain (Counted all) Table) (UnknownBody id bytes optionals table)
         (λ b from to z. (bytes, z.0, z.1, from, z.3, ((size_part (length all), z.4.0, slice_size_spelled (length all) fits), refl), (table, refl, subst (λ (x : Spelled). SpellsTable P (is_there table) [] z.1 table x to) z.4.1 z.5)))

@@ -18,7 +18,7 @@ use Rattle.ice_graphs.specs.Flags.{Reach}
 use Rattle.ice_graphs.specs.Slices.{SpellsInstance}
 use Rattle.ice_graphs.specs.Instances.{instances, slices_of, class_of, class_fits, AllFit}
 use Rattle.ice_graphs.specs.Visiting.{visit_each, visit_at, most}
-use Rattle.ice_graphs.specs.Typed.{AreMembers, IsInstance, RefersIn}
+use Rattle.ice_graphs.specs.Typed.{AreMembers, IsInstance, IsHeldIn, RefersUpTo}
 use Rattle.ice_graphs.specs.Canonical.{Pen, Format, written_as, put_inline, written_instance, with_one_begun, blank, bytes_of}
 use Rattle.graph_arena.specs.Arena.{AreBelow}
 pub use Rattle.graph_laws.proofs.TypedGraphs.{replaced_length, replaced_at, replaced_else}
@@ -27,7 +27,7 @@ use Rattle.graph_laws.proofs.ClassIds.{AreSpelled}
 use Rattle.graph_laws.proofs.Formed.{Asked}
 use Rattle.graph_laws.proofs.Upto.{upto, upto-one, visit-grows}
 use Rattle.graph_laws.proofs.Once.{listed-stays, entered, next, once-run}
-use Rattle.graph_laws.proofs.WrittenValues.{Relation, size_spelled}
+use Rattle.graph_laws.proofs.WrittenValues.{Relation, Limits, size_spelled}
 use Rattle.graph_laws.proofs.WrittenMembers.{content_good}
 use Rattle.graph_laws.proofs.InlineRules.{Goes, Stands, inline_rules, all_fit_more}
 use Rattle.graph_laws.proofs.WrittenSlices.{as_good}
@@ -58,8 +58,8 @@ pub record Inline (t : Tables) (reach : Reach) (format : Format) (room : ℕ) (p
   pub new : (more : ℕ) (declared : Option ℕ) (bytes : List ℕ) (n : ℕ) (from to : Spelled)
       → Begins room (λ b slices from to. IsWritten t format b slices × SpellsInstance (ports more) t reach b slices from to) declared bytes n from to → (ports (suc more)).Spells declared bytes (Some n) from to
 
-module _ (t : Tables) (named : AreSpelled t) (reach : Reach) (format : Format) (k : Graph) (room : ℕ) (fits : length k.instances ≤ room) (small_graph : length k.instances + 2 < 2 ^ 31)
-    (typed : (n : ℕ) → n < length k.instances → IsInstance t (RefersIn t k.instances) (slices_of k.instances n)) (asked : (n : ℕ) → n < length k.instances → Asked reach format (slices_of k.instances n) × HaveTexts t (slices_of k.instances n))
+module _ (t : Tables) (named : AreSpelled t) (reach : Reach) (format : Format) (l : Limits) (k : Graph) (room : ℕ) (fits : length k.instances ≤ room) (small_graph : length k.instances + 2 < 2 ^ 31)
+    (typed : (n : ℕ) → n < length k.instances → IsInstance t (RefersUpTo t l.most k.instances) (slices_of k.instances n)) (asked : (n : ℕ) → n < length k.instances → Asked reach format (slices_of k.instances n) × HaveTexts t (slices_of k.instances n))
     (range : (n : ℕ) → n < length k.instances → AreBelow (length k.instances) (instance_names (slices_of k.instances n)))
     (ports : ℕ → Port (State ℕ) Spelled) (stand : Inline t reach format room ports) where
   abbrev pub limit : ℕ
@@ -86,11 +86,11 @@ module _ (t : Tables) (named : AreSpelled t) (reach : Reach) (format : Format) (
   put_named begun depth n p = let q = put_by begun n p in let b = written_begun (written_instance t format k depth) q.begun q.after in (q.bytes ++ b.0, b.1)
 
   abbrev pub GoesAt : ℕ → ℕ → Option ℕ → Option ℕ → Type 0
-  GoesAt depth more declared n = (from : Spelled) (p : Pen) (j : ℕ) → Stands t k from p → Ready depth more p.begun → visit_each (visit_at depth k) (listed_name n) (upto p.begun) ≡ upto j → length p.ids + length (refer depth n p).0 < 2 ^ 31
+  GoesAt depth more declared n = (from : Spelled) (p : Pen) (j : ℕ) → Stands t k from p → Ready depth more p.begun → visit_each (visit_at depth k) (listed_name n) (upto p.begun) ≡ upto j → length p.ids + length (refer depth n p).0 ≤ l.bound
       → Goes t k (λ b from to. (ports more).Spells declared b n from to) from p (refer depth n p) j
 
   abbrev pub Rising : ℕ → ℕ → Type 0
-  Rising depth more = (declared n : Option ℕ) → RefersIn t k.instances declared n → GoesAt depth more declared n
+  Rising depth more = (declared n : Option ℕ) → IsHeldIn t k.instances declared n → GoesAt depth more declared n
 
   named_long : (b : Bool) (depth n : ℕ) (p : Pen) → 1 ≤ length (put_named b depth n p).0
   named_long true depth n p = omega (arith, size_long (suc (suc n)), length-append (size_bytes (suc (suc n))) [])
@@ -100,7 +100,7 @@ module _ (t : Tables) (named : AreSpelled t) (reach : Reach) (format : Format) (
   refer_long depth n p = named_long (ltb n p.begun) depth n p
 
   -- one that has begun
-  back : (depth more : ℕ) (declared : Option ℕ) (n : ℕ) → RefersIn t k.instances declared (Some n) → (from : Spelled) (p : Pen) (j : ℕ) → Stands t k from p → n < p.begun → visit_at depth k n (upto p.begun) ≡ upto j
+  back : (depth more : ℕ) (declared : Option ℕ) (n : ℕ) → IsHeldIn t k.instances declared (Some n) → (from : Spelled) (p : Pen) (j : ℕ) → Stands t k from p → n < p.begun → visit_at depth k n (upto p.begun) ≡ upto j
       → Goes t k (λ b from to. (ports more).Spells declared b (Some n) from to) from p (put_named true depth n p) j
   back depth more declared n refers from p j stands lt run =
       let j_is = upto-one p.begun j (sym (listed-stays depth k n p.begun lt) ∙ run) in
@@ -117,8 +117,8 @@ module _ (t : Tables) (named : AreSpelled t) (reach : Reach) (format : Format) (
       }
 
   -- one that begins
-  begins : (depth more : ℕ) → Rising depth more → (declared : Option ℕ) (n : ℕ) → RefersIn t k.instances declared (Some n) → (from : Spelled) (p : Pen) (j : ℕ) → Stands t k from p → Ready (suc depth) (suc more) p.begun → p.begun ≤ n → visit_at (suc depth) k n (upto p.begun) ≡ upto j
-      → length p.ids + length (put_named false (suc depth) n p).0 < 2 ^ 31
+  begins : (depth more : ℕ) → Rising depth more → (declared : Option ℕ) (n : ℕ) → IsHeldIn t k.instances declared (Some n) → (from : Spelled) (p : Pen) (j : ℕ) → Stands t k from p → Ready (suc depth) (suc more) p.begun → p.begun ≤ n → visit_at (suc depth) k n (upto p.begun) ≡ upto j
+      → length p.ids + length (put_named false (suc depth) n p).0 ≤ l.bound
       → Goes t k (λ b from to. (ports (suc more)).Spells declared b (Some n) from to) from p (put_named false (suc depth) n p) j
   begins depth more rising declared n refers from p j stands is_ready le run small =
       let slices : List Slice = slices_of k.instances n in
@@ -129,7 +129,7 @@ module _ (t : Tables) (named : AreSpelled t) (reach : Reach) (format : Format) (
       let run' : visit_each (visit_at depth k) (instance_names slices) (upto (suc p.begun)) ≡ upto j = ap (λ (m : ℕ). visit_each (visit_at depth k) (instance_names slices) (upto p.begun ++ m ∷ [])) (sym x.is) ∙ e in
       let start : Spelled = beginning tt declared from in
       let started : length start.instances ≡ suc p.begun = length-append from.instances ([] ∷ []) ∙ omega (arith, stands.count) in
-      let g = as_good t named reach k (visit_at depth k) (visit-grows depth k) (Ready depth more) (ready depth more) (ports more) (refer depth) rising (refer_long depth)
+      let g = as_good t named reach k l (visit_at depth k) (visit-grows depth k) (Ready depth more) (ready depth more) (ports more) (refer depth) (l.fit, rising) (refer_long depth)
       (λ ns i j h below run. once-run k limit depth [] ns i j h.0 tt below run) format slices (asked n refers.0).0 (asked n refers.0).1 (typed n refers.0) (range n refers.0) start (with_one_begun p) j (record { count = started; ids = stands.ids })
       (omega (arith, is_ready.0), omega (arith, is_ready.1)) run' (omega (arith, small, long)) in
       let at : n ≡ length from.instances = x.is ∙ sym stands.count in
@@ -137,7 +137,7 @@ module _ (t : Tables) (named : AreSpelled t) (reach : Reach) (format : Format) (
       record {
         end = with_ended n slices g.end;
         spelled = stand.new more declared (size_bytes 1 ++ out.0) n from (with_ended n slices g.end)
-            (slices, size_bytes 1, out.0, g.end, refl, size_spelled 1 (omega arith), at, lt-ltb n room (omega (arith, refers.0, fits)), (record { refer = refer depth; pen = with_one_begun p; is = refl; some = instance_some t (RefersIn t k.instances) slices (typed n refers.0) }, g.spelled), refl);
+            (slices, size_bytes 1, out.0, g.end, refl, size_spelled 1 (omega arith), at, lt-ltb n room (omega (arith, refers.0, fits)), (record { refer = refer depth; pen = with_one_begun p; is = refl; some = instance_some t (RefersUpTo t l.most k.instances) slices (typed n refers.0) }, g.spelled), refl);
         count = replaced_length n slices g.end.instances ∙ g.count;
         begun = g.begun;
         ids = g.ids;
@@ -150,8 +150,8 @@ module _ (t : Tables) (named : AreSpelled t) (reach : Reach) (format : Format) (
         fit = λ h. g.fit (all_fit_more t k.instances from.met (met_at tt declared (length from.instances) ∷ []) h (subst (λ (i : ℕ). class_fits t declared (class_of (slices_of k.instances i)) ≡ true) at refers.1, tt));
       }
 
-  by_begun : (R : Relation Spelled) (from : Spelled) (p : Pen) (j depth n : ℕ) (b : Bool) → length p.ids + length (put_named b depth n p).0 < 2 ^ 31
-      → (b ≡ true → Goes t k R from p (put_named true depth n p) j) → (b ≡ false → length p.ids + length (put_named false depth n p).0 < 2 ^ 31 → Goes t k R from p (put_named false depth n p) j) → Goes t k R from p (put_named b depth n p) j
+  by_begun : (R : Relation Spelled) (from : Spelled) (p : Pen) (j depth n : ℕ) (b : Bool) → length p.ids + length (put_named b depth n p).0 ≤ l.bound
+      → (b ≡ true → Goes t k R from p (put_named true depth n p) j) → (b ≡ false → length p.ids + length (put_named false depth n p).0 ≤ l.bound → Goes t k R from p (put_named false depth n p) j) → Goes t k R from p (put_named b depth n p) j
   by_begun R from p j depth n true small f g = f refl
   by_begun R from p j depth n false small f g = g refl small
 
@@ -180,10 +180,10 @@ module _ (t : Tables) (named : AreSpelled t) (reach : Reach) (format : Format) (
       (λ e. back (suc depth) (suc more) declared n refers from p j stands (ltb-true n p.begun e) run) (λ e less. begins depth more (rising depth more) declared n refers from p j stands is_ready (ltb-false n p.begun e) run less)
 
   -- the whole, where visits of the roots list all
-  pub content_written : (more : ℕ) (shape : Shape) → AreMembers t (RefersIn t k.instances) shape k.roots → limit ≤ most → limit ≤ more → visit_each (visit_at most k) (names_of k.roots) [] ≡ upto limit → length (bytes_of t shape format k) < 2 ^ 31
+  pub content_written : (more : ℕ) (shape : Shape) → AreMembers t (RefersUpTo t l.most k.instances) shape k.roots → limit ≤ most → limit ≤ more → visit_each (visit_at most k) (names_of k.roots) [] ≡ upto limit → length (bytes_of t shape format k) ≤ l.bound
       → (end : Spelled) × SpellsContent (ports more) t shape (bytes_of t shape format k) k.roots opening end × (end.instances ≡ k.instances) × AllFit t k.instances end.met
   content_written more shape h deep wide run small =
-      let g = content_good (inline_rules t k (visit_at most k) (visit-grows most k) (Ready most more) (ready most more)) t (ports more) (refer most) (RefersIn t k.instances) (rising most more) shape k.roots h
+      let g = content_good (inline_rules t k l (visit_at most k) (visit-grows most k) (Ready most more) (ready most more)) t (ports more) (refer most) (RefersUpTo t l.most k.instances) (l.fit, rising most more) shape k.roots h
       opening blank limit (record { count = refl; ids = refl }) (omega (arith, deep), omega (arith, wide)) run (omega (arith, small)) in
       (g.end, g.spelled, ext_get_or [] g.end.instances k.instances g.count (λ n lt. g.inside n (omega arith) (omega (arith, g.count, lt))), g.fit tt)
 
@@ -195,9 +195,9 @@ inline_instances t reach format room = record {
   new = λ more declared bytes n from to h. inl (h.0, h.1, h.2, h.3, h.4, h.5, h.6, h.7, h.8.1, h.9);
 }
 
-module _ (t : Tables) (named : AreSpelled t) (reach : Reach) (format : Format) (k : Graph) (room : ℕ) (fits : length k.instances ≤ room) (small_graph : length k.instances + 2 < 2 ^ 31)
-    (typed : (n : ℕ) → n < length k.instances → IsInstance t (RefersIn t k.instances) (slices_of k.instances n)) (asked : (n : ℕ) → n < length k.instances → Asked reach format (slices_of k.instances n) × HaveTexts t (slices_of k.instances n))
+module _ (t : Tables) (named : AreSpelled t) (reach : Reach) (format : Format) (l : Limits) (k : Graph) (room : ℕ) (fits : length k.instances ≤ room) (small_graph : length k.instances + 2 < 2 ^ 31)
+    (typed : (n : ℕ) → n < length k.instances → IsInstance t (RefersUpTo t l.most k.instances) (slices_of k.instances n)) (asked : (n : ℕ) → n < length k.instances → Asked reach format (slices_of k.instances n) × HaveTexts t (slices_of k.instances n))
     (range : (n : ℕ) → n < length k.instances → AreBelow (length k.instances) (instance_names (slices_of k.instances n))) where
-  pub content_spelled : (more : ℕ) (shape : Shape) → AreMembers t (RefersIn t k.instances) shape k.roots → length k.instances ≤ most → length k.instances ≤ more → visit_each (visit_at most k) (names_of k.roots) [] ≡ upto (length k.instances)
-      → length (bytes_of t shape format k) < 2 ^ 31 → (end : Spelled) × SpellsContent (instances t reach room more) t shape (bytes_of t shape format k) k.roots opening end × (end.instances ≡ k.instances) × AllFit t k.instances end.met
-  content_spelled = content_written t named reach format k room fits small_graph typed asked range (instances t reach room) (inline_instances t reach format room)
+  pub content_spelled : (more : ℕ) (shape : Shape) → AreMembers t (RefersUpTo t l.most k.instances) shape k.roots → length k.instances ≤ most → length k.instances ≤ more → visit_each (visit_at most k) (names_of k.roots) [] ≡ upto (length k.instances)
+      → length (bytes_of t shape format k) ≤ l.bound → (end : Spelled) × SpellsContent (instances t reach room more) t shape (bytes_of t shape format k) k.roots opening end × (end.instances ≡ k.instances) × AllFit t k.instances end.met
+  content_spelled = content_written t named reach format l k room fits small_graph typed asked range (instances t reach room) (inline_instances t reach format room)

@@ -30,7 +30,7 @@ use Rattle.ice_graphs.specs.Typed.{AreOptions, AreMembers}
 use Rattle.ice_graphs.specs.Members.{framing, written_option, written_options, marked_options, written_slice_members, written_content}
 use Rattle.ice_graphs.specs.Canonical.{is_there}
 use Rattle.graph_laws.proofs.PutBytes.{none_bytes, more_bytes, size_put, count_put, tag_put}
-use Rattle.graph_laws.proofs.WrittenValues.{Relation, Chain, Rules, ReferGood, value_good, each_good, size_spelled, count_spelled}
+use Rattle.graph_laws.proofs.WrittenValues.{Relation, Chain, Rules, ReferGood, value_good, each_good, size_spelled, count_spelled, Limits}
 
 -- ---- formats are numbers up to 7
 
@@ -60,7 +60,7 @@ formats_few t (kinds.Enum at) = omega arith
 formats_few t (kinds.Proxy at) = omega arith
 formats_few t (kinds.Class at) = omega arith
 
-module _ {P R S : Type 0} (rules : Rules P S) (t : Tables) (port : Port R S) (refer : Option ℕ → Piece P) (Refer : Refers) (good : ReferGood rules t port refer Refer) where
+module _ {P R S : Type 0} {l : Limits} (rules : Rules P S l) (t : Tables) (port : Port R S) (refer : Option ℕ → Piece P) (Refer : Refers) (good : ReferGood rules t port refer Refer) where
   abbrev Good : Piece P → List ℕ → Relation S → Type 0
   Good = rules.Good
 
@@ -81,12 +81,12 @@ module _ {P R S : Type 0} (rules : Rules P S) (t : Tables) (port : Port R S) (re
       let Value : Speller S Tree = SpellsValue port t MOST_DEPTH kind in
       let value = framed_good p (written refer v) (names v) Value v (value_good rules t port refer Refer good MOST_DEPTH kind v h) in
       rules.joined (exactly (tag.put (number, format))) (framing p (written refer v)) [] (names v) (λ b from to. tag.Spells b (number, format) × (to ≡ from)) (λ b from to. Tagged port t (Some kind) format b (Some v) from to)
-      (rules.exact (tag.put (number, format)) (λ b from to. tag.Spells b (number, format) × (to ≡ from)) (tag_put number format (formats_few t kind)) (λ s. (tag_lawful.put (number, format) (tag_is (number, format) lt (formats_few t kind)), refl)))
+      (rules.exact (tag.put (number, format)) (λ b from to. tag.Spells b (number, format) × (to ≡ from)) (tag_put number format (formats_few t kind)) (λ small s. (tag_lawful.put (number, format) (tag_is (number, format) lt (formats_few t kind)), refl)))
       (rules.mapped (framing p (written refer v)) (names v) (λ b from to. Framed p Value b v from to) (λ b from to. Tagged port t (Some kind) format b (Some v) from to) (λ b from to z. (eq-eqb format format refl, (v, refl, z))) value)
 
   module _ (marked : Bool) (end : List ℕ) (fits : IsBytes end) (ends : SpellsEnd marked end) (members : List Member) where
     options_good : (last : Option ℕ) (os : Present) → AreOptions t Refer members last os → Good (written_options refer t members end os) (names_present os) (λ b from to. (n : ℕ) × Options port t marked members n last b os from to)
-    options_good last [] h = rules.exact end (λ b from to. (n : ℕ) × Options port t marked members n last b [] from to) fits (λ s. (0, (ends, refl, refl)))
+    options_good last [] h = rules.exact end (λ b from to. (n : ℕ) × Options port t marked members n last b [] from to) fits (λ small s. (0, (ends, refl, refl)))
     options_good last (o ∷ os) (le, lt, kind, is, typed, more) =
         let format : ℕ = optional_format t kind in
         let One : Relation S = UnderTag o.0 format (Some kind) o.1 in
@@ -104,7 +104,7 @@ module _ {P R S : Type 0} (rules : Rules P S) (t : Tables) (port : Port R S) (re
   required_good shape c h = each_good rules t port refer (HasType t Refer MOST_DEPTH) (SpellsValue port t MOST_DEPTH) (value_good rules t port refer Refer good MOST_DEPTH) (required_kinds shape) c.required h.required
 
   flagged_good : (members : List Member) (os : Present) → AreOptions t Refer members None os → Good (marked_options refer t members os) (names_present os) (λ b from to. IfFlagged port t (is_there os) (AllOptions port t true members) b os from to)
-  flagged_good members [] h = rules.exact [] (λ b from to. IfFlagged port t false (AllOptions port t true members) b [] from to) none_bytes (λ s. (refl, refl, refl))
+  flagged_good members [] h = rules.exact [] (λ b from to. IfFlagged port t false (AllOptions port t true members) b [] from to) none_bytes (λ small s. (refl, refl, refl))
   flagged_good members (o ∷ os) h = options_good true (255 ∷ []) (more_bytes 255 [] (omega arith) none_bytes) refl members None (o ∷ os) h
 
   -- the members of a slice

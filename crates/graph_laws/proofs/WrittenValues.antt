@@ -1,5 +1,5 @@
 -- What is written for values and members spells them, under whatever rules of what goes well.
-use Rattle.std.proofs.Common.{ℕ, pos, zero, suc, ◌<◌, ◌^◌, ◌≡◌, List, [], ◌∷◌, ◌++◌, length, map, replicate, refl, sym, ap, ◌∙◌, subst, Option}
+use Rattle.std.proofs.Common.{◌≤◌, ◌⊎◌, inl, inr, arith, ℕ, pos, zero, suc, ◌<◌, ◌^◌, ◌≡◌, List, [], ◌∷◌, ◌++◌, length, map, replicate, refl, sym, ap, ◌∙◌, subst, Option}
 use Rattle.std.specs.Int.{w16, w32, w64}
 use Rattle.std.proofs.lemmas.Int.{fits_signed_from_abs}
 use Rattle.ice_types.specs.declared.kind.TypeRef.{TypeRef}
@@ -13,7 +13,10 @@ use Rattle.ice_encoding.specs.Parts.{Part}
 use Rattle.ice_encoding.specs.Proxy as parts
 use Rattle.ice_encoding.specs.Skipping.{count}
 use Rattle.ice_encoding.proofs.Passed.{count_lawful}
+use Rattle.ice_types.specs.declared.proxy.Proxy.{Proxy}
+use Rattle.ice_encoding.specs.declared.limits.TheConstants.{GREATEST, LARGEST}
 use Rattle.ice_encoding.proofs.Proxied.{proxy_lawful}
+use Rattle.ice_encoding.proofs.Within.{proxy_small}
 use Rattle.ice_encoding.specs.Enum.{SpellsEnumerator}
 use Rattle.ice_encoding.specs.Tree.{Tree, boolean, byte, short, int, long, text, sequence, dictionary, struct, enumerator, proxy, reference, Trees, none, tree, tree_count, Entries, no_entry, entry, entry_count}
 use Rattle.ice_encoding.specs.Order.{IsRising, insert, AreBelow}
@@ -46,10 +49,25 @@ Chain {S} R R' bytes from to = (a b : List ℕ) × (mid : S) × (bytes ≡ a ++ 
 abbrev pub Behind : {S : Type 0} → Part ℕ → Relation S → Relation S
 Behind number R bytes from to = (front body : List ℕ) × (bytes ≡ front ++ body) × number.Spells front (length body) × R body from to
 
+-- The greatest size of an endpoint, and that of all that is written: one of them is no greater than what can be read.
+pub record Limits : Type 0 where
+  pub most : ℕ
+  pub bound : ℕ
+  pub bounded : bound < 2 ^ 31
+  pub fit : (most ≤ LARGEST) ⊎ (bound ≤ LARGEST)
+
+-- of what can be written, where it is no longer than what can be read
+abbrev pub written_limits : Limits
+written_limits = record { most = GREATEST; bound = LARGEST; bounded = omega arith; fit = inr (omega arith) }
+
+-- of what can be read, however long it is
+abbrev pub read_limits : Limits
+read_limits = record { most = LARGEST; bound = GREATEST; bounded = omega arith; fit = inl (omega arith) }
+
 -- pieces that write what spells something and name these instances, and how they are joined
-pub record Rules (P S : Type 0) : Type 1 where
+pub record Rules (P S : Type 0) (l : Limits) : Type 1 where
   pub Good : Piece P → List ℕ → Relation S → Type 0
-  pub exact : (bytes : List ℕ) (R : Relation S) → IsBytes bytes → ((s : S) → R bytes s s) → Good (exactly bytes) [] R
+  pub exact : (bytes : List ℕ) (R : Relation S) → IsBytes bytes → (length bytes ≤ l.bound → (s : S) → R bytes s s) → Good (exactly bytes) [] R
   pub joined : (w w' : Piece P) (a b : List ℕ) (R R' : Relation S) → Good w a R → Good w' b R' → Good (w >> w') (a ++ b) (Chain R R')
   pub mapped : (w : Piece P) (ns : List ℕ) (R R' : Relation S) → ((bytes : List ℕ) (from to : S) → R bytes from to → R' bytes from to) → Good w ns R → Good w ns R'
   pub behind : (number : Part ℕ) → ((n : ℕ) → n < 2 ^ 31 → number.Spells (number.put n) n) → ((n : ℕ) → IsBytes (number.put n)) → (w : Piece P) (ns : List ℕ) (R : Relation S) → Good w ns R → Good (with_length number w) ns (Behind number R)
@@ -87,7 +105,7 @@ next_follows : (before : Entries) (k v : Tree) (rest : Entries) → AreBelow bef
 next_follows before k v no_entry below h = tt
 next_follows before k v (entry l w others) below h = below_next before k l v below h.0
 
-module _ {P R S : Type 0} (rules : Rules P S) (t : Tables) (port : Port R S) (refer : Option ℕ → Piece P) where
+module _ {P R S : Type 0} {l : Limits} (rules : Rules P S l) (t : Tables) (port : Port R S) (refer : Option ℕ → Piece P) where
   abbrev Good : Piece P → List ℕ → Relation S → Type 0
   Good = rules.Good
 
@@ -95,8 +113,16 @@ module _ {P R S : Type 0} (rules : Rules P S) (t : Tables) (port : Port R S) (re
   Spelled levels kind v bytes from to = SpellsValue port t levels kind bytes v from to
 
   -- something that changes no state, under a constructor
+  exactly_small : {A : Type 0} (make : A → Tree) (Spells : List ℕ → A → Type 0) (x : A) (bytes : List ℕ) → IsBytes bytes → (length bytes ≤ l.bound → Spells bytes x) → Good (exactly bytes) [] (λ b from to. Made make (Plain Spells) b (make x) from to)
+  exactly_small make Spells x bytes fits h = rules.exact bytes (λ b from to. Made make (Plain Spells) b (make x) from to) fits (λ small s. (x, refl, (h small, refl)))
+
   exactly_good : {A : Type 0} (make : A → Tree) (Spells : List ℕ → A → Type 0) (x : A) (bytes : List ℕ) → IsBytes bytes → Spells bytes x → Good (exactly bytes) [] (λ b from to. Made make (Plain Spells) b (make x) from to)
-  exactly_good make Spells x bytes fits h = rules.exact bytes (λ b from to. Made make (Plain Spells) b (make x) from to) fits (λ s. (x, refl, (h, refl)))
+  exactly_good make Spells x bytes fits h = exactly_small make Spells x bytes fits (λ small. h)
+
+  -- a proxy that can be read again
+  proxy_again : (most : ℕ) → (most ≤ LARGEST) ⊎ (l.bound ≤ LARGEST) → (p : Option Proxy) → (parts.proxy_to most).Is p → length (parts.proxy.put p) ≤ l.bound → parts.proxy.Is p
+  proxy_again most (inl le) p is small = proxy_small most LARGEST p is (inl le)
+  proxy_again most (inr le) p is small = proxy_small most LARGEST p is (inr (omega (arith, le, small)))
 
   -- a size, and then so many
   counted_good : (n : ℕ) (w : Piece P) (ns : List ℕ) (Inner : Relation S) → n < 2 ^ 31 → Good w ns Inner → Good (exactly (size_bytes n) >> w) ns (λ b from to. (front body : List ℕ) × (b ≡ front ++ body) × SpellsSize front n × Inner body from to)
@@ -104,11 +130,11 @@ module _ {P R S : Type 0} (rules : Rules P S) (t : Tables) (port : Port R S) (re
       let Size : Relation S = λ b from to. SpellsSize b n × (to ≡ from) in
       rules.mapped (exactly (size_bytes n) >> w) ns (Chain Size Inner) (λ b from to. (front body : List ℕ) × (b ≡ front ++ body) × SpellsSize front n × Inner body from to)
       (λ b from to z. (z.0, z.1, z.3, z.4.0, subst (λ (s : S). Inner z.1 s to) z.4.1 z.5))
-      (rules.joined (exactly (size_bytes n)) w [] ns Size Inner (rules.exact (size_bytes n) Size (size_put n) (λ s. (size_spelled n lt, refl))) good)
+      (rules.joined (exactly (size_bytes n)) w [] ns Size Inner (rules.exact (size_bytes n) Size (size_put n) (λ small s. (size_spelled n lt, refl))) good)
 
   all_good : (One : Tree → Type 0) (kind : TypeRef) (Spells : TypeRef → Speller S Tree) → ((v : Tree) → One v → Good (written refer v) (names v) (λ b from to. Spells kind b v from to))
       → (vs : Trees) → AllOf One vs → Good (written_each refer vs) (names_each vs) (λ b from to. Each Spells (replicate (tree_count vs) kind) b vs from to)
-  all_good One kind Spells one none h = rules.exact [] (λ b from to. Each Spells [] b none from to) none_bytes (λ s. (refl, refl, refl))
+  all_good One kind Spells one none h = rules.exact [] (λ b from to. Each Spells [] b none from to) none_bytes (λ small s. (refl, refl, refl))
   all_good One kind Spells one (tree v vs) h =
       rules.mapped (written refer v >> written_each refer vs) (names v ++ names_each vs) (Chain (λ b from to. Spells kind b v from to) (λ b from to. Each Spells (replicate (tree_count vs) kind) b vs from to)) (λ b from to. Each Spells (kind ∷ replicate (tree_count vs) kind) b (tree v vs) from to)
       (λ b from to z. (v, vs, z.0, z.1, z.2, refl, z.3, z.4, z.5))
@@ -117,7 +143,7 @@ module _ {P R S : Type 0} (rules : Rules P S) (t : Tables) (port : Port R S) (re
   pub each_good : (One : TypeRef → Tree → Type 0) (Spells : TypeRef → Speller S Tree) → ((kind : TypeRef) (v : Tree) → One kind v → Good (written refer v) (names v) (λ b from to. Spells kind b v from to))
       → (ks : List TypeRef) (vs : Trees) → EachOf One ks vs → Good (written_each refer vs) (names_each vs) (λ b from to. Each Spells ks b vs from to)
   each_good One Spells one [] vs h =
-      subst (λ (ws : Trees). Good (written_each refer ws) (names_each ws) (λ b from to. Each Spells [] b ws from to)) (sym h) (rules.exact [] (λ b from to. Each Spells [] b none from to) none_bytes (λ s. (refl, refl, refl)))
+      subst (λ (ws : Trees). Good (written_each refer ws) (names_each ws) (λ b from to. Each Spells [] b ws from to)) (sym h) (rules.exact [] (λ b from to. Each Spells [] b none from to) none_bytes (λ small s. (refl, refl, refl)))
   each_good One Spells one (kind ∷ ks) vs (v, others, is, h, more) =
       subst (λ (ws : Trees). Good (written_each refer ws) (names_each ws) (λ b from to. Each Spells (kind ∷ ks) b ws from to)) (sym is)
       (rules.mapped (written refer v >> written_each refer others) (names v ++ names_each others) (Chain (λ b from to. Spells kind b v from to) (λ b from to. Each Spells ks b others from to)) (λ b from to. Each Spells (kind ∷ ks) b (tree v others) from to)
@@ -127,7 +153,7 @@ module _ {P R S : Type 0} (rules : Rules P S) (t : Tables) (port : Port R S) (re
   pairs_good : (Key Held : Tree → Type 0) (SpellsKey SpellsHeld : Speller S Tree) → ((v : Tree) → Key v → Good (written refer v) [] (λ b from to. SpellsKey b v from to)) → ((v : Tree) → Held v → Good (written refer v) (names v) (λ b from to. SpellsHeld b v from to))
       → (ready rest : Entries) → Follows ready rest → IsRising rest → PairsOf Key Held rest → Good (written_pairs refer rest) (names_pairs rest) (λ b from to. Pairs SpellsKey SpellsHeld (entry_count rest) ready b (join ready rest) from to)
   pairs_good Key Held SpellsKey SpellsHeld key held ready no_entry follows rising h =
-      rules.exact [] (λ b from to. Pairs SpellsKey SpellsHeld 0 ready b (join ready no_entry) from to) none_bytes (λ s. (refl, join_none ready, refl))
+      rules.exact [] (λ b from to. Pairs SpellsKey SpellsHeld 0 ready b (join ready no_entry) from to) none_bytes (λ small s. (refl, join_none ready, refl))
   pairs_good Key Held SpellsKey SpellsHeld key held ready (entry k v rest) follows rising h =
       let placed : Entries = join ready (entry k v no_entry) in
       let put : insert k v ready ≡ placed = insert_last k v ready follows in
@@ -143,10 +169,10 @@ module _ {P R S : Type 0} (rules : Rules P S) (t : Tables) (port : Port R S) (re
       (pairs_good Key Held SpellsKey SpellsHeld key held placed rest (next_follows ready k v rest follows rising) (tail_rising k v rest rising) h.2)))
 
   abbrev pub ReferGood : Refers → Type 0
-  ReferGood Refer = (declared n : Option ℕ) → Refer declared n → Good (refer n) (listed_name n) (λ b from to. port.Spells declared b n from to)
+  ReferGood Refer = ((Refer.most ≤ LARGEST) ⊎ (l.bound ≤ LARGEST)) × ((declared n : Option ℕ) → Refer.Held declared n → Good (refer n) (listed_name n) (λ b from to. port.Spells declared b n from to))
 
   never : ReferGood no_reference
-  never declared n h = absurd h
+  never = (inl (omega arith), λ declared n h. absurd h)
 
   ValueGood : Refers → ℕ → Type 0
   ValueGood Refer levels = (kind : TypeRef) (v : Tree) → HasType t Refer levels kind v → Good (written refer v) (names v) (Spelled levels kind v)
@@ -167,10 +193,10 @@ module _ {P R S : Type 0} (rules : Rules P S) (t : Tables) (port : Port R S) (re
       as_it_is (suc levels) (kinds.Enum at) v (enumerator n) is
       (rules.mapped (exactly (size_bytes n)) [] (λ b from to. Made enumerator (Plain (SpellsEnumerator e.entries)) b (enumerator n) from to) (Spelled (suc levels) (kinds.Enum at) (enumerator n)) (λ b from to z. (e, row, z))
       (exactly_good enumerator (SpellsEnumerator e.entries) n (size_bytes n) (size_put n) (size_exact.put n lt, has)))
-  value_good Refer good (suc levels) (kinds.Proxy at) v (p, there, is) = as_it_is (suc levels) (kinds.Proxy at) v (proxy p) is (exactly_good proxy parts.proxy.Spells p (parts.proxy.put p) (proxy_put p there) (proxy_lawful.put p there))
+  value_good Refer good (suc levels) (kinds.Proxy at) v (p, there, is) = as_it_is (suc levels) (kinds.Proxy at) v (proxy p) is (exactly_small proxy parts.proxy.Spells p (parts.proxy.put p) (proxy_put Refer.most p there) (λ small. proxy_lawful.put p (proxy_again Refer.most good.0 p there small)))
   value_good Refer good (suc levels) (kinds.Class declared) v (n, refers, is) =
       as_it_is (suc levels) (kinds.Class declared) v (reference n) is
-      (rules.mapped (refer n) (listed_name n) (λ b from to. port.Spells declared b n from to) (Spelled (suc levels) (kinds.Class declared) (reference n)) (λ b from to z. (n, refl, z)) (good declared n refers))
+      (rules.mapped (refer n) (listed_name n) (λ b from to. port.Spells declared b n from to) (Spelled (suc levels) (kinds.Class declared) (reference n)) (λ b from to z. (n, refl, z)) (good.1 declared n refers))
   value_good Refer good (suc levels) (kinds.Seq at) v (q, row, items, is, many, all) =
       let Items : Relation S = λ b from to. Each (SpellsValue port t levels) (replicate (tree_count items) q.element) b items from to in
       as_it_is (suc levels) (kinds.Seq at) v (sequence items) is

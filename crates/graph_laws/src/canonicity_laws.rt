@@ -13,7 +13,7 @@ ghost use Rattle.ice_graphs.specs.Flags.{Reach, all_slices, known_classes};
 ghost use Rattle.ice_graphs.specs.Instances.{most_instances, SpellsNumbered};
 ghost use Rattle.ice_graphs.specs.Visiting.{most, order};
 ghost use Rattle.ice_graphs.specs.Same.{Same, Spells, form};
-ghost use Rattle.ice_graphs.specs.Typed.{OfType};
+ghost use Rattle.ice_graphs.specs.Typed.{OfReadType, OfType};
 ghost use Rattle.ice_graphs.specs.Canonical.{Format, compact, graph_bytes, table_of, IsWritable};
 ghost use Rattle.graph_laws.specs.FirstUse.{IsByFirstUse};
 
@@ -33,15 +33,21 @@ pub fn spelled_same()
 {}
 
 /// Graphs of one type have equal canonical bytes, in a format that both can be written in, exactly where
-/// they are the same but for the names of their instances: graphs within the limit of instances, and so those
-/// that were read. That the same graphs have equal bytes holds of all graphs.
+/// they are the same but for the names of their instances: graphs within the limit of instances, whose proxies can
+/// be read again or whose bytes can, and so those that were read. That the same graphs have equal bytes holds of
+/// all graphs.
 pub fn equal_graphs()
     ensures same { (t : Tables) (shape : Shape) (format : Format) (g h : Graph)
         → Same g h → graph_bytes t shape format g ≡ graph_bytes t shape format h }
     ensures bytes { (t : Tables) (shape : Shape) (format : Format) (g h : Graph)
-        → IsSchema t → OfType t shape g → OfType t shape h → IsWritable format g → IsWritable format h
+        → IsSchema t → OfReadType t shape g → OfReadType t shape h → IsWritable format g → IsWritable format h
         → length g.instances ≤ most → length h.instances ≤ most
         → length (graph_bytes t shape format g) < 2 ^ 31
+        → (graph_bytes t shape format g ≡ graph_bytes t shape format h) ↔ Same g h }
+    ensures written { (t : Tables) (shape : Shape) (format : Format) (g h : Graph)
+        → IsSchema t → OfType t shape g → OfType t shape h → IsWritable format g → IsWritable format h
+        → length g.instances ≤ most → length h.instances ≤ most
+        → length (graph_bytes t shape format g) ≤ LARGEST
         → (graph_bytes t shape format g ≡ graph_bytes t shape format h) ↔ Same g h }
     ensures read { (t : Tables) (reach : Reach) (shape : Shape) (format : Format) (a b : List ℕ) (g h : Graph)
         → IsSchema t → IsBytes a → IsBytes b → SpellsNumbered t reach shape a g → SpellsNumbered t reach shape b h

@@ -10,13 +10,15 @@ ghost use Rattle.ice_graphs.specs.Classes.{is_a};
 ghost use Rattle.ice_graphs.specs.Graph.{Graph};
 ghost use Rattle.ice_graphs.specs.Flags.{Reach};
 ghost use Rattle.ice_graphs.specs.Instances.{most_instances, SpellsNumbered};
-ghost use Rattle.ice_graphs.specs.Typed.{OfType};
+ghost use Rattle.ice_graphs.specs.Typed.{OfReadType, OfType};
 
-/// What is read is of its type, and within the limit of instances.
+/// What is read is of its type, with proxies that can be read again, and within the limit of instances. So it is
+/// of its type as what can be written is.
 pub fn graphs_typed()
-    ensures { (t : Tables) (reach : Reach) (shape : Shape) (bytes : List ℕ) (g : Graph)
+    ensures read { (t : Tables) (reach : Reach) (shape : Shape) (bytes : List ℕ) (g : Graph)
         → IsSchema t → IsBytes bytes → SpellsNumbered t reach shape bytes g
-        → OfType t shape g × (length g.instances ≤ most_instances) }
+        → OfReadType t shape g × (length g.instances ≤ most_instances) }
+    ensures written { (t : Tables) (shape : Shape) (g : Graph) → OfReadType t shape g → OfType t shape g }
 {}
 
 /// Whether an instance of a class may stand where a base is declared: exactly where the class is the base,

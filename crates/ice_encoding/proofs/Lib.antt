@@ -20,6 +20,8 @@ pub mod Bounded
 pub mod Named
 pub mod Served
 pub mod Proxied
+pub mod Within
+pub mod Wider
 pub mod Opened
 pub mod Tagged
 pub mod Passed

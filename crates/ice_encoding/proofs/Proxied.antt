@@ -5,8 +5,8 @@ use Rattle.ice_types.specs.declared.proxy.Endpoint.{Endpoint}
 use Rattle.ice_types.specs.declared.proxy.Proxy.{Proxy}
 use Rattle.ice_encoding.specs.Parts.{IsLawful, Each}
 use Rattle.ice_encoding.specs.Identity.{identity, no_identity, texts, facet_texts}
-use Rattle.ice_encoding.specs.Endpoint.{endpoint, EndpointHasSize}
-use Rattle.ice_encoding.specs.Proxy.{Location, located_by, location, mode, details, is_whole, named, identity_of, proxy, ProxySizes, HasProxySizes}
+use Rattle.ice_encoding.specs.Endpoint.{endpoint, endpoint_to, EndpointHasSize}
+use Rattle.ice_encoding.specs.Proxy.{Location, located_to, located_by, location, mode, details, is_whole, named_to, named, identity_of, proxy, proxy_to, ProxySizes, HasProxySizes}
 use Rattle.ice_encoding.proofs.Joined.{bool_lawful, byte_lawful, size_lawful, text_lawful, version_lawful, nothing_lawful, both_lawful, made_lawful, tested_lawful, chosen_lawful, times_lawful, times_length}
 use Rattle.ice_encoding.proofs.Named.{identity_lawful, facet_lawful}
 use Rattle.ice_encoding.proofs.Served.{endpoint_lawful}
@@ -59,32 +59,36 @@ facet_size : (name : List ℕ) → texts.Is (facet_texts name) → length name <
 facet_size [] is = omega arith
 facet_size (c ∷ cs) is = is.1.1.0.1
 
-endpoint_sizes : (es : List Endpoint) → Each endpoint.Is es → Each EndpointHasSize es
-endpoint_sizes [] is = tt
-endpoint_sizes (e ∷ es) is = (omega (arith, is.0.1.2), endpoint_sizes es is.1)
+module _ (most : ℕ) (few : most < 2 ^ 31) where
+  endpoint_sizes : (es : List Endpoint) → Each (endpoint_to most).Is es → Each EndpointHasSize es
+  endpoint_sizes [] is = tt
+  endpoint_sizes (e ∷ es) is = (omega (arith, few, is.0.1.2), endpoint_sizes es is.1)
 
-located_sizes : (n : ℕ) (es : List Endpoint) (adapter : List ℕ) → length es ≡ n → (located_by n).Is (es, adapter) → Each EndpointHasSize es × (length adapter < 2 ^ 31)
-located_sizes zero [] adapter same is = (tt, is.0.1)
-located_sizes zero (e ∷ es) adapter same is = absurd cc
-located_sizes (suc n) es adapter same is =
-    let none : length adapter ≡ 0 = ap (λ (l : Location). length l.1) is.1 in
-    (endpoint_sizes es is.0.1, omega (arith, none))
+  located_sizes : (n : ℕ) (es : List Endpoint) (adapter : List ℕ) → length es ≡ n → (located_to most n).Is (es, adapter) → Each EndpointHasSize es × (length adapter < 2 ^ 31)
+  located_sizes zero [] adapter same is = (tt, is.0.1)
+  located_sizes zero (e ∷ es) adapter same is = absurd cc
+  located_sizes (suc n) es adapter same is =
+      let none : length adapter ≡ 0 = ap (λ (l : Location). length l.1) is.1 in
+      (endpoint_sizes es is.0.1, omega (arith, none))
 
-some_sizes : (name : List ℕ) (p : Proxy) → identity.Is p.identity → (named p.identity name).Is (Some p) → ProxySizes p
-some_sizes [] p first second = absurd cc
-some_sizes (c ∷ cs) p first second =
-    let within = second.0 in
-    let l = within.1.1.1.1.1 in
-    let located = located_sizes (length p.endpoints) p.endpoints p.adapter refl l.1 in
-    record {
-      name = first.0.0.1;
-      category = first.0.1.1;
-      facet = facet_size p.facet within.0.0;
-      count = l.0;
-      endpoints = located.0;
-      adapter = located.1;
-    }
+  some_sizes : (name : List ℕ) (p : Proxy) → identity.Is p.identity → (named_to most p.identity name).Is (Some p) → ProxySizes p
+  some_sizes [] p first second = absurd cc
+  some_sizes (c ∷ cs) p first second =
+      let within = second.0 in
+      let l = within.1.1.1.1.1 in
+      let located = located_sizes (length p.endpoints) p.endpoints p.adapter refl l.1 in
+      record {
+        name = first.0.0.1;
+        category = first.0.1.1;
+        facet = facet_size p.facet within.0.0;
+        count = l.0;
+        endpoints = located.0;
+        adapter = located.1;
+      }
 
-pub proxy_sizes : (p : Option Proxy) → proxy.Is p → HasProxySizes p
-proxy_sizes None is = tt
-proxy_sizes (Some p) is = some_sizes p.identity.name p is.0.0 is.1
+  proxy_sizes_in : (p : Option Proxy) → (proxy_to most).Is p → HasProxySizes p
+  proxy_sizes_in None is = tt
+  proxy_sizes_in (Some p) is = some_sizes p.identity.name p is.0.0 is.1
+
+pub proxy_sizes : (most : ℕ) (p : Option Proxy) → most < 2 ^ 31 → (proxy_to most).Is p → HasProxySizes p
+proxy_sizes most p few is = proxy_sizes_in most few p is

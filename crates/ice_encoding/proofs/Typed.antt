@@ -1,5 +1,5 @@
 -- What bytes spell is a value of its type, and the keys in a value of a type rise.
-use Rattle.std.proofs.Common.{ℕ, zero, suc, ◌+◌, ◌<◌, ◌^◌, ◌≡◌, max, Bool, true, false, ◌&&◌, List, [], ◌∷◌, ◌++◌, map, replicate, refl, sym, ap, ◌∙◌, subst, arith, Option, None, Some}
+use Rattle.std.proofs.Common.{ℕ, zero, suc, ◌+◌, ◌<◌, ◌≤◌, ◌^◌, ◌≡◌, max, Bool, true, false, ◌&&◌, List, [], ◌∷◌, ◌++◌, map, replicate, refl, sym, ap, ◌∙◌, subst, arith, Option, None, Some}
 use Rattle.std.specs.Prelude.{slice_get}
 use Rattle.std.specs.Ordering.{is_lt}
 use Rattle.ice_types.specs.declared.kind.TypeRef.{TypeRef}
@@ -13,7 +13,9 @@ use Rattle.ice_types.specs.Measures.{reference as null, proxy, measure, measured
 use Rattle.ice_types.proofs.Levels.{found_by, some_is}
 use Rattle.ice_prims.specs.Rest.{IsBytes}
 use Rattle.ice_prims.proofs.Parts.{IsBytes-front, IsBytes-rest}
+use Rattle.ice_encoding.specs.declared.limits.TheConstants.{LARGEST}
 use Rattle.ice_encoding.proofs.Proxied.{proxy_lawful}
+use Rattle.ice_encoding.proofs.Within.{proxy_grown}
 use Rattle.ice_prims.proofs.Spelled.{short_exact, int_exact, long_exact, size_exact, text_exact}
 use Rattle.ice_encoding.specs.Tree.{Tree, Trees, none, tree, tree_count, Entries, no_entry, entry, entry_count, InEach, InPairs}
 use Rattle.ice_encoding.specs.Order.{tree_cmp, IsRising, KeysRise, IsOrdered, insert}
@@ -127,7 +129,7 @@ pairs_typed Key Held IsKey IsHeld key held (suc n) count earlier bytes pairs fro
     let all = pairs_typed Key Held IsKey IsHeld key held n (suc count) (insert h.0 h.1 earlier) h.4 pairs h.6 to (IsBytes-rest h.3 h.4 later) more h.11 in
     record { typed = all.typed; rise = all.rise; many = omega (arith, all.many) }
 
-module _ {R S : Type 0} (port : Port R S) (t : Tables) (rules : IsSchema t) (Refer : Refers) (refers : (declared : Option ℕ) → Spelled (port.Spells declared) (Refer declared)) where
+module _ {R S : Type 0} (port : Port R S) (t : Tables) (rules : IsSchema t) (Refer : Refers) (wide : LARGEST ≤ Refer.most) (refers : (declared : Option ℕ) → Spelled (port.Spells declared) (Refer.Held declared)) where
   pub value_typed : (levels : ℕ) (kind : TypeRef) → Spelled (SpellsValue port t levels kind) (HasType t Refer levels kind)
   value_typed zero kind bytes v from to fits h = absurd h
   value_typed (suc levels) kinds.Bool bytes v from to fits h = (h.0, h.1)
@@ -137,7 +139,7 @@ module _ {R S : Type 0} (port : Port R S) (t : Tables) (rules : IsSchema t) (Ref
   value_typed (suc levels) kinds.Long bytes v from to fits h = (h.0, long_exact.sort bytes h.0 fits h.2.0, h.1)
   value_typed (suc levels) kinds.Text bytes v from to fits h = let is = text_exact.sort bytes h.0 fits h.2.0 in (h.0, is.0, is.1, h.1)
   value_typed (suc levels) (kinds.Enum at) bytes v from to fits h = (h.0, h.1, h.2.0, h.2.2.0.1, size_exact.sort bytes h.2.0 fits h.2.2.0.0, h.2.1)
-  value_typed (suc levels) (kinds.Proxy at) bytes v from to fits h = (h.0, proxy_lawful.sort bytes h.0 fits h.2.0, h.1)
+  value_typed (suc levels) (kinds.Proxy at) bytes v from to fits h = (h.0, proxy_grown LARGEST Refer.most wide h.0 (proxy_lawful.sort bytes h.0 fits h.2.0), h.1)
   value_typed (suc levels) (kinds.Class declared) bytes v from to fits h = (h.0, refers declared bytes h.0 from to fits h.2, h.1)
   value_typed (suc levels) (kinds.Seq at) bytes v from to fits (q, row, (items, is, (n, front, body, parts, size, each))) =
       let all = each_typed (SpellsValue port t levels) (HasType t Refer levels) (value_typed levels) (replicate n q.element) body items from to (rest_fits bytes front body parts fits) each in

@@ -1,15 +1,17 @@
 -- What is written for a value of a type spells it, where each reference in it is written so.
-use Rattle.std.proofs.Common.{ℕ, suc, zero, ◌≡◌, List, [], ◌∷◌, map, replicate, refl, sym, subst, Option}
+use Rattle.std.proofs.Common.{ℕ, suc, zero, ◌≡◌, ◌≤◌, arith, List, [], ◌∷◌, map, replicate, refl, sym, subst, Option}
 use Rattle.ice_types.specs.declared.kind.TypeRef.{TypeRef}
 use Rattle.ice_types.specs.declared.kind.TypeRef.TheVariants as kinds
 use Rattle.ice_types.specs.Tables.{Tables}
+use Rattle.ice_encoding.specs.declared.limits.TheConstants.{LARGEST}
 use Rattle.ice_encoding.proofs.Proxied.{proxy_lawful}
+use Rattle.ice_encoding.proofs.Within.{proxy_grown}
 use Rattle.ice_prims.proofs.Spelled.{bool_exact, short_exact, int_exact, long_exact, size_exact, text_exact}
 use Rattle.ice_encoding.specs.Tree.{Tree, boolean, byte, short, int, long, text, sequence, dictionary, struct, enumerator, proxy, reference, Trees, none, tree, tree_count, Entries, no_entry, entry, entry_count}
 use Rattle.ice_encoding.specs.Order.{IsRising, insert, AreBelow}
 use Rattle.ice_encoding.specs.Port.{Port, Speller, size_of, by_number}
 use Rattle.ice_encoding.specs.Spelling.{Each, Pairs, SpellsValue}
-use Rattle.ice_encoding.specs.Typed.{AllOf, EachOf, PairsOf, Refers, no_reference, HasType, by_size}
+use Rattle.ice_encoding.specs.Typed.{AllOf, EachOf, PairsOf, Refers, no_reference, HasType, sized_to}
 use Rattle.ice_encoding.specs.Writing.{Writer, written, written_each, written_pairs, as_number}
 use Rattle.ice_encoding.proofs.Order.{tail_rising}
 use Rattle.ice_encoding.proofs.Inserting.{AllPairs, join, join_none, join_join, insert_last, lacks_above, below_next}
@@ -80,10 +82,10 @@ module _ {R S W : Type 0} (port : Port R S) (t : Tables) (refer : Writer W (Opti
 
   -- each reference that may stand is written so that it is spelled
   abbrev pub AreWritten : Refers → Type 0
-  AreWritten Refer = (declared n : Option ℕ) → Refer declared n → IsWritten seen refer (port.Spells declared) n
+  AreWritten Refer = (Refer.most ≤ LARGEST) × ((declared n : Option ℕ) → Refer.Held declared n → IsWritten seen refer (port.Spells declared) n)
 
   never : AreWritten no_reference
-  never declared n h = absurd h
+  never = (omega arith, λ declared n h. absurd h)
 
   -- by the value that it is
   as_it_is : (levels : ℕ) (kind : TypeRef) (v w : Tree) → v ≡ w → Value levels kind w → Value levels kind v
@@ -98,8 +100,8 @@ module _ {R S W : Type 0} (port : Port R S) (t : Tables) (refer : Writer W (Opti
   value_written Refer good (suc levels) kinds.Long v (z, fits, is) = as_it_is (suc levels) kinds.Long v (long z) is (λ s. (z, refl, (long_exact.put z fits, refl)))
   value_written Refer good (suc levels) kinds.Text v (x, utf8, lt, is) = as_it_is (suc levels) kinds.Text v (text x) is (λ s. (x, refl, (text_exact.put x (utf8, lt), refl)))
   value_written Refer good (suc levels) (kinds.Enum at) v (e, row, n, has, lt, is) = as_it_is (suc levels) (kinds.Enum at) v (enumerator n) is (λ s. (e, row, (n, refl, ((size_exact.put n lt, has), refl))))
-  value_written Refer good (suc levels) (kinds.Proxy at) v (p, there, is) = as_it_is (suc levels) (kinds.Proxy at) v (proxy p) is (λ s. (p, refl, (proxy_lawful.put p there, refl)))
-  value_written Refer good (suc levels) (kinds.Class declared) v (n, refers, is) = as_it_is (suc levels) (kinds.Class declared) v (reference n) is (λ s. (n, refl, good declared n refers s))
+  value_written Refer good (suc levels) (kinds.Proxy at) v (p, there, is) = as_it_is (suc levels) (kinds.Proxy at) v (proxy p) is (λ s. (p, refl, (proxy_lawful.put p (proxy_grown Refer.most LARGEST good.0 p there), refl)))
+  value_written Refer good (suc levels) (kinds.Class declared) v (n, refers, is) = as_it_is (suc levels) (kinds.Class declared) v (reference n) is (λ s. (n, refl, good.1 declared n refers s))
   value_written Refer good (suc levels) (kinds.Seq at) v (q, row, items, is, many, all) =
       let each = all_written refer seen (HasType t Refer levels q.element) q.element (SpellsValue port t levels) (value_written Refer good levels q.element) items all in
       as_it_is (suc levels) (kinds.Seq at) v (sequence items) is (λ s. (q, row, (items, refl, (tree_count items, _, _, refl, size_exact.put (tree_count items) many, each s))))
@@ -115,5 +117,5 @@ module _ {R S W : Type 0} (port : Port R S) (t : Tables) (refer : Writer W (Opti
 
 -- ---- a value by itself
 
-pub number_written : (t : Tables) → AreWritten by_number t as_number (λ u. u) by_size
-number_written t declared n lt s = (size_exact.put (size_of n) lt, refl)
+pub number_written : (t : Tables) → AreWritten by_number t as_number (λ u. u) (sized_to LARGEST)
+number_written t = (omega arith, λ declared n lt s. (size_exact.put (size_of n) lt, refl))

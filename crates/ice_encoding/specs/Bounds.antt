@@ -57,13 +57,18 @@ pub record IsLawfulContent {A : Type 0} (content : Content A) : Type 0 where
 abbrev pub size_with : {A : Type 0} → Content A → A → ℕ
 size_with content x = SIZE_BYTES + length (content.put x)
 
--- a size that counts all of it, and the content; from that of an encapsulation without content to the largest
-abbrev pub enclosed : {A : Type 0} → Content A → Part A
-enclosed {A} content = record {
+-- A size that counts all of it, and the content; from that of an encapsulation without content to the largest. What is written
+-- may be above that, up to the size given.
+abbrev pub enclosed_to : {A : Type 0} → ℕ → Content A → Part A
+enclosed_to {A} most content = record {
   read = λ r. signed_at w32 r >>= λ claim. claimed r.place (length r.bytes) SMALLEST claim.0 >>= λ n.
       bound_at (n - SIZE_BYTES) claim.1 >>= λ bound. content.read bound.0 >>= λ x. Ok (x, bound.1);
   Spells = λ bytes x. (claim inside : List ℕ) × (bytes ≡ claim ++ inside) × SpellsSigned w32 claim (pos (length bytes))
       × (SMALLEST ≤ length bytes) × (length bytes ≤ LARGEST) × content.Spells inside x;
   put = λ x. signed_bytes w32 (pos (size_with content x)) ++ content.put x;
-  Is = λ x. content.Is x × (SMALLEST ≤ size_with content x) × (size_with content x ≤ LARGEST);
+  Is = λ x. content.Is x × (SMALLEST ≤ size_with content x) × (size_with content x ≤ most);
 }
+
+-- of which each can be read again
+abbrev pub enclosed : {A : Type 0} → Content A → Part A
+enclosed content = enclosed_to LARGEST content

@@ -5,7 +5,8 @@ use Rattle.ice_types.specs.declared.proxy.Endpoint.TheVariants.{Tcp, Opaque}
 use Rattle.ice_prims.specs.declared.fault.Fault.{Fault}
 use Rattle.ice_prims.specs.Rest.{Rest, ◌>>=◌, IsBytes}
 use Rattle.ice_encoding.specs.Parts.{Part, bool, short, int, text, version, both, made, chosen}
-use Rattle.ice_encoding.specs.Bounds.{Content, enclosed, filled, size_with}
+use Rattle.ice_encoding.specs.declared.limits.TheConstants.{LARGEST}
+use Rattle.ice_encoding.specs.Bounds.{Content, enclosed_to, filled, size_with}
 
 abbrev pub is_one : ℤ → Bool
 is_one (pos n) = nat_eq n 1
@@ -60,10 +61,14 @@ abbrev pub kind_of : Endpoint → ℤ
 kind_of (Tcp host port timeout compress) = pos 1
 kind_of (Opaque kind major minor bytes) = kind
 
--- a type and an encapsulation of any version: type 1 in version 1.1 is TCP, of every other the content is kept as it
--- is
+-- A type and an encapsulation of any version: type 1 in version 1.1 is TCP, of every other the content is kept as it
+-- is. There are those whose encapsulation is at most of this size.
+abbrev pub endpoint_to : ℕ → Part Endpoint
+endpoint_to most = chosen short (λ kind. enclosed_to most (said kind)) kind_of
+
+-- of those that can be read again
 abbrev pub endpoint : Part Endpoint
-endpoint = chosen short (λ kind. enclosed (said kind)) kind_of
+endpoint = endpoint_to LARGEST
 
 -- its size is one that can be written
 abbrev pub EndpointHasSize : Endpoint → Type 0

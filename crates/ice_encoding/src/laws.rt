@@ -14,7 +14,7 @@ ghost use Rattle.ice_encoding.specs.Order.{IsOrdered, insert};
 ghost use Rattle.ice_encoding.specs.Same.{Same};
 ghost use Rattle.ice_encoding.specs.Port.{by_number};
 ghost use Rattle.ice_encoding.specs.Reading.{value_at};
-ghost use Rattle.ice_encoding.specs.Typed.{IsValue};
+ghost use Rattle.ice_encoding.specs.Typed.{IsValue, IsReadValue};
 ghost use Rattle.ice_encoding.specs.Value.{SpellsPlainValue, plain_value_at};
 ghost use Rattle.ice_encoding.specs.Canonical.{canonical, HasSizes};
 ghost use Rattle.ice_encoding.specs.Encapsulation.{SpellsEncapsulation, encapsulated_at, encapsulation_at};
@@ -36,17 +36,18 @@ pub fn values_apart()
         → SpellsPlainValue t kind a v → SpellsPlainValue t kind b w → a ++ x ≡ b ++ y → (a ≡ b) × (v ≡ w) }
 {}
 
-/// What bytes spell under a schema is a value of its type.
+/// What bytes spell under a schema is a value of its type, which can be read again; and such a value can be written.
 pub fn values_typed()
-    ensures { (t : Tables) (kind : TypeRef) (bytes : List ℕ) (v : Tree)
-        → IsSchema t → IsBytes bytes → SpellsPlainValue t kind bytes v → IsValue t kind v }
+    ensures read { (t : Tables) (kind : TypeRef) (bytes : List ℕ) (v : Tree)
+        → IsSchema t → IsBytes bytes → SpellsPlainValue t kind bytes v → IsReadValue t kind v }
+    ensures written { (t : Tables) (kind : TypeRef) (v : Tree) → IsReadValue t kind v → IsValue t kind v }
 {}
 
-/// The canonical bytes of each value of a type spell it, and no spelling is shorter. So they are read
+/// The canonical bytes of each value of a type that can be read spell it, and no spelling is shorter. So they are read
 /// as this value again.
 pub fn values_canonical()
     ensures values { (t : Tables) (kind : TypeRef) (v : Tree)
-        → IsValue t kind v → SpellsPlainValue t kind (canonical v) v }
+        → IsReadValue t kind v → SpellsPlainValue t kind (canonical v) v }
     ensures spelled { (t : Tables) (kind : TypeRef) (bytes : List ℕ) (v : Tree) → IsBytes bytes
         → SpellsPlainValue t kind bytes v → SpellsPlainValue t kind (canonical v) v
         × (length (canonical v) ≤ length bytes) }
@@ -68,9 +69,9 @@ pub fn values_have_sizes()
 /// where their canonical bytes are equal.
 pub fn equal_values()
     ensures values { (t : Tables) (kind : TypeRef) (v w : Tree)
-        → IsValue t kind v → IsValue t kind w → Same v w → v ≡ w }
+        → IsReadValue t kind v → IsReadValue t kind w → Same v w → v ≡ w }
     ensures bytes { (t : Tables) (kind : TypeRef) (v w : Tree)
-        → IsValue t kind v → IsValue t kind w → Same v w ↔ (canonical v ≡ canonical w) }
+        → IsReadValue t kind v → IsReadValue t kind w → Same v w ↔ (canonical v ≡ canonical w) }
 {}
 
 /// Two pairs come to the same places whichever of them is put first.

@@ -53,7 +53,7 @@ pub use laws::{
     relaying_again, smallest_spellings, values_apart, values_canonical, values_found,
     values_have_sizes, values_only, values_ordered, values_typed,
 };
-pub use limits::{LARGEST, SIZE_BYTES, SMALLEST};
+pub use limits::{GREATEST, LARGEST, SIZE_BYTES, SMALLEST};
 pub use part_laws::{
     encapsulations_opened, proxies_apart, proxies_canonical, proxies_found, proxies_only,
     proxies_sized, tags_apart, tags_put, tags_read, values_passed,

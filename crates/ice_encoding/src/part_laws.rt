@@ -5,7 +5,7 @@ ghost use Rattle.ice_types.specs.declared.proxy.Proxy.{Proxy};
 ghost use Rattle.ice_prims.specs.Rest.{Rest, IsBytes, Took};
 ghost use Rattle.ice_prims.specs.Laws.{FoundPart, OnlyPart};
 ghost use Rattle.ice_encoding.specs.declared.limits.TheConstants.{LARGEST, SMALLEST};
-ghost use Rattle.ice_encoding.specs.Proxy.{proxy, HasProxySizes};
+ghost use Rattle.ice_encoding.specs.Proxy.{proxy, CanBeWritten, HasProxySizes};
 ghost use Rattle.ice_encoding.specs.Opening.{opened_at, encapsulated_bytes};
 ghost use Rattle.ice_encoding.specs.Tags.{tag};
 ghost use Rattle.ice_encoding.specs.Skipping.{Passes, passed_at};
@@ -26,18 +26,21 @@ pub fn proxies_apart()
         → proxy.Spells a p → proxy.Spells b q → a ++ x ≡ b ++ y → (a ≡ b) × (p ≡ q) }
 {}
 
-/// The bytes that are put for each proxy that there is spell it, and so are read as it again. What
-/// bytes spell there is, and no spelling is shorter than what is put.
+/// The bytes that are put for each proxy that can be read spell it, and so are read as it again: for each that
+/// can be written, where they are within the limit. What bytes spell can be read, and no spelling is shorter than
+/// what is put.
 pub fn proxies_canonical()
+    ensures within { (p : Option Proxy) → CanBeWritten p → length (proxy.put p) ≤ LARGEST → proxy.Is p }
+    ensures written { (p : Option Proxy) → proxy.Is p → CanBeWritten p }
     ensures spelled { (p : Option Proxy) → proxy.Is p → proxy.Spells (proxy.put p) p }
     ensures read { (p : Option Proxy) (r s : Rest) → proxy.Is p → Took r (proxy.put p) s → proxy.read r ≡ Ok (p, s) }
     ensures shortest { (bytes : List ℕ) (p : Option Proxy) → IsBytes bytes → proxy.Spells bytes p
         → proxy.Is p × (length (proxy.put p) ≤ length bytes) }
 {}
 
-/// Each size in a proxy is at most the greatest int.
+/// Each size in a proxy that can be written is at most the greatest int.
 pub fn proxies_sized()
-    ensures { (p : Option Proxy) → proxy.Is p → HasProxySizes p }
+    ensures { (p : Option Proxy) → CanBeWritten p → HasProxySizes p }
 {}
 
 /// An encapsulation is opened exactly where its bytes stand: a size that counts them, the version, and

@@ -8,27 +8,14 @@ ghost use Rattle.ice_encoding.specs.Identity as names;
 ghost use Rattle.ice_messages.specs.Calls as form;
 ghost use Rattle.ice_messages.specs.Messages.{message_bytes};
 ghost use Rattle.ice_messages.specs.declared.message.Message.TheVariants.{Request, Batch, Reply};
-ghost use Rattle.ice_messages.specs.Written.{told, IsWritableAnswer, IsWritable};
+ghost use Rattle.ice_messages.specs.Written.{told, IsWritableAnswer};
 
-use crate::message::{Answer, Call, HEADER_BYTES, Message};
+use crate::message::{Answer, Call, HEADER_BYTES};
 use encaps_optionals::size_length;
 use ice_types::{Identity, Name};
 
 /// How many bytes an id or a count has.
 const INT_BYTES: u64 = 4;
-
-/// How many bytes the message has.
-pub fn message_length(message: &Message) -> u64
-    requires { IsWritable message.now }
-    ensures { result ≡ told (length (message_bytes message.now)) }
-{
-    match message {
-        Message::Request { call, .. } => request_length(call),
-        Message::Batch { calls } => batch_length(calls.as_slice()),
-        Message::Reply { answer, .. } => reply_length(answer),
-        Message::Validate | Message::Close => HEADER_BYTES as u64,
-    }
-}
 
 /// How many bytes a request of the call has, whatever its id.
 pub fn request_length(call: &Call) -> u64

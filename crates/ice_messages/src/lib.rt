@@ -33,7 +33,7 @@ pub use laws::{
     cut_message, first_faults, first_messages, fronts_wait, input_faults, messages_apart,
     messages_exact, messages_written, one_stream, orderly_written, pieces_read,
 };
-pub use lengths::{batch_length, message_length, reply_length, request_length};
+pub use lengths::{batch_length, reply_length, request_length};
 pub use message::{Answer, Call, Message};
 pub use reading::read_message;
 pub use writing::{write_batch, write_message, write_reply, write_request};

@@ -2,7 +2,7 @@
 //! ends of calls say is one world (`once`).
 
 ghost use Rattle.std.specs.Prelude.{◌≡◌};
-ghost use Rattle.ice_encoding.specs.declared.limits.TheConstants.{LARGEST, SMALLEST};
+ghost use Rattle.ice_encoding.specs.declared.limits.TheConstants.{GREATEST, LARGEST, SMALLEST};
 ghost use Rattle.ice_types.specs.declared.schema.TheConstants.{MOST_DEPTH, MOST_SMALLEST, MOST_BASES, MOST_NUMBER};
 ghost use Rattle.ice_ports.specs.declared.ports.TheConstants.{MOST_OF_A_READ};
 ghost use Rattle.slice_lexer.specs.declared.lexer.TheConstants.{MOST_BYTES};
@@ -26,7 +26,7 @@ pub use once_law::{once, successes_have_turns, turns_are_single};
 /// files, instances, JSON texts, compared values, drilled nodes, messages of one input, each end of a capture, words,
 /// calls and their arguments, and of serving words, workers, connections and messages.
 pub fn limits_numbered()
-    ensures encapsulation { (SMALLEST ≡ 6) × (LARGEST ≡ 1048576) }
+    ensures encapsulation { (SMALLEST ≡ 6) × (LARGEST ≡ 1048576) × (GREATEST ≡ 2147483647) }
     ensures types { (MOST_DEPTH ≡ 100) × (MOST_SMALLEST ≡ 1048576) × (MOST_BASES ≡ 1000) × (MOST_NUMBER ≡ 2147483647) }
     ensures read { MOST_OF_A_READ ≡ 4096 }
     ensures files { (MOST_BYTES ≡ 1000000) × (MOST_FILES ≡ 100) }

@@ -77,10 +77,10 @@ module _ (start count : ℕ) where
   abbrev Refer : Refers
   Refer = RefersIn drill_tables (nodes start count)
 
-  refers-at : (n : ℕ) → n < count → Refer (Some 0) (Some n)
+  refers-at : (n : ℕ) → n < count → Refer.Held (Some 0) (Some n)
   refers-at n lt = (omega (arith, many start count, lt), ap (λ (ss : List Slice). class_fits drill_tables (Some 0) (class_of ss)) (slices-at start count n lt))
 
-  refers-target : (n : ℕ) (b : Bool) → nat_lt n count ≡ b → Refer (Some 0) (if b then Some n else None)
+  refers-target : (n : ℕ) (b : Bool) → nat_lt n count ≡ b → Refer.Held (Some 0) (if b then Some n else None)
   refers-target n true e = refers-at n (ltb-true n count e)
   refers-target n false e = tt
 

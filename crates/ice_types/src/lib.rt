@@ -13,9 +13,10 @@
 //! - Beside a class or interface stands `Option` of a number: None while it is only declared, then how many
 //!   bases it has. The flags that contracts see are read off it, so that both cannot part. Those numbers fall
 //!   along bases, by which look-ups follow bases without recursion.
-//! - The classes by compact id are a hash map (`CompactIds`), since `define_*` cannot fail: `add_class` takes the room for
-//!   one of each class that is not yet defined, and an ordered map has no room to take beforehand.
-//! - A compact id that stands in place of a type id is the text `#n` where an id is kept as a text: no type id begins so.
+//! - The classes by compact id are a hash map (`CompactIds`), since `define_*` cannot fail: `add_class` takes the
+//!   room for one of each class that is not yet defined, and an ordered map has no room to take beforehand.
+//! - A compact id that stands in place of a type id is the text `#n` where an id is kept as a text: no type id
+//!   begins so.
 //! - A class or interface is declared by its id and defined once, as Slice does; `add_*` takes the memory, so
 //!   that `define_*` cannot fail.
 //! - What may be added is said in words that the checker has found already (`*Fits`), and an adding call tests

@@ -1,5 +1,5 @@
 -- Where the length of an optional value is put, once the value is written. (Ice manual, "Data Encoding for Optional Values".)
-use Rattle.std.specs.Prelude.{ℕ, ◌+◌, ◌≤◌, List, [], ◌∷◌, ◌++◌, length, take, drop}
+use Rattle.std.specs.Prelude.{ℕ, ◌+◌, ◌≤◌, ◌^◌, List, [], ◌∷◌, ◌++◌, length, take, drop}
 use Rattle.ice_encoding.specs.Parts.{size}
 use Rattle.ice_encoding.specs.Skipping.{count}
 use Rattle.ice_prims.specs.Bytes.{Grows}
@@ -32,6 +32,12 @@ abbrev pub Stands : LengthPlace → List ℕ → Type 0
 Stands places.Nowhere out = Unit {0}
 Stands (places.Size at) out = at ≤ length out
 Stands (places.Int at) out = at + 4 ≤ length out
+
+-- whether putting it may be refused: never where there is none, and an int only where it cannot tell the length
+abbrev pub MayBeRefused : LengthPlace → List ℕ → Type 0
+MayBeRefused places.Nowhere out = ⊥
+MayBeRefused (places.Size at) out = Unit {0}
+MayBeRefused (places.Int at) out = 2 ^ 31 ≤ length (drop (at + 4) out)
 
 -- the place is not among the first so many bytes
 abbrev pub IsBehind : ℕ → LengthPlace → Type 0

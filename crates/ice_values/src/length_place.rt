@@ -5,7 +5,7 @@ ghost use Rattle.std.specs.Prelude.{◌≡◌, ◌++◌, ◌≤◌, ◌+◌, ◌
 ghost use Rattle.ice_encoding.specs.Parts.{size};
 ghost use Rattle.ice_encoding.specs.Skipping.{count};
 ghost use Rattle.ice_values.specs.Entering.{prefix_seen};
-ghost use Rattle.ice_values.specs.WritingLengths.{held, length_at, with_length_at, Stands};
+ghost use Rattle.ice_values.specs.WritingLengths.{held, length_at, with_length_at, MayBeRefused, Stands};
 
 use crate::prefix::Prefix;
 use ice_prims::{put_int, put_size};
@@ -43,11 +43,13 @@ impl LengthPlace {
     }
 
     /// Puts the length of what stands behind the place. Out of memory leaves the output as it was, and
-    /// so does a length above the greatest int, which is answered as that is.
+    /// so does a length above the greatest int, which is answered as that is. Where no length is put there is no
+    /// such answer, and an int takes no memory.
     pub(crate) fn put(self, out: &mut Vec<u8>) -> Result<(), AllocError>
         requires { Stands self out.old.items }
         ensures ok { OnOk result (out.new.items ≡ with_length_at self out.old.items) }
         ensures err { OnErr result (out.new.items ≡ out.old.items) }
+        ensures memory { OnErr result (MayBeRefused self out.old.items) }
     {
         match self {
             LengthPlace::Nowhere => Ok(()),
@@ -75,12 +77,13 @@ fn insert_size(out: &mut Vec<u8>, at: usize) -> Result<(), AllocError>
     Ok(())
 }
 
-/// Puts the length of what stands behind the four bytes at a place over them, as an int.
+/// Puts the length of what stands behind the four bytes at a place over them, as an int. It takes no memory.
 fn patch_int(out: &mut Vec<u8>, at: usize) -> Result<(), AllocError>
     requires { at + 4 ≤ length out.old.items }
     ensures ok { OnOk result (out.new.items
         ≡ take at out.old.items ++ (count.put (length (drop (at + 4) out.old.items)) ++ drop (at + 4) out.old.items)) }
     ensures err { OnErr result (out.new.items ≡ out.old.items) }
+    ensures memory { OnErr result (2 ^ 31 ≤ length (drop (at + 4) out.old.items)) }
 {
     let length = out.len() - (at + 4);
     if length > MOST_NUMBER as usize {

@@ -22,8 +22,8 @@
 //!   between the two; so its model is the definitions' state and nothing else.
 //! - That reading ends is told by how many instances may still begin (`room`), which falls at each pause, and
 //!   between two pauses by how much is left to do (`cost`, `work_left`).
-//! - A refusal leaves reader, cursor and port anywhere on the way; only `read_plain_value` and
-//!   `write_plain_value` put cursor and output back, since those who use pieces drop all of it after a refusal.
+//! - A refusal leaves reader and port anywhere on the way, and in pieces cursor and output too, since those who use
+//!   pieces drop all of it after a refusal. The calls in one piece put cursor and output back.
 //! - An enumerator is looked up at the place of its number, and else in order among those of its enum. So an
 //!   enum of tens of thousands that leaves numbers out is quadratic; an index beside its row in the schema would
 //!   end that.
@@ -51,6 +51,7 @@ mod byte_sequence;
 mod ending;
 mod fields;
 mod frame;
+mod laws;
 mod leaf;
 mod left;
 mod length_place;
@@ -72,6 +73,7 @@ mod writer;
 
 pub use ending::Ending;
 pub use fields::{DeclaredMembers, Optionals};
+pub use laws::values_by_number;
 pub use leaf::has_number;
 pub use members_reader::{MembersReader, read_members};
 pub use members_writer::{MembersWriter, write_members};
@@ -82,5 +84,5 @@ pub use put_port::PutPort;
 pub use reader::ValueReader;
 pub use sliced_type::SlicedType;
 pub use tagged::kind_tagged;
-pub use value::{read_plain_value, read_value, write_plain_value, write_value};
+pub use value::{read_value, write_value};
 pub use writer::ValueWriter;

@@ -1,6 +1,6 @@
 //! The members of a shape, in pieces.
 
-ghost use Rattle.std.specs.Prelude.{◌≡◌, None, Some, []};
+ghost use Rattle.std.specs.Prelude.{◌≡◌, None, OnErr, Some, []};
 ghost use Rattle.ice_encoding.specs.Pausing.{Inside};
 ghost use Rattle.graph_arena.specs.Seen.{view_content};
 ghost use Rattle.ice_values.specs.Shapes.{handed, shape_seen};
@@ -138,10 +138,36 @@ impl<'a> MembersReader<'a> {
 }
 
 /// The members of a shape at the front, with the first fault from the left, at a port at which nothing
-/// begins. A refusal leaves cursor and port anywhere on the way. Memory is taken for what is read, never
-/// for what a size merely claims.
+/// begins. A refusal leaves the cursor as it was, and the port anywhere on the way. Memory is taken for what is
+/// read, never for what a size merely claims.
 /// (Ice manual, "Data Encoding for Class and Exception Types".)
 pub fn read_members<P: RefPort>(
+    alloc: Global,
+    schema: &Schema,
+    fields: DeclaredMembers<'_>,
+    optionals: Optionals,
+    cursor: &mut Cursor<'_>,
+    port: &mut P,
+) -> Result<Members, ReadFault>
+    requires { P.room port.old ≡ 0 }
+    ensures reads { (inside : Inside P)
+        → ReadsMembers result
+        (members_at P.take schema.now inside optionals
+        (shape_seen fields.entry) port.old cursor.old) port.new cursor.new }
+    ensures refused { OnErr result (cursor.new ≡ cursor.old) }
+{
+    let mut ahead = cursor.fork();
+    match read_on(alloc, schema, fields, optionals, &mut ahead, port) {
+        Ok(members) => {
+            *cursor = ahead;
+            Ok(members)
+        }
+        Err(fault) => Err(fault),
+    }
+}
+
+/// The same, but a refusal leaves the cursor anywhere on the way.
+fn read_on<P: RefPort>(
     alloc: Global,
     schema: &Schema,
     fields: DeclaredMembers<'_>,

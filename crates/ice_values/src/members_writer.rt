@@ -187,11 +187,37 @@ fn put_end(marked: bool, out: &mut Vec<u8>) -> Result<(), AllocError>
     Ok(())
 }
 
-/// Puts the members at the end of the output, at a port at which nothing begins. Out of memory may leave
-/// a part of them there, and the port anywhere on the way; so may an optional value of more bytes than the
-/// greatest int, which is answered as that is.
+/// Puts the members at the end of the output, at a port at which nothing begins. Out of memory leaves the output as
+/// it was, and the port anywhere on the way; so does an optional value of more bytes than the greatest int, which is
+/// answered as that is.
 /// (Ice manual, "Data Encoding for Class and Exception Types".)
 pub fn write_members<P: PutPort>(
+    alloc: Global,
+    schema: &Schema,
+    optional: &[Member],
+    members: &Members,
+    ending: Ending,
+    out: &mut Vec<u8>,
+    port: &mut P,
+) -> Result<(), AllocError>
+    requires room { P.room port.old ≡ 0 }
+    requires fits { ContentCanBeWritten (view_content members.now) }
+    ensures writes { (inside : InsideWritten P)
+        → WritesPiece
+        (members_written (written_in_place P.put inside) schema.now ending (shape_of optional.now)
+        (view_content members.now)) result port.old out.old.items port.new out.new.items }
+    ensures err { OnErr result (out.new.items ≡ out.old.items) }
+{
+    let start = out.len();
+    let result = append_members(alloc, schema, optional, members, ending, out, port);
+    if result.is_err() {
+        out.truncate(start);
+    }
+    result
+}
+
+/// The same, but what is refused may leave a part of them there.
+fn append_members<P: PutPort>(
     alloc: Global,
     schema: &Schema,
     optional: &[Member],

@@ -1,16 +1,13 @@
 //! Values in one piece.
 
-ghost use Rattle.std.specs.Prelude.{◌≡◌, ◌++◌, OnOk, OnErr};
+ghost use Rattle.std.specs.Prelude.{◌≡◌, OnErr};
 ghost use Rattle.ice_prims.specs.Bytes.{Grows};
-ghost use Rattle.ice_prims.specs.Taking.{TakesUnlessMemory};
-ghost use Rattle.ice_encoding.specs.Canonical.{HasSizes, canonical};
+ghost use Rattle.ice_encoding.specs.Canonical.{HasSizes};
 ghost use Rattle.ice_encoding.specs.Pausing.{Inside};
-ghost use Rattle.ice_encoding.specs.Value.{plain_value_at};
 ghost use Rattle.graph_arena.specs.View.{view};
 ghost use Rattle.ice_values.specs.Going.{ReadsValue, whole_at};
 ghost use Rattle.ice_values.specs.Putting.{InsideWritten, WritesValue};
 
-use crate::numbers::Numbers;
 use crate::paused::Paused;
 use crate::port::RefPort;
 use crate::put_port::PutPort;
@@ -22,10 +19,33 @@ use ice_types::{Schema, TypeRef};
 use std::alloc::{AllocError, Global};
 
 /// The value of the type at the front, with the first fault from the left, at a port at which nothing
-/// begins. A refusal leaves cursor and port anywhere on the way. Memory is taken for what is read, never
-/// for what a size merely claims.
+/// begins. A refusal leaves the cursor as it was, and the port anywhere on the way. Memory is taken for what is
+/// read, never for what a size merely claims.
 /// (Ice manual, "Data Encoding".)
 pub fn read_value<P: RefPort>(
+    alloc: Global,
+    schema: &Schema,
+    kind: TypeRef,
+    cursor: &mut Cursor<'_>,
+    port: &mut P,
+) -> Result<Value, ReadFault>
+    requires { P.room port.old ≡ 0 }
+    ensures reads { (inside : Inside P)
+        → ReadsValue result (whole_at P.take schema.now inside kind port.old cursor.old) port.new cursor.new }
+    ensures refused { OnErr result (cursor.new ≡ cursor.old) }
+{
+    let mut ahead = cursor.fork();
+    match read_on(alloc, schema, kind, &mut ahead, port) {
+        Ok(value) => {
+            *cursor = ahead;
+            Ok(value)
+        }
+        Err(fault) => Err(fault),
+    }
+}
+
+/// The same, but a refusal leaves the cursor anywhere on the way.
+fn read_on<P: RefPort>(
     alloc: Global,
     schema: &Schema,
     kind: TypeRef,
@@ -44,10 +64,31 @@ pub fn read_value<P: RefPort>(
     }
 }
 
-/// Puts the value's bytes at the end of the output, at a port at which nothing begins. Out of memory may
-/// leave a part of them there, and the port anywhere on the way.
+/// Puts the value's bytes at the end of the output, at a port at which nothing begins. Out of memory
+/// leaves the output as it was, and the port anywhere on the way.
 /// (Ice manual, "Data Encoding".)
 pub fn write_value<P: PutPort>(
+    alloc: Global,
+    value: &Value,
+    out: &mut Vec<u8>,
+    port: &mut P,
+) -> Result<(), AllocError>
+    requires room { P.room port.old ≡ 0 }
+    requires sizes { HasSizes (view value.now) }
+    ensures writes { (inside : InsideWritten P)
+        → WritesValue P.put inside (view value.now) result port.old out.old.items port.new out.new.items }
+    ensures err { OnErr result (out.new.items ≡ out.old.items) }
+{
+    let start = out.len();
+    let result = append_value(alloc, value, out, port);
+    if result.is_err() {
+        out.truncate(start);
+    }
+    result
+}
+
+/// The same, but out of memory may leave a part of them there.
+fn append_value<P: PutPort>(
     alloc: Global,
     value: &Value,
     out: &mut Vec<u8>,
@@ -65,42 +106,4 @@ pub fn write_value<P: PutPort>(
         Ok(Paused::Begins(_)) => unreachable!(),
         Err(error) => Err(error),
     }
-}
-
-/// The value of the type at the front, each reference in it a number, with the first fault from the
-/// left. A refusal leaves the cursor as it was. Memory is taken for what is read, never for what a size
-/// merely claims.
-/// (Ice manual, "Data Encoding".)
-pub fn read_plain_value<'a>(
-    alloc: Global,
-    schema: &Schema,
-    kind: TypeRef,
-    cursor: &mut Cursor<'a>,
-) -> Result<Value, ReadFault>
-    ensures { TakesUnlessMemory view result cursor.old cursor.new (plain_value_at schema.now kind cursor.old) }
-{
-    let mut ahead = cursor.fork();
-    match read_value(alloc, schema, kind, &mut ahead, &mut Numbers) {
-        Ok(value) => {
-            *cursor = ahead;
-            Ok(value)
-        }
-        Err(fault) => Err(fault),
-    }
-}
-
-/// Puts the value's canonical bytes, each reference as its number, at the end of the output. Out of
-/// memory leaves the output as it was.
-/// (Ice manual, "Data Encoding".)
-pub fn write_plain_value(alloc: Global, value: &Value, out: &mut Vec<u8>) -> Result<(), AllocError>
-    requires { HasSizes (view value.now) }
-    ensures ok { OnOk result (out.new.items ≡ out.old.items ++ canonical (view value.now)) }
-    ensures err { OnErr result (out.new.items ≡ out.old.items) }
-{
-    let start = out.len();
-    let result = write_value(alloc, value, out, &mut Numbers);
-    if result.is_err() {
-        out.truncate(start);
-    }
-    result
 }

@@ -7,8 +7,8 @@ ghost use Rattle.ice_values.specs.SlicedType.{rows_of};
 ghost use Rattle.ice_values.specs.declared.sliced_type.SlicedType.TheVariants as sorts;
 ghost use Rattle.instance_reading.specs.Ids.{id_of};
 ghost use Rattle.instance_reading.specs.Seen.{view_before};
-ghost use Rattle.instance_reading.specs.Slices.{BeginsSlice, FindsId, OpensKnown, OpensSlice, ReadsId, TakesTypeId, Tests};
-ghost use Rattle.instance_reading.specs.Slices.{stage_work};
+ghost use Rattle.instance_reading.specs.Slices.{BeginsSlice, FindsId, OpensKnown, OpensSlice, ReadsId, stage_work};
+ghost use Rattle.instance_reading.specs.Slices.{TakesTypeId, Tests};
 ghost use Rattle.instance_reading.specs.Sorts.{class_by, ends_by, is_over};
 
 use crate::arena::Arena;

@@ -104,8 +104,7 @@ and the output by turns; of serve the words, FILE, each INTERFACE, each IDENTITY
                                  reasons: it has more than 16,777,216 bytes (TooLong); it is no
                                  JSON in UTF-8, or nests more than 127 deep (NotJson); it lists
                                  more than 100,000 instances (TooMany); it tells no value of TYPE,
-                                 or not the arguments of OPERATION, or a proxy with an endpoint of
-                                 more than 1,048,576 bytes (Misfit)
+                                 or not the arguments of OPERATION (Misfit)
   4  ice: kept slice needs sliced format
                                  with --compact, an instance has a slice of a class that FILE lacks
   4  ice: answer too long: LENGTH

@@ -1,6 +1,7 @@
 //! An unknown slice, written as it was.
 
 ghost use Rattle.std.specs.Prelude.{◌≡◌, ◌++◌, OnErr, OnOk};
+ghost use Rattle.ice_prims.specs.Bytes.{Grows};
 ghost use Rattle.ice_graphs.specs.Slices.{slice_size};
 ghost use Rattle.graph_arena.specs.Seen.{view_slice};
 ghost use Rattle.preserved.specs.Unknown.{IsUnknown, unknown_part, unknown_part_of};
@@ -12,12 +13,27 @@ use ice_types::MOST_NUMBER;
 use std::alloc::AllocError;
 
 /// Puts the size of an unknown slice, its bytes, and the end marker of optional members where that stood
-/// behind them: what stands between the type id and the table. Out of memory may leave a part of it; so may
+/// behind them: what stands between the type id and the table. Out of memory leaves the output as it was; so do
 /// bytes of which an int cannot tell the size, which are answered as that is.
 /// (Ice manual, "Data Encoding for Class and Exception Types".)
 pub fn write_unknown(out: &mut Vec<u8>, part: &Slice) -> Result<(), AllocError>
     requires { IsUnknown (view_slice part.now) }
-    ensures { OnOk result (out.new.items ≡ out.old.items ++ unknown_part_of (view_slice part.now)) }
+    ensures ok { OnOk result (out.new.items ≡ out.old.items ++ unknown_part_of (view_slice part.now)) }
+    ensures err { OnErr result (out.new.items ≡ out.old.items) }
+{
+    let start = out.len();
+    let result = append_unknown(out, part);
+    if result.is_err() {
+        out.truncate(start);
+    }
+    result
+}
+
+/// The same, but what is refused may leave a part of it there.
+fn append_unknown(out: &mut Vec<u8>, part: &Slice) -> Result<(), AllocError>
+    requires { IsUnknown (view_slice part.now) }
+    ensures ok { OnOk result (out.new.items ≡ out.old.items ++ unknown_part_of (view_slice part.now)) }
+    ensures grows { Grows out.old.items out.new.items }
 {
     match part {
         Slice::Known { .. } => Ok(()),
@@ -31,7 +47,8 @@ pub fn write_unknown(out: &mut Vec<u8>, part: &Slice) -> Result<(), AllocError>
 
 /// The same of the bytes, and whether an end marker stands behind them.
 fn put_unknown(out: &mut Vec<u8>, bytes: &[u8], optionals: bool) -> Result<(), AllocError>
-    ensures { OnOk result (out.new.items ≡ out.old.items ++ unknown_part optionals bytes.now) }
+    ensures ok { OnOk result (out.new.items ≡ out.old.items ++ unknown_part optionals bytes.now) }
+    ensures grows { Grows out.old.items out.new.items }
 {
     if !optionals {
         put_slice_size(out, bytes.len())?;

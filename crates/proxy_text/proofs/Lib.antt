@@ -27,3 +27,13 @@ pub mod AppendedWords
 pub mod Quotes
 pub mod Found
 pub mod Kept
+pub mod PieceLaws
+pub mod PieceReading
+pub mod PieceOptions
+pub mod PieceProxy
+pub mod PieceBreaks
+pub mod PieceText
+pub mod PieceBridge
+pub mod PieceFaults
+pub mod TextSamples
+pub mod PieceKinds

@@ -63,7 +63,7 @@ first_long (c ∷ cs) blank h = by (eqb c 58) (eqb c 64) refl refl
     by false true p q = rw (p, q) (omega arith)
     by false false p q = rw (p, q) (let long = some_word c cs blank p q in omega (arith, long, length-drop (word_length bare (c ∷ cs)) (c ∷ cs)))
 
-next_fewer : (r : Rest) → HasByte (next r).token → length (next r).rest.bytes < length r.bytes
+pub next_fewer : (r : Rest) → HasByte (next r).token → length (next r).rest.bytes < length r.bytes
 next_fewer r h =
     let bytes = drop (blanks r.bytes) r.bytes in
     let long : length (drop (first_token bytes).1 bytes) < length bytes = first_long bytes (none_left r.bytes) h in

@@ -10,3 +10,7 @@ pub mod PrintedWords
 pub mod IdentityText
 pub mod Taking
 pub mod Laws
+pub mod Pieces
+pub mod Spelled
+pub mod Breaks
+pub mod Misplaced

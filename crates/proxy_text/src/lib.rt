@@ -15,9 +15,11 @@
 //! Forms, and why they are so:
 //!
 //! - The text of a proxy is read by a function (`proxy_text`), which answers the first word that cannot stand;
-//!   laws tie it to the printed form in both directions. No relation of the grammar stands beside it: which
-//!   words may follow is said by the tables of options (`flags`, `tcp_flags`, `transports`) and by what each
-//!   word means (`text_of`, `number`, `version`, `hexadecimal`).
+//!   laws tie it to the printed form in both directions. What it means stands beside it and follows no reader: the
+//!   grammar is a relation (`IsProxy`) of pieces, which are words, `:` and `@`, and a text breaks where no proxy goes
+//!   on (`ProxyBreaks`). Laws say that the function answers exactly these (`texts_spelled`, `texts_break`), and which
+//!   words can lack where one breaks (`kinds_of_breaks`). All take from the tables which words there are (`flags`,
+//!   `tcp_flags`, `transports`), and what a word means (`text_of`, `number`, `version`, `hexadecimal`).
 //! - A word is found before it is understood: where it ends hangs on quotes and `\` alone, what it stands for on
 //!   the letters that its escapes make. So a `/` of an escape parts no identity.
 #![tactic(auto)]
@@ -40,7 +42,10 @@ mod words;
 
 pub use fault::TextFault;
 pub use identity_text::parse_identity;
-pub use laws::{texts_read_back, texts_sized, texts_typed};
+pub use laws::{
+    identities_or_breaks, kinds_of_breaks, proxies_or_breaks, texts_break, texts_read_back,
+    texts_sized, texts_spelled, texts_typed,
+};
 pub use parse::parse_text;
 pub use print::print_text;
 pub use printing::{escape_identity, print_identity, print_word, quote};

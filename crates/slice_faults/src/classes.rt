@@ -9,7 +9,8 @@ ghost use Rattle.slice_meaning.specs.declared.fault.CheckKind.TheVariants as row
 ghost use Rattle.slice_meaning.specs.Known.{standing_here, with_class_name};
 ghost use Rattle.slice_meaning.specs.Uses.{as_class, class_named};
 ghost use Rattle.slice_meaning.specs.Clashes.{reopened_name, is_class};
-ghost use Rattle.slice_meaning.specs.Members.{compact_faults, compact_of, has_number, members_of, new_number, numbers_of};
+ghost use Rattle.slice_meaning.specs.Members.{compact_faults, compact_of, has_number, members_of};
+ghost use Rattle.slice_meaning.specs.Members.{new_number, numbers_of};
 ghost use Rattle.slice_meaning.specs.Faults.{faults, as_class_base, class_base_faults};
 ghost use Rattle.slice_meaning.specs.After.{after, base_at, class_at, with_class_body};
 ghost use Rattle.slice_meaning.specs.Checking.{noted};

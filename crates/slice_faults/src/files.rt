@@ -1,6 +1,6 @@
 //! Files, one after the other.
 
-ghost use Rattle.std.specs.Prelude.{◌≡◌, ◌+◌, List, None, Some, Err, IfOk, OnOk, IfSome};
+ghost use Rattle.std.specs.Prelude.{◌≡◌, ◌+◌, ◌^◌, List, None, Some, Err, IfOk, OnErr, OnOk, IfSome};
 ghost use Rattle.slice_syntax.specs.declared.tree.File.{File};
 ghost use Rattle.slice_syntax.specs.Places.{AreRegular, Each};
 ghost use Rattle.slice_meaning.specs.Known.{nothing_known};
@@ -125,9 +125,10 @@ fn next_file(known: &mut Known) -> Result<(), AllocError>
     Ok(())
 }
 
-/// One more, or want of memory where there are so many files that none can have a number.
+/// One more, or want of memory exactly where there are so many files that none can have a number.
 fn next_number(file: u32) -> Result<u32, AllocError>
-    ensures { IfOk result (λ next. next ≡ file + 1) }
+    ensures ok { IfOk result (λ next. next ≡ file + 1) }
+    ensures full { OnErr result (file + 1 ≡ 2 ^ 32) }
 {
     if file < u32::MAX {
         Ok(file + 1)

@@ -1,7 +1,8 @@
 //! Classes and exceptions.
 
 ghost use Rattle.slice_syntax.specs.Reading.{read};
-ghost use Rattle.slice_syntax.specs.Rules.{base, body, class_item, compact, exception_item, tagged_member, tagged_members};
+ghost use Rattle.slice_syntax.specs.Rules.{base, body, class_item, compact, exception_item};
+ghost use Rattle.slice_syntax.specs.Rules.{tagged_member, tagged_members};
 ghost use Rattle.slice_syntax.specs.Taking.{Takes};
 
 use crate::cursor::Cursor;

@@ -1,5 +1,6 @@
 -- The first part of a graph that is not of its type.
-use Rattle.std.proofs.Common.{◌≡◌, ℕ, ◌↔◌, Bool, true, false, IsTrue, subst, sym, ◌∙◌, Option, None, Some}
+use Rattle.std.proofs.Common.{◌≡◌, ℕ, ◌↔◌, Bool, true, false, IsTrue, subst, sym, ◌∙◌, Option, None, Some, Result, Ok, Err}
+use Rattle.std.specs.Prelude.{OnErr}
 use Rattle.std.proofs.lemmas.Bool.{false≢true}
 use Rattle.ice_types.specs.declared.declarations.Shape.{Shape}
 use Rattle.ice_types.specs.Tables.{Tables}
@@ -7,6 +8,11 @@ use Rattle.ice_graphs.specs.OptionalMembers.{Members}
 use Rattle.ice_graphs.specs.Graph.{Graph}
 use Rattle.ice_graphs.specs.Typed.{AreMembers, RefersIn, OfType}
 use Rattle.value_checks.specs.First.{IsFine, IsFirstInstance, IsFirstIll, IsPart, ComesBefore, IsWell}
+
+-- what holds anyway holds at a refusal
+pub on_err : {T E P : Type 0} (r : Result T E) → P → OnErr r P
+on_err (Ok x) p = tt
+on_err (Err e) p = p
 
 module _ (t : Tables) (g : Graph) (shape : Shape) where
   none_before : (other : Option ℕ) → IsPart t g shape other → ComesBefore t g shape other None → IsWell t g shape other

@@ -37,7 +37,7 @@ zeros_typed of One zero_by one (first ∷ others) m e =
 
 -- ---- each type that nests at most so deep
 
-module _ (t : Tables) (rules_kept : IsSchema t) (Refer : Refers) (null : (declared : Option ℕ) → Refer declared None) where
+module _ (t : Tables) (rules_kept : IsSchema t) (Refer : Refers) (null : (declared : Option ℕ) → Refer.Held declared None) where
   pub zero_typed : (levels : ℕ) (kind : TypeRef) (m : Measure) → measure t levels kind ≡ Some m → HasType t Refer levels kind (zero_of t levels kind)
   unfolding measure zero_of
   zero_typed zero kind m e = absurd cc

@@ -35,5 +35,5 @@ module _ (t : Tables) where
   HasForm Refer levels kind (struct members) = (at : ℕ) × (kind ≡ kinds.Struct at) × (d : StructDecl) × (slice_get t.structs at ≡ Some d)
       × EachOf (HasType t Refer levels) (map (λ m. m.kind) d.members) members
   HasForm Refer levels kind (enumerator n) = IsEnumerator kind n
-  HasForm Refer levels kind (proxy p) = (at : Option ℕ) × (kind ≡ kinds.Proxy at) × parts.proxy.Is p
-  HasForm Refer levels kind (reference n) = (declared : Option ℕ) × (kind ≡ kinds.Class declared) × Refer declared n
+  HasForm Refer levels kind (proxy p) = (at : Option ℕ) × (kind ≡ kinds.Proxy at) × (parts.proxy_to Refer.most).Is p
+  HasForm Refer levels kind (reference n) = (declared : Option ℕ) × (kind ≡ kinds.Class declared) × Refer.Held declared n

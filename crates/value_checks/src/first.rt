@@ -1,7 +1,7 @@
 //! The first part of a graph that is not of its type. (Ice manual, "Classes".)
 
-ghost use Rattle.std.specs.Prelude.{◌≡◌, ◌<◌, ◌↔◌, IfOk, IfSome, None, length};
-ghost use Rattle.ice_graphs.specs.Typed.{OfType};
+ghost use Rattle.std.specs.Prelude.{◌≡◌, ◌<◌, ◌↔◌, IfOk, IfSome, None, OnErr, length};
+ghost use Rattle.ice_graphs.specs.Typed.{AreMembers, OfType, RefersIn};
 ghost use Rattle.graph_arena.specs.Arena.{AreBelow};
 ghost use Rattle.graph_arena.specs.Listing.{Marks};
 ghost use Rattle.ice_values.specs.Shapes.{shape_seen};
@@ -16,7 +16,8 @@ use std::alloc::{AllocError, Global};
 
 /// The first part of a graph that is not of its type: the roots, which are None, of these members; then
 /// the instances that they lead to, in the order of their first visits; then the others, by rising place.
-/// None where the graph is of the type. It is refused where there is no memory for the order.
+/// None where the graph is of the type. It is refused where there is no memory for the order, and never where the
+/// roots are not of these members.
 /// (Ice manual, "Classes".)
 pub fn first_ill_typed(
     alloc: Global,
@@ -26,6 +27,8 @@ pub fn first_ill_typed(
 ) -> Result<Option<Option<u32>>, AllocError>
     ensures typed { IfOk result (λ found. (found ≡ None) ↔ OfType schema.now (shape_seen fields.entry) graph.now) }
     ensures first { IfOk result (λ found. IfSome found (IsFirstIll schema.now graph.now (shape_seen fields.entry))) }
+    ensures memory { OnErr result (AreMembers schema.now (RefersIn schema.now graph.now.instances)
+        (shape_seen fields.entry) graph.now.roots) }
 {
     if !are_members(schema, graph, fields, graph.roots()) {
         return Ok(Some(None));

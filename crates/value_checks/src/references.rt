@@ -1,12 +1,13 @@
 //! Which references may stand in a value.
 
-ghost use Rattle.std.specs.Prelude.{◌≡◌, ◌↔◌, IsTrue, true};
+ghost use Rattle.std.specs.Prelude.{◌≡◌, ◌<◌, ◌^◌, ◌↔◌, IsTrue, true};
 ghost use Rattle.ice_graphs.specs.Classes as classes;
 ghost use Rattle.ice_graphs.specs.Instances as graphs;
-ghost use Rattle.ice_graphs.specs.Typed.{RefersIn};
-ghost use Rattle.value_checks.specs.References.{MayStand};
+ghost use Rattle.ice_graphs.specs.Typed.{IsHeldIn};
+ghost use Rattle.value_checks.specs.References.{IsHeldBy, most_of};
 
 use graph_arena::{Graph, class_of};
+use ice_encoding::{GREATEST, LARGEST};
 use ice_types::Schema;
 
 /// Which references may stand in a value.
@@ -23,7 +24,7 @@ pub(crate) enum References<'a> {
 impl<'a> References<'a> {
     /// Whether the reference may stand where this class is declared. (Ice manual, "Class Inheritance".)
     pub(crate) fn hold(self, schema: &Schema, declared: Option<u32>, name: Option<u32>) -> bool
-        ensures { IsTrue result ↔ MayStand schema.now self.entry declared name }
+        ensures { IsTrue result ↔ IsHeldBy schema.now self.entry declared name }
     {
         match self {
             References::No => false,
@@ -31,11 +32,23 @@ impl<'a> References<'a> {
             References::Into(graph) => may_refer(schema, graph, declared, name),
         }
     }
+
+    /// The greatest size of an endpoint that may stand. In a key, where no proxy stands, it is that of one that can
+    /// be read.
+    pub(crate) fn most(self) -> usize
+        ensures most { result ≡ most_of self.entry }
+        ensures size { result < 2 ^ 31 }
+    {
+        match self {
+            References::No => LARGEST,
+            References::Any | References::Into(_) => GREATEST,
+        }
+    }
 }
 
 /// Null, or an instance of the graph whose class fits.
 fn may_refer(schema: &Schema, graph: &Graph, declared: Option<u32>, name: Option<u32>) -> bool
-    ensures { IsTrue result ↔ RefersIn schema.now graph.now.instances declared name }
+    ensures { IsTrue result ↔ IsHeldIn schema.now graph.now.instances declared name }
 {
     match name {
         Some(name) => {

@@ -1,6 +1,6 @@
 //! Whether a value is of a type, by its form. (Ice manual, "Data Encoding".)
 
-ghost use Rattle.std.specs.Prelude.{◌≡◌, ◌<◌, ◌↔◌, FitsSigned, IsTrue, ℕ, Option, map};
+ghost use Rattle.std.specs.Prelude.{◌≡◌, ◌<◌, ◌^◌, ◌↔◌, FitsSigned, IsTrue, ℕ, Option, map};
 ghost use Rattle.std.specs.Int.{w16, w32, w64};
 ghost use Rattle.ice_types.specs.declared.kind.TypeRef.TheVariants as kinds;
 ghost use Rattle.ice_types.specs.declared.schema.TheConstants.{MOST_DEPTH};
@@ -9,7 +9,7 @@ ghost use Rattle.ice_encoding.specs.Tree.{dictionary, sequence, struct};
 ghost use Rattle.ice_encoding.specs.Typed.{AllOf, EachOf, HasType, PairsOf, no_reference};
 ghost use Rattle.graph_arena.specs.View.{byte_trees, unboxed, view, view_all, view_pairs};
 ghost use Rattle.value_checks.specs.Forms.{HasForm, IsEnumerator};
-ghost use Rattle.value_checks.specs.References.{AnyRefers, MayStand};
+ghost use Rattle.value_checks.specs.References.{AnyRefers, IsHeldBy, MayStand};
 
 use crate::proxies::{is_proxy, is_size, is_text};
 use crate::references::References;
@@ -18,7 +18,7 @@ use ice_types::{MOST_DEPTH, Member, Proxy, Schema, TypeRef};
 use ice_values::has_number;
 
 /// Whether a value is of the type, by its form: each size is at most the greatest int, the keys of each
-/// dictionary rise, each enumerator is one of its enum, and each proxy can be spelled. Any reference may
+/// dictionary rise, each enumerator is one of its enum, and each proxy can be written. Any reference may
 /// stand where a class is declared. It takes no memory. (Ice manual, "Data Encoding".)
 pub fn fits(schema: &Schema, kind: TypeRef, value: &Value) -> bool
     ensures { IsTrue result ↔ HasType schema.now AnyRefers MOST_DEPTH kind (view value.now) }
@@ -59,7 +59,9 @@ fn has_form(
         Value::Long(number) => is_long(kind, *number),
         Value::Text(text) => kind == TypeRef::Text && is_text(text),
         Value::Enum(number) => is_enumerator(schema, kind, *number),
-        Value::Proxy(proxy) => matches!(kind, TypeRef::Proxy(_)) && is_some_proxy(proxy),
+        Value::Proxy(proxy) => {
+            matches!(kind, TypeRef::Proxy(_)) && is_some_proxy(proxy, references.most())
+        }
         Value::Reference(name) => is_reference(schema, references, kind, *name),
         Value::Seq(items) => is_sequence(schema, references, levels, kind, items.as_slice()),
         Value::Bytes(bytes) => is_bytes(schema, levels, kind, bytes.as_slice()),
@@ -110,12 +112,13 @@ fn is_enumerator(schema: &Schema, kind: TypeRef, number: u32) -> bool
     }
 }
 
-/// Null, or a proxy that can be spelled.
-fn is_some_proxy(proxy: &Option<Box<Proxy>>) -> bool
-    ensures { IsTrue result ↔ parts.proxy.Is (unboxed proxy.now) }
+/// Null, or a proxy that can be written, with endpoints up to this size.
+fn is_some_proxy(proxy: &Option<Box<Proxy>>, most: usize) -> bool
+    requires { most < 2 ^ 31 }
+    ensures { IsTrue result ↔ (parts.proxy_to most).Is (unboxed proxy.now) }
 {
     match proxy {
-        Some(proxy) => is_proxy(proxy),
+        Some(proxy) => is_proxy(proxy, most),
         None => true,
     }
 }
@@ -128,7 +131,7 @@ fn is_reference(
     name: Option<u32>,
 ) -> bool
     ensures { IsTrue result ↔ (declared : Option ℕ) × (kind ≡ kinds.Class declared)
-        × MayStand schema.now references.entry declared name }
+        × IsHeldBy schema.now references.entry declared name }
 {
     match kind {
         TypeRef::Class(declared) => references.hold(schema, declared, name),

@@ -1,6 +1,13 @@
 use Rattle.ice_encoding.specs.Proxy.{proxy}
 use Rattle.ice_encoding.proofs.Proxied.{proxy_lawful}
+use Rattle.ice_encoding.proofs.Within.{proxy_within, can_be_written}
 use Rattle.ice_encoding.proofs.part_laws.proxies_canonical.Goals as goal
+
+pub returns-clause-within : goal.returns-clause-within
+returns-clause-within c = proxy_within
+
+pub returns-clause-written : goal.returns-clause-written
+returns-clause-written c = can_be_written
 
 pub returns-clause-spelled : goal.returns-clause-spelled
 returns-clause-spelled c = proxy_lawful.put

@@ -13,4 +13,4 @@ returns g c inside =
     reads_along c.read_members.result _ _ c.read_members.new.port c.read_members.new.cursor
     (flagged_along g.P.RefPort.take t inside c.args.flagged shape _ c.optionals.result c.args.port.now c.args.bound.now c.optionals.ensures (ap told_apart c.own_fields.ensures)
     ∙ (λ i. sym (rows_read (in_place g.P.RefPort.take inside) c.args.sort t c.args.flagged shape) i c.args.port.now c.args.bound.now))
-    (c.read_members.ensures inside)
+    (c.read_members.ensures.reads inside)

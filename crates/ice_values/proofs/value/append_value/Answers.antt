@@ -2,7 +2,7 @@ use Rattle.std.proofs.Common.{ap, sym}
 use Rattle.graph_arena.specs.View.{view}
 use Rattle.ice_values.specs.Putting.{lists}
 use Rattle.ice_values.proofs.Plain.{value-written}
-use Rattle.ice_values.proofs.value.write_value.Goals as goal
+use Rattle.ice_values.proofs.value.append_value.Goals as goal
 
 pub returns-in-Ok-Done-clause-writes : goal.returns-in-Ok-Done-clause-writes
 returns-in-Ok-Done-clause-writes g c inside =

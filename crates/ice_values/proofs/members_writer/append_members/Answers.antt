@@ -2,7 +2,7 @@ use Rattle.std.proofs.Common.{sym, ap, ◌∙◌}
 use Rattle.graph_arena.specs.Seen.{view_content}
 use Rattle.ice_values.specs.WritingMembers.{Remaining, remaining, members_left}
 use Rattle.ice_values.proofs.WritingSteps.{all-left, fresh-goes}
-use Rattle.ice_values.proofs.members_writer.write_members.Goals as goal
+use Rattle.ice_values.proofs.members_writer.append_members.Goals as goal
 
 pub returns-in-Ok-Done-clause-writes : goal.returns-in-Ok-Done-clause-writes
 returns-in-Ok-Done-clause-writes g c inside =
