@@ -10,6 +10,7 @@ pub mod BaseChains
 pub mod BasePaths
 pub mod Flags
 pub mod CompactIds
+pub mod Hashed
 pub mod SliceIds
 pub mod Grown
 pub mod Measured

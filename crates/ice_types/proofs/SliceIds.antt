@@ -1,6 +1,6 @@
 -- An id `#n` tells its number, and no other text tells one; and a class is told by its type id, and by its compact id.
 use Rattle.std.proofs.Common.{◌≡◌, ℕ, zero, suc, ◌≤◌, Bool, true, false, not, ◌&&◌, List, [], ◌∷◌, map, Option, Some, None, refl, sym, ap, subst, ◌∙◌, arith, inl, inr, ◌↔◌, bytes_eq}
-use Rattle.std.specs.Prelude.{get_or, slice_get, nat_le, ◌==◌, if◌then◌else◌, IsTrue, is_some}
+use Rattle.std.specs.Prelude.{slice_get, nat_le, if◌then◌else◌, IsTrue, is_some}
 use Rattle.std.specs.Fmt.{decimal}
 use Rattle.std.specs.Str.{IsUtf8, IsAscii}
 use Rattle.std.proofs.lemmas.Bool.{leb-true, le-leb}
@@ -168,21 +168,14 @@ kept_number t rules id n utf8 is class finds none answer = by_class class finds 
     by_class (Some at) there true answer = absurd cc
 
 -- one that begins with `#` and tells none may not
-pub no_kept : (t : Tables) (id : List ℕ) → get_or id 0 0 ≡ 35 → number_in id ≡ None → IsTrue false ↔ IsKeptId t id
-no_kept t id first none = (
+pub no_kept : (t : Tables) (id : List ℕ) → is_numbered id ≡ true → number_in id ≡ None → IsTrue false ↔ IsKeptId t id
+no_kept t id numbered none = (
   λ h. absurd cc,
   λ h. absurd (elim h.0.1 [
-    | inl plain ↦ clash (is_numbered id) (hash id first) plain
+    | inl plain ↦ clash (is_numbered id) numbered plain
     | inr number ↦ none_some number.0 (sym none ∙ ap number_in number.2 ∙ number_there number.0 number.1)
   ]),
 )
   where
     none_some : (n : ℕ) → None ≡ Some n → ⊥
     none_some n e = cc
-
-    hash : (id : List ℕ) → get_or id 0 0 ≡ 35 → is_numbered id ≡ true
-    hash [] e = absurd (nothing 0 refl e)
-      where
-        nothing : (n : ℕ) → n ≡ 0 → n ≡ 35 → ⊥
-        nothing n none other = omega (arith, none, other)
-    hash (c ∷ cs) e = ap (λ (b : ℕ). b == 35) e

@@ -88,4 +88,4 @@ pub use own_names::have_own_names;
 pub use proxy::{Endpoint, Proxy};
 pub use rows::MOST_ROWS;
 pub use schema::{MOST_BASES, MOST_DEPTH, MOST_NUMBER, MOST_SMALLEST, Schema};
-pub use slice_ids::{number_in, numbered_id};
+pub use slice_ids::{is_numbered, number_in, numbered_id};

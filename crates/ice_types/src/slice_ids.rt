@@ -2,13 +2,20 @@
 //! "Compact Type IDs".)
 
 ghost use Rattle.std.specs.Prelude.{◌≡◌, ◌↔◌, IfOk, IsTrue};
-ghost use Rattle.ice_types.specs.CompactIds.{IsKeptId, number_in, numbered_id};
+ghost use Rattle.ice_types.specs.CompactIds.{IsKeptId, is_numbered, number_in, numbered_id};
 ghost use Rattle.ice_types.specs.Tables.{Finds, HasCompactId};
 
 use crate::name::Name;
 use crate::schema::{MOST_NUMBER, Schema};
 use itoa::Buffer;
 use std::alloc::{AllocError, Global};
+
+/// Whether a text begins with `#`, as no type id does. It takes no memory.
+pub fn is_numbered(id: &str) -> bool
+    ensures { result ≡ is_numbered id.now }
+{
+    id.starts_with('#')
+}
 
 /// The compact id n that the text `#n` stands for, n in decimal without leading zeros; None of every other text.
 pub fn number_in(id: &str) -> Option<u32>
@@ -46,7 +53,7 @@ impl Schema {
         ensures { IsTrue result ↔ IsKeptId self.now id.now }
     {
         self.rules();
-        if !id.starts_with('#') {
+        if !is_numbered(id) {
             return self.class(id).is_none();
         }
         match number_in(id) {

@@ -2,7 +2,6 @@ pub mod Frames
 pub mod Costs
 pub mod Keys
 pub mod RowsNamed
-pub mod Hashed
 pub mod Levels
 pub mod Plain
 pub mod ByteSequences

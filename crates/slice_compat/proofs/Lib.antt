@@ -1,0 +1,14 @@
+pub mod Levels
+pub mod Entries
+pub mod Reaching
+pub mod Spreading
+pub mod Setting
+pub mod Tables
+pub mod Stepping
+pub mod Searching
+pub mod Linked
+pub mod Failing
+pub mod Meeting
+pub mod Putting
+pub mod Verdicts
+pub mod Pairs
