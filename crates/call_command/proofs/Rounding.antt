@@ -56,8 +56,8 @@ printed_more plan ds d places a b c printed did tells appends kept = record {
 
 -- a prefix behind other bytes
 prefix_behind : (a b c : Option (List ℕ)) (lines line : List ℕ) → Appends a b lines → AppendsPrefix b c line → AppendsPrefix a c (lines ++ line)
-prefix_behind a b c lines line p (front, rest, is, q) =
-    (lines ++ front, rest, ap (λ (l : List ℕ). lines ++ l) is ∙ sym (append_assoc lines front rest), Appends-trans a b c lines front p q)
+prefix_behind a b c lines line p (front, rest, is, q, more) =
+    (lines ++ front, rest, ap (λ (l : List ℕ). lines ++ l) is ∙ sym (append_assoc lines front rest), Appends-trans a b c lines front p q, more)
 
 -- ---- one message more, or what stops it
 

@@ -1,10 +1,10 @@
 -- What was written of pieces when a write of one failed.
-use Rattle.std.proofs.Common.{◌≡◌, ℕ, ◌+◌, ◌<◌, List, ◌++◌, length, get_or, take, drop, Option, Result, Err, Bor, sym, ap, subst, ◌∙◌, append_assoc}
+use Rattle.std.proofs.Common.{◌≡◌, ℕ, ◌+◌, ◌<◌, List, ◌++◌, length, get_or, take, drop, Option, Result, Err, Bor, sym, ap, subst, ◌∙◌, append_assoc, arith}
 use Rattle.std.proofs.Math.Seq.{take-add}
 use Rattle.std.specs.List.{flat_map}
 use Rattle.std.specs.Io.KnownBytes.{Appends}
 use Rattle.std.proofs.lemmas.Grind.{flat_map-append}
-use Rattle.std.proofs.lemmas.List.{take-append-drop, drop_more}
+use Rattle.std.proofs.lemmas.List.{length-append, take-append-drop, drop_more}
 use Rattle.ice_ports.specs.Failures.{one_more}
 use Rattle.ice_ports.specs.Writing.{AppendsPrefix, Writes}
 use Rattle.std.proofs.KnownBytes.{Appends-trans}
@@ -28,7 +28,7 @@ stops_in a b c pieces i other text lt text_is p q =
     let behind : flat_map seen (drop i pieces) ≡ piece.now ++ rest = ap (flat_map seen) (drop_more pieces i other lt) in
     let all : flat_map seen pieces ≡ before ++ (piece.now ++ rest) = ap (flat_map seen) (sym (take-append-drop i pieces)) ∙ flat_map-append seen (take i pieces) (drop i pieces) ∙ ap (λ (l : List ℕ). before ++ l) behind in
     let cut : piece.now ≡ q.0 ++ q.1 = sym text_is ∙ q.2 in
-    (before ++ q.0, q.1 ++ rest, all ∙ ap (λ (l : List ℕ). before ++ (l ++ rest)) cut ∙ simp append_assoc, Appends-trans a b c before q.0 p q.3)
+    (before ++ q.0, q.1 ++ rest, all ∙ ap (λ (l : List ℕ). before ++ (l ++ rest)) cut ∙ simp append_assoc, Appends-trans a b c before q.0 p q.3, omega (arith, q.4, length-append q.1 rest))
 
 pub writes_prefix : {X E : Type 0} (a c : Option (List ℕ)) (before after : ℕ) (r : Result X E) (e : E) (bytes : List ℕ) → r ≡ Err e → AppendsPrefix a c bytes → after ≡ one_more before → Writes a c before after r bytes
 writes_prefix a c before after r e bytes is h count = rw is (h, count)

@@ -5,7 +5,7 @@ ghost use Rattle.ice_ports.specs.Writing.{Writes};
 
 use crate::ports::{Failed, Sink};
 
-/// Writes all of the bytes. A sink that fails has taken a prefix of them, and is not asked again.
+/// Writes all of the bytes. A sink that fails has taken a prefix of them, not all, and is not asked again.
 pub fn write_all<K: Sink>(sink: &mut K, bytes: &[u8]) -> Result<(), Failed>
     ensures { Writes (K.taken sink.old) (K.taken sink.new)
         (K.failures sink.old) (K.failures sink.new) result bytes.now }

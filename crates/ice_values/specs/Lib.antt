@@ -12,6 +12,7 @@ pub mod Going
 pub mod Cost
 pub mod Shapes
 pub mod SlicedType
+pub mod SliceIds
 pub mod Entering
 pub mod Unread
 pub mod Advancing

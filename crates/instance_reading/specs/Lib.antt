@@ -1,4 +1,3 @@
-pub mod Ids
 pub mod Seen
 pub mod Sorts
 pub mod Slices

@@ -29,14 +29,14 @@ use Rattle.graph_arena.specs.Seen.{view_content}
 use Rattle.ice_values.specs.Unread.{left_of_members}
 use Rattle.ice_values.specs.SlicedType.{own_fields, rows_of}
 use Rattle.ice_values.specs.declared.sliced_type.SlicedType.{SlicedType}
-use Rattle.instance_reading.specs.Ids.{id_of}
+use Rattle.ice_values.specs.SliceIds.{id_of}
 use Rattle.instance_reading.specs.Seen.{view_before, view_next, view_references}
 use Rattle.instance_reading.specs.Sorts.{may_begin, id_by, ends_by, behind_slice, slices_by, slices_from}
 use Rattle.instance_reading.specs.declared.sized.SizedMembers.{SizedMembers}
 use Rattle.instance_reading.specs.declared.sized.Body.{Body}
 use Rattle.instance_reading.specs.declared.sized.Body.TheVariants as bodies
 use Rattle.instance_reading.specs.declared.sized.OpenSlice.{OpenSlice}
-use Rattle.instance_reading.specs.declared.slice_id.SliceId.{SliceId}
+use Rattle.ice_values.specs.declared.slice_id.SliceId.{SliceId}
 use Rattle.instance_reading.specs.declared.slice.CompactSlice.{CompactSlice}
 use Rattle.instance_reading.specs.declared.slice.Stage.{Stage}
 use Rattle.instance_reading.specs.declared.slice.Stage.TheVariants as stages

@@ -28,7 +28,6 @@ mod nesting;
 mod reopening;
 mod sized;
 mod slice;
-mod slice_id;
 mod table_port;
 mod unfinished;
 

@@ -5,7 +5,7 @@ ghost use Rattle.std.specs.Prelude.{◌≡◌, ◌<◌, ◌^◌, OnOk, Some};
 ghost use Rattle.ice_graphs.specs.Flags.{flags_of};
 ghost use Rattle.ice_values.specs.SlicedType.{rows_of};
 ghost use Rattle.ice_values.specs.declared.sliced_type.SlicedType.TheVariants as sorts;
-ghost use Rattle.instance_reading.specs.Ids.{id_of};
+ghost use Rattle.ice_values.specs.SliceIds.{id_of};
 ghost use Rattle.instance_reading.specs.Seen.{view_before};
 ghost use Rattle.instance_reading.specs.Slices.{BeginsSlice, FindsId, OpensKnown, OpensSlice, ReadsId, stage_work};
 ghost use Rattle.instance_reading.specs.Slices.{TakesTypeId, Tests};
@@ -14,10 +14,9 @@ ghost use Rattle.instance_reading.specs.Sorts.{class_by, ends_by, is_over};
 use crate::arena::Arena;
 use crate::flags::{is_odd, optionals, take_flags};
 use crate::sized::{OpenSlice, behind_base, open_sized, open_unknown};
-use crate::slice_id::SliceId;
 use ice_prims::{Cursor, Fault, Kind, ReadFault};
-use ice_types::Schema;
-use ice_values::{MembersReader, SlicedType};
+use ice_types::{Schema, is_numbered};
+use ice_values::{MembersReader, SliceId, SlicedType};
 use std::alloc::Global;
 
 /// What a slice follows.
@@ -191,7 +190,7 @@ fn take_type_id<'a>(cursor: &mut Cursor<'a>) -> Result<&'a str, Fault>
 {
     let numbered = cursor.fault(Kind::BadTypeId);
     let id = cursor.take_str()?;
-    if id.starts_with('#') {
+    if is_numbered(id) {
         return Err(numbered);
     }
     Ok(id)

@@ -20,10 +20,11 @@ use Rattle.ice_values.specs.SlicedType.{compact_in, rows_of}
 use Rattle.ice_values.specs.declared.sliced_type.SlicedType.{SlicedType}
 use Rattle.ice_values.specs.declared.sliced_type.SlicedType.TheVariants.{Class, Exception}
 use Rattle.ice_values.proofs.RowsNamed.{exception_compact}
-use Rattle.instance_writing.specs.Ids.{id_of, IsTold}
+use Rattle.ice_values.specs.SliceIds.{id_of}
+use Rattle.instance_writing.specs.Ids.{IsTold}
 use Rattle.instance_writing.specs.Sorts.{head_of, text_head}
-use Rattle.instance_writing.specs.declared.written_id.WrittenId.{WrittenId}
-use Rattle.instance_writing.specs.declared.written_id.WrittenId.TheVariants as ids
+use Rattle.ice_values.specs.declared.slice_id.SliceId.{SliceId}
+use Rattle.ice_values.specs.declared.slice_id.SliceId.TheVariants as ids
 
 -- ---- of a known class
 
@@ -83,7 +84,7 @@ kept_of_exception Exception text is = tt
 
 -- ---- what is put
 
-pub told_small : (sort : SlicedType) (id : WrittenId) (n : ℕ) → IsTold sort id → id ≡ ids.Number n → n ≤ 2147483647
+pub told_small : (sort : SlicedType) (id : SliceId) (n : ℕ) → IsTold sort id → id ≡ ids.Number n → n ≤ 2147483647
 told_small sort id n told is = by_sort sort (subst (IsTold sort) is told)
   where
     by_sort : (sort : SlicedType) → IsTold sort (ids.Number n) → n ≤ 2147483647
@@ -92,8 +93,8 @@ told_small sort id n told is = by_sort sort (subst (IsTold sort) is told)
 
 module _ (flags : IdForm → ℕ) (result : Result (Unit {0}) AllocError) (pen : Pen) (out after : List ℕ) where
   -- a compact id
-  pub number_put : (sort : SlicedType) (id : WrittenId) (n : ℕ) → IsTold sort id → id ≡ ids.Number n → OnOk result (after ≡ out ++ (flags as_number ∷ size_bytes n)) → WritesPiece (head_of sort flags (id_of id)) result pen out pen after
-  number_put sort id n told is h = subst (λ (x : WrittenId). WritesPiece (head_of sort flags (id_of x)) result pen out pen after) (sym is) (by_sort sort (subst (IsTold sort) is told))
+  pub number_put : (sort : SlicedType) (id : SliceId) (n : ℕ) → IsTold sort id → id ≡ ids.Number n → OnOk result (after ≡ out ++ (flags as_number ∷ size_bytes n)) → WritesPiece (head_of sort flags (id_of id)) result pen out pen after
+  number_put sort id n told is h = subst (λ (x : SliceId). WritesPiece (head_of sort flags (id_of x)) result pen out pen after) (sym is) (by_sort sort (subst (IsTold sort) is told))
     where
       by_result : (r : Result (Unit {0}) AllocError) → n ≤ 2147483647 → OnOk r (after ≡ out ++ (flags as_number ∷ size_bytes n)) → WritesPiece (head_of Class flags (numbered_id n)) r pen out pen after
       by_result (Ok x) le h = subst (λ (o : Option ℕ). (after ≡ out ++ (head_under o flags (numbered_id n) pen).0) × (pen ≡ (head_under o flags (numbered_id n) pen).1)) (sym (number_there n le)) (h, refl)
@@ -104,10 +105,10 @@ module _ (flags : IdForm → ℕ) (result : Result (Unit {0}) AllocError) (pen :
       by_sort Exception le = absurd le
 
   -- a type id of a class
-  pub text_put : (sort : SlicedType) (id : WrittenId) (text : Bor (List ℕ)) (pen' : Pen) → IsTold sort id → id ≡ ids.Text text → sort ≡ Class → WritesPiece (text_head flags text.now) result pen out pen' after
+  pub text_put : (sort : SlicedType) (id : SliceId) (text : Bor (List ℕ)) (pen' : Pen) → IsTold sort id → id ≡ ids.Text text → sort ≡ Class → WritesPiece (text_head flags text.now) result pen out pen' after
       → WritesPiece (head_of sort flags (id_of id)) result pen out pen' after
   text_put sort id text pen' told is of_class h =
-      subst (λ (x : WrittenId). WritesPiece (head_of sort flags (id_of x)) result pen out pen' after) (sym is) (by_sort sort of_class (subst (IsTold sort) is told))
+      subst (λ (x : SliceId). WritesPiece (head_of sort flags (id_of x)) result pen out pen' after) (sym is) (by_sort sort of_class (subst (IsTold sort) is told))
     where
       by_result : (r : Result (Unit {0}) AllocError) → number_in text.now ≡ None → WritesPiece (text_head flags text.now) r pen out pen' after → WritesPiece (head_of Class flags text.now) r pen out pen' after
       by_result (Ok x) none h = subst (λ (o : Option ℕ). (after ≡ out ++ (head_under o flags text.now pen).0) × (pen' ≡ (head_under o flags text.now pen).1)) (sym none) h
@@ -118,8 +119,8 @@ module _ (flags : IdForm → ℕ) (result : Result (Unit {0}) AllocError) (pen :
       by_sort Exception of_class none = absurd cc
 
   -- and of an exception
-  pub exception_put : (sort : SlicedType) (id : WrittenId) (text : Bor (List ℕ)) → id ≡ ids.Text text → sort ≡ Exception → OnOk result (after ≡ out ++ (flags no_id ∷ text_bytes text.now)) → WritesPiece (head_of sort flags (id_of id)) result pen out pen after
-  exception_put sort id text is of_exception h = subst (λ (x : WrittenId). WritesPiece (head_of sort flags (id_of x)) result pen out pen after) (sym is) (by_sort sort of_exception)
+  pub exception_put : (sort : SlicedType) (id : SliceId) (text : Bor (List ℕ)) → id ≡ ids.Text text → sort ≡ Exception → OnOk result (after ≡ out ++ (flags no_id ∷ text_bytes text.now)) → WritesPiece (head_of sort flags (id_of id)) result pen out pen after
+  exception_put sort id text is of_exception h = subst (λ (x : SliceId). WritesPiece (head_of sort flags (id_of x)) result pen out pen after) (sym is) (by_sort sort of_exception)
     where
       by_result : (r : Result (Unit {0}) AllocError) → OnOk r (after ≡ out ++ (flags no_id ∷ text_bytes text.now)) → WritesPiece (head_of Exception flags text.now) r pen out pen after
       by_result (Ok x) h = (h, refl)

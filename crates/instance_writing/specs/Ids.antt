@@ -1,19 +1,14 @@
 -- The ids of slices, as they are written.
-use Rattle.std.specs.Prelude.{ℕ, ◌≡◌, ◌≤◌, List, None}
+use Rattle.std.specs.Prelude.{◌≡◌, ◌≤◌, None}
 use Rattle.ice_types.specs.declared.schema.TheConstants.{MOST_NUMBER}
-use Rattle.ice_types.specs.CompactIds.{number_in, numbered_id}
+use Rattle.ice_types.specs.CompactIds.{number_in}
 use Rattle.ice_values.specs.declared.sliced_type.SlicedType.{SlicedType}
 use Rattle.ice_values.specs.declared.sliced_type.SlicedType.TheVariants.{Class, Exception}
-use Rattle.instance_writing.specs.declared.written_id.WrittenId.{WrittenId}
-use Rattle.instance_writing.specs.declared.written_id.WrittenId.TheVariants as ids
-
--- the same, without where it lies in memory
-abbrev pub id_of : WrittenId → List ℕ
-id_of (ids.Text id) = id.now
-id_of (ids.Number number) = numbered_id number
+use Rattle.ice_values.specs.declared.slice_id.SliceId.{SliceId}
+use Rattle.ice_values.specs.declared.slice_id.SliceId.TheVariants as ids
 
 -- a compact id is told apart; an exception has none
-abbrev pub IsTold : SlicedType → WrittenId → Type 0
+abbrev pub IsTold : SlicedType → SliceId → Type 0
 IsTold Class (ids.Text id) = number_in id.now ≡ None
 IsTold Class (ids.Number number) = number ≤ MOST_NUMBER
 IsTold Exception (ids.Text id) = Unit {0}

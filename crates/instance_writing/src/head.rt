@@ -6,14 +6,14 @@ ghost use Rattle.ice_types.specs.declared.schema.TheConstants.{MOST_NUMBER};
 ghost use Rattle.ice_graphs.specs.Flags.{as_number, no_id};
 ghost use Rattle.ice_graphs.specs.Canonical.{flags_byte};
 ghost use Rattle.ice_values.specs.WritingMembers.{WritesPiece};
-ghost use Rattle.instance_writing.specs.Ids.{IsTold, id_of};
+ghost use Rattle.ice_values.specs.SliceIds.{id_of};
+ghost use Rattle.instance_writing.specs.Ids.{IsTold};
 ghost use Rattle.instance_writing.specs.Sorts.{head_of, text_head};
 
 use crate::pen::Pen;
-use crate::written_id::WrittenId;
 use ice_prims::{put_byte, put_size, put_str};
 use ice_types::MOST_NUMBER;
-use ice_values::SlicedType;
+use ice_values::{SliceId, SlicedType};
 use std::alloc::AllocError;
 
 /// A type id that stands as a text, in the flags.
@@ -52,7 +52,7 @@ impl Flags {
 /// the greatest int. (Ice manual, "Data Encoding for Class and Exception Types", "Compact Type IDs".)
 pub(crate) fn put_head<'a>(
     sort: SlicedType,
-    id: WrittenId<'a>,
+    id: SliceId<'a>,
     flags: Flags,
     pen: &mut Pen<'a>,
     out: &mut Vec<u8>,
@@ -64,8 +64,8 @@ pub(crate) fn put_head<'a>(
         result pen.old out.old.items pen.new out.new.items }
 {
     match id {
-        WrittenId::Number(number) => put_number_head(number, flags, out),
-        WrittenId::Text(id) => match sort {
+        SliceId::Number(number) => put_number_head(number, flags, out),
+        SliceId::Text(id) => match sort {
             SlicedType::Class => put_class_head(id, flags, pen, out),
             SlicedType::Exception => put_exception_head(id, flags, out),
         },

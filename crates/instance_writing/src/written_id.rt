@@ -4,28 +4,20 @@ ghost use Rattle.std.specs.Prelude.{◌≡◌};
 ghost use Rattle.ice_graphs.specs.Canonical as spec;
 ghost use Rattle.graph_arena.specs.Seen.{view_slice};
 ghost use Rattle.ice_values.specs.SlicedType.{rows_of};
-ghost use Rattle.instance_writing.specs.Ids.{IsTold, id_of};
+ghost use Rattle.ice_values.specs.SliceIds.{id_of};
+ghost use Rattle.instance_writing.specs.Ids.{IsTold};
 
 use graph_arena::Slice;
 use ice_types::{Schema, number_in};
-use ice_values::SlicedType;
+use ice_values::{SliceId, SlicedType};
 
-/// The id under which a slice is written.
-#[derive(Clone, Copy, Debug)]
-pub(crate) enum WrittenId<'a> {
-    /// A type id, which is empty where there is no such class or exception.
-    Text(&'a str),
-    /// A compact id.
-    Number(u32),
-}
-
-/// That of a slice: of a known class its compact id where it has one, else its type id; of a kept one the id that was
+/// The id under which a slice is written: of a known class its compact id where it has one, else its type id; of a kept one the id that was
 /// kept.
 pub(crate) fn written_id<'a>(
     schema: &'a Schema,
     sort: SlicedType,
     slice: &'a Slice,
-) -> WrittenId<'a>
+) -> SliceId<'a>
     ensures id { id_of result ≡ spec.written_id (rows_of sort schema.now) (view_slice slice.now) }
     ensures told { IsTold sort result }
 {
@@ -33,23 +25,23 @@ pub(crate) fn written_id<'a>(
     schema.rules();
     match slice {
         Slice::Known { class, .. } => match sort.compact_of(schema, *class) {
-            Some(number) => WrittenId::Number(number),
-            None => WrittenId::Text(sort.id_of(schema, *class)),
+            Some(number) => SliceId::Number(number),
+            None => SliceId::Text(sort.id_of(schema, *class)),
         },
         Slice::Unknown { id, .. } => kept_id(sort, id.as_str()),
     }
 }
 
 /// The same of an id that was kept.
-fn kept_id(sort: SlicedType, id: &str) -> WrittenId<'_>
+fn kept_id(sort: SlicedType, id: &str) -> SliceId<'_>
     ensures id { id_of result ≡ id.now }
     ensures told { IsTold sort result }
 {
     match sort {
-        SlicedType::Exception => WrittenId::Text(id),
+        SlicedType::Exception => SliceId::Text(id),
         SlicedType::Class => match number_in(id) {
-            Some(number) => WrittenId::Number(number),
-            None => WrittenId::Text(id),
+            Some(number) => SliceId::Number(number),
+            None => SliceId::Text(id),
         },
     }
 }

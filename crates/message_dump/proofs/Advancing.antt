@@ -62,7 +62,7 @@ pub gets_then : (stop : Dump) (a b c : Option (List ℕ)) (lines more : List ℕ
 gets_then Finished a b c lines more p q = Appends-trans a b c lines more p q
 gets_then (Refused fault) a b c lines more p q = Appends-trans a b c lines more p q
 gets_then ReadFailed a b c lines more p q = Appends-trans a b c lines more p q
-gets_then WriteFailed a b c lines more p q = (lines ++ q.0, q.1, ap (λ (z : List ℕ). lines ++ z) q.2 ∙ sym (append_assoc lines q.0 q.1), Appends-trans a b c lines q.0 p q.3)
+gets_then WriteFailed a b c lines more p q = (lines ++ q.0, q.1, ap (λ (z : List ℕ). lines ++ z) q.2 ∙ sym (append_assoc lines q.0 q.1), Appends-trans a b c lines q.0 p q.3, q.4)
 gets_then Memory a b c lines more p q = Appends-trans a b c lines more p q
 
 -- lines were told and written, and then more

@@ -15,7 +15,7 @@ ghost use Rattle.value_checks.specs.First.{AreSlices, IsFine, IsUnknownSlice, Is
 use crate::members::are_members;
 use crate::references::References;
 use graph_arena::{Graph, Members, Slice};
-use ice_types::{Name, Schema, number_in};
+use ice_types::{Name, Schema, is_numbered, number_in};
 use ice_values::SlicedType;
 
 /// Whether they are the slices of a user exception whose references stand for instances of the graph: kept
@@ -47,7 +47,7 @@ fn has_type_id(slice: &Slice) -> bool
 {
     match slice {
         Slice::Known { .. } => true,
-        Slice::Unknown { id, .. } => !id.as_str().starts_with('#'),
+        Slice::Unknown { id, .. } => !is_numbered(id.as_str()),
     }
 }
 
@@ -120,7 +120,7 @@ fn is_unknown_id(schema: &Schema, sort: SlicedType, id: &Name) -> bool
     match sort {
         SlicedType::Class => schema.kept_id(id),
         SlicedType::Exception => {
-            if id.starts_with('#') {
+            if is_numbered(id) {
                 number_in(id).is_some()
             } else {
                 schema.exception(id).is_none()

@@ -12,7 +12,7 @@ returns-in_err-at g c =
     let failed = err_from_is_err_and c.from_residual.result c.from_residual.ensures.1 in
     let kept = Appends-kept (g.K.Sink.taken c.args.sink.now) (g.K.Sink.taken c.loop-at.sink) (g.K.Sink.taken c.write.new.self) (take c.loop-at.at c.args.bytes.now) c.loop-at.invariant.taken c.in_err-at.ensures.bytes in
     writes_prefix (g.K.Sink.taken c.args.sink.now) (g.K.Sink.taken c.write.new.self) (g.K.Sink.failures c.args.sink.now) (g.K.Sink.failures c.write.new.self) c.from_residual.result failed.0 c.args.bytes.now failed.1
-    (take c.loop-at.at c.args.bytes.now, drop c.loop-at.at c.args.bytes.now, sym (take-append-drop c.loop-at.at c.args.bytes.now), kept) (c.in_err-at.ensures.count ∙ ap one_more c.loop-at.invariant.count)
+    (take c.loop-at.at c.args.bytes.now, drop c.loop-at.at c.args.bytes.now, sym (take-append-drop c.loop-at.at c.args.bytes.now), kept, omega (arith, c.loop-at-test.true, length-drop c.loop-at.at c.args.bytes.now)) (c.in_err-at.ensures.count ∙ ap one_more c.loop-at.invariant.count)
 
 pub loop-at-preserved : goal.loop-at-preserved
 loop-at-preserved g c =

@@ -1,8 +1,8 @@
--- The ids of slices, as they are read.
+-- The ids of slices, as they stand in an encapsulation.
 use Rattle.std.specs.Prelude.{ℕ, List}
 use Rattle.ice_types.specs.CompactIds.{numbered_id}
-use Rattle.instance_reading.specs.declared.slice_id.SliceId.{SliceId}
-use Rattle.instance_reading.specs.declared.slice_id.SliceId.TheVariants as ids
+use Rattle.ice_values.specs.declared.slice_id.SliceId.{SliceId}
+use Rattle.ice_values.specs.declared.slice_id.SliceId.TheVariants as ids
 
 -- the same, without where it lies in memory
 abbrev pub id_of : SliceId → List ℕ

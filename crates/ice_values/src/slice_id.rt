@@ -1,17 +1,18 @@
-//! The id of a slice, as it is read. (Ice manual, "Compact Type IDs".)
+//! The id of a slice, as it stands in an encapsulation. (Ice manual, "Compact Type IDs".)
 
 ghost use Rattle.std.specs.Prelude.{◌≡◌, IfOk};
 ghost use Rattle.ice_values.specs.SlicedType.{row_of, rows_of};
-ghost use Rattle.instance_reading.specs.Ids.{id_of};
+ghost use Rattle.ice_values.specs.SliceIds.{id_of};
 
+use crate::sliced_type::SlicedType;
 use ice_types::{Name, Schema, numbered_id};
-use ice_values::SlicedType;
 use std::alloc::{AllocError, Global};
 
-/// The id of a slice.
+/// The id of a slice: of an instance its type id or its compact id, of an exception its type id.
+/// (Ice manual, "Compact Type IDs".)
 #[derive(Clone, Copy, Debug)]
-pub(crate) enum SliceId<'a> {
-    /// A type id, which is empty where none stands.
+pub enum SliceId<'a> {
+    /// A type id, which is empty where none stands or the schema has no such row.
     Text(&'a str),
     /// A compact id.
     Number(u32),
@@ -19,7 +20,7 @@ pub(crate) enum SliceId<'a> {
 
 impl SliceId<'_> {
     /// The row that has it, None where the schema has none.
-    pub(crate) fn row(self, sort: SlicedType, schema: &Schema) -> Option<u32>
+    pub fn row(self, sort: SlicedType, schema: &Schema) -> Option<u32>
         ensures { result ≡ row_of sort (rows_of sort schema.now) (id_of self.entry) }
     {
         match self {
@@ -28,8 +29,8 @@ impl SliceId<'_> {
         }
     }
 
-    /// The id as it is kept.
-    pub(crate) fn kept(self, alloc: Global) -> Result<Name, AllocError>
+    /// The id as it is kept: a compact id n as the text `#n`. Out of memory leaves nothing.
+    pub fn kept(self, alloc: Global) -> Result<Name, AllocError>
         ensures { IfOk result (λ id. id ≡ id_of self.entry) }
     {
         match self {
