@@ -11,13 +11,9 @@ use graph_arena::Slice;
 use ice_types::{Schema, number_in};
 use ice_values::{SliceId, SlicedType};
 
-/// The id under which a slice is written: of a known class its compact id where it has one, else its type id; of a kept one the id that was
-/// kept.
-pub(crate) fn written_id<'a>(
-    schema: &'a Schema,
-    sort: SlicedType,
-    slice: &'a Slice,
-) -> SliceId<'a>
+/// The id under which a slice is written: of a known class its compact id where it has one, else its type id; of a
+/// kept one the id that was kept.
+pub(crate) fn written_id<'a>(schema: &'a Schema, sort: SlicedType, slice: &'a Slice) -> SliceId<'a>
     ensures id { id_of result ≡ spec.written_id (rows_of sort schema.now) (view_slice slice.now) }
     ensures told { IsTold sort result }
 {

@@ -9,7 +9,7 @@ ghost use Rattle.ice_encoding.specs.Tree.{dictionary, sequence, struct};
 ghost use Rattle.ice_encoding.specs.Typed.{AllOf, EachOf, HasType, PairsOf, no_reference};
 ghost use Rattle.graph_arena.specs.View.{byte_trees, unboxed, view, view_all, view_pairs};
 ghost use Rattle.value_checks.specs.Forms.{HasForm, IsEnumerator};
-ghost use Rattle.value_checks.specs.References.{AnyRefers, IsHeldBy, MayStand};
+ghost use Rattle.value_checks.specs.References.{AnyRefers, IsHeldBy, MayStand, most_of};
 
 use crate::proxies::{is_proxy, is_size, is_text};
 use crate::references::References;
@@ -59,9 +59,7 @@ fn has_form(
         Value::Long(number) => is_long(kind, *number),
         Value::Text(text) => kind == TypeRef::Text && is_text(text),
         Value::Enum(number) => is_enumerator(schema, kind, *number),
-        Value::Proxy(proxy) => {
-            matches!(kind, TypeRef::Proxy(_)) && is_some_proxy(proxy, references.most())
-        }
+        Value::Proxy(proxy) => is_proxy_of(references, kind, proxy),
         Value::Reference(name) => is_reference(schema, references, kind, *name),
         Value::Seq(items) => is_sequence(schema, references, levels, kind, items.as_slice()),
         Value::Bytes(bytes) => is_bytes(schema, levels, kind, bytes.as_slice()),
@@ -109,6 +107,17 @@ fn is_enumerator(schema: &Schema, kind: TypeRef, number: u32) -> bool
     match schema.enums().get(at as usize) {
         Some(decl) => is_size(number as usize) && has_number(decl.entries.as_slice(), number),
         None => false,
+    }
+}
+
+/// Null or a proxy, where a proxy is declared.
+fn is_proxy_of(references: References<'_>, kind: TypeRef, proxy: &Option<Box<Proxy>>) -> bool
+    ensures { IsTrue result ↔ (at : Option ℕ) × (kind ≡ kinds.Proxy at)
+        × (parts.proxy_to (most_of references.entry)).Is (unboxed proxy.now) }
+{
+    match kind {
+        TypeRef::Proxy(_) => is_some_proxy(proxy, references.most()),
+        _ => false,
     }
 }
 
