@@ -111,7 +111,7 @@ fn values_with_numbers(rt: HostRuntime) -> Result<(), Fail> {
     let value = read_value(alloc, &schema, TypeRef::Text, &mut cursor, &mut Numbers)?;
     let mut out = Vec::new(alloc);
     write_value(alloc, &value, &mut out, &mut Numbers)?;
-    assert_eq!(rt; out.as_slice(), b"\x02hi");
+    assert_eq!(rt; out.as_slice(), b"\x02hi".as_slice());
     let second = read_value(alloc, &schema, TypeRef::Text, &mut cursor, &mut Numbers);
     assert!(rt; second.is_err());
     assert_eq!(rt; cursor.left(), 3);
@@ -119,6 +119,6 @@ fn values_with_numbers(rt: HostRuntime) -> Result<(), Fail> {
     let kind = TypeRef::Class(None);
     let value = read_value(alloc, &schema, kind, &mut cursor, &mut Numbers)?;
     write_value(alloc, &value, &mut out, &mut Numbers)?;
-    assert_eq!(rt; out.as_slice(), b"\x02hi\x05");
+    assert_eq!(rt; out.as_slice(), b"\x02hi\x05".as_slice());
     Ok(())
 }
