@@ -168,9 +168,9 @@ module _ (t u : Tables) (rules : IsSchema u) (kind other : TypeRef) where
   one_first : (a b : ℕ) (v w : Why) → FirstFailing t u kind other a v → FirstFailing t u kind other b w → NoClass a v ≡ NoClass b w
   one_first a b v w p q = elim (cases_order a b) [
     | inl same ↦
-      let fails : ClassFails t u b v = subst (λ (k : ℕ). ClassFails t u k v) same p.fails in
-      let why : v ≡ w = one_why t u rules b v w fails q.fails in
-      (λ i. NoClass (same i) (why i))
+        let fails : ClassFails t u b v = subst (λ (k : ℕ). ClassFails t u k v) same p.fails in
+        let why : v ≡ w = one_why t u rules b v w fails q.fails in
+        (λ i. NoClass (same i) (why i))
     | inr (inl before) ↦ absurd (never_passes t u rules a v (q.earlier a before p.reached) p.fails)
     | inr (inr behind) ↦ absurd (never_passes t u rules b w (p.earlier b behind q.reached) q.fails)
   ]

@@ -31,12 +31,7 @@ pub(crate) fn compat_text(
 }
 
 /// The class's type id, and why it cannot be read.
-fn put_class(
-    text: &mut Vec<u8>,
-    schema: &Schema,
-    class: u32,
-    why: Why,
-) -> Result<(), AllocError>
+fn put_class(text: &mut Vec<u8>, schema: &Schema, class: u32, why: Why) -> Result<(), AllocError>
     ensures { OnOk result (text.new.items ≡ text.old.items ++ class_words (slice_get schema.now.classes class) why) }
 {
     let Some(decl) = schema.classes().get(class as usize) else {
