@@ -17,7 +17,7 @@ use Rattle.instance_writing.specs.declared.format.Format.TheVariants as formats
 use Rattle.ice_relay.specs.Relaying.{one_value, Holds, canonical_bytes}
 use Rattle.slice_meaning.proofs.Loads.{one_meaning}
 use Rattle.node_commands.specs.declared.words.Task.TheVariants as tasks
-use Rattle.node_commands.specs.Words.{Word, Command, values, check, proxy, audit, drill, messages, help, version, Asks}
+use Rattle.node_commands.specs.Words.{Word, Command, values, check, proxy, audit, compat, drill, messages, help, version, Asks}
 use Rattle.node_commands.specs.Outside.{Files, Outside}
 use Rattle.node_commands.specs.Answers.{Answer, done, different, usage, no_such_name, slice_refused, input_refused, json_refused, too_long, needs_sliced, text_refused, read_failed, write_failed, no_memory, refused_after, read_failed_after, no_memory_after, status}
 use Rattle.node_commands.specs.Decided.{DoesTask, Decides, Decided}
@@ -56,6 +56,7 @@ module _ (files : Files) (input : List ℕ) (fits : IsBytes input) (t : Tables) 
     by_command words (Some (check f)) are form decides = absurd (no_task words _ (tasks.Relay formats.Sliced) file word are form.0 refl)
     by_command words (Some (proxy f)) are form decides = absurd (no_task words _ (tasks.Relay formats.Sliced) file word are form.0 refl)
     by_command words (Some (audit f g)) are form decides = absurd (no_task words _ (tasks.Relay formats.Sliced) file word are form.0 refl)
+    by_command words (Some (compat f g k)) are form decides = absurd (no_task words _ (tasks.Relay formats.Sliced) file word are form.0 refl)
     by_command words (Some (drill start count)) are form decides = absurd (no_task words _ (tasks.Relay formats.Sliced) file word are form.0 refl)
     by_command words (Some messages) are form decides = absurd (no_task words _ (tasks.Relay formats.Sliced) file word are form refl)
     by_command words (Some help) are form decides = absurd (no_task words _ (tasks.Relay formats.Sliced) file word are form refl)

@@ -7,7 +7,7 @@ use Rattle.std.specs.Fmt.{decimal}
 use Rattle.instance_writing.specs.declared.format.Format.TheVariants as formats
 use Rattle.node_commands.specs.declared.words.Task.{Task}
 use Rattle.node_commands.specs.declared.words.Task.TheVariants as tasks
-use Rattle.node_commands.specs.Words.{Word, Command, values, check, proxy, audit, drill, messages, help, version, task_words, Form, Asks, words_of}
+use Rattle.node_commands.specs.Words.{Word, Command, values, check, proxy, audit, compat, drill, messages, help, version, task_words, Form, Asks, words_of}
 
 -- how many words there are, how long the first is, and its second byte: each form has numbers of its own
 abbrev pub mark : List Word → ℕ
@@ -75,10 +75,11 @@ sort messages = 4
 sort help = 5
 sort version = 6
 sort (audit client server) = 7
+sort (compat old new kind) = 8
 
 -- which the words tell
 abbrev sort_at : ℕ → ℕ
-sort_at n = cond (eqb n 52104) 1 (cond (eqb n 52114) 2 (cond (eqb n 53114) 3 (cond (eqb n 81101) 4 (cond (eqb n 61045) 5 (cond (eqb n 91045) 6 (cond (eqb n 53117) 7 0))))))
+sort_at n = cond (eqb n 52104) 1 (cond (eqb n 52114) 2 (cond (eqb n 53114) 3 (cond (eqb n 81101) 4 (cond (eqb n 61045) 5 (cond (eqb n 91045) 6 (cond (eqb n 53117) 7 (cond (eqb n 64111) 8 0)))))))
 
 abbrev sort_of : List Word → ℕ
 sort_of words = sort_at (mark words)
@@ -96,6 +97,7 @@ sorted words (values task file kind) p = ap sort_of p.0 ∙ sort_of_task task fi
 sorted words (check file) p = ap sort_of p.0
 sorted words (proxy text) p = ap sort_of p.0
 sorted words (audit client server) p = ap sort_of p.0
+sorted words (compat old new kind) p = ap sort_of p.0
 sorted words (drill start count) p = ap sort_of p.0
 sorted words messages p = ap sort_of p
 sorted words help p = ap sort_of p
@@ -113,6 +115,7 @@ forms_apart words (values a f k) (values b g l) p q = values_apart words a b f g
 forms_apart words (check f) (check g) p q = cc (p.0, q.0)
 forms_apart words (proxy f) (proxy g) p q = cc (p.0, q.0)
 forms_apart words (audit f g) (audit h k) p q = cc (p.0, q.0)
+forms_apart words (compat f g k) (compat h l m) p q = cc (p.0, q.0)
 forms_apart words (drill m n) (drill k l) p q = drills_apart words m n k l p q
 forms_apart words messages messages p q = refl
 forms_apart words help help p q = refl

@@ -3,6 +3,8 @@ pub mod Naming
 pub mod CommandForms
 pub mod Keeping
 pub mod Telling
+pub mod OneCompat
+pub mod TwoFiles
 pub mod OneAnswer
 pub mod Denying
 pub mod Finding

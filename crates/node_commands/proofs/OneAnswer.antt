@@ -22,10 +22,10 @@ use Rattle.ice_relay.specs.Telling.{CanBeRelayed, IsTooLong}
 use Rattle.node_commands.specs.declared.words.Task.{Task}
 use Rattle.node_commands.specs.declared.words.Task.TheVariants as tasks
 use Rattle.slice_meaning.proofs.Loads.{one_meaning, one_break, never_both}
-use Rattle.node_commands.specs.Words.{Word, Command, values, check, proxy, audit, drill, messages, help, version, Asks}
+use Rattle.node_commands.specs.Words.{Word, Command, values, check, proxy, audit, compat, drill, messages, help, version, Asks}
 use Rattle.node_commands.specs.Outside.{Files, Failures, Outside}
 use Rattle.node_commands.specs.Answers.{Answer, done, different, usage, no_such_name, slice_refused, input_refused, json_refused, too_long, needs_sliced, text_refused, read_failed, write_failed, no_memory, refused_after, read_failed_after, no_memory_after, status}
-use Rattle.node_commands.specs.Decided.{WithSchema, WithType, WithGraph, WithText, WithFormat, WithinLimit, Encapsulates, WithTwo, IsVerdict, WithinBoth, Compares, Does, DoesTask, Checks, WithFile, judged, Audits, Drills, Decides, Decided}
+use Rattle.node_commands.specs.Decided.{WithSchema, WithType, WithGraph, WithText, WithFormat, WithinLimit, Encapsulates, WithTwo, IsVerdict, WithinBoth, Compares, Does, DoesTask, Checks, WithFile, judged, Audits, compared, ComparesFiles, Drills, Decides, Decided}
 use Rattle.node_commands.specs.Causes.{Causes}
 use Rattle.node_commands.specs.Statuses.{Answered, IsFailure, EndsWithStatus}
 use Rattle.std.proofs.lemmas.Option.{same_Some}
@@ -182,6 +182,10 @@ module _ (files : Files) (name : Word) where
 audits_apart : (files : Files) (client server : Word) (a b : Answer) → Audits (Some files) client server a → Audits (Some files) client server b → a ≡ b
 audits_apart files client server a b = file_apart files client a b _ _ (λ asked. file_apart files server a b _ _ (λ sent p q. p.2 ∙ ap judged (one_verdict asked sent p.0 q.0 p.1 q.1) ∙ sym q.2))
 
+-- there is one verdict on a type of two schemas
+files_apart : (files : Files) (old new word : Word) (a b : Answer) → ComparesFiles (Some files) old new word a → ComparesFiles (Some files) old new word b → a ≡ b
+files_apart files old new word a b = schema_apart files old a b _ _ (λ t. schema_apart files new a b _ _ (λ u. type_apart t word a b _ _ (λ kind. type_apart u word a b _ _ (λ other p q. p.2 ∙ ap (compared t) (q.1.1 p.0 p.1.0) ∙ sym q.2))))
+
 -- the first encapsulation that is too long has one length, and then the graph cannot be relayed
 module _ (t : Tables) (shape : Shape) (g : Graph) where
   one_length : (n m : ℕ) → IsTooLong t shape g n → IsTooLong t shape g m → n ≡ m
@@ -205,6 +209,7 @@ decides_apart (Some (values task file word)) files input a b p q = tasks_apart t
 decides_apart (Some (check file)) files input a b p q = checks_apart files file a b p q
 decides_apart (Some (proxy text)) files input a b p q = p ∙ sym q
 decides_apart (Some (audit client server)) files input a b p q = audits_apart files client server a b p q
+decides_apart (Some (compat old new word)) files input a b p q = files_apart files old new word a b p q
 decides_apart (Some (drill start count)) files input a b p q = drills_apart start count a b p q
 decides_apart (Some messages) files input a b p q = dumps_one input a b p q
 decides_apart (Some help) files input a b p q = p ∙ sym q

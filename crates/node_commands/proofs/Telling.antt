@@ -9,7 +9,7 @@ use Rattle.message_dump.specs.Dumps.{Tells, IsDump}
 use Rattle.message_dump.specs.Sources.{TellsSome, TellsAll, IsTold, GetsLines, ReadsFrugally, is_read_failed, is_write_failed}
 use Rattle.message_dump.proofs.OneDump.{one_dump}
 use Rattle.node_commands.specs.declared.words.Task.TheVariants as tasks
-use Rattle.node_commands.specs.Words.{Command, values, check, proxy, audit, drill, messages, help, version}
+use Rattle.node_commands.specs.Words.{Command, values, check, proxy, audit, compat, drill, messages, help, version}
 use Rattle.node_commands.specs.Outside.{Files, counts}
 use Rattle.node_commands.specs.Answers.{Answer, done, refused_after}
 use Rattle.node_commands.specs.Decided.{told, TellsMessages, Decides}
@@ -64,6 +64,7 @@ to_be_written (Some (values (tasks.Encode format) file word)) files input bytes 
 to_be_written (Some (check file)) files input bytes d = d
 to_be_written (Some (proxy text)) files input bytes d = d
 to_be_written (Some (audit client server)) files input bytes d = inl d
+to_be_written (Some (compat old new word)) files input bytes d = inl d
 to_be_written (Some (drill start count)) files input bytes d = d
 to_be_written (Some help) files input bytes d = d
 to_be_written (Some version) files input bytes d = d

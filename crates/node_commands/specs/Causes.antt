@@ -3,7 +3,7 @@ use Rattle.std.specs.Prelude.{ℕ, ◌⊎◌, List, Option, Some, None, IfSome}
 use Rattle.ice_types.specs.declared.kind.TypeRef.{TypeRef}
 use Rattle.ice_types.specs.Tables.{Tables}
 use Rattle.message_dump.specs.Sources.{TellsSome}
-use Rattle.node_commands.specs.Words.{Word, Command, values, check, proxy, audit, drill, messages, help, version}
+use Rattle.node_commands.specs.Words.{Word, Command, values, check, proxy, audit, compat, drill, messages, help, version}
 use Rattle.node_commands.specs.declared.words.Task.TheVariants as tasks
 use Rattle.node_commands.specs.Outside.{Files, Failures, NoneFailed, ShelfFailed, SourceFailed, SinkFailed}
 use Rattle.node_commands.specs.Answers.{Answer, done, different, usage, no_such_name, slice_refused, input_refused, json_refused, too_long, needs_sliced, text_refused, read_failed, write_failed, no_memory, refused_after, read_failed_after, no_memory_after}
@@ -14,13 +14,14 @@ abbrev pub WantsValue : Option Files → Word → Word → Type 0
 WantsValue files file word = (t : Tables) × (kind : TypeRef)
     × IsSchema files file t × IsNamed t word kind
 
--- A read failed: of FILE or a file that it includes, of CLIENT or SERVER; or of the input, where it is wanted.
+-- A read failed: of FILE, of OLD or NEW or a file that these include, of CLIENT or SERVER; or of the input, where it is wanted.
 abbrev pub ReadFails : Option Command → Option Files → Failures → Failures → Type 0
 ReadFails (Some (values task file word)) files before after =
     ShelfFailed before after ⊎ (WantsValue files file word × SourceFailed before after)
 ReadFails (Some (check file)) files before after = ShelfFailed before after
 ReadFails (Some (proxy text)) files before after = ⊥
 ReadFails (Some (audit client server)) files before after = ShelfFailed before after
+ReadFails (Some (compat old new word)) files before after = ShelfFailed before after
 ReadFails (Some (drill start count)) files before after = ⊥
 ReadFails (Some messages) files before after = ⊥
 ReadFails (Some help) files before after = ⊥
@@ -33,6 +34,7 @@ MayRunOut (Some (values task file word)) = Unit {0}
 MayRunOut (Some (check file)) = Unit {0}
 MayRunOut (Some (proxy text)) = Unit {0}
 MayRunOut (Some (audit client server)) = Unit {0}
+MayRunOut (Some (compat old new word)) = Unit {0}
 MayRunOut (Some (drill start count)) = Unit {0}
 MayRunOut (Some messages) = ⊥
 MayRunOut (Some help) = ⊥
@@ -55,6 +57,8 @@ IsToBeWritten (Some (check file)) files input bytes = Decides (Some (check file)
 IsToBeWritten (Some (proxy text)) files input bytes = Decides (Some (proxy text)) files input (done bytes)
 IsToBeWritten (Some (audit client server)) files input bytes = Decides (Some (audit client server)) files input (done bytes)
     ⊎ Decides (Some (audit client server)) files input (different bytes)
+IsToBeWritten (Some (compat old new word)) files input bytes = Decides (Some (compat old new word)) files input (done bytes)
+    ⊎ Decides (Some (compat old new word)) files input (different bytes)
 IsToBeWritten (Some (drill start count)) files input bytes = Decides (Some (drill start count)) files input (done bytes)
 IsToBeWritten (Some help) files input bytes = Decides (Some help) files input (done bytes)
 IsToBeWritten (Some version) files input bytes = Decides (Some version) files input (done bytes)
@@ -67,6 +71,7 @@ HasTold (Some (values task file word)) input written = ⊥
 HasTold (Some (check file)) input written = ⊥
 HasTold (Some (proxy text)) input written = ⊥
 HasTold (Some (audit client server)) input written = ⊥
+HasTold (Some (compat old new word)) input written = ⊥
 HasTold (Some (drill start count)) input written = ⊥
 HasTold (Some help) input written = ⊥
 HasTold (Some version) input written = ⊥

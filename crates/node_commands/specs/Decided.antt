@@ -29,15 +29,19 @@ use Rattle.message_dump.specs.Dumps.{IsDump}
 use Rattle.ice_audit.specs.declared.verdict.Verdict.{Verdict}
 use Rattle.ice_audit.specs.declared.verdict.Verdict.TheVariants.{Yes, No}
 use Rattle.ice_audit.specs.Verdicts.{Judges}
+use Rattle.slice_compat.specs.declared.verdict.Verdict.{Verdict as CompatVerdict}
+use Rattle.slice_compat.specs.declared.verdict.Verdict.TheVariants as compats
+use Rattle.slice_compat.specs.Verdicts as compatibility
 use Rattle.ice_ports.specs.Files.{file_named}
 use Rattle.slice_meaning.specs.Printed.{LoadBreak}
 use Rattle.slice_meaning.specs.Loading.{Loads, LoadBreaks}
 use Rattle.node_commands.specs.declared.help.TheConstants.{HELP, VERSION}
-use Rattle.node_commands.specs.Words.{Word, Command, values, check, proxy, audit, drill, messages, help, version, Asks}
+use Rattle.node_commands.specs.Words.{Word, Command, values, check, proxy, audit, compat, drill, messages, help, version, Asks}
 use Rattle.node_commands.specs.declared.words.Task.{Task}
 use Rattle.node_commands.specs.declared.words.Task.TheVariants as tasks
 use Rattle.node_commands.specs.TypeWords.{IsTypeWord}
 use Rattle.node_commands.specs.Audits.{verdict_text}
+use Rattle.node_commands.specs.Compats.{compat_line}
 use Rattle.node_commands.specs.Outside.{Files}
 use Rattle.node_commands.specs.Answers.{Answer, done, different, usage, no_such_name, slice_refused, input_refused, json_refused, too_long, needs_sliced, text_refused, refused_after}
 
@@ -216,6 +220,30 @@ Audits files client server answer =
     WithFile files server answer (λ sent.
     (verdict : Verdict) × Judges asked sent verdict × (answer ≡ judged verdict)))
 
+-- the verdict on a type of both schemas, the one that there is
+abbrev pub IsCompatVerdict : (t u : Tables) (kind other : TypeRef) → CompatVerdict → Type 0
+IsCompatVerdict t u kind other verdict = compatibility.IsVerdict t u kind other verdict
+    × ((another : CompatVerdict) → compatibility.IsVerdict t u kind other another → another ≡ verdict)
+
+-- what was spelled can be read, or of any other verdict the answer is no
+abbrev pub compared : Tables → CompatVerdict → Answer
+compared t compats.Yes = done (compat_line t compats.Yes)
+compared t compats.NoRoot = different (compat_line t compats.NoRoot)
+compared t (compats.NoClass class why) = different (compat_line t (compats.NoClass class why))
+
+-- whether what was spelled of a type of the one schema can be read of a type of the other
+abbrev pub TellsCompat : (t u : Tables) (kind other : TypeRef) → Answer → Type 0
+TellsCompat t u kind other answer = (verdict : CompatVerdict) × IsCompatVerdict t u kind other verdict × (answer ≡ compared t verdict)
+
+-- `compat OLD NEW TYPE`: the same of the type that the word names in each of the two files
+abbrev pub ComparesFiles : Option Files → (old new word : Word) → Answer → Type 0
+ComparesFiles files old new word answer =
+    WithSchema files old answer (λ t.
+    WithSchema files new answer (λ u.
+    WithType t word answer (λ kind.
+    WithType u word answer (λ other.
+    TellsCompat t u kind other answer))))
+
 -- `drill`: the line on the graph that is drawn, or the length of its first encapsulation that is above the limit
 abbrev pub Drills : (start count : ℕ) → Answer → Type 0
 Drills start count answer =
@@ -237,6 +265,7 @@ Decides (Some (values task file word)) files input answer = DoesTask task files 
 Decides (Some (check file)) files input answer = Checks files file answer
 Decides (Some (proxy text)) files input answer = answer ≡ read_text (proxy_text text)
 Decides (Some (audit client server)) files input answer = Audits files client server answer
+Decides (Some (compat old new word)) files input answer = ComparesFiles files old new word answer
 Decides (Some (drill start count)) files input answer = Drills start count answer
 Decides (Some messages) files input answer = TellsMessages input answer
 Decides (Some help) files input answer = answer ≡ done HELP.now

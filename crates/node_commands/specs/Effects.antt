@@ -3,7 +3,7 @@ use Rattle.std.specs.Prelude.{ℕ, ◌≡◌, ◌⊎◌, List, Option, Some, Non
 use Rattle.std.specs.Io.KnownBytes.{Keeps, Appends}
 use Rattle.ice_ports.specs.Failures.{one_more}
 use Rattle.message_dump.specs.Sources.{ReadsFrugally}
-use Rattle.node_commands.specs.Words.{Command, values, check, proxy, audit, drill, messages, help, version}
+use Rattle.node_commands.specs.Words.{Command, values, check, proxy, audit, compat, drill, messages, help, version}
 use Rattle.ice_ports.specs.Writing.{AppendsPrefix}
 use Rattle.ice_relay.specs.Streams.{TakesFrugally, TakesTwoFrugally}
 use Rattle.ice_relay.specs.TextStreams.{TakesText}
@@ -25,6 +25,7 @@ TakesInput (Some (values task file word)) old new = TakesTask task old new
 TakesInput (Some (check file)) old new = Keeps old new
 TakesInput (Some (proxy text)) old new = Keeps old new
 TakesInput (Some (audit client server)) old new = Keeps old new
+TakesInput (Some (compat before after word)) old new = Keeps old new
 TakesInput (Some (drill start count)) old new = Keeps old new
 TakesInput (Some messages) old new = ReadsFrugally old new
 TakesInput (Some help) old new = Keeps old new

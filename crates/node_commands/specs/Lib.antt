@@ -3,6 +3,7 @@ pub mod TypeWords
 pub mod Outside
 pub mod Answers
 pub mod Audits
+pub mod Compats
 pub mod Decided
 pub mod Causes
 pub mod Effects

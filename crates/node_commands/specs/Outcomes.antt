@@ -28,7 +28,7 @@ use Rattle.node_commands.specs.declared.words.Task.{Task}
 use Rattle.node_commands.specs.Words.{Word, Command}
 use Rattle.node_commands.specs.Outside.{Files, Failures, NoneFailed}
 use Rattle.node_commands.specs.Answers.{Answer, done, different, usage, no_such_name, slice_refused, input_refused, json_refused, too_long, needs_sliced, text_refused, read_failed, write_failed, no_memory, refused_after, read_failed_after, no_memory_after}
-use Rattle.node_commands.specs.Decided.{IsSchema, IsFault, IsNamed, HasFile, HasNoFile, WithType, Does, Decides, judged}
+use Rattle.node_commands.specs.Decided.{IsSchema, IsFault, IsNamed, HasFile, HasNoFile, WithType, Does, Decides, judged, TellsCompat}
 use Rattle.node_commands.specs.Causes.{Causes}
 use Rattle.node_commands.specs.Effects.{TakesInput, Takes}
 
@@ -178,6 +178,10 @@ FindsFile files name before after (Err outcome) = GivesNoFile files name before 
 -- what is to be written of a capture
 abbrev pub FindsVerdict : (client server : List ℕ) → Found → Type 0
 FindsVerdict client server found = (verdict : Verdict) × Judges client server verdict × (found_answer found ≡ judged verdict)
+
+-- what is to be written of a type of two schemas
+abbrev pub FindsCompat : (t u : Tables) (kind other : TypeRef) → Found → Type 0
+FindsCompat t u kind other found = TellsCompat t u kind other (found_answer found)
 
 -- the type that the word names, or that there is none
 abbrev pub FindsType : Tables → Word → Result TypeRef Outcome → Type 0

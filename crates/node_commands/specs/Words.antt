@@ -24,6 +24,8 @@ pub data Command : Type 0 where
   proxy : Word → Command
   -- the files of what the client sent on a connection, and of what the server sent
   audit : Word → Word → Command
+  -- the Slice file of what was spelled, that of what is read, and the name of its type in both
+  compat : Word → Word → Word → Command
   -- the number that the graph is drawn from, and how many nodes it has
   drill : ℕ → ℕ → Command
   messages : Command
@@ -57,6 +59,7 @@ Form words (values task file kind) =
 Form words (check file) = (words ≡ codes "check" ∷ file ∷ []) × IsWord file
 Form words (proxy text) = (words ≡ codes "proxy" ∷ text ∷ []) × IsWord text
 Form words (audit client server) = (words ≡ codes "audit" ∷ client ∷ server ∷ []) × IsWord client × IsWord server
+Form words (compat old new kind) = (words ≡ codes "compat" ∷ old ∷ new ∷ kind ∷ []) × IsWord old × IsWord new × IsWord kind
 Form words (drill start count) = (words ≡ codes "drill" ∷ decimal start ∷ decimal count ∷ [])
     × (start ≤ MOST_OF_A_START) × (0 < count) × (count ≤ MOST_NODES)
 Form words messages = words ≡ codes "messages" ∷ []
@@ -83,6 +86,7 @@ asked_of (Some (written.Values task file kind)) = Some (values task file.now kin
 asked_of (Some (written.Check file)) = Some (check file.now)
 asked_of (Some (written.Proxy text)) = Some (proxy text.now)
 asked_of (Some (written.Audit client server)) = Some (audit client.now server.now)
+asked_of (Some (written.Compat old new kind)) = Some (compat old.now new.now kind.now)
 asked_of (Some (written.Drill start count)) = Some (drill start count)
 asked_of (Some written.Messages) = Some messages
 asked_of (Some written.Help) = Some help

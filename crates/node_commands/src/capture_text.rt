@@ -5,6 +5,7 @@ ghost use Rattle.std.specs.List.{flat_map};
 ghost use Rattle.node_commands.specs.Audits.{seen_words, asked_words, capture_line};
 ghost use Rattle.node_commands.specs.Audits.{side_word, cause_word, denial, verdict_text};
 
+use crate::pieces::put;
 use ice_audit::{Line, Seen, Side, Verdict, Why};
 use itoa::Buffer;
 use std::alloc::{AllocError, Global};
@@ -22,12 +23,6 @@ pub(crate) fn verdict_text(alloc: Global, verdict: &Verdict) -> Result<Vec<u8>, 
         Verdict::No { side, place, why } => put_denial(&mut text, *side, *place, *why)?,
     }
     Ok(text)
-}
-
-fn put(text: &mut Vec<u8>, words: &str) -> Result<(), AllocError>
-    ensures { OnOk result (text.new.items ≡ text.old.items ++ words.now) }
-{
-    text.extend_from_slice(words.as_bytes())
 }
 
 fn put_lines(text: &mut Vec<u8>, lines: &[Line]) -> Result<(), AllocError>

@@ -9,6 +9,7 @@ ghost use Rattle.node_commands.specs.Outcomes.{answer_of};
 
 use crate::audit::audit;
 use crate::checking::check;
+use crate::compat::compat;
 use crate::drill::drill;
 use crate::help::{HELP, VERSION};
 use crate::messages::messages;
@@ -53,6 +54,10 @@ pub fn run<'a, H: Shelf, S: Source, K: Sink>(
             Err(outcome) => outcome,
         },
         Some(Command::Audit { client, server }) => match audit(alloc, client, server, shelf) {
+            Ok(found) => print_found(found, sink),
+            Err(outcome) => outcome,
+        },
+        Some(Command::Compat { old, new, kind }) => match compat(alloc, old, new, kind, shelf) {
             Ok(found) => print_found(found, sink),
             Err(outcome) => outcome,
         },

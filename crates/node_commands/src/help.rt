@@ -44,6 +44,10 @@ usage: ice COMMAND
                    something is wrong, what and where, as
                    request 1 0 or 1
                    no server 28: UnknownId
+  compat OLD NEW TYPE
+                   reads two Slice files with all that they include, and writes yes where what was
+                   spelled of TYPE under OLD can be read under NEW; or what stands in the way, as
+                   no ::M::N.v
   drill START COUNT
                    draws a graph of COUNT instances of class N { int v; N left; N right; }, 1 to
                    50000, from the number START, 0 to 2147483647, both in decimal digits without
@@ -53,8 +57,8 @@ usage: ice COMMAND
   --help           writes this text
   --version        writes the version
 
-FILE is the path of a Slice file. Included files are paths too, from the folder that ice runs in.
-TYPE is bool, byte, short, int, long, string, Object, Object*, a type id of FILE, as
+FILE is the path of a Slice file, and so are OLD and NEW. Included files are paths too, from the folder
+that ice runs in. TYPE is bool, byte, short, int, long, string, Object, Object*, a type id of FILE, as
 ::M::Q, or an interface's type id followed by *. A word has at most 8,192 bytes, in UTF-8.
 
 INTERFACE is the type id of an interface of FILE, OPERATION the name of one of its operations, of one
@@ -82,19 +86,21 @@ direction as raw, save it, and then so with the other direction.
 
 An encapsulation is a value's bytes with their size and version before them, of encoding 1.1: 6 to
 1,048,576 bytes, and nothing after it. At most one byte behind what it claims is read. check, proxy,
-audit, drill and serve read nothing from standard input.
+audit, compat, drill and serve read nothing from standard input.
 
 A command ends with one of these, and writes its line to standard error. The earlier step decides:
 the words, FILE and what it includes, TYPE, the input, the output; of audit the words, CLIENT,
-SERVER, the output; of call the words, FILE, INTERFACE, OPERATION, PROXY, the input, then the net
-and the output by turns; of serve the words, FILE, each INTERFACE, each IDENTITY and PROXY, the net.
+SERVER, the output; of compat the words, OLD, NEW, TYPE in OLD, TYPE in NEW, the output; of call the
+words, FILE, INTERFACE, OPERATION, PROXY, the input, then the net and the output by turns; of serve
+the words, FILE, each INTERFACE, each IDENTITY and PROXY, the net.
 
   2  ice: usage                  the words are none of these commands, or one is not UTF-8 or too
                                  long
   3  ice: FILE:PLACE: KIND       a Slice file is refused: its name, the fault's first byte, counted
                                  from 0, and its kind
-  2  ice: no such name WORD      no type of FILE has the name TYPE; of audit, no file is at the path
-                                 CLIENT or SERVER; of call and serve, INTERFACE or OPERATION is none
+  2  ice: no such name WORD      no type of FILE has the name TYPE, or of compat none of OLD or of NEW;
+                                 of audit, no file is at the path CLIENT or SERVER; of call and serve,
+                                 INTERFACE or OPERATION is none
   2  ice: twoway only OPERATION  PROXY asks for no reply, and OPERATION has results or throws
   4  ice: input refused at PLACE: KIND
                                  the input is not one encapsulation of a value of TYPE, or of same
@@ -120,7 +126,7 @@ and the output by turns; of serve the words, FILE, each INTERFACE, each IDENTITY
                                  and PORT could not be had, or accepting failed
   8  ice: call ended: REASON     of call, no success came of the last attempt
   9  ice: no memory
-  1  (no line)                   of same: different; of audit: no
+  1  (no line)                   of same: different; of audit and compat: no
   0  (no line)                   done
 
 After 2 to 5 and 9 nothing was written to standard output, and after 6 the first part of the answer;
@@ -218,6 +224,24 @@ KIND of a capture is one of those of an input that a message may have, or one of
                 something, and the server no message
   UnknownId     a reply is not to the next request that asks for one: replies out of order, which a
                 server with several threads may send, are refused so
+
+What stands in the way of compat is told of TYPE first, and else of the first class in OLD that fails,
+of all those that a value of TYPE may lead to, with their bases:
+
+    no $value              TYPE, or the type of an element or a member in it, is another one in NEW:
+                           a struct has more or fewer members, an enum lacks a number, a class is
+                           not there, or does not fit there
+    no TYPEID: missing     NEW lacks the class
+    no TYPEID: base        the bases are not of one type id, or one of both classes has none
+    no TYPEID: compact id  the compact id is another one, or none
+    no TYPEID: members     there are more or fewer members that are not optional
+    no TYPEID.NAME         the member that has this name in OLD cannot be read there: the first one
+                           that is not optional, or else the optional one of the least tag
+
+Types count, and no names but the type ids of classes. A class may get a compact id, and optional
+members may come and go. Where the answer is yes, the bytes of a value of TYPE under OLD, with no slice
+and no tag that OLD lacks, are the bytes of the same value under NEW, but for the optional members
+whose tags NEW lacks; in compact format instances in such a member are left out of this.
 
 KIND of a Slice file is one of these:
 

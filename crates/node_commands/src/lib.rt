@@ -29,6 +29,8 @@
 mod audit;
 mod capture_text;
 mod checking;
+mod compat;
+mod compat_text;
 mod drill;
 mod dump;
 mod encode;
@@ -40,6 +42,7 @@ mod loading;
 mod messages;
 mod outcome;
 mod output;
+mod pieces;
 mod proxy;
 mod relay;
 mod same;

@@ -15,8 +15,9 @@ pub fn load_schema<H: Shelf>(
     file: &str,
     shelf: &mut H,
 ) -> Result<Schema, Outcome<'static>>
-    ensures { FindsSchema (H.files shelf.old) file.now
+    ensures found { FindsSchema (H.files shelf.old) file.now
         (H.failures shelf.old) (H.failures shelf.new) result }
+    ensures kept { H.files shelf.new ≡ H.files shelf.old }
 {
     Ok(load(alloc, shelf, file)?)
 }

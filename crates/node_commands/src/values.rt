@@ -41,7 +41,7 @@ pub fn found_of<'a, H: Shelf, S: Source>(
 }
 
 /// The type that the word names.
-fn named_type<'a>(schema: &Schema, word: &'a str) -> Result<TypeRef, Outcome<'a>>
+pub(crate) fn named_type<'a>(schema: &Schema, word: &'a str) -> Result<TypeRef, Outcome<'a>>
     ensures { FindsType schema.now word.now result }
 {
     type_of_word(schema, word).ok_or(Outcome::NoSuchName(word))

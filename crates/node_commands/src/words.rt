@@ -51,6 +51,12 @@ pub enum Command<'a> {
         client: &'a str,
         server: &'a str,
     },
+    /// To tell whether what was spelled of the type under the old Slice file can be read under the new one.
+    Compat {
+        old: &'a str,
+        new: &'a str,
+        kind: &'a str,
+    },
     /// To relay a graph of so many nodes that is drawn from the number.
     Drill {
         start: u32,
@@ -72,11 +78,11 @@ pub fn command_of(words: &[String]) -> Option<Command<'_>>
         [word] => of_one_word(word.as_str()),
         [command, word] => of_two_words(command.as_str(), word.as_str()),
         [command, one, two] => of_three_words(command.as_str(), one.as_str(), two.as_str()),
-        [task, option, file, kind] => of_four_words(
-            task.as_str(),
-            option.as_str(),
-            file.as_str(),
-            kind.as_str(),
+        [first, second, third, fourth] => of_four_words(
+            first.as_str(),
+            second.as_str(),
+            third.as_str(),
+            fourth.as_str(),
         ),
         _ => None,
     }
@@ -168,11 +174,37 @@ fn task_of_three<'a>(word: &'a str, file: &'a str, kind: &'a str) -> Option<Comm
 }
 
 fn of_four_words<'a>(
+    command: &'a str,
+    one: &'a str,
+    two: &'a str,
+    three: &'a str,
+) -> Option<Command<'a>>
+    ensures { Asks (command.now ∷ one.now ∷ two.now ∷ three.now ∷ []) (asked_of result) }
+{
+    match command {
+        "compat" => compat_of(one, two, three),
+        _ => task_of_four(command, one, two, three),
+    }
+}
+
+/// Whether what was spelled under the old file can be read under the new one.
+fn compat_of<'a>(old: &'a str, new: &'a str, kind: &'a str) -> Option<Command<'a>>
+    ensures { Asks (codes "compat" ∷ old.now ∷ new.now ∷ kind.now ∷ []) (asked_of result) }
+{
+    if old.len() > MOST_OF_A_WORD || new.len() > MOST_OF_A_WORD || kind.len() > MOST_OF_A_WORD {
+        return None;
+    }
+    Some(Command::Compat { old, new, kind })
+}
+
+/// Of a task of one word and its option.
+fn task_of_four<'a>(
     word: &'a str,
     option: &'a str,
     file: &'a str,
     kind: &'a str,
 ) -> Option<Command<'a>>
+    requires { word.now ≢ codes "compat" }
     ensures { Asks (word.now ∷ option.now ∷ file.now ∷ kind.now ∷ []) (asked_of result) }
 {
     if file.len() > MOST_OF_A_WORD || kind.len() > MOST_OF_A_WORD {

@@ -1,5 +1,5 @@
 use Rattle.std.proofs.Common.{[], Some, string_bytes, refl, inr}
-use Rattle.node_commands.specs.Words.{values, check, proxy, audit, drill, messages, help}
+use Rattle.node_commands.specs.Words.{values, check, proxy, audit, compat, drill, messages, help}
 use Rattle.node_commands.specs.declared.help.TheConstants.{HELP}
 use Rattle.node_commands.specs.Outside.{counts}
 use Rattle.node_commands.specs.Outcomes.{answer_of, found_bytes}
@@ -61,6 +61,26 @@ returns-in-Err-audit g c =
     let asked = Some (audit c.in-Some-Audit.client.now c.in-Some-Audit.server.now) in
     let found = c.in-Err-audit.ensures input (g.S.Source.failures c.args.source.now) (g.K.Sink.failures c.args.sink.now) in
     ([], asked, (rw c.in-Some-Audit.field-0-is at c.in-Some-Audit.ensures), found, takes_nothing asked input (keeps_itself input) (answer_of c.in-Err-audit.outcome []), outputs_nothing (g.K.Sink.taken c.args.sink.now) c.in-Err-audit.outcome)
+
+pub returns-in-Ok-compat : goal.returns-in-Ok-compat
+returns-in-Ok-compat g c =
+    let files = g.H.Shelf.files c.args.shelf.now in
+    let input = g.S.Source.left c.args.source.now in
+    let found = c.in-Ok-compat.ensures input (g.S.Source.failures c.args.source.now) (g.K.Sink.failures c.args.sink.now) in
+    let command = compat c.in-Some-Compat.old.now c.in-Some-Compat.new.now c.in-Some-Compat.kind.now in
+    let came = found_printed command files input input
+    (counts (g.H.Shelf.failures c.args.shelf.now) (g.S.Source.failures c.args.source.now) (g.K.Sink.failures c.args.sink.now))
+    (counts (g.H.Shelf.failures c.compat.new.shelf) (g.S.Source.failures c.args.source.now) (g.K.Sink.failures c.print_found-in-Ok-compat.new.sink))
+    (λ bytes denied. inr denied)
+    c.in-Ok-compat.found c.print_found-in-Ok-compat.result found.0 found.1.0 found.1.1 (keeps_itself input) c.print_found-in-Ok-compat.ensures.outcome in
+    (found_bytes c.in-Ok-compat.found, Some command, (rw c.in-Some-Compat.field-0-is at c.in-Some-Compat.ensures), came.0, came.1, c.print_found-in-Ok-compat.ensures.output)
+
+pub returns-in-Err-compat : goal.returns-in-Err-compat
+returns-in-Err-compat g c =
+    let input = g.S.Source.left c.args.source.now in
+    let asked = Some (compat c.in-Some-Compat.old.now c.in-Some-Compat.new.now c.in-Some-Compat.kind.now) in
+    let found = c.in-Err-compat.ensures input (g.S.Source.failures c.args.source.now) (g.K.Sink.failures c.args.sink.now) in
+    ([], asked, (rw c.in-Some-Compat.field-0-is at c.in-Some-Compat.ensures), found, takes_nothing asked input (keeps_itself input) (answer_of c.in-Err-compat.outcome []), outputs_nothing (g.K.Sink.taken c.args.sink.now) c.in-Err-compat.outcome)
 
 pub returns-in-Some-Help : goal.returns-in-Some-Help
 returns-in-Some-Help g c =

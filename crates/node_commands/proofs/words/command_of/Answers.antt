@@ -10,6 +10,6 @@ returns-in-len4 c =
     let d = c.as_str-in-len4-3.ensures.value in
     let e = c.as_str-in-len4-4.ensures.value in
     subst (λ (words : List Word). Asks words (asked_of c.of_four_words.result))
-    ((λ i. a i ∷ b i ∷ d i ∷ e i ∷ []) ∙ four_words c.args.words.now c.task-item.result c.option-item.result c.file-item.result c.kind-item.result (omega (arith, c.in-len4.len_at_least)) (omega (arith, c.in-len4.len_below))
-    c.task-item.is c.option-item.is c.file-item.is c.kind-item.is)
+    ((λ i. a i ∷ b i ∷ d i ∷ e i ∷ []) ∙ four_words c.args.words.now c.first-item.result c.second-item.result c.third-item.result c.fourth-item.result (omega (arith, c.in-len4.len_at_least)) (omega (arith, c.in-len4.len_below))
+    c.first-item.is c.second-item.is c.third-item.is c.fourth-item.is)
     c.of_four_words.ensures

@@ -15,7 +15,7 @@ pub returns-in_err-name_all : goal.returns-in_err-name_all
 returns-in_err-name_all g c =
     let failed = err_from_is_err_and c.from_residual-in_err-name_all.result c.from_residual-in_err-name_all.ensures.1 in
     rw (failed.1, failed.2)
-    (no_interface (command_of c.args.command.now) (g.H.Shelf.files c.args.shelf.now) (g.H.Shelf.failures c.args.shelf.now) (g.H.Shelf.failures c.load_schema.new.shelf) c.in_ok-schema.schema c.in_ok-schema.ensures.0 c.in_ok-schema.ensures.1 c.in_err-name_all.field-0.0
+    (no_interface (command_of c.args.command.now) (g.H.Shelf.files c.args.shelf.now) (g.H.Shelf.failures c.args.shelf.now) (g.H.Shelf.failures c.load_schema.new.shelf) c.in_ok-schema.schema c.in_ok-schema.ensures.found.0 c.in_ok-schema.ensures.found.1 c.in_err-name_all.field-0.0
     (subst (λ (z : List ObjectWord). NamesAll c.in_ok-schema.schema (objects_of z) (Err c.in_err-name_all.field-0.0)) c.as_slice-objects.ensures.value c.in_err-name_all.ensures))
 
 pub read_all-requires : goal.read_all-requires
@@ -26,7 +26,7 @@ pub returns-in_err-read_all : goal.returns-in_err-read_all
 returns-in_err-read_all g c =
     let failed = err_from_is_err_and c.from_residual-in_err-read_all.result c.from_residual-in_err-read_all.ensures.1 in
     rw (failed.1, failed.2)
-    (no_text (command_of c.args.command.now) (g.H.Shelf.files c.args.shelf.now) (g.H.Shelf.failures c.args.shelf.now) (g.H.Shelf.failures c.load_schema.new.shelf) c.in_ok-schema.schema c.in_ok-schema.ensures.0 c.in_ok-schema.ensures.1 c.in_err-read_all.field-0.0
+    (no_text (command_of c.args.command.now) (g.H.Shelf.files c.args.shelf.now) (g.H.Shelf.failures c.args.shelf.now) (g.H.Shelf.failures c.load_schema.new.shelf) c.in_ok-schema.schema c.in_ok-schema.ensures.found.0 c.in_ok-schema.ensures.found.1 c.in_err-read_all.field-0.0
     (subst (λ (z : List ObjectWord). Never (LacksInterface c.in_ok-schema.schema) (objects_of z)) c.as_slice-objects.ensures.value c.in_ok-name_all.ensures)
     (subst (λ (z : List ObjectWord). ReadsAll (objects_of z) (Err c.in_err-read_all.field-0.0)) c.as_slice-objects.ensures.value c.in_err-read_all.ensures))
 
