@@ -57,7 +57,7 @@ fn put_why(text: &mut Vec<u8>, members: &[Member], why: Why) -> Result<(), Alloc
 
 /// A `.` and the member's name.
 fn put_member(text: &mut Vec<u8>, member: Option<&Member>) -> Result<(), AllocError>
-    ensures { OnOk result (text.new.items ≡ text.old.items ++ member_words (option_copied member)) }
+    ensures { OnOk result (text.new.items ≡ text.old.items ++ member_words (option_copied member.entry)) }
 {
     let Some(member) = member else {
         return Ok(());
