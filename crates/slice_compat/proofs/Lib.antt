@@ -8,6 +8,7 @@ pub mod Stepping
 pub mod Searching
 pub mod Linked
 pub mod Failing
+pub mod Tagged
 pub mod Meeting
 pub mod Putting
 pub mod Verdicts

@@ -2,6 +2,7 @@ pub mod Reading
 pub mod Answers
 pub mod Reached
 pub mod Tests
+pub mod Tagged
 pub mod Verdicts
 pub mod Nodes
 pub mod Marks

@@ -1,14 +1,14 @@
 //! Whether what was spelled of a class of one schema can be read under another: its tests, one after the other.
 
-ghost use Rattle.std.specs.Prelude.{◌↔◌, ◌≡◌, ◌+◌, length, MatchOption, IfOk, OnOk, IsTrue, slice_get};
+ghost use Rattle.std.specs.Prelude.{◌↔◌, ◌≡◌, length, MatchOption, IfOk, OnOk, IsTrue};
 ghost use Rattle.slice_compat.specs.Answers.{AreAnswers};
-ghost use Rattle.slice_compat.specs.Reading.{Reads};
+ghost use Rattle.slice_compat.specs.Tagged.{HaveOwnTags};
 ghost use Rattle.slice_compat.specs.Tests.{ClassFails, ClassPasses, ClassReads, Fails, FirstUnread};
-ghost use Rattle.slice_compat.specs.Tests.{HaveOneTag, IsAtMost, IsLeastUnread, KeepsBase, KeepsCompactId};
-ghost use Rattle.slice_compat.specs.Tests.{KeepsNumber, ReadsAt, ReadsEach, ReadsOption, required_of};
+ghost use Rattle.slice_compat.specs.Tests.{KeepsBase, KeepsCompactId, KeepsNumber, ReadsAt, ReadsEach, required_of};
 
 use crate::answers::Answers;
 use crate::ids::is_same_base;
+use crate::options::least_unread;
 use crate::reading::reads;
 use crate::verdict::Why;
 use ice_types::{ClassDecl, Member, Schema, TypeRef};
@@ -36,6 +36,7 @@ pub(crate) fn class_fault(
     let Some(decl) = new.classes().get(place as usize) else {
         return Ok(Some(Why::Missing));
     };
+    new.rules();
     fault_of(alloc, old, new, answers, own, decl)
 }
 
@@ -48,7 +49,8 @@ fn fault_of(
     own: &ClassDecl,
     decl: &ClassDecl,
 ) -> Result<Option<Why>, AllocError>
-    requires { AreAnswers old.now new.now answers.old }
+    requires answers { AreAnswers old.now new.now answers.old }
+    requires tags { HaveOwnTags decl.now.members }
     ensures why { IfOk result (λ why.
         MatchOption why (ClassReads old.now new.now own.now decl.now) (Fails old.now new.now own.now decl.now)) }
     ensures answers { OnOk result (AreAnswers old.now new.now answers.new) }
@@ -72,6 +74,7 @@ fn members_fault(
     decl: &ClassDecl,
 ) -> Result<Option<Why>, AllocError>
     requires answers { AreAnswers old.now new.now answers.old }
+    requires tags { HaveOwnTags decl.now.members }
     requires base { KeepsBase old.now new.now own.now decl.now }
     requires compact { KeepsCompactId old.now new.now own.now decl.now }
     ensures why { IfOk result (λ why.
@@ -171,116 +174,4 @@ fn reads_at(
         return Ok(false);
     };
     reads(alloc, old, new, answers, first, second)
-}
-
-/// The least tag of the members that cannot be read as the one of their tag, None where each can.
-fn least_unread(
-    alloc: Global,
-    old: &Schema,
-    new: &Schema,
-    answers: &mut Answers,
-    own: &[Member],
-    members: &[Member],
-) -> Result<Option<u32>, AllocError>
-    requires { AreAnswers old.now new.now answers.old }
-    ensures least { IfOk result (IsLeastUnread old.now new.now (length own.now) own.now members.now) }
-    ensures answers { OnOk result (AreAnswers old.now new.now answers.new) }
-{
-    let mut least = None;
-    for (at, member) in own.iter().enumerate() {
-        least = least_with(alloc, old, new, answers, own, members, at, member, least)?;
-    }
-    Ok(least)
-}
-
-/// The least tag of those up to this member, by that of those before it.
-fn least_with(
-    alloc: Global,
-    old: &Schema,
-    new: &Schema,
-    answers: &mut Answers,
-    own: &[Member],
-    members: &[Member],
-    at: usize,
-    member: &Member,
-    least: Option<u32>,
-) -> Result<Option<u32>, AllocError>
-    requires answers { AreAnswers old.now new.now answers.old }
-    requires member { slice_get own.now at ≡ Some member.now }
-    requires least { IsLeastUnread old.now new.now at own.now members.now least }
-    ensures least { IfOk result (IsLeastUnread old.now new.now (at + 1) own.now members.now) }
-    ensures answers { OnOk result (AreAnswers old.now new.now answers.new) }
-{
-    let Some(tag) = member.tag else {
-        return Ok(least);
-    };
-    if is_at_most(least, tag) {
-        return Ok(least);
-    }
-    let can_read = reads_option(alloc, old, new, answers, member, members)?;
-    if can_read {
-        return Ok(least);
-    }
-    Ok(Some(tag))
-}
-
-/// Whether there is a tag already that is not above this one.
-fn is_at_most(least: Option<u32>, tag: u32) -> bool
-    ensures { IsTrue result ↔ IsAtMost least tag }
-{
-    match least {
-        Some(other) => other <= tag,
-        None => false,
-    }
-}
-
-/// Whether each of the members that have its tag can read it.
-fn reads_option(
-    alloc: Global,
-    old: &Schema,
-    new: &Schema,
-    answers: &mut Answers,
-    own: &Member,
-    members: &[Member],
-) -> Result<bool, AllocError>
-    requires { AreAnswers old.now new.now answers.old }
-    ensures yes { IfOk result (λ yes. IsTrue yes ↔ ReadsOption old.now new.now own.now members.now) }
-    ensures answers { OnOk result (AreAnswers old.now new.now answers.new) }
-{
-    for member in members {
-        if !reads_tagged(alloc, old, new, answers, own, member)? {
-            return Ok(false);
-        }
-    }
-    Ok(true)
-}
-
-/// Whether the second member can read the first, where both have one tag.
-fn reads_tagged(
-    alloc: Global,
-    old: &Schema,
-    new: &Schema,
-    answers: &mut Answers,
-    own: &Member,
-    member: &Member,
-) -> Result<bool, AllocError>
-    requires { AreAnswers old.now new.now answers.old }
-    ensures yes { IfOk result (λ yes. IsTrue yes ↔
-        (HaveOneTag own.now member.now → Reads old.now new.now own.now.kind member.now.kind)) }
-    ensures answers { OnOk result (AreAnswers old.now new.now answers.new) }
-{
-    if !have_one_tag(own, member) {
-        return Ok(true);
-    }
-    reads(alloc, old, new, answers, own.kind, member.kind)
-}
-
-/// Whether both have one tag.
-fn have_one_tag(own: &Member, member: &Member) -> bool
-    ensures { IsTrue result ↔ HaveOneTag own.now member.now }
-{
-    match (own.tag, member.tag) {
-        (Some(a), Some(b)) => a == b,
-        _ => false,
-    }
 }

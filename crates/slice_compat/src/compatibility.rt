@@ -17,7 +17,10 @@ use ice_types::{Schema, TypeRef};
 use std::alloc::{AllocError, Global};
 
 /// Whether what was spelled of a type under the old schema can be read of a type under the new one, and else what
-/// stands in the way first: the types themselves, or a class that they reach.
+/// stands in the way first: the types themselves, or the first class, in the order of the old schema, that they reach
+/// and that cannot be read, with its first failing test. The time is n log n in the size of both schemas, but for the
+/// bases above a class place that the new schema declares higher up. An error is that there was no memory; it leaves
+/// nothing. (Ice manual, "Data Encoding for Class and Exception Types", "Data Encoding for Optional Values".)
 pub fn compatible(
     alloc: Global,
     old: &Schema,

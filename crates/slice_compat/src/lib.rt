@@ -8,6 +8,8 @@
 //!   part that can nest, so that a walk through them ends at a struct or below within a hundred steps.
 //! - An answer is kept at the most levels. It holds at fewer, too, where the struct nests within those, and the schema
 //!   says at once whether it does.
+//! - Optional members are looked up by their tags in a map, which is filled from the last member to the first, so that
+//!   what it has under a tag is what the list has first.
 //! - The classes that are reached are found over nodes: rows of types, class places, and classes. Each is met once. A
 //!   place leads to the places of the classes that extend the declared one, by lists that are linked by places.
 //! - A row of which there is none counts as gone through, so that no test of places stands in the way.
@@ -23,6 +25,7 @@ mod enums;
 mod ids;
 mod marks;
 mod node;
+mod options;
 mod reached;
 mod reading;
 mod verdict;

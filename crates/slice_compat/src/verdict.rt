@@ -1,6 +1,6 @@
 //! What is said of two types of two schemas.
 
-/// Why what was spelled of a class cannot be read. The tests are made in this order.
+/// Why what was spelled of a class cannot be read by that of its type id. The tests are made in this order.
 #[derive(Clone, Copy, Debug, PartialEq, Eq)]
 pub enum Why {
     /// The new schema has no class of its type id.
@@ -24,6 +24,6 @@ pub enum Verdict {
     Yes,
     /// The types themselves do not fit.
     NoRoot,
-    /// The first class, in the order of the old schema's table, that a value may name and that cannot be read.
+    /// The first class, by its place in the old schema's table, that a value may reach and that cannot be read.
     NoClass { class: u32, why: Why },
 }

@@ -7,6 +7,7 @@ use Rattle.ice_types.specs.Tables.{HasId, class_ids}
 use Rattle.slice_compat.specs.declared.verdict.Why.{Why}
 use Rattle.slice_compat.specs.Tests.{ClassFails, ClassPasses, ClassReads, Fails}
 use Rattle.slice_compat.proofs.Failing.{no_class, no_other, has_row, told}
+use Rattle.slice_compat.proofs.Tagged.{own_tags}
 use Rattle.slice_compat.proofs.classes.class_fault.Goals as goal
 
 pub returns-in_default-clause-why : goal.returns-in_default-clause-why
@@ -36,3 +37,9 @@ returns-clause-why c =
     c.in-Some-class.place (subst (λ (id : List ℕ). HasId (class_ids new) id c.in-Some-class.place) c.as_str.ensures c.in-Some-class.ensures)
     decl (ap (λ (rows : List ClassDecl). slice_get rows c.in-Some-class.place) (sym c.classes-2.ensures) ∙ (sym c.get-2.ensures ∙ ap option_copied c.in-Some-get.is)))
     c.fault_of.ensures.why
+
+pub fault_of-requires-clause-tags : goal.fault_of-requires-clause-tags
+fault_of-requires-clause-tags c =
+    let decl = c.in-Some-get.decl.now in
+    own_tags c.args.new.now decl.base decl.members (c.rules.ensures.classes c.in-Some-class.place decl
+    (ap (λ (rows : List ClassDecl). slice_get rows c.in-Some-class.place) (sym c.classes-2.ensures) ∙ (sym c.get-2.ensures ∙ ap option_copied c.in-Some-get.is)))

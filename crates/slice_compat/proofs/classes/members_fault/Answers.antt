@@ -1,5 +1,7 @@
-use Rattle.std.proofs.Common.{ℕ, ◌≡◌, true, false, Option, length, sym, subst, ◌∙◌}
+use Rattle.std.proofs.Common.{ℕ, ◌≡◌, true, false, List, Option, length, sym, subst, ◌∙◌}
 use Rattle.std.proofs.lemmas.Option.{MatchOption-at_some, MatchOption-at_none}
+use Rattle.ice_types.specs.declared.declarations.Member.{Member}
+use Rattle.slice_compat.specs.Tagged.{HaveOwnTags}
 use Rattle.slice_compat.specs.Tests.{FirstUnread, IsLeastUnread, ReadsEach}
 use Rattle.slice_compat.proofs.Failing.{members_fail, required_fails, optional_fails, members_read}
 use Rattle.slice_compat.proofs.classes.members_fault.Goals as goal
@@ -42,3 +44,6 @@ returns-clause-why c =
     (FirstUnread c.args.old.now c.args.new.now c.as_slice-kinds.result.now c.as_slice-other_kinds.result.now) c.in_default.is c.in_ok-unread.ensures.place)
     (subst (λ (least : Option ℕ). IsLeastUnread c.args.old.now c.args.new.now (length c.as_slice-members.result.now) c.as_slice-members.result.now c.as_slice-others.result.now least)
     c.in-None.is c.in_ok-least.ensures.least)
+
+pub least_unread-requires-clause-tags : goal.least_unread-requires-clause-tags
+least_unread-requires-clause-tags c = subst (λ (ms : List Member). HaveOwnTags ms) (sym c.as_slice-others.ensures) c.requires.tags
