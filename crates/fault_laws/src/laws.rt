@@ -1,0 +1,33 @@
+//! What is told of bytes that spell nothing, one law a function.
+
+ghost use Rattle.std.specs.Prelude.{◌≡◌, ◌≤◌, ◌+◌, ◌++◌, ℕ, List, length};
+ghost use Rattle.ice_types.specs.declared.declarations.Shape.{Shape};
+ghost use Rattle.ice_types.specs.declared.kind.TypeRef.{TypeRef};
+ghost use Rattle.ice_types.specs.Tables.{Tables};
+ghost use Rattle.ice_prims.specs.declared.fault.Kind.TheVariants.{Short};
+ghost use Rattle.ice_prims.specs.Rest.{Rest, fault, whole};
+ghost use Rattle.ice_encoding.specs.declared.limits.TheConstants.{LARGEST, SMALLEST};
+ghost use Rattle.ice_encoding.specs.Encapsulation.{SpellsEncapsulation, encapsulation_at};
+ghost use Rattle.ice_encoding.specs.Opening.{encapsulated_bytes, opened_at};
+ghost use Rattle.ice_encoding.specs.Tree.{Tree};
+ghost use Rattle.ice_graphs.specs.Exceptions.{UserException, SpellsException, exception_at};
+ghost use Rattle.ice_graphs.specs.Flags.{Reach};
+ghost use Rattle.ice_graphs.specs.Graph.{Graph};
+ghost use Rattle.ice_graphs.specs.Instances.{SpellsNumbered, numbered_at};
+
+/// An encapsulation that is cut is too short, wherever it is cut: as an input, at its first byte, whether it is
+/// one of a graph, of a user exception or of a value by itself; and where it stands behind others, at its own.
+pub fn cut_value()
+    ensures graphs { (t : Tables) (reach : Reach) (shape : Shape) (bytes more : List ℕ) (g : Graph)
+        → SpellsNumbered t reach shape (bytes ++ more) g → 1 ≤ length more
+        → numbered_at t reach shape (whole bytes) ≡ fault 0 Short }
+    ensures exceptions { (t : Tables) (reach : Reach) (bytes more : List ℕ) (x : UserException)
+        → SpellsException t reach (bytes ++ more) x → 1 ≤ length more
+        → exception_at t reach (whole bytes) ≡ fault 0 Short }
+    ensures values { (t : Tables) (kind : TypeRef) (bytes more : List ℕ) (v : Tree)
+        → SpellsEncapsulation t kind (bytes ++ more) v → 1 ≤ length more
+        → encapsulation_at t kind (whole bytes) ≡ fault 0 Short }
+    ensures behind { (r : Rest) (more content : List ℕ)
+        → r.bytes ++ more ≡ encapsulated_bytes content → SMALLEST + length content ≤ LARGEST → 1 ≤ length more
+        → opened_at r ≡ fault r.place Short }
+{}
