@@ -1,19 +1,24 @@
 //! What is told of bytes that spell nothing, one law a function.
 
-ghost use Rattle.std.specs.Prelude.{◌≡◌, ◌≤◌, ◌+◌, ◌++◌, ℕ, List, length};
+ghost use Rattle.std.specs.Prelude.{◌≡◌, ◌≤◌, ◌+◌, ◌++◌, ◌⊎◌, ℕ, suc, List, Option, Err, length};
 ghost use Rattle.ice_types.specs.declared.declarations.Shape.{Shape};
 ghost use Rattle.ice_types.specs.declared.kind.TypeRef.{TypeRef};
 ghost use Rattle.ice_types.specs.Tables.{Tables};
+ghost use Rattle.ice_prims.specs.declared.fault.Fault.{Fault};
 ghost use Rattle.ice_prims.specs.declared.fault.Kind.TheVariants.{Short};
-ghost use Rattle.ice_prims.specs.Rest.{Rest, fault, whole};
+ghost use Rattle.ice_prims.specs.Rest.{Rest, IsBytes, fault, whole};
 ghost use Rattle.ice_encoding.specs.declared.limits.TheConstants.{LARGEST, SMALLEST};
 ghost use Rattle.ice_encoding.specs.Encapsulation.{SpellsEncapsulation, encapsulation_at};
 ghost use Rattle.ice_encoding.specs.Opening.{encapsulated_bytes, opened_at};
+ghost use Rattle.ice_encoding.specs.Port.{Reader};
 ghost use Rattle.ice_encoding.specs.Tree.{Tree};
 ghost use Rattle.ice_graphs.specs.Exceptions.{UserException, SpellsException, exception_at};
-ghost use Rattle.ice_graphs.specs.Flags.{Reach};
+ghost use Rattle.ice_graphs.specs.Flags.{Before, Reach};
 ghost use Rattle.ice_graphs.specs.Graph.{Graph};
 ghost use Rattle.ice_graphs.specs.Instances.{SpellsNumbered, numbered_at};
+ghost use Rattle.ice_graphs.specs.References.{State, seen};
+ghost use Rattle.ice_graphs.specs.Slices.{slices_at};
+ghost use Rattle.fault_laws.specs.Heads.{HeadBreaks, HeadStands};
 
 /// An encapsulation that is cut is too short, wherever it is cut: as an input, at its first byte, whether it is
 /// one of a graph, of a user exception or of a value by itself; and where it stands behind others, at its own.
@@ -30,4 +35,21 @@ pub fn cut_value()
     ensures behind { (r : Rest) (more content : List ℕ)
         → r.bytes ++ more ≡ encapsulated_bytes content → SMALLEST + length content ≤ LARGEST → 1 ≤ length more
         → opened_at r ≡ fault r.place Short }
+{}
+
+/// A defect in the head of a slice, whatever stands before that slice and behind it, is the fault that is told; and
+/// where a slice or one behind it has another fault, its head stands: flags and an id, and the class of the id passes
+/// the tests. A head has one first defect at most.
+pub fn slice_heads()
+    ensures breaks { (refer : Option ℕ → Reader (State ℕ) (Option ℕ)) (t : Tables) (reach : Reach) (count : ℕ)
+        (before : Before) (s : State ℕ) (r : Rest) (fault : Fault)
+        → HeadBreaks t reach before (seen s) r.place r.bytes fault
+        → slices_at refer t reach (suc count) before s r ≡ Err fault }
+    ensures broken { (refer : Option ℕ → Reader (State ℕ) (Option ℕ)) (t : Tables) (reach : Reach) (count : ℕ)
+        (before : Before) (s : State ℕ) (r : Rest) (fault : Fault)
+        → IsBytes r.bytes → slices_at refer t reach (suc count) before s r ≡ Err fault
+        → HeadBreaks t reach before (seen s) r.place r.bytes fault ⊎ HeadStands t reach before (seen s) r.bytes }
+    ensures one { (t : Tables) (reach : Reach) (before : Before) (s : State ℕ) (r : Rest) (a b : Fault)
+        → HeadBreaks t reach before (seen s) r.place r.bytes a
+        → HeadBreaks t reach before (seen s) r.place r.bytes b → a ≡ b }
 {}

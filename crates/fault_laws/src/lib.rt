@@ -4,4 +4,4 @@
 
 mod laws;
 
-pub use laws::cut_value;
+pub use laws::{cut_value, slice_heads};
