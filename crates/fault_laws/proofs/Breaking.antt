@@ -9,6 +9,7 @@ use Rattle.ice_prims.proofs.Parts.{chosen as choice, Took-fits}
 use Rattle.ice_encoding.specs.declared.limits.TheConstants.{LARGEST}
 use Rattle.ice_encoding.specs.Parts.{Part, IsLawful, read_times, tested}
 use Rattle.ice_encoding.specs.Bounds.{claimed, ended, filled}
+use Rattle.ice_encoding.proofs.Values.{LawfulPart}
 use Rattle.fault_laws.specs.Defects.{Defect, At, Lacks, Unfit, Or, Then, Times, InBound, ClaimBreaks}
 
 abbrev pub failed : {A : Type 0} → Fault → Result A Fault
@@ -25,14 +26,15 @@ pub then_err : {A B C : Type 0} (r : Result A Fault) (f : A → Result B Fault) 
 then_err (Ok x) f e h one two = two x refl h
 then_err (Err d) f e h one two = one (ap failed (same_err d e h))
 
-pub record Agrees {A : Type 0} (read : Rest → Result (A × Rest) Fault) (Breaks : Defect) : Type 0 where
+-- a fault that is read is a defect, and each defect is read
+pub record Agrees {B : Type 0} (read : Rest → Result B Fault) (Breaks : Defect) : Type 0 where
   pub broken : (r : Rest) (e : Fault) → IsBytes r.bytes → read r ≡ failed e → Breaks r.place r.bytes e
   pub breaks : (r : Rest) (e : Fault) → Breaks r.place r.bytes e → read r ≡ failed e
 
 -- ---- one part, and then another
 
 module _ {A B : Type 0} (first : Part A) (law : IsLawful first) (Here : Defect) (agrees : Agrees first.read Here)
-    (second : A → Rest → Result (B × Rest) Fault) (Next : A → Defect) (behind : (x : A) → Agrees (second x) (Next x)) where
+    (second : A → Rest → Result B Fault) (Next : A → Defect) (behind : (x : A) → Agrees (second x) (Next x)) where
   then_broken : (r : Rest) (e : Fault) → IsBytes r.bytes → (first.read r >>= λ a. second a.0 a.1) ≡ failed e → Then first Here Next r.place r.bytes e
   then_broken r e fits h = then_err (first.read r) (λ a. second a.0 a.1) e h
       (λ bad. inl (agrees.broken r e fits bad))
@@ -52,14 +54,14 @@ module _ {A B : Type 0} (first : Part A) (law : IsLawful first) (Here : Defect) 
   then_agrees = record { broken = then_broken; breaks = then_breaks }
 
 module _ {A B : Type 0} (read : Rest → Result (A × Rest) Fault) (Breaks : Defect) (agrees : Agrees read Breaks) (g : A → B) where
-  pub made_agrees : Agrees (λ r. read r >>= λ x. Ok (g x.0, x.1)) Breaks
+  pub made_agrees : Agrees {B = B × Rest} (λ r. read r >>= λ x. Ok (g x.0, x.1)) Breaks
   made_agrees = record {
     broken = λ r e fits h. then_err (read r) (λ x. Ok (g x.0, x.1)) e h (λ bad. agrees.broken r e fits bad) (λ x x_is later. no_err (g x.0, x.1) e later);
     breaks = λ r e h. rw (agrees.breaks r e h) refl;
   }
 
 pub both_agrees : {A B : Type 0} (first : Part A) (law : IsLawful first) (Here : Defect) → Agrees first.read Here → (second : Part B) (Next : Defect) → Agrees second.read Next
-    → Agrees {A = A × B} (λ r. first.read r >>= λ a. second.read a.1 >>= λ b. Ok ((a.0, b.0), b.1)) (Then first Here (λ x. Next))
+    → Agrees {B = (A × B) × Rest} (λ r. first.read r >>= λ a. second.read a.1 >>= λ b. Ok ((a.0, b.0), b.1)) (Then first Here (λ x. Next))
 both_agrees first law Here here second Next next =
     then_agrees first law Here here (λ x r. second.read r >>= λ b. Ok ((x, b.0), b.1)) (λ x. Next) (λ x. made_agrees second.read Next next (λ b. (x, b)))
 
@@ -109,7 +111,7 @@ bytes_lack n r e h = elim (choice (ltb (length r.bytes) n) _ _ (Err e) h) [
 pub lack_bytes : (n : ℕ) (r : Rest) (e : Fault) → Lacks n r.place r.bytes e → bytes_at n r ≡ failed e
 lack_bytes n r e h = let short : ltb (length r.bytes) n ≡ true = lt-ltb _ _ h.0 in rw (short, h.1) refl
 
-pub lacks_agrees : {A : Type 0} (n : ℕ) (g : List ℕ → A) → Agrees (λ r. bytes_at n r >>= λ b. Ok (g b.0, b.1)) (Lacks n)
+pub lacks_agrees : {A : Type 0} (n : ℕ) (g : List ℕ → A) → Agrees {B = A × Rest} (λ r. bytes_at n r >>= λ b. Ok (g b.0, b.1)) (Lacks n)
 lacks_agrees n g = made_agrees (bytes_at n) (Lacks n) (record { broken = λ r e fits h. bytes_lack n r e h; breaks = λ r e h. lack_bytes n r e h }) g
 
 -- ---- a size that counts what it stands before
@@ -135,24 +137,27 @@ claim_breaks place left smallest (pos m) e (inr (inl (most, short, at))) =
 claim_breaks place left smallest (pos m) e (inr (inr (most, there, small, at))) =
     let a : ltb LARGEST m ≡ false = le-ltb _ _ most in let b : ltb left m ≡ false = le-ltb _ _ there in let c : ltb m smallest ≡ true = lt-ltb _ _ small in rw (a, b, c, at) refl
 
--- ---- a part that fills its bound
+-- ---- what fills its bound
 
-module _ {A : Type 0} (part : Part A) (law : IsLawful part) (One : Defect) (agrees : Agrees part.read One) where
+module _ {A : Type 0} (read : Rest → Result (A × Rest) Fault) (Spells : List ℕ → A → Type 0) (law : LawfulPart read Spells) (One : Defect) (agrees : Agrees read One) where
   left_over : (left : List ℕ) (place : ℕ) (x : A) (e : Fault) → ended left place x ≡ failed e → (byte : ℕ) × (others : List ℕ) × (left ≡ byte ∷ others) × At place LeftOver e
   left_over [] place x e h = no_err x e h
   left_over (b ∷ bs) place x e h = (b, bs, refl, sym (same_err (record { place = place; kind = LeftOver }) e h))
 
-  pub bound_broken : (r : Rest) (e : Fault) → IsBytes r.bytes → filled part.read r ≡ failed e → InBound part One r.place r.bytes e
-  bound_broken r e fits h = then_err (part.read r) (λ x. ended x.1.bytes x.1.place x.0) e h
+  bound_broken : (r : Rest) (e : Fault) → IsBytes r.bytes → filled read r ≡ failed e → InBound Spells One r.place r.bytes e
+  bound_broken r e fits h = then_err (read r) (λ x. ended x.1.bytes x.1.place x.0) e h
       (λ bad. inl (agrees.broken r e fits bad))
       (λ x x_is later.
       let f = law.found r x fits x_is in
       let o = left_over x.1.bytes x.1.place x.0 e later in
       inr (x.0, f.0, o.0, o.1, f.1.parts ∙ ap (λ (z : List ℕ). f.0 ++ z) o.2, f.2, subst (λ (p : ℕ). At p LeftOver e) f.1.moved o.3))
 
-  pub bound_breaks : (r : Rest) (e : Fault) → InBound part One r.place r.bytes e → filled part.read r ≡ failed e
+  bound_breaks : (r : Rest) (e : Fault) → InBound Spells One r.place r.bytes e → filled read r ≡ failed e
   bound_breaks r e (inl h) = rw (agrees.breaks r e h) refl
   bound_breaks r e (inr (x, a, byte, left, parts, spells, at)) =
       let s : Rest = record { place = r.place + length a; bytes = byte ∷ left } in
-      let stands : part.read r ≡ Ok (x, s) = law.only r s a x (record { parts = parts; moved = refl }) spells in
+      let stands : read r ≡ Ok (x, s) = law.only r s a x (record { parts = parts; moved = refl }) spells in
       rw (stands, at) refl
+
+  pub filled_agrees : Agrees (filled read) (InBound Spells One)
+  filled_agrees = record { broken = bound_broken; breaks = bound_breaks }

@@ -4,3 +4,6 @@ pub mod Primitives
 pub mod From
 pub mod Ids
 pub mod Heads
+pub mod Proxies
+pub mod Values
+pub mod Encapsulations

@@ -5,7 +5,8 @@ use Rattle.std.specs.Int.{w32, from_le_bytes}
 use Rattle.ice_prims.specs.declared.fault.Fault.{Fault}
 use Rattle.ice_prims.specs.declared.fault.Kind.{Kind}
 use Rattle.ice_prims.specs.declared.fault.Kind.TheVariants.{Short, TooLarge, BadSize, BadText, LeftOver}
-use Rattle.ice_encoding.specs.declared.limits.TheConstants.{LARGEST}
+use Rattle.ice_prims.specs.Number.{SpellsSigned}
+use Rattle.ice_encoding.specs.declared.limits.TheConstants.{LARGEST, SIZE_BYTES, SMALLEST}
 use Rattle.ice_encoding.specs.Parts.{Part, size}
 use Rattle.ice_encoding.specs.Port.{Speller}
 
@@ -43,10 +44,10 @@ abbrev pub Times : {A : Type 0} → Part A → Defect → ℕ → Defect
 Times part One zero = Never
 Times part One (suc n) = Then part One (λ x. Times part One n)
 
--- of a part that has to fill the bytes: it has the defect, or bytes are left behind it
-abbrev pub InBound : {A : Type 0} → Part A → Defect → Defect
-InBound {A} part One = λ place bytes fault. One place bytes fault
-    ⊎ ((x : A) × (a : List ℕ) × (byte : ℕ) × (left : List ℕ) × (bytes ≡ a ++ byte ∷ left) × part.Spells a x × At (place + length a) LeftOver fault)
+-- of what has to fill the bytes: it has the defect, or bytes are left behind it
+abbrev pub InBound : {A : Type 0} → (List ℕ → A → Type 0) → Defect → Defect
+InBound {A} Spells One = λ place bytes fault. One place bytes fault
+    ⊎ ((x : A) × (a : List ℕ) × (byte : ℕ) × (left : List ℕ) × (bytes ≡ a ++ byte ∷ left) × Spells a x × At (place + length a) LeftOver fault)
 
 -- The same of what changes a state: it has the defect; or it stands, and what follows has it, from the state to which it leads.
 abbrev pub Followed : {S A : Type 0} → Speller S A → (S → Defect) → (A → S → Defect) → S → Defect
@@ -83,3 +84,10 @@ abbrev pub ClaimBreaks : ℕ → ℕ → ℤ → ℕ → Fault → Type 0
 ClaimBreaks left smallest (pos n) place fault = ((LARGEST < n) × At place TooLarge fault)
     ⊎ (((n ≤ LARGEST) × (left < n) × At place Short fault) ⊎ ((n ≤ LARGEST) × (n ≤ left) × (n < smallest) × At place BadSize fault))
 ClaimBreaks left smallest (negsuc n) place fault = At place BadSize fault
+
+-- The same with what it counts: it is cut short, or counts what may not be; or what stands in its bound has the defect.
+abbrev pub EnclosedBreaks : Defect → Defect
+EnclosedBreaks Inside = λ place bytes fault. Lacks SIZE_BYTES place bytes fault
+    ⊎ (((z : ℤ) × (claim rest : List ℕ) × (bytes ≡ claim ++ rest) × SpellsSigned w32 claim z × ClaimBreaks (length bytes) SMALLEST z place fault)
+    ⊎ ((n : ℕ) × (claim inside rest : List ℕ) × (bytes ≡ claim ++ (inside ++ rest)) × SpellsSigned w32 claim (pos n) × (SMALLEST ≤ n) × (n ≤ LARGEST)
+    × (n ≡ SIZE_BYTES + length inside) × Inside (place + SIZE_BYTES) inside fault))

@@ -1,2 +1,5 @@
 pub mod Defects
 pub mod Heads
+pub mod Proxies
+pub mod Values
+pub mod Encapsulations

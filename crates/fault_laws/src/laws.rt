@@ -1,8 +1,9 @@
 //! What is told of bytes that spell nothing, one law a function.
 
-ghost use Rattle.std.specs.Prelude.{◌≡◌, ◌≤◌, ◌+◌, ◌++◌, ◌⊎◌, ℕ, suc, List, Option, Err, length};
+ghost use Rattle.std.specs.Prelude.{◌≡◌, ◌≤◌, ◌+◌, ◌++◌, ◌⊎◌, ◌↔◌, ℕ, suc, List, Option, Err, length};
 ghost use Rattle.ice_types.specs.declared.declarations.Shape.{Shape};
 ghost use Rattle.ice_types.specs.declared.kind.TypeRef.{TypeRef};
+ghost use Rattle.ice_types.specs.Fits.{IsOf};
 ghost use Rattle.ice_types.specs.Tables.{Tables};
 ghost use Rattle.ice_prims.specs.declared.fault.Fault.{Fault};
 ghost use Rattle.ice_prims.specs.declared.fault.Kind.TheVariants.{Short};
@@ -12,13 +13,16 @@ ghost use Rattle.ice_encoding.specs.Encapsulation.{SpellsEncapsulation, encapsul
 ghost use Rattle.ice_encoding.specs.Opening.{encapsulated_bytes, opened_at};
 ghost use Rattle.ice_encoding.specs.Port.{Reader};
 ghost use Rattle.ice_encoding.specs.Tree.{Tree};
+ghost use Rattle.ice_encoding.specs.Value.{plain_value_at};
 ghost use Rattle.ice_graphs.specs.Exceptions.{UserException, SpellsException, exception_at};
 ghost use Rattle.ice_graphs.specs.Flags.{Before, Reach};
 ghost use Rattle.ice_graphs.specs.Graph.{Graph};
 ghost use Rattle.ice_graphs.specs.Instances.{SpellsNumbered, numbered_at};
 ghost use Rattle.ice_graphs.specs.References.{State, seen};
 ghost use Rattle.ice_graphs.specs.Slices.{slices_at};
+ghost use Rattle.fault_laws.specs.Encapsulations.{ValueInputBreaks};
 ghost use Rattle.fault_laws.specs.Heads.{HeadBreaks, HeadStands};
+ghost use Rattle.fault_laws.specs.Values.{PlainValueBreaks};
 
 /// An encapsulation that is cut is too short, wherever it is cut: as an input, at its first byte, whether it is
 /// one of a graph, of a user exception or of a value by itself; and where it stands behind others, at its own.
@@ -52,4 +56,13 @@ pub fn slice_heads()
     ensures one { (t : Tables) (reach : Reach) (before : Before) (s : State ℕ) (r : Rest) (a b : Fault)
         → HeadBreaks t reach before (seen s) r.place r.bytes a
         → HeadBreaks t reach before (seen s) r.place r.bytes b → a ≡ b }
+{}
+
+/// A value by itself, each reference in it a number, is refused exactly where it has the defect; and so is an input
+/// that has to be one encapsulation of such a value.
+pub fn values_break()
+    ensures values { (t : Tables) (kind : TypeRef) (r : Rest) (fault : Fault) → IsOf t kind → IsBytes r.bytes
+        → (plain_value_at t kind r ≡ Err fault) ↔ PlainValueBreaks t kind r.place r.bytes fault }
+    ensures inputs { (t : Tables) (kind : TypeRef) (bytes : List ℕ) (fault : Fault) → IsOf t kind → IsBytes bytes
+        → (encapsulation_at t kind (whole bytes) ≡ Err fault) ↔ ValueInputBreaks t kind 0 bytes fault }
 {}

@@ -4,4 +4,4 @@
 
 mod laws;
 
-pub use laws::{cut_value, slice_heads};
+pub use laws::{cut_value, slice_heads, values_break};
