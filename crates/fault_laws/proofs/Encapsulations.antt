@@ -70,15 +70,15 @@ assoc : {A B C : Type 0} (r : Result A Fault) (f : A → Result B Fault) (g : B 
 assoc (Ok x) f g = refl
 assoc (Err e) f g = refl
 
-module _ {A : Type 0} (read : Rest → Result (A × Rest) Fault) (Spells : List ℕ → A → Type 0) (law : LawfulPart read Spells) (Inside : Defect) (inside : Agrees read Inside) where
+module _ {A : Type 0} (read : Rest → Result (A × Rest) Fault) (Inside : Defect) (inside : Agrees (filled read) Inside) where
   -- what is read in the bound
   abbrev content : Rest × Rest → Result (A × Rest) Fault
   content bound = (encoding.read bound.0 >>= λ version. filled read version.1) >>= λ x. Ok (x, bound.1)
 
-  versioned_agrees : Agrees (λ r. encoding.read r >>= λ version. filled read version.1) (Then encoding VersionBreaks (λ v. InBound Spells Inside))
-  versioned_agrees = then_agrees encoding encoding_lawful VersionBreaks (other_agrees _ _) (λ v. filled read) (λ v. InBound Spells Inside) (λ v. filled_agrees read Spells law Inside inside)
+  versioned_agrees : Agrees (λ r. encoding.read r >>= λ version. filled read version.1) (Then encoding VersionBreaks (λ v. Inside))
+  versioned_agrees = then_agrees encoding encoding_lawful VersionBreaks (other_agrees _ _) (λ v. filled read) (λ v. Inside) (λ v. inside)
 
-  content_agrees : (behind : Rest) → Agrees (λ bound. content (bound, behind)) (Then encoding VersionBreaks (λ v. InBound Spells Inside))
+  content_agrees : (behind : Rest) → Agrees (λ bound. content (bound, behind)) (Then encoding VersionBreaks (λ v. Inside))
   content_agrees behind = record {
     broken = λ r e fits h. then_err (encoding.read r >>= λ version. filled read version.1) (λ x. Ok (x, behind)) e h (λ bad. versioned_agrees.broken r e fits bad) (λ x x_is later. no_err (x, behind) e later);
     breaks = λ r e h. stops (encoding.read r >>= λ version. filled read version.1) (λ x. Ok (x, behind)) e (versioned_agrees.breaks r e h);
@@ -110,26 +110,26 @@ module _ {A : Type 0} (read : Rest → Result (A × Rest) Fault) (Spells : List 
       behind_claim claim = assoc (claimed r.place (length r.bytes) SMALLEST claim.0) (λ n. bound_at (n - SIZE_BYTES) claim.1 >>= λ bound. encoding.read bound.0 >>= λ version. Ok (version.1, bound.1)) go_on
           ∙ (λ i. claimed r.place (length r.bytes) SMALLEST claim.0 >>= λ n. behind_bound claim.1 n i)
 
-  pub encapsulated_agrees : Agrees (encapsulated_at read) (EncapsulatedBreaks Spells Inside)
+  pub encapsulated_agrees : Agrees (encapsulated_at read) (EncapsulatedBreaks Inside)
   encapsulated_agrees = record {
     broken = λ r e fits h. agrees.broken r e fits (sym (same_reading r) ∙ h);
     breaks = λ r e h. same_reading r ∙ agrees.breaks r e h;
   }
     where
-      agrees : Agrees counted (EncapsulatedBreaks Spells Inside)
-      agrees = counted_agrees content (Then encoding VersionBreaks (λ v. InBound Spells Inside)) content_agrees
+      agrees : Agrees counted (EncapsulatedBreaks Inside)
+      agrees = counted_agrees content (Then encoding VersionBreaks (λ v. Inside)) content_agrees
 
 -- ---- of a value by itself
 
-module _ (t : Tables) (kind : TypeRef) (is : IsOf t kind) where
-  refer : (at : Option ℕ) → Tells by_number.seen (λ s. Unit {0}) (by_number.read at) (λ from. SizeBreaks)
-  refer at = record {
-    broken = λ s r e good fits h. then_err (size_at r) (λ n. Ok (number_of n.0, s, n.1)) e h (λ bad. size_agrees.broken r e fits bad) (λ n n_is later. no_err (number_of n.0, s, n.1) e later);
-    breaks = λ s r e h. stops (size_at r) (λ n. Ok (number_of n.0, s, n.1)) e (size_agrees.breaks r e h);
-  }
+pub number_tells : (at : Option ℕ) → Tells by_number.seen (λ s. Unit {0}) (by_number.read at) (λ from. SizeBreaks)
+number_tells at = record {
+  broken = λ s r e good fits h. then_err (size_at r) (λ n. Ok (number_of n.0, s, n.1)) e h (λ bad. size_agrees.broken r e fits bad) (λ n n_is later. no_err (number_of n.0, s, n.1) e later);
+  breaks = λ s r e h. stops (size_at r) (λ n. Ok (number_of n.0, s, n.1)) e (size_agrees.breaks r e h);
+}
 
+module _ (t : Tables) (kind : TypeRef) (is : IsOf t kind) where
   told : Tells by_number.seen (λ s. Unit {0}) (value_at by_number.read t MOST_DEPTH kind) (ValueBreaks by_number (λ at from. SizeBreaks) t MOST_DEPTH kind)
-  told = value_tells by_number number_lawful (λ s. Unit {0}) (λ at bytes x from to h good. tt) (λ at from. SizeBreaks) refer t MOST_DEPTH kind is.0 is.1
+  told = value_tells by_number number_lawful (λ s. Unit {0}) (λ at bytes x from to h good. tt) (λ at from. SizeBreaks) number_tells t MOST_DEPTH kind is.0 is.1
 
   pub plain_agrees : Agrees (plain_value_at t kind) (PlainValueBreaks t kind)
   unfolding plain_value_at PlainValueBreaks
@@ -141,6 +141,9 @@ module _ (t : Tables) (kind : TypeRef) (is : IsOf t kind) where
   plain_law : LawfulPart (plain_value_at t kind) (SpellsPlainValue t kind)
   plain_law = record { found = plain_found t kind; only = plain_only t kind }
 
+  filled_value : Agrees (filled (plain_value_at t kind)) (InBound (SpellsPlainValue t kind) (PlainValueBreaks t kind))
+  filled_value = filled_agrees (plain_value_at t kind) (SpellsPlainValue t kind) plain_law (PlainValueBreaks t kind) plain_agrees
+
   pub value_input_agrees : Agrees (encapsulation_at t kind) (ValueInputBreaks t kind)
   value_input_agrees = filled_agrees (encapsulated_at (plain_value_at t kind)) (SpellsEncapsulation t kind) (record { found = next_found t kind; only = next_only t kind })
-      (EncapsulatedBreaks (SpellsPlainValue t kind) (PlainValueBreaks t kind)) (encapsulated_agrees (plain_value_at t kind) (SpellsPlainValue t kind) plain_law (PlainValueBreaks t kind) plain_agrees)
+      (EncapsulatedBreaks (InBound (SpellsPlainValue t kind) (PlainValueBreaks t kind))) (encapsulated_agrees (plain_value_at t kind) (InBound (SpellsPlainValue t kind) (PlainValueBreaks t kind)) filled_value)

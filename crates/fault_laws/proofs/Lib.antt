@@ -7,3 +7,10 @@ pub mod Heads
 pub mod Proxies
 pub mod Values
 pub mod Encapsulations
+pub mod Bounds
+pub mod Tags
+pub mod Members
+pub mod Twins
+pub mod Bodies
+pub mod Slices
+pub mod Graphs

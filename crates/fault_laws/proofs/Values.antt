@@ -135,7 +135,7 @@ module _ {R S : Type 0} (seen : R → S) (Good : S → Type 0) where
 
 -- ---- what is spelled leads on
 
-each_keeps : {S : Type 0} (Good : S → Type 0) (One : TypeRef → Speller S Tree) → ((kind : TypeRef) → Keeps Good (One kind)) → (ks : List TypeRef) → Keeps Good (Each One ks)
+pub each_keeps : {S : Type 0} (Good : S → Type 0) (One : TypeRef → Speller S Tree) → ((kind : TypeRef) → Keeps Good (One kind)) → (ks : List TypeRef) → Keeps Good (Each One ks)
 each_keeps Good One one [] bytes x from to h good = subst Good (sym h.2) good
 each_keeps Good One one (kind ∷ ks) bytes x from to h good = each_keeps Good One one ks h.3 h.1 h.4 to h.8 (one kind h.2 h.0 from h.4 h.7 good)
 

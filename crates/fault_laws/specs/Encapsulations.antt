@@ -19,14 +19,14 @@ OtherBytes known kind = λ place bytes fault. Lacks (length known) place bytes f
 abbrev pub VersionBreaks : Defect
 VersionBreaks = OtherBytes (1 ∷ 1 ∷ []) BadVersion
 
--- its size, its version or its content has the defect, or bytes are left behind the content
-abbrev pub EncapsulatedBreaks : {A : Type 0} → (List ℕ → A → Type 0) → Defect → Defect
-EncapsulatedBreaks Spells Inside = EnclosedBreaks (Then encoding VersionBreaks (λ v. InBound Spells Inside))
+-- its size, its version or its content has the defect
+abbrev pub EncapsulatedBreaks : Defect → Defect
+EncapsulatedBreaks Inside = EnclosedBreaks (Then encoding VersionBreaks (λ v. Inside))
 
 -- The same of an input that has to be one; bytes behind it come last.
 abbrev pub InputBreaks : {A : Type 0} → (List ℕ → A → Type 0) → Defect → Defect
-InputBreaks Spells Inside = InBound (Encapsulated Spells) (EncapsulatedBreaks Spells Inside)
+InputBreaks Spells Inside = InBound (Encapsulated Spells) (EncapsulatedBreaks Inside)
 
--- of an encapsulation of a value by itself, as an input
+-- of an encapsulation of a value by itself, which fills it, as an input
 abbrev pub ValueInputBreaks : Tables → TypeRef → Defect
-ValueInputBreaks t kind = InputBreaks (SpellsPlainValue t kind) (PlainValueBreaks t kind)
+ValueInputBreaks t kind = InputBreaks (SpellsPlainValue t kind) (InBound (SpellsPlainValue t kind) (PlainValueBreaks t kind))

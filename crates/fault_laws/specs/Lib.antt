@@ -3,3 +3,6 @@ pub mod Heads
 pub mod Proxies
 pub mod Values
 pub mod Encapsulations
+pub mod Members
+pub mod Slices
+pub mod Graphs

@@ -4,4 +4,4 @@
 
 mod laws;
 
-pub use laws::{cut_value, slice_heads, values_break};
+pub use laws::{cut_value, graphs_break, members_break, slice_heads, values_break};
