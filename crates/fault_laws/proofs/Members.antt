@@ -20,7 +20,7 @@ use Rattle.ice_encoding.specs.Port.{Port, IsLawful, Reader, Speller}
 use Rattle.ice_encoding.specs.Reading.{made, each_at, value_at}
 use Rattle.ice_encoding.specs.Skipping.{passed_at}
 use Rattle.ice_encoding.specs.Spelling.{Each, SpellsValue}
-use Rattle.ice_encoding.specs.Tags.{tag, next_tag_at}
+use Rattle.ice_encoding.specs.Tags.{next_tag_at}
 use Rattle.ice_encoding.specs.Tree.{Tree}
 use Rattle.ice_encoding.proofs.Passed.{passed_found, passed_only}
 use Rattle.ice_encoding.proofs.Values.{Lawful, lands, made_lawful, each_lawful, value_lawful}
