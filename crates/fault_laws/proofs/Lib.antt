@@ -1,0 +1,16 @@
+pub mod Cuts
+pub mod Breaking
+pub mod Primitives
+pub mod From
+pub mod Ids
+pub mod Heads
+pub mod Proxies
+pub mod Values
+pub mod Encapsulations
+pub mod Bounds
+pub mod Tags
+pub mod Members
+pub mod Twins
+pub mod Bodies
+pub mod Slices
+pub mod Graphs
