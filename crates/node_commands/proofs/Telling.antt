@@ -106,5 +106,5 @@ pub dump_outputs : (old new : Option (List ℕ)) (lines : List ℕ) (dump : Dump
 dump_outputs old new lines dumps.Finished g = g
 dump_outputs old new lines (dumps.Refused fault) g = g
 dump_outputs old new lines dumps.ReadFailed g = g
-dump_outputs old new lines dumps.WriteFailed g = g
+dump_outputs old new lines dumps.WriteFailed g = inl g
 dump_outputs old new lines dumps.Memory g = g

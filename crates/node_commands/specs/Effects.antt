@@ -1,5 +1,5 @@
 -- What each answer took of the input, and what the sinks got.
-use Rattle.std.specs.Prelude.{ℕ, ◌≡◌, ◌⊎◌, List, Option, Some, None}
+use Rattle.std.specs.Prelude.{ℕ, ◌≡◌, ◌⊎◌, List, [], Option, Some, None}
 use Rattle.std.specs.Io.KnownBytes.{Keeps, Appends}
 use Rattle.ice_ports.specs.Failures.{one_more}
 use Rattle.message_dump.specs.Sources.{ReadsFrugally}
@@ -51,7 +51,11 @@ Takes asked old new (refused_after written fault) = TakesInput asked old new
 Takes asked old new (read_failed_after written) = TakesInput asked old new
 Takes asked old new (no_memory_after written) = TakesInput asked old new
 
--- what the sink got: the bytes, a prefix of them after a failed write, and of a refusal nothing, or what was written before it
+-- after a failed write: a prefix of the bytes, and not all of them; of no bytes nothing
+abbrev pub AppendsLess : Option (List ℕ) → Option (List ℕ) → List ℕ → Type 0
+AppendsLess old new bytes = AppendsPrefix old new bytes ⊎ ((bytes ≡ []) × Appends old new [])
+
+-- what the sink got: the bytes, less of them after a failed write, and of a refusal nothing, or what was written before it
 abbrev pub Outputs : Option (List ℕ) → Option (List ℕ) → Answer → Type 0
 Outputs old new (done bytes) = Appends old new bytes
 Outputs old new (different bytes) = Appends old new bytes
@@ -64,7 +68,7 @@ Outputs old new (too_long length) = Keeps old new
 Outputs old new needs_sliced = Keeps old new
 Outputs old new (text_refused place) = Keeps old new
 Outputs old new read_failed = Keeps old new
-Outputs old new (write_failed bytes) = AppendsPrefix old new bytes
+Outputs old new (write_failed bytes) = AppendsLess old new bytes
 Outputs old new no_memory = Keeps old new
 Outputs old new (refused_after written fault) = Appends old new written
 Outputs old new (read_failed_after written) = Appends old new written
