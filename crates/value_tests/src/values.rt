@@ -1,7 +1,7 @@
 use graph_arena::{Members, Value};
 use ice_prims::{Cursor, Fault, Kind, ReadFault};
 use ice_types::{Member, Name, Schema, TypeRef};
-use ice_values::{DeclaredMembers, Numbers, Optionals, read_members, read_value, write_value};
+use ice_values::{DeclaredMembers, Numbers, Optionals, read_members};
 use std::process::Abort;
 use std::test::Fail;
 use value_checks::fits;
@@ -100,25 +100,5 @@ fn forms(rt: HostRuntime) -> Result<(), Fail> {
     let schema = Schema::new(rt.alloc());
     assert!(rt; fits(&schema, TypeRef::Int, &Value::Int(7)));
     assert!(rt; !fits(&schema, TypeRef::Long, &Value::Int(7)));
-    Ok(())
-}
-
-#[test]
-fn values_with_numbers(rt: HostRuntime) -> Result<(), Fail> {
-    let alloc = rt.alloc();
-    let schema = Schema::new(alloc);
-    let mut cursor = Cursor::new(b"\x02hi\x03no");
-    let value = read_value(alloc, &schema, TypeRef::Text, &mut cursor, &mut Numbers)?;
-    let mut out = Vec::new(alloc);
-    write_value(alloc, &value, &mut out, &mut Numbers)?;
-    assert_eq!(rt; out.as_slice(), b"\x02hi".as_slice());
-    let second = read_value(alloc, &schema, TypeRef::Text, &mut cursor, &mut Numbers);
-    assert!(rt; second.is_err());
-    assert_eq!(rt; cursor.left(), 3);
-    let mut cursor = Cursor::new(b"\x05");
-    let kind = TypeRef::Class(None);
-    let value = read_value(alloc, &schema, kind, &mut cursor, &mut Numbers)?;
-    write_value(alloc, &value, &mut out, &mut Numbers)?;
-    assert_eq!(rt; out.as_slice(), b"\x02hi\x05".as_slice());
     Ok(())
 }
