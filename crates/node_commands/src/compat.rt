@@ -1,8 +1,9 @@
 //! `compat OLD NEW TYPE`: whether what was spelled of a type under one Slice file can be read under another.
 
-ghost use Rattle.std.specs.Prelude.{ℕ, List, Option, IfOk};
-ghost use Rattle.node_commands.specs.Words.{compat as wanted};
-ghost use Rattle.node_commands.specs.Outside.{counts};
+ghost use Rattle.std.specs.Prelude.{◌≡◌, ℕ, List, Option, IfOk};
+ghost use Rattle.node_commands.specs.Words.{Word, compat as wanted};
+ghost use Rattle.node_commands.specs.Outside.{Failures, Files, NoneFailed, counts};
+ghost use Rattle.node_commands.specs.Decided.{IsSchema};
 ghost use Rattle.node_commands.specs.Outcomes.{Finds, FindsCompat};
 
 use crate::compat_text::compat_text;
@@ -30,10 +31,40 @@ pub fn compat<'a, H: Shelf>(
         (counts (H.failures shelf.new) source sink) result }
 {
     let spelled = load_schema(alloc, old, shelf)?;
+    behind_old(alloc, &spelled, new, word, shelf)
+}
+
+/// The same, once the old file has given its schema.
+fn behind_old<'a, H: Shelf>(
+    alloc: Global,
+    spelled: &Schema,
+    new: &str,
+    word: &'a str,
+    shelf: &mut H,
+) -> Result<Found, Outcome<'a>>
+    ensures { (old : Word) (files : Option Files) (input : Option (List ℕ)) (before source sink : ℕ)
+        → IsSchema files old spelled.now → H.files shelf.old ≡ files → H.failures shelf.old ≡ before
+        → Finds (wanted old new.now word.now) files input
+        (counts before source sink) (counts (H.failures shelf.new) source sink) result }
+{
     let reading = load_schema(alloc, new, shelf)?;
-    let kind = named_type(&spelled, word)?;
-    let other = named_type(&reading, word)?;
-    Ok(verdict_on(alloc, &spelled, kind, &reading, other)?)
+    behind_both(alloc, spelled, &reading, word)
+}
+
+/// The same, once both files have.
+fn behind_both<'a>(
+    alloc: Global,
+    spelled: &Schema,
+    reading: &Schema,
+    word: &'a str,
+) -> Result<Found, Outcome<'a>>
+    ensures { (old new : Word) (files : Option Files) (input : Option (List ℕ)) (before after : Failures)
+        → IsSchema files old spelled.now → IsSchema files new reading.now → NoneFailed before after
+        → Finds (wanted old new word.now) files input before after result }
+{
+    let kind = named_type(spelled, word)?;
+    let other = named_type(reading, word)?;
+    Ok(verdict_on(alloc, spelled, kind, reading, other)?)
 }
 
 /// What is to be written of a type of both schemas.
