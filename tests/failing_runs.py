@@ -48,6 +48,11 @@ def is_allowed(command, answer, whole):
     return is_begun and answer == Answer(NO_MEMORY[0], begun, NO_MEMORY[1])
 
 
+def is_void(answer):
+    """Says whether the sanitizer ended a run since it lacked memory itself, as it does where a thread begins."""
+    return b"AddressSanitizer: CHECK failed" in answer.error and b"pthread_getattr_np" in answer.error
+
+
 @dataclasses.dataclass(frozen=True)
 class Trial:
     """What a run is given, and the status of the whole one. In a word {here} is the folder of the files that the trial
@@ -111,6 +116,9 @@ class Failing:
 
 class Searched(Failing):
     """The program under valgrind, where none of its allocations fails."""
+
+    def __init__(self, program, folder):
+        self.program, self.folder, self.changed = program, folder, {}
 
     def begin(self, first, last):
         self.changed = {}
