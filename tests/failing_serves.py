@@ -41,7 +41,8 @@ class State:
 
 @dataclasses.dataclass(frozen=True)
 class Ask:
-    """A message: `sent` has its bytes, by the id of a request, and `does` tells the state after it and its answer."""
+    """A message: `sent` tells its bytes by the id of a request, and `does` by the state before it the one after it and
+    its answer."""
 
     sent: object
     does: object
@@ -178,10 +179,10 @@ def states_after(states, order, is_whole):
 
 
 def dispatched(talk, came, first):
-    """Returns the calls of a talk that may have been dispatched, each with its id and its reply: none behind one that
-    had no reply, since the connection was shut then."""
+    """Returns the calls of a talk that may have been dispatched, each with its id and its reply: none where nothing was
+    said, and none behind one that had no reply, since the connection was shut then."""
     calls = []
-    for at, (ask, said) in enumerate(zip(talk.asks, came.replies)):
+    for at, (ask, said) in enumerate(zip(talk.asks, came.replies)) if came.is_greeted else ():
         calls.append((ask, first + at, said))
         if ask.is_twoway and not said:
             break
@@ -239,7 +240,8 @@ class Serving(Trial):
         )
         most = 0 if is_whole else 1 if run.failed == 1 else len(talks)
         is_begun = any(it.is_greeted for it in came)
-        return f"{run.answer}; {shut} connections shut: {run.seen}" if shut > most and is_begun else ""
+        is_wrong = shut > most and (is_begun or is_whole)
+        return f"{run.answer}; {shut} connections shut: {run.seen}" if is_wrong else ""
 
 
 def serving(name, interface, objects, *rounds, options=()):
@@ -268,9 +270,9 @@ def store_trials():
 
 def other_trials():
     """Yields trials of what changes nothing."""
-    said, own = told("mirror", "say", 0, done(text("hello")), text("hello")), told("mirror", "ice_ping", 1, done())
-    own = own, told("mirror", "ice_id", 1, done(text(ECHO)))
-    yield serving("an echo", ECHO, (f"echo=mirror={ECHO}",), (Talk((said, *own), True),))
+    speak = told("mirror", "say", 0, done(text("hello")), text("hello"))
+    own = told("mirror", "ice_ping", 1, done()), told("mirror", "ice_id", 1, done(text(ECHO)))
+    yield serving("an echo", ECHO, (f"echo=mirror={ECHO}",), (Talk((speak, *own), True),))
     refused = (
         told("water", "add", 1, unknown(5, "bad mode"), number(2)),
         told("water", "add", 0, unknown(5, "bad arguments Short at 6")),
