@@ -2,8 +2,9 @@
 
 Each trial has the links that its peer plays, one after the other, each up to the end of the connection: so a connection
 that the program has not ended before it makes the next one is told, after WAITED seconds. The proxies that a locator
-answers have the port of the peer. All hosts are addresses: names are looked up by the C library, and that of Debian 12
-ends a program that lacks memory there, by a signal. Of each run it is looked at what the peer has seen:
+answers have the port of the peer. All hosts are addresses: names are looked up by the C library, and where memory lacks
+there, that of Debian 12 ends the program by a signal, or does not come back from the look-up after it. Of each run it
+is looked at what the peer has seen:
 
 - of each connection the peer has seen the end
 - there are no more connections than in the whole run, and what came over each is a beginning of what came there
