@@ -1,8 +1,8 @@
-"""Plays clients to `ice serve`, one after the other or at once, and looks whether tests/independent/serving.py allows what they were told."""
-import contextlib
+"""Plays clients to `ice serve`, one after the other or at once, and looks whether tests/independent/serving.py allows what these hear."""
 import dataclasses
 import os
 import resource
+import signal
 import socket
 import subprocess
 import threading
@@ -176,6 +176,11 @@ class Serve:
         self.process.kill()
         self.process.wait()
 
+    def stopped(self):
+        """Ends it where it does not end by itself."""
+        self.process.terminate()
+        return self.ended()
+
     def ended(self):
         """Waits for its end, and returns its status and all that it wrote."""
         try:
@@ -233,15 +238,18 @@ def shown(words, clients, heard, faults, wanted, given):
 def tried(program, folder, number, chance, changed):
     """Returns of which sort a trial is, and the difference or None."""
     maker = Maker(chance)
-    workers, at_once = chance.choice((1, 1, 2, 3)), chance.random() < 0.5
+    workers, at_once, is_endless = chance.choice((1, 1, 2, 3)), chance.random() < 0.5, chance.random() < 0.05
     clients = [maker.client() for _ in range(chance.choice((1, 1, 2, 3, 4)))]
-    words = ["serve", "--workers", str(workers), "--connections", str(len(clients)), maker.text.file, HERE, "0", *maker.words]
+    most = [] if is_endless else ["--connections", str(len(clients))]
+    words = ["serve", "--workers", str(workers), *most, maker.text.file, HERE, "0", *maker.words]
     with Serve(program, words, folder, changed) as serve:
         if serve.port is None:
             return "serve not begun", shown(words, clients, [], [], "listening", serve.ended())
         heard, faults = heard_by(clients, serve.port, at_once)
-        given = serve.ended()
+        given = serve.stopped() if is_endless else serve.ended()
     wanted = 0, b"listening %d\nserved %d\n" % (serve.port, len(clients)), b""
+    if is_endless:
+        wanted = -signal.SIGTERM, b"listening %d\n" % serve.port, b""
     sessions = sessions_of(clients, heard, workers, at_once)
     is_legal = sessions is not None and serving.is_legal(maker.adapter, sessions)
     sort = f"serve, {'at once' if at_once and len(clients) > 1 else 'in turn'}"

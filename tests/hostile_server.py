@@ -3,8 +3,8 @@ script has it. Where the system decides what a client sees (a reset that overtak
 """
 import collections
 import contextlib
-import dataclasses
 import errno
+import re
 import select
 import socket
 import threading
@@ -12,15 +12,15 @@ import time
 import traceback
 
 import calling
-import json_texts
 import messages
-import talks
-import values
 from links import HERE, SECONDS, end_side, give, reset, take
 from program import answer_of
+from server_scripts import Maker
 
-FRONT, GREETED, OVER = "front", "greeted", "over"
 MOST_WAYS = 64
+PASSED_OVER = "passed over"
+# What a trial is counted as: the first word of why a call ended, else its status.
+REASON = re.compile(rb"ice: (?:call ended: )?([a-z]+)")
 # No system gives a client one of these ports by itself.
 FIRST_PORT, MOST_PORTS = 20_000, 4
 
@@ -29,37 +29,7 @@ class Abroad(Exception):
     """The second answer would connect to where nobody of the trial is."""
 
 
-# What a server does on a connection
-
-
-def opening(data):
-    """Says what a client does that has heard this: it waits for more, sends its message, or sends nothing any more."""
-    header = data[: messages.HEADER]
-    if messages.header_fault(header):
-        return OVER
-    if len(header) < messages.HEADER or len(data) < messages.size_of(header):
-        return FRONT
-    return GREETED if data.startswith(talks.VALIDATE[:9]) and messages.size_of(header) == messages.HEADER else OVER
-
-
-@dataclasses.dataclass
-class Script:
-    """What is given before the request is waited for, the part of that which is (1: all of it, 0: it is not waited for), what is given
-    then, and how the connection ends: this side ends and the other is waited for, it is closed, it is reset, or it is not accepted."""
-
-    before: bytes
-    part: float
-    after: bytes
-    ends: str
-    first: list
-    second: list
-
-    @property
-    def waits(self):
-        return self.part > 0 and opening(self.before) != FRONT
-
-    def __str__(self):
-        return f"{self.before.hex()} | {self.part if self.waits else 'at once'} | {self.after.hex()} | {self.ends}"
+# The server
 
 
 def taken_request(link, part):
@@ -220,124 +190,6 @@ def all_ends(trial):
     return found
 
 
-# Trials
-
-
-@dataclasses.dataclass
-class Trial:
-    text: talks.Text
-    interface: str
-    name: str
-    operation: calling.Operation
-    proxy: str
-    locator: str | None
-    mode: str
-    data: bytes
-    retries: int
-    times: int
-    is_compact: bool
-    ports: list
-    scripts: dict
-
-    def words(self):
-        options = ["--retries", str(self.retries), "--times", str(self.times)] + ["--compact"] * self.is_compact
-        options += ["--locator", self.locator] if self.locator else []
-        return ["call", *options, self.text.file, self.interface, self.proxy, self.name]
-
-
-class Maker:
-    """Draws a trial."""
-
-    def __init__(self, chance, ports):
-        self.chance, self.ports, self.text = chance, ports, talks.text_of(chance.choice(list(talks.FILES)))
-        self.interface = chance.choice([it for it, operations in self.text.interfaces.items() if operations])
-        self.schema, operations = self.text.schema, self.text.interfaces[self.interface]
-        if chance.random() < 0.1:
-            self.schema, operations = talks.own_operations()
-        self.name = chance.choice(list(operations))
-        self.operation, self.harm = operations[self.name], chance.choice((0.2, 0.5, 0.8))
-        self.locator_schema, self.seeking = calling.operations_of({"own": calling.LOCATOR}, "own")
-
-    def trial(self):
-        chance, operation = self.chance, self.operation
-        mode = chance.choice(("", "-o", "-O")) if not operation.is_twoway or chance.random() < 0.02 else ""
-        is_located, targets = chance.random() < 0.25, self.ports[1:]
-        scripts = {it: self.door(mode) for it in targets if chance.random() < 0.85}
-        identity = chance.choice(("water", "hall", "a/b", "x -f front")) + (f" {mode}" if mode else "")
-        proxy, locator = identity + "".join(f":tcp -h {HERE} -p {it}" for it in targets), None
-        if is_located:
-            proxy, locator = identity + chance.choice(("", " @ cellar")), f"finder:tcp -h {HERE} -p {self.ports[0]}"
-            if chance.random() < 0.95:
-                scripts[self.ports[0]] = self.locator_door(targets)
-        graph = talks.drawn(chance, self.schema, operation.arguments)
-        data = json_texts.written(calling.Noter(graph, operation.arguments).whole())
-        numbers = chance.choice((0, 1, 1, 2, 3)), chance.choice((1, 1, 1, 2, 3))
-        given = mode, data, *numbers, chance.random() < 0.2, self.ports, scripts
-        return Trial(self.text, self.interface, self.name, operation, proxy, locator, *given)
-
-    def door(self, mode):
-        """Returns the scripts of a port where the object is."""
-        return self.scripts(lambda: b"" if mode else talks.reply(self.answer()))
-
-    def answer(self):
-        return talks.answer(self.chance, self.text, self.schema, self.operation)
-
-    def locator_door(self, targets):
-        return self.scripts(lambda: talks.reply(self.place(targets)))
-
-    def place(self, targets):
-        """Returns a locator's answer."""
-        chance, way = self.chance, self.chance.random()
-        if way < 0.1:
-            type_id = values.spelled_string(b"::Ice::%sNotFoundException" % chance.choice((b"Object", b"Adapter")))
-            return b"\1" + values.encapsulated(b"\x30" + type_id + b"\4\0\0\0")
-        if way < 0.15:
-            return talks.answer(chance, self.text, self.locator_schema, next(iter(self.seeking.values()))["findObjectById"])
-        there = tuple(values.Tcp(HERE.encode(), it) for it in targets)
-        proxy = values.Proxy(b"dummy", endpoints=there) if way < 0.8 else values.Proxy(b"dummy", adapter=b"cellar") if way < 0.95 else None
-        return b"\0" + values.encapsulated(values.spelled_proxy(proxy))
-
-    def scripts(self, replied):
-        count = self.chance.choice((1, 2, 4, 8))
-        found = [self.script(replied()) if self.chance.random() < self.harm else self.good(replied()) for _ in range(count)]
-        return [*found, self.good(replied())]
-
-    def pieces(self, before, part, after, ends):
-        return Script(before, part, after, ends, talks.in_pieces(self.chance, before), talks.in_pieces(self.chance, after))
-
-    def good(self, reply):
-        return self.pieces(talks.VALIDATE, 1, reply, "ends")
-
-    def script(self, reply):
-        chance = self.chance
-        before = talks.VALIDATE if chance.random() < 0.65 else self.harmed(talks.VALIDATE)
-        after = reply if chance.random() < 0.3 else self.harmed(reply)
-        part = 1 if chance.random() < 0.75 else chance.choice((0, 0.4, 0.7, 0.99))
-        return self.pieces(before, part, after, chance.choices(("ends", "closes", "dies", "unaccepted"), (50, 20, 25, 3))[0])
-
-    def harmed(self, message):
-        """Returns a message changed, cut, twice, not at all or among others."""
-        chance, way = self.chance, self.chance.random()
-        if way < 0.35 and message:
-            return talks.changed(chance, message, self.stray())
-        if way < 0.55:
-            return message[: chance.randrange(len(message) + 1)]
-        if way < 0.65:
-            return message + message
-        parts = [message, *(self.stray() for _ in range(chance.choice((1, 1, 2))))]
-        chance.shuffle(parts)
-        return b"".join(parts) if way < 0.9 else b"".join(parts[1:])
-
-    def stray(self):
-        """Returns a message that nobody asked for."""
-        number = self.chance.choice(talks.NUMBERS)
-        call = calling.called(values.Proxy(b"me"), self.operation, values.encapsulated(b""))
-        request = calling.message_of(messages.REQUEST, number.to_bytes(4, "little", signed=True) + call)
-        batch = calling.message_of(messages.BATCH, b"\2\0\0\0" + 2 * call)
-        others = [request, batch, talks.reply(b"\5\0", number), talks.reply(self.answer(), number)]
-        return self.chance.choice([talks.VALIDATE, talks.VALIDATE, talks.CLOSE, talks.CLOSE, *others])
-
-
 def bound(number, count):
     """Returns ports of a trial with their sockets, which do not listen. No trial has those of the next thousand."""
     found = {}
@@ -363,32 +215,36 @@ def is_whole(data):
     return len(data) >= messages.HEADER and len(data) == messages.size_of(data)
 
 
+def has_answer(script):
+    """Says whether a close message or a reply stands in what a connection was given, before anything that is wrong."""
+    lines, _ = messages.told(script.before + script.after)
+    return any(it.startswith((b"reply", b"close")) for it in lines.splitlines())
+
+
 def broken_laws(trial, heard):
     """Yields which laws are broken, by what was heard alone, where no locator is asked."""
     units = 1 if trial.mode == "-O" else trial.times
     if len(heard) > units * (trial.retries + 1):
-        yield "more attempts than retries allow"
+        yield "  more attempts than retries allow"
     if any(data and not is_whole(data) for _, data, is_all, _ in heard if is_all):
-        yield "a message that is not whole"
+        yield "  a message that is not whole"
     if trial.operation.is_idempotent:
         return
     whole = [at for at, (_, data, _, _) in enumerate(heard) if is_whole(data)]
     if trial.mode and len(whole) > units:
-        yield "sent again"
+        yield "  sent again, though it was sent whole"
     for at in whole:
-        script = heard[at][-1]
-        given = script.before + script.after
-        has_answer = any(b"IceP\1\0\1\0" + bytes([it]) in given for it in (messages.REPLY, messages.CLOSE))
-        if not trial.mode and not has_answer and at + 1 < len(heard):
-            yield "sent again after it was lost"
+        if not trial.mode and at + 1 < len(heard) and not has_answer(heard[at][-1]):
+            yield "  sent again, though it was lost"
 
 
 def shown(trial, ends, given, server):
-    doors = [f"    at {port}: {it}" for port, scripts in trial.scripts.items() for it in scripts]
-    heard = [f"    at {port}: {data.hex()}{'' if is_all else ' ..'}" for port, data, is_all, _ in server.heard]
+    """Returns the lines that tell a difference: what was said on each connection, behind it what was heard, and what was wanted."""
+    lines = [f"  words {trial.words()}", f"  input {trial.data.decode()}", f"  ports {trial.ports}, open {list(trial.scripts)}"]
+    for port, data, is_all, script in server.heard:
+        lines += [f"  at {port} gave {script}", f"    heard {data.hex()}{'' if is_all else ' ..'}"]
     wanted = [f"    {answer} {[(port, handed.hex()) for port, handed in log]}" for answer, log in ends]
-    asked = [f"  words {trial.words()}", f"  input {trial.data.decode()}"]
-    return "\n".join([*asked, "  given", *doors, "  heard", *heard, *server.faults, "  wanted, one of", *wanted, "  came", f"    {given}"])
+    return "\n".join([*lines, *server.faults, "  wanted, one of", *wanted, "  came", f"    {given}"])
 
 
 def tried(program, folder, number, chance, changed):
@@ -401,13 +257,14 @@ def tried(program, folder, number, chance, changed):
         except Abroad:
             ends = []
         if not ends:
-            return "passed over", None
+            return PASSED_OVER, None
         server = Server(listeners, trial.scripts)
         given = answer_of([program, *trial.words()], trial.data, folder, changed)
         server.finish()
     laws = [] if trial.locator else list(broken_laws(trial, server.heard))
     is_same = any(answer == given and fits(log, server.heard) for answer, log in ends)
-    sort = f"call {given[0]}"
+    reason = REASON.match(given[2])
+    sort = f"call: {reason[1].decode() if reason else given[0]}"
     if is_same and not laws and not server.faults:
         return sort, None
     return sort, "\n".join([*laws, shown(trial, ends, given, server)])
