@@ -2,6 +2,7 @@
 import dataclasses
 import os
 import resource
+import select
 import signal
 import socket
 import subprocess
@@ -166,7 +167,8 @@ class Serve:
         limits = lambda: resource.setrlimit(resource.RLIMIT_CPU, (SECONDS, SECONDS))
         pipes = {"stdin": subprocess.DEVNULL, "stdout": subprocess.PIPE, "stderr": subprocess.PIPE}
         self.process = subprocess.Popen([program, *words], cwd=folder, env={**os.environ, **changed}, preexec_fn=limits, **pipes)
-        self.line = self.process.stdout.readline()
+        is_there = select.select([self.process.stdout], [], [], 2 * SECONDS)[0]
+        self.line = self.process.stdout.readline() if is_there else b""
         self.port = int(self.line.split()[1]) if self.line.startswith(b"listening ") else None
 
     def __enter__(self):

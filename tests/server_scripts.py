@@ -2,6 +2,7 @@
 import dataclasses
 
 import calling
+import graphs
 import json_texts
 import messages
 import talks
@@ -78,7 +79,8 @@ class Maker:
         self.schema, operations = self.text.schema, self.text.interfaces[self.interface]
         if chance.random() < 0.1:
             self.schema, operations = talks.own_operations()
-        self.name = chance.choice(list(operations))
+        again = [name for name, it in operations.items() if it.is_idempotent]
+        self.name = chance.choice(again if again and chance.random() < 0.4 else list(operations))
         self.operation, self.harm = operations[self.name], chance.choice((0.2, 0.5, 0.8))
         self.locator_schema, self.seeking = calling.operations_of({"own": calling.LOCATOR}, "own")
 
@@ -104,7 +106,12 @@ class Maker:
         return self.scripts(lambda: b"" if mode else talks.reply(self.answer()))
 
     def answer(self):
-        return talks.answer(self.chance, self.text, self.schema, self.operation)
+        """Returns an answer of any sort, or mostly one that succeeds."""
+        if self.chance.random() < 0.3:
+            return talks.answer(self.chance, self.text, self.schema, self.operation)
+        shape = self.operation.results
+        graph = talks.drawn(self.chance, self.schema, shape)
+        return b"\0" + graphs.encode(graph, shape, calling.Sliced(graph))
 
     def locator_door(self, targets):
         return self.scripts(lambda: talks.reply(self.place(targets)))
@@ -133,7 +140,13 @@ class Maker:
         return self.pieces(talks.VALIDATE, 1, reply, "ends")
 
     def script(self, reply):
+        """Returns a script that does no good: one that is mostly tried again, or any."""
         chance = self.chance
+        if chance.random() < 0.5:
+            lost, good = reply[: chance.randrange(len(reply) + 1)], talks.VALIDATE
+            ways = (b"", b""), (good[:9], b""), (talks.CLOSE, b""), (good, talks.CLOSE), (good, good + talks.CLOSE), (good, lost), (good, b"")
+            before, after = chance.choice(ways)
+            return self.pieces(before, chance.choice((1, 1, 1, 0, 0.7)), after, chance.choice(("ends", "closes", "dies")))
         before = talks.VALIDATE if chance.random() < 0.65 else self.harmed(talks.VALIDATE)
         after = reply if chance.random() < 0.3 else self.harmed(reply)
         part = 1 if chance.random() < 0.75 else chance.choice((0, 0.4, 0.7, 0.99))
