@@ -218,14 +218,15 @@ def heard_by(clients, port, at_once):
 
 
 def sessions_of(clients, heard, workers, at_once):
-    """Returns what the second answer has to allow, None where a client heard what is none of replies."""
+    """Returns what the second answer has to allow, None where a client heard what no server says, or not all of it."""
     found = []
     for at, (client, data) in enumerate(zip(clients, heard)):
-        said = serving.replies_in(data)
-        if said is None or said[1] and not client.is_cut or not client.is_cut and not data:
+        is_begun = client.is_cut and len(data) < len(serving.VALIDATE) and serving.VALIDATE.startswith(data)
+        said = ([], b"") if is_begun else serving.replies_in(data)
+        if said is None or said[1] and not client.is_cut:
             return None
         behind = set() if at_once else {it for it in range(at) if workers == 1 or not clients[it].is_cut}
-        found.append(serving.Session(client.taken, said[0], client.is_cut, behind))
+        found.append(serving.Session(client.taken, *said, client.is_cut, behind))
     return found
 
 

@@ -250,15 +250,15 @@ def shown(trial, ends, given, server):
 def tried(program, folder, number, chance, changed):
     """Returns of which sort a trial is, and the difference or None."""
     with contextlib.ExitStack() as stack:
-        listeners = {port: stack.enter_context(it) for port, it in bound(number, chance.randint(2, MOST_PORTS)).items()}
-        trial = Maker(chance, list(listeners)).trial()
         try:
+            listeners = {port: stack.enter_context(it) for port, it in bound(number, chance.randint(2, MOST_PORTS)).items()}
+            trial = Maker(chance, list(listeners)).trial()
             ends = all_ends(trial)
-        except Abroad:
-            ends = []
-        if not ends:
+            server = Server(listeners, trial.scripts) if ends else None
+        except (Abroad, OSError):  # the second: somebody else has a port of the trial
+            server = None
+        if server is None:
             return PASSED_OVER, None
-        server = Server(listeners, trial.scripts)
         given = answer_of([program, *trial.words()], trial.data, folder, changed)
         server.finish()
     laws = [] if trial.locator else list(broken_laws(trial, server.heard))

@@ -10,6 +10,8 @@ import values
 from links import HERE
 
 FRONT, GREETED, OVER = "front", "greeted", "over"
+# There is no such object, which makes a place stale that was kept.
+GONE = talks.reply(b"\2\1x\0\0\0")
 
 
 # What a server does on a connection
@@ -144,7 +146,7 @@ class Maker:
         chance = self.chance
         if chance.random() < 0.5:
             lost, good = reply[: chance.randrange(len(reply) + 1)], talks.VALIDATE
-            ways = (b"", b""), (good[:9], b""), (talks.CLOSE, b""), (good, talks.CLOSE), (good, good + talks.CLOSE), (good, lost), (good, b"")
+            ways = (b"", b""), (good[:9], b""), (talks.CLOSE, b""), (good, talks.CLOSE), (good, good + talks.CLOSE), (good, lost), (good, GONE)
             before, after = chance.choice(ways)
             return self.pieces(before, chance.choice((1, 1, 1, 0, 0.7)), after, chance.choice(("ends", "closes", "dies")))
         before = talks.VALIDATE if chance.random() < 0.65 else self.harmed(talks.VALIDATE)

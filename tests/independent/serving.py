@@ -5,7 +5,7 @@ replies to those of its calls that ask for one, in order, before it takes the ne
 the client's close message, or with the first fault: of a message, or of one that no client sends. An object answers one call after the
 other, so what came over all connections has to be one order of their calls that keeps that of each connection.
 
-An enum whose numbers do not rise has no place in the files of stores here: which enumerator is a first value is told by its number.
+Of an enum the least number is taken for that of the first enumerator, so files where it is another one have no place here.
 """
 import types
 from dataclasses import dataclass, field
@@ -298,9 +298,9 @@ class Adapter:
 
 def replies_in(data):
     """Returns the replies in what a server said, each from its number on, and the bytes of one that is not whole; None where it said
-    anything else."""
+    anything else, or no validate message before them."""
     if not data.startswith(VALIDATE):
-        return None if not VALIDATE.startswith(data) else ([], b"")
+        return None
     at, found = len(VALIDATE), []
     while len(data) - at >= messages.HEADER:
         header = data[at : at + messages.HEADER]
@@ -316,11 +316,12 @@ def replies_in(data):
 
 @dataclass
 class Session:
-    """A connection: the calls of each message that was taken at most, the replies that came, whether the client went away before all
-    of them could come, and which sessions were over when this one began."""
+    """A connection: the calls of each message that was taken at most, the replies that came and the bytes of one that is not whole,
+    whether the client went away before all of them could come, and which sessions were over when this one began."""
 
     taken: list
     replies: list
+    rest: bytes = b""
     is_cut: bool = False
     behind: set = field(default_factory=set)
 
@@ -328,8 +329,18 @@ class Session:
         self.calls = [call for message in self.taken for call in message]
         asks = [bool(number) for number, _ in self.calls]
         self.asked = [sum(asks[:at]) for at in range(len(asks) + 1)]
+        self.came = len(self.replies) + bool(self.rest)
         bounds = [sum(map(len, self.taken[:at])) for at in range(len(self.taken) + 1)]
-        self.stops = {it for it in bounds if self.asked[it] >= len(self.replies)} if self.is_cut else {len(self.calls)}
+        self.stops = {it for it in bounds if self.asked[it] >= self.came} if self.is_cut else {len(self.calls)}
+
+    def allows(self, place, reply):
+        """Says whether the reply to a call is what came, as far as it had to come."""
+        at = self.asked[place]
+        if at < len(self.replies):
+            return self.replies[at] == reply
+        if at == len(self.replies) and self.rest:
+            return calling.message_of(messages.REPLY, reply).startswith(self.rest)
+        return self.is_cut
 
     def steps(self, place, kept, adapter):
         """Yields where the session may be next, and what is kept then."""
@@ -338,15 +349,13 @@ class Session:
         if place < len(self.calls):
             number, call = self.calls[place]
             answer, new = adapter.answer(kept, call)
-            came = self.replies[self.asked[place]] if number and self.asked[place] < len(self.replies) else None
-            is_due = number and not self.is_cut
-            if came == number.to_bytes(4, "little", signed=True) + answer if came is not None else not is_due:
+            if number == 0 or self.allows(place, number.to_bytes(4, "little", signed=True) + answer):
                 yield place + 1, new
 
 
 def is_legal(adapter, sessions):
     """Says whether the calls of all sessions have one order in which the objects answer what came."""
-    if any(len(it.replies) > it.asked[-1] for it in sessions):
+    if any(it.came > it.asked[-1] for it in sessions):
         return False
     waiting = [((0,) * len(sessions), adapter.first)]
     seen = set(waiting)
