@@ -3,6 +3,7 @@ pub mod Lengths
 pub mod Replying
 pub mod Outcomes
 pub mod Dead
+pub mod Back
 pub mod Bodies
 pub mod Runs
 pub mod Passing

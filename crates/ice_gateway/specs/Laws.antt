@@ -1,9 +1,10 @@
 -- Which calls, outcomes and answers can come, and what follows of a message that was tried.
-use Rattle.std.specs.Prelude.{ℕ, pos, ◌≡◌, ◌<◌, ◌⊎◌, List, ◌∷◌, [], ◌++◌, length, Option, Some, None}
+use Rattle.std.specs.Prelude.{ℕ, pos, false, ◌≡◌, ◌<◌, ◌⊎◌, List, ◌∷◌, [], ◌++◌, length, Option, Some, None}
 use Rattle.ice_encoding.specs.Parts.{Each}
 use Rattle.ice_ports.specs.declared.talk.Talk.{Talk}
 use Rattle.ice_messages.specs.declared.message.Call.{Call}
 use Rattle.ice_messages.specs.declared.message.Answer.{Answer}
+use Rattle.ice_messages.specs.declared.message.Answer.TheVariants.{Done}
 use Rattle.ice_messages.specs.declared.message.Message.{Message}
 use Rattle.ice_messages.specs.declared.message.Message.TheVariants.{Request, Reply, Close}
 use Rattle.ice_messages.specs.Messages.{SpellsMessage}
@@ -11,11 +12,14 @@ use Rattle.ice_messages.specs.Written.{IsCallWith, IsWritableCall}
 use Rattle.ice_client.specs.declared.outcome.Outcome.{Outcome}
 use Rattle.ice_client.specs.declared.outcome.Outcome.TheVariants.{Replied, Sent, NetFailed, Ended, Closed, Broke, NoEndpoint}
 use Rattle.ice_client.specs.declared.outgoing.Outgoing.{Outgoing}
-use Rattle.ice_client.specs.Rows.{Meets}
+use Rattle.ice_client.specs.Rows.{IsReplied, Meets}
 use Rattle.ice_client.specs.Sending.{IsOf, IsIdempotent}
 use Rattle.ice_client.specs.ClientDid.{Tried, ClientDid, is_uncached}
 use Rattle.object_adapter.specs.Replies.{IsReply, KeepsLimit}
 use Rattle.object_adapter.specs.Results.{AreResults}
+use Rattle.ice_gateway.specs.Gate.{Gate, Operation, operation_of}
+use Rattle.ice_gateway.specs.Anew.{body_anew}
+use Rattle.ice_gateway.specs.Mapped.{Mapped, admitted}
 use Rattle.ice_gateway.specs.declared.renewing.Renewed.{Renewed}
 use Rattle.ice_gateway.specs.declared.renewing.Renewed.TheVariants as renewals
 use Rattle.ice_gateway.specs.declared.admitting.Admitted.{Admitted}
@@ -71,3 +75,14 @@ IsDead o (Some t) = (length t.taken < length o.bytes) ⊎ ((ms : List Message) �
 abbrev pub ForwardsOnce : Type 0
 ForwardsOnce = (m : Message) (retries : ℕ) (tried : List Tried) (outcome : Outcome) → (IsIdempotent m → ⊥) → ClientDid m retries tried (Some outcome) → Each is_uncached tried
     → (o : Outgoing) × (before : List Tried) × (last : Tried) × IsOf o m × (tried ≡ before ++ last ∷ []) × Each (λ (x : Tried). IsDead o x.talk) before
+
+-- ---- a success of a server
+
+-- Where the last attempt's link gave a validate and then a success, with results of the operation which, written anew, are
+-- within their bound, the answer of the request is that success.
+abbrev pub SuccessesComeBack : Type 0
+SuccessesComeBack =
+    (gate : Gate) (c call : Call) (op : Operation) (m : Message) (tried before : List Tried) (last : Tried) (t : Talk) (outcome : Outcome) (body out : List ℕ) (answer : Answer)
+    → operation_of gate c.operation ≡ Some op → admitted gate c ≡ Goes call → (did : ClientDid m gate.retries tried (Some outcome)) → tried ≡ before ++ last ∷ []
+    → last.talk ≡ Some t → IsReplied did.outgoing last.cached t (Done body) false → body_anew op.tables op.declared.results body ≡ renewals.Written out
+    → Mapped gate c (Some outcome) answer → answer ≡ Done out

@@ -31,6 +31,6 @@ mod session;
 
 pub use end::GateEnd;
 pub use gateway::Gateway;
-pub use laws::forwards_once;
+pub use laws::{forwards_once, successes_come_back};
 pub use serving::{Gated, gate_all};
 pub use session::gate_connection;

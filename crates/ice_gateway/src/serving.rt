@@ -3,7 +3,7 @@
 ghost use Rattle.std.specs.Prelude.{◌≡◌, ◌⊎◌, ◌^◌, ℕ, ◌+◌, ◌<◌, ◌≤◌, Option, false, true};
 ghost use Rattle.ice_types.specs.Object.{object_tables};
 ghost use Rattle.ice_ports.specs.Failures.{count_after};
-ghost use Rattle.ice_ports.specs.Nets.{ToldListener};
+ghost use Rattle.ice_ports.specs.Nets.{ToldListener, gathers};
 ghost use Rattle.ice_gateway.specs.Gate.{seen};
 ghost use Rattle.ice_gateway.specs.Runs.{NetSeen, net_seen};
 ghost use Rattle.ice_gateway.specs.Sessions.{AllServed, HasServed, NoneToCome};
@@ -95,12 +95,25 @@ pub fn gate_all<N: Net, D: Listener>(
 {
     let mut door = door;
     let mut tray = door.tray();
-    let mut accepted = 0;
-    let mut turn = Turn::Served;
-    while turn == Turn::Served && accepted < connections {
-        turn = serve_next(gateway, net, &mut door, &mut tray, messages);
-        accepted += links_of(turn);
+    for accepted in 0..connections {
+        let turn = serve_next(gateway, net, &mut door, &mut tray, messages);
+        if turn != Turn::Served {
+            return gathered(door, tray, accepted + links_of(turn), turn);
+        }
     }
+    gathered(door, tray, connections, Turn::Served)
+}
+
+/// What serving came to, where so many links were accepted and this was the last turn: their links are gathered.
+fn gathered<D: Listener>(door: D, tray: D::Tray, accepted: u64, turn: Turn) -> Gated<D>
+    ensures told { D.told result.door ≡ gathers (D.Tray.told tray) (D.told door) }
+    ensures failures { D.failures result.door ≡ D.failures door }
+    ensures nones { D.nones result.door ≡ D.nones door }
+    ensures accepted { result.accepted ≡ accepted }
+    ensures failed { result.failed ≡ fails turn }
+    ensures starved { result.starved ≡ starves turn }
+{
+    let mut door = door;
     door.gather(tray);
     Gated {
         door,
