@@ -1,6 +1,6 @@
 -- A success is the answer of a turn of its own request.
-use Rattle.std.proofs.Common.{◌≡◌, ◌≢◌, ℕ, ℤ, zero, suc, pos, negsuc, Bool, true, false, List, [], ◌∷◌, refl, sym, ap, subst, ◌∙◌}
-use Rattle.std.specs.Prelude.{Option, Some, None, nat_le, length, if◌then◌else◌}
+use Rattle.std.proofs.Common.{◌≡◌, ◌≢◌, ℕ, ℤ, zero, suc, pos, negsuc, Bool, true, false, List, [], ◌∷◌, refl, sym, ap, subst, ◌∙◌, arith}
+use Rattle.std.specs.Prelude.{codes, Option, Some, None, nat_le, length, if◌then◌else◌}
 use Rattle.ice_encoding.specs.declared.limits.TheConstants.{LARGEST}
 use Rattle.ice_messages.specs.declared.message.Call.{Call}
 use Rattle.ice_messages.specs.declared.message.Answer.{Answer}
@@ -11,6 +11,7 @@ use Rattle.ice_messages.specs.Messages.{message_bytes}
 use Rattle.ice_client.specs.declared.outcome.Outcome.{Outcome}
 use Rattle.ice_client.specs.declared.outcome.Outcome.TheVariants as outcomes
 use Rattle.object_adapter.specs.Laws.{status_of}
+use Rattle.object_adapter.specs.Refusals.{failed, fault_text, missed}
 use Rattle.once_law.specs.Ends.{Attempted}
 use Rattle.once_law.proofs.Turns.{own_turns}
 use Rattle.ice_gateway.specs.Gate.{Gate, Operation, operation_of}
@@ -19,38 +20,32 @@ use Rattle.ice_gateway.specs.declared.admitting.Admitted.{Admitted}
 use Rattle.ice_gateway.specs.declared.admitting.Admitted.TheVariants.{Goes, Refused}
 use Rattle.ice_gateway.specs.declared.renewing.Renewed.{Renewed}
 use Rattle.ice_gateway.specs.declared.renewing.Renewed.TheVariants.{Written, TooLong, Broken}
-use Rattle.ice_gateway.specs.Mapped.{Mapped, ByOperation, ByArguments, ByOutcome, IsOutcomes, given_back, wrapped, too_long, with_arguments}
+use Rattle.ice_gateway.specs.Mapped.{Mapped, ByOperation, ByArguments, ByOutcome, IsOutcomes, given_back, results_text, wrapped, too_long, with_arguments}
 use Rattle.ice_gateway.specs.Handled.{Handled, Invocation, WasAnswered, Answered, outcome_of}
 use Rattle.gateway_law.specs.Laws.{WasServed, delivery, IsOwn, SuccessesAreOwn}
 use Rattle.gateway_law.proofs.Served.{was_handled, is_delivery}
 
 -- no refusal has the status of a success
-not_success : {n : ℕ} → suc n ≡ 0 → ⊥
-not_success e = cc
+not_success : (n : ℕ) (answer : Answer) → status_of answer ≡ suc n → status_of answer ≡ 0 → ⊥
+not_success n answer is success = omega (arith, is, success)
+
+other : (n : ℕ) (answer a : Answer) → answer ≡ a → status_of a ≡ suc n → status_of answer ≡ 0 → ⊥
+other n answer a is status success = not_success n a status (ap status_of (sym is) ∙ success)
 
 refused_by : (b : Bool) (c : Call) (refusal : Answer) → (if b then Goes c else Refused too_long) ≡ Refused refusal → status_of refusal ≡ 0 → ⊥
 refused_by true c refusal e success = cc
-refused_by false c refusal e success =
-    let is : refusal ≡ too_long = (let z = e in cc) in
-    not_success (ap status_of (sym is) ∙ success)
+refused_by false c refusal e success = other 4 refusal too_long (let z = e in cc) refl success
 
 refused : (c : Call) (r : Renewed) (refusal : Answer) → with_arguments c r ≡ Refused refusal → status_of refusal ≡ 0 → ⊥
 refused c (Written body) refusal e success = refused_by (nat_le (length (message_bytes (Request (pos 1) (record c { body = body })))) LARGEST) (record c { body = body }) refusal e success
-refused c TooLong refusal e success =
-    let is : refusal ≡ too_long = (let z = e in cc) in
-    not_success (ap status_of (sym is) ∙ success)
-refused c (Broken fault) (Done body) e success = cc
-refused c (Broken fault) (Raised body) e success = cc
-refused c (Broken fault) (Missing status i f o) e success = cc
-refused c (Broken fault) (Unknown status what) e success =
-    let is : status ≡ 5 = (let z = e in cc) in
-    not_success (sym is ∙ success)
+refused c TooLong refusal e success = other 4 refusal too_long (let z = e in cc) refl success
+refused c (Broken fault) refusal e success = other 4 refusal (failed (fault_text fault)) (let z = e in cc) refl success
 
 -- a success is the answer of a success that came
 wrapped_raised : (r : Renewed) → status_of (wrapped Raised r) ≡ 0 → ⊥
-wrapped_raised (Written body) success = not_success success
-wrapped_raised TooLong success = not_success success
-wrapped_raised (Broken fault) success = not_success success
+wrapped_raised (Written body) success = not_success 0 (Raised body) refl success
+wrapped_raised TooLong success = not_success 4 too_long refl success
+wrapped_raised (Broken fault) success = not_success 4 (failed (results_text fault)) refl success
 
 came_success : (gate : Gate) (op : Operation) (came : Answer) → status_of (given_back gate op came) ≡ 0 → status_of came ≡ 0
 came_success gate op (Done body) success = refl
@@ -68,16 +63,13 @@ record Came (gate : Gate) (c : Call) (outcome : Outcome) (answer : Answer) : Typ
   success : status_of came ≡ 0
 
 module _ (gate : Gate) (c : Call) (answer : Answer) (success : status_of answer ≡ 0) where
-  failed_not : (n : ℕ) (a : Answer) → answer ≡ a → status_of a ≡ suc n → ⊥
-  failed_not n a is status = not_success (sym status ∙ (ap status_of (sym is) ∙ success))
-
   by_outcome : (op : Operation) (outcome : Outcome) → operation_of gate c.operation ≡ Some op → IsOutcomes gate op outcome answer → Came gate c outcome answer
   by_outcome op (outcomes.Replied came) known is = record { operation = op; known = known; came = came; outcome_is = refl; is = is; success = came_success gate op came (ap status_of (sym is) ∙ success) }
   by_outcome op outcomes.Sent known is = absurd is
-  by_outcome op outcomes.NetFailed known is = absurd (failed_not 4 _ is refl)
-  by_outcome op outcomes.Ended known is = absurd (failed_not 4 _ is refl)
-  by_outcome op outcomes.Closed known is = absurd (failed_not 4 _ is refl)
-  by_outcome op (outcomes.Broke fault) known is = absurd (failed_not 4 _ is refl)
+  by_outcome op outcomes.NetFailed known is = absurd (other 4 answer (failed (codes "upstream failed")) is refl success)
+  by_outcome op outcomes.Ended known is = absurd (other 4 answer (failed (codes "upstream ended")) is refl success)
+  by_outcome op outcomes.Closed known is = absurd (other 4 answer (failed (codes "upstream closed")) is refl success)
+  by_outcome op (outcomes.Broke fault) known is = absurd (other 4 answer (failed (codes "upstream broke")) is refl success)
   by_outcome op outcomes.NoEndpoint known is = absurd is
 
   by_arguments : (op : Operation) (outcome : Outcome) (r : Renewed) (a : Admitted) → a ≡ with_arguments c r → operation_of gate c.operation ≡ Some op → ByArguments gate op (Some outcome) answer a → Came gate c outcome answer
@@ -85,8 +77,10 @@ module _ (gate : Gate) (c : Call) (answer : Answer) (success : status_of answer 
   by_arguments op outcome r (Goes call) e known is = by_outcome op outcome known is
 
   by_operation : (outcome : Outcome) (op : Option Operation) → op ≡ operation_of gate c.operation → ByOperation gate c (Some outcome) answer op → Came gate c outcome answer
-  by_operation outcome None known is = absurd (failed_not 3 _ is refl)
-  by_operation outcome (Some op) known is = by_arguments op outcome (body_anew op.tables op.declared.arguments c.body) _ refl (sym known) is
+  by_operation outcome None known is = absurd (other 3 answer (missed 4 c) is refl success)
+  by_operation outcome (Some op) known is =
+      let r = body_anew op.tables op.declared.arguments c.body in
+      by_arguments op outcome r (with_arguments c r) refl (sym known) is
 
   came_of : (outcome : Outcome) → Mapped gate c (Some outcome) answer → Came gate c outcome answer
   came_of outcome is = by_operation outcome (operation_of gate c.operation) refl is

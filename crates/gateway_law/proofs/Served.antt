@@ -13,6 +13,7 @@ use Rattle.ice_client.specs.ClientDid.{ClientDid, Tried}
 use Rattle.once_law.specs.Ends.{Attempted, Delivery, HasOtherEnd, IsDelivery, IsSent, tried_of}
 use Rattle.once_law.specs.Shown.{calls_of}
 use Rattle.once_law.specs.Laws.{HasTurn}
+use Rattle.once_law.proofs.Lists.{first_is, none_at, none_some}
 use Rattle.once_law.proofs.Turns.{single_turns}
 use Rattle.ice_gateway.specs.Gate.{Gate, Operation, operation_of}
 use Rattle.ice_gateway.specs.Anew.{body_anew}
@@ -26,9 +27,6 @@ use Rattle.ice_gateway.specs.Handled.{Handled, Invocation, WasForwarded, WasHand
 use Rattle.gateway_law.specs.Laws.{WasServed, delivery, ForwardedTurnsAreSingle, ForwardedOnce}
 
 -- ---- options
-
-pub none_some : {A : Type 0} {x : A} → None ≡ Some x → ⊥
-none_some e = cc
 
 pub some_is : {A : Type 0} (x y : A) → Some x ≡ Some y → x ≡ y
 some_is x y e = cc
@@ -73,12 +71,12 @@ sent gate Close x e = absurd (none_some e)
 -- ---- one of the messages that were handled
 
 handled_at : (gate : Gate) (hs : List Handled) (n : ℕ) (h : Handled) → slice_get hs n ≡ Some h → Each (WasHandled gate) hs → WasHandled gate h
-handled_at gate [] n h at each = absurd (none_some at)
-handled_at gate (x ∷ xs) zero h at each = subst (WasHandled gate) (some_is x h at) each.0
+handled_at gate [] n h at each = absurd (none_at n h at)
+handled_at gate (x ∷ xs) zero h at each = subst (WasHandled gate) (first_is x h at) each.0
 handled_at gate (x ∷ xs) (suc n) h at each = handled_at gate xs n h at each.1
 
 -- with the invocation of what is due
-abbrev IsDue : Gate → Option Message → Invocation → Type 0
+abbrev pub IsDue : Gate → Option Message → Invocation → Type 0
 IsDue gate due i = (due ≡ Some i.message) × ClientDid i.message gate.retries i.tried (Some i.outcome)
 
 due_is : (gate : Gate) (due : Option Message) (o : Option Invocation) (i : Invocation) → o ≡ Some i → WasForwarded gate due o → IsDue gate due i
