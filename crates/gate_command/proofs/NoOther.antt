@@ -34,7 +34,7 @@ few words version p = omega (arith, ap length p)
 abbrev first_letter : List Word → ℕ
 first_letter words = get_or (get_or words 0 []) 0 0
 
-no_serve : (words : List Word) (c : GateWords) → GateForm words c → (other : Serve) → ServeForm words other → ⊥
+pub no_serve : (words : List Word) (c : GateWords) → GateForm words c → (other : Serve) → ServeForm words other → ⊥
 no_serve words c form other serves = let e : 103 ≡ 115 = ap first_letter (sym form.words_are ∙ serves.form.1) in omega (arith, e)
 
 pub no_other : IsNoOther

@@ -1,5 +1,5 @@
 //! Laws of the whole program: the numbers of the limits, so that none of them can change unseen; and that what both
-//! ends of calls say is one world (`once`).
+//! ends of calls say is one world (`once`), and a gateway between them forwards each call once (`gates_once`).
 
 ghost use Rattle.std.specs.Prelude.{◌≡◌};
 ghost use Rattle.ice_encoding.specs.declared.limits.TheConstants.{GREATEST, LARGEST, SMALLEST};
@@ -20,6 +20,7 @@ ghost use Rattle.serve_command.specs.declared.words.TheConstants.{MOST_WORDS};
 ghost use Rattle.serve_command.specs.declared.operands.TheConstants.{MOST_WORKERS, MOST_CONNECTIONS};
 ghost use Rattle.serve_command.specs.declared.serving.TheConstants.{MOST_MESSAGES as MOST_SERVED};
 
+pub use gate_command::gates_once;
 pub use once_law::{once, successes_have_turns, turns_are_single};
 
 /// The limits that the definitions name, each by its number: of encapsulations and messages, types, reads, Slice
