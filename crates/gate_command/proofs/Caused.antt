@@ -10,7 +10,6 @@ use Rattle.ice_gateway.specs.Handled.{Handled, Invocation, WasHandled, WasForwar
 use Rattle.ice_gateway.specs.Forwarded.{forwarded}
 use Rattle.ice_gateway.specs.Sessions.{Session, AllDid}
 use Rattle.ice_gateway.specs.Laws.{ForwardsOnce}
-use Rattle.ice_gateway.proofs.Dead as dead
 use Rattle.node_commands.specs.Outside.{Files, Outside, ShelfFailed, SinkFailed}
 use Rattle.node_commands.specs.Answers.{Answer, read_failed, no_memory}
 use Rattle.serve_command.specs.Ends.{End, answered}

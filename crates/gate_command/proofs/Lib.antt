@@ -6,3 +6,4 @@ pub mod Listening
 pub mod Ended
 pub mod OneRefusal
 pub mod Caused
+pub mod Arriving

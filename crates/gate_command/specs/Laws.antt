@@ -1,13 +1,20 @@
 -- What the definitions promise.
-use Rattle.std.specs.Prelude.{ℕ, ◌≡◌, ◌⊎◌, List, [], ◌∷◌, ◌++◌, Option, Some, None, Bool}
+use Rattle.std.specs.Prelude.{ℕ, ℤ, pos, ◌≡◌, ◌≢◌, ◌⊎◌, List, [], ◌∷◌, ◌++◌, Option, Some, None, Bool, false}
 use Rattle.ice_encoding.specs.Parts.{Each}
 use Rattle.ice_client.specs.declared.outgoing.Outgoing.{Outgoing}
 use Rattle.ice_client.specs.Sending.{IsOf, IsIdempotent}
 use Rattle.ice_client.specs.ClientDid.{Tried}
+use Rattle.ice_client.specs.Rows.{IsReplied}
+use Rattle.ice_messages.specs.declared.message.Answer.TheVariants.{Done}
+use Rattle.ice_messages.specs.declared.message.Call.{Call}
+use Rattle.ice_messages.specs.declared.message.Message.TheVariants.{Request, Reply}
+use Rattle.ice_ports.specs.declared.talk.Talk.{Talk}
 use Rattle.ice_ports.specs.Failures.{one_more}
-use Rattle.ice_gateway.specs.Gate.{Gate}
+use Rattle.ice_gateway.specs.declared.renewing.Renewed.TheVariants.{Written}
+use Rattle.ice_gateway.specs.Anew.{body_anew}
+use Rattle.ice_gateway.specs.Gate.{Gate, Operation, operation_of}
 use Rattle.ice_gateway.specs.Runs.{NetSeen}
-use Rattle.ice_gateway.specs.Handled.{Handled, Invocation}
+use Rattle.ice_gateway.specs.Handled.{Handled, Invocation, WasHandled}
 use Rattle.ice_gateway.specs.Sessions.{Session, AllDid}
 use Rattle.ice_gateway.specs.Laws.{IsDead}
 use Rattle.node_commands.specs.Outside.{Files, Outside, ShelfFailed, SinkFailed}
@@ -67,3 +74,13 @@ AreSentOnce gate most (s ∷ ss) did = Each (λ (h : Handled). IsSentOnce h.invo
 abbrev pub GatesOnce : Type 0
 GatesOnce = (c : GateWords) (gate : Gate) (net later : NetSeen) (count : ℕ) (failed starved : Bool) (h : Sessions c gate net later count failed starved)
     → AreSentOnce gate MOST_MESSAGES h.heard.all.sessions h.heard.all.did
+
+-- ---- a success arrives
+
+-- A request was forwarded, and over the link of the last attempt at it the server gave validate and results, having taken it
+-- whole; they are those of the operation, within the limit: the caller's reply has them, written anew.
+abbrev pub SuccessesArrive : Type 0
+SuccessesArrive = (gate : Gate) (h : Handled) (i : Invocation) (id : ℤ) (c : Call) (op : Operation) (before : List Tried) (last : Tried) (t : Talk) (came body : List ℕ)
+    → WasHandled gate h → h.invocation ≡ Some i → h.message ≡ Request id c → id ≢ pos 0 → operation_of gate c.operation ≡ Some op
+    → i.tried ≡ before ++ last ∷ [] → last.talk ≡ Some t → ((o : Outgoing) → IsOf o i.message → IsReplied o false t (Done came) false)
+    → body_anew op.tables op.declared.results came ≡ Written body → h.replies ≡ Reply id (Done body) ∷ []

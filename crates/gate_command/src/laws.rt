@@ -1,6 +1,6 @@
 //! What the definitions promise, as laws.
 
-ghost use Rattle.gate_command.specs.Laws.{AreSingle, EndsAsRefused, EndsForCause, GatesOnce};
+ghost use Rattle.gate_command.specs.Laws.{AreSingle, EndsAsRefused, EndsForCause, GatesOnce, SuccessesArrive};
 
 /// Words and files are refused by one answer at most, say of one gateway at most how it forwards, and not both.
 pub fn gate_refusals_are_single()
@@ -21,4 +21,9 @@ pub fn gate_ends_for_cause()
 /// server may dispatch any but the last. (Ice manual, "Automatic Retries".)
 pub fn gates_once()
     ensures { GatesOnce }
+{}
+
+/// A success that a server gave to a request, within the limits, is the caller's reply.
+pub fn gate_successes_arrive()
+    ensures { SuccessesArrive }
 {}
