@@ -1,5 +1,5 @@
 -- A success that a server gave to a request is the caller's reply.
-use Rattle.std.proofs.Common.{◌≡◌, ◌≢◌, ℤ, pos, negsuc, zero, suc, List, [], ◌∷◌, ◌++◌, Option, Some, None, Bool, false, refl, sym, ap, subst, ◌∙◌}
+use Rattle.std.proofs.Common.{◌≡◌, ◌≢◌, ℕ, ℤ, pos, negsuc, zero, suc, List, [], ◌∷◌, ◌++◌, Option, Some, None, Bool, false, refl, sym, ap, subst, ◌∙◌}
 use Rattle.ice_encoding.specs.Parts.{Each}
 use Rattle.ice_ports.specs.declared.talk.Talk.{Talk}
 use Rattle.ice_messages.specs.declared.message.Answer.{Answer}
@@ -55,7 +55,7 @@ attempt_tells o last t outcome answer uncached connected replied has =
     let row : HasRow o false last.attempt outcome (Some t) = subst (λ (x : Bool × Option Talk). HasRow o x.0 last.attempt outcome x.1) (λ j. (uncached j, connected j)) has in
     row_tells o t last.attempt outcome answer replied row.0
 
-pub outcome_told : (m : Message) (retries : _) (i : Invocation) (before : List Tried) (last : Tried) (t : Talk) (answer : Answer) → ClientDid m retries i.tried (Some i.outcome) → Each is_uncached i.tried
+pub outcome_told : (m : Message) (retries : ℕ) (i : Invocation) (before : List Tried) (last : Tried) (t : Talk) (answer : Answer) → ClientDid m retries i.tried (Some i.outcome) → Each is_uncached i.tried
     → i.tried ≡ before ++ last ∷ [] → last.talk ≡ Some t → ((o : Outgoing) → IsOf o m → IsReplied o false t answer false) → i.outcome ≡ Replied answer
 outcome_told m retries i before last t answer did uncached are connected replied =
     let same : did.ended.1 ≡ last = last_same did.ended.0 before did.ended.1 last (sym did.ended.2 ∙ are) in

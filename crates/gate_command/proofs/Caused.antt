@@ -1,7 +1,7 @@
 -- How `gate` ended, by what its words and files decide and by what failed; and that each call went out once.
-use Rattle.std.proofs.Common.{◌≡◌, ◌⊎◌, ◌++◌, ℕ, Bool, true, false, List, [], ◌∷◌, Option, None, Some, subst, ap, ◌∙◌, inl, inr}
+use Rattle.std.proofs.Common.{◌≡◌, ◌⊎◌, ◌++◌, ℕ, Bool, true, false, List, [], ◌∷◌, Option, None, Some, sym, subst, ap, ◌∙◌, inl, inr}
 use Rattle.ice_encoding.specs.Parts.{Each}
-use Rattle.ice_client.specs.Sending.{IsIdempotent}
+use Rattle.ice_client.specs.ClientDid.{ClientDid}
 use Rattle.ice_ports.specs.Failures.{one_more, count_after}
 use Rattle.ice_gateway.specs.Gate.{Gate}
 use Rattle.ice_gateway.specs.Runs.{NetSeen}
@@ -12,6 +12,7 @@ use Rattle.ice_gateway.specs.Sessions.{Session, AllDid}
 use Rattle.ice_gateway.specs.Laws.{ForwardsOnce}
 use Rattle.node_commands.specs.Outside.{Files, Outside, ShelfFailed, SinkFailed}
 use Rattle.node_commands.specs.Answers.{Answer, read_failed, no_memory}
+use Rattle.serve_command.specs.declared.serving.TheConstants.{MOST_MESSAGES}
 use Rattle.serve_command.specs.Ends.{End, answered}
 use Rattle.serve_command.specs.Served.{WritesEnd, listening, served}
 use Rattle.gate_command.specs.Words.{GateWords}
@@ -75,8 +76,7 @@ module _ (once : ForwardsOnce) (gate : Gate) where
   sent_once due None was = tt
   sent_once None (Some i) was = absurd was
   sent_once (Some m) (Some i) (is, did, uncached) never =
-      let apart : IsIdempotent m → ⊥ = subst (λ (x : Message). IsIdempotent x → ⊥) is never in
-      subst (λ (x : Message). IsSentOnce (Some (record { message = x; tried = i.tried; outcome = i.outcome }))) (λ j. is (~ j)) (λ same. once m gate.retries i.tried i.outcome apart did uncached) never
+      once i.message gate.retries i.tried i.outcome never (subst (λ (x : Message). ClientDid x gate.retries i.tried (Some i.outcome)) (sym is) did) uncached
 
 pub gates_once_by : ForwardsOnce → GatesOnce
 gates_once_by once c gate net later count failed starved h = all h.heard.all.sessions h.heard.all.did
@@ -85,6 +85,6 @@ gates_once_by once c gate net later count failed starved h = all h.heard.all.ses
     handled_once [] did = tt
     handled_once (x ∷ xs) did = (sent_once once gate (forwarded gate x.message) x.invocation did.0.0, handled_once xs did.1)
 
-    all : (ss : List Session) (did : AllDid gate _ ss) → AreSentOnce gate _ ss did
+    all : (ss : List Session) (did : AllDid gate MOST_MESSAGES ss) → AreSentOnce gate MOST_MESSAGES ss did
     all [] did = tt
     all (s ∷ ss) did = (handled_once did.0.handled did.0.did, all ss did.1)
