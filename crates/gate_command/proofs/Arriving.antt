@@ -94,7 +94,7 @@ module _ (gate : Gate) (i : Invocation) (c : Call) (op : Operation) (came body :
 pub successes_arrive : SuccessesArrive
 successes_arrive gate h i id c op before last t came body handled invoked request some known are connected replied anew =
     let parts : WasForwarded gate (forwarded gate (Request id c)) (Some i) × WasAnswered gate (Request id c) (Some i.outcome) h.replies =
-        subst (λ (x : Message × Option Invocation). WasForwarded gate (forwarded gate x.0) x.1 × WasAnswered gate x.0 (outcome_of x.1) h.replies) (λ j. (request j, invoked j)) handled in
+    subst (λ (x : Message × Option Invocation). WasForwarded gate (forwarded gate x.0) x.1 × WasAnswered gate x.0 (outcome_of x.1) h.replies) (λ j. (request j, invoked j)) handled in
     replies_so gate i c op came body known (told (forwarded gate (Request id c)) parts.0) anew id h.replies some parts.0 parts.1
   where
     told : (due : Option Message) → WasForwarded gate due (Some i) → i.outcome ≡ Replied (Done came)

@@ -20,6 +20,8 @@ mod plan;
 mod words;
 
 pub use gating::gate;
-pub use laws::{gate_ends_as_refused, gate_ends_for_cause, gate_refusals_are_single};
-pub use laws::{gate_successes_arrive, gates_once};
+pub use laws::{
+    gate_ends_as_refused, gate_ends_for_cause, gate_refusals_are_single, gate_successes_arrive,
+    gates_once,
+};
 pub use words::{GateCommand, gate_is_no_other, gate_of};

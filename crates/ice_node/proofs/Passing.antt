@@ -148,7 +148,7 @@ pub gated_successes : GatedSuccessesHaveTurns
 gated_successes gate h d t id c op body request known told =
     let i = t.invocation in
     let parts : WasForwarded gate (forwarded gate (Request id c)) (Some i) × WasAnswered gate (Request id c) (Some i.outcome) (Reply id (Done body) ∷ []) =
-        subst (λ (x : Message × Option Invocation × List Message). WasForwarded gate (forwarded gate x.0) x.1 × WasAnswered gate x.0 (outcome_of x.1) x.2) (λ j. (request j, t.invoked j, told j)) t.handled in
+    subst (λ (x : Message × Option Invocation × List Message). WasForwarded gate (forwarded gate x.0) x.1 × WasAnswered gate x.0 (outcome_of x.1) x.2) (λ j. (request j, t.invoked j, told j)) t.handled in
     let success = of_request gate i c op body known id parts.0 parts.1 in
     let turn = own_turns d (is_delivery gate h d t) (Done success.0) (t.outcome_is ∙ ap (λ (o : Outcome). Some o) success.1) refl in
     (turn.0, success.0, turn.1, success.2)

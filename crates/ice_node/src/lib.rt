@@ -14,7 +14,9 @@
 mod laws;
 mod top_call;
 
-pub use laws::{gated_successes_have_turns, gated_turns_are_single, gates_once};
-pub use laws::{limits_numbered, once, successes_have_turns, turns_are_single};
+pub use laws::{
+    gated_successes_have_turns, gated_turns_are_single, gates_once, limits_numbered, once,
+    successes_have_turns, turns_are_single,
+};
 pub use node_commands::{Outcome, report};
 pub use top_call::node;
