@@ -13,7 +13,7 @@ use Rattle.serve_command.specs.Words.{Exactly}
 use Rattle.serve_command.proofs.Forms.{exactly_by}
 use Rattle.gate_command.specs.declared.words.GateCommand.{GateCommand}
 use Rattle.gate_command.specs.declared.words.Options.{Options}
-use Rattle.gate_command.specs.Words.{GateWords, GateForm, AreNamed, Gathers, Gives, IsNamed, IsNumbered, IsOption, IsSetBy, IsWithin, asked_of, no_options}
+use Rattle.gate_command.specs.Words.{GateWords, GateForm, AreNamed, Gathers, Gives, IsNamed, IsNumbered, IsOption, IsSetBy, IsWithin, asked_of, no_options, seen}
 use Rattle.gate_command.proofs.Giving.{gives_same}
 
 abbrev word_at : ℕ → List Word → Word
@@ -170,6 +170,6 @@ within words c form =
       retries = subst (λ (n : ℕ). n ≤ MOST_RETRIES) (sym form.set_by.retries) (retries_within form.given.retries w.1);
     }
 
-pub within_asked : (words : List Word) (o : Option GateCommand) → Exactly (GateForm words) (asked_of o) → IfSome (asked_of o) IsWithin
+pub within_asked : (words : List Word) (o : Option GateCommand) → Exactly (GateForm words) (asked_of o) → IfSome o (λ (c : GateCommand). IsWithin (seen c))
 within_asked words None e = tt
-within_asked words (Some c) e = within words _ e.0
+within_asked words (Some c) e = within words (seen c) e.0
