@@ -19,12 +19,11 @@ use Rattle.ice_client.specs.Sending.{IsOf}
 use Rattle.ice_client.proofs.OneRow.{one_row, one_answer}
 use Rattle.ice_gateway.specs.declared.admitting.Admitted.{Admitted}
 use Rattle.ice_gateway.specs.declared.admitting.Admitted.TheVariants.{Goes, Refused}
-use Rattle.ice_gateway.specs.declared.renewing.Renewed.{Renewed}
 use Rattle.ice_gateway.specs.declared.renewing.Renewed.TheVariants.{Written}
 use Rattle.ice_gateway.specs.Anew.{body_anew}
 use Rattle.ice_gateway.specs.Gate.{Gate, Operation, operation_of}
 use Rattle.ice_gateway.specs.Forwarded.{forwarded, going, id_anew, request_anew}
-use Rattle.ice_gateway.specs.Handled.{Handled, Invocation, Answered, WasAnswered, WasForwarded, WasHandled, WasInvoked, outcome_of}
+use Rattle.ice_gateway.specs.Handled.{Invocation, Answered, WasAnswered, WasForwarded, outcome_of}
 use Rattle.ice_gateway.specs.Mapped.{Mapped, ByArguments, ByOperation, admitted, admitted_by, with_arguments, wrapped}
 use Rattle.gate_command.specs.Laws.{SuccessesArrive}
 

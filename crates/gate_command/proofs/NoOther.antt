@@ -1,5 +1,5 @@
 -- A form of `gate` is none of another command, and none of `serve`.
-use Rattle.std.proofs.Common.{◌≡◌, ◌≤◌, ℕ, List, [], ◌∷◌, ◌++◌, length, get_or, sym, ap, ◌∙◌, codes, arith}
+use Rattle.std.proofs.Common.{◌≡◌, ◌≤◌, ℕ, List, [], ◌∷◌, ◌++◌, length, get_or, sym, ap, ◌∙◌, arith}
 use Rattle.std.proofs.lemmas.List.{length-append}
 use Rattle.instance_writing.specs.declared.format.Format.TheVariants as formats
 use Rattle.node_commands.specs.declared.words.Task.{Task}

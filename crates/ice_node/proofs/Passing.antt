@@ -1,5 +1,5 @@
 -- What goes through a gateway is a delivery, and what its caller is told is an answer of a server.
-use Rattle.std.proofs.Common.{◌≡◌, ℕ, ℤ, pos, negsuc, zero, suc, Bool, true, false, List, [], ◌∷◌, ◌++◌, map, Option, Some, None, refl, sym, ap, subst, inl, inr, ◌∙◌, codes}
+use Rattle.std.proofs.Common.{◌≡◌, ℕ, ℤ, pos, negsuc, zero, suc, Bool, true, false, List, [], ◌∷◌, Option, Some, None, refl, sym, ap, subst, inl, inr, ◌∙◌}
 use Rattle.std.specs.Prelude.{is_some, nat_le, length, if◌then◌else◌}
 use Rattle.ice_encoding.specs.declared.limits.TheConstants.{LARGEST}
 use Rattle.ice_messages.specs.declared.message.Answer.{Answer}
@@ -12,18 +12,15 @@ use Rattle.ice_proxy.specs.Usable.{tcp_at}
 use Rattle.ice_client.specs.declared.outcome.Outcome.{Outcome}
 use Rattle.ice_client.specs.declared.outcome.Outcome.TheVariants.{Replied, Sent, NetFailed, Ended, Closed, Broke, NoEndpoint}
 use Rattle.ice_client.specs.ClientDid.{ClientDid, Tried}
-use Rattle.object_adapter.specs.Refusals.{failed}
-use Rattle.ice_gateway.specs.declared.admitting.Admitted.{Admitted}
-use Rattle.ice_gateway.specs.declared.admitting.Admitted.TheVariants.{Goes, Refused}
+use Rattle.ice_gateway.specs.declared.admitting.Admitted.TheVariants.{Goes}
 use Rattle.ice_gateway.specs.declared.renewing.Renewed.{Renewed}
 use Rattle.ice_gateway.specs.declared.renewing.Renewed.TheVariants as renewals
 use Rattle.ice_gateway.specs.Anew.{body_anew, exception_anew}
 use Rattle.ice_gateway.specs.Gate.{Gate, Operation, operation_of}
 use Rattle.ice_gateway.specs.Forwarded.{forwarded, placed, request_anew, batch_anew, calls_anew, id_anew, going}
-use Rattle.ice_gateway.specs.Handled.{Handled, Invocation, Answered, WasAnswered, WasForwarded, WasHandled, outcome_of}
+use Rattle.ice_gateway.specs.Handled.{Handled, Invocation, Answered, WasAnswered, WasForwarded, outcome_of}
 use Rattle.ice_gateway.specs.Mapped.{Mapped, ByArguments, ByOperation, IsOutcomes, admitted, admitted_by, given_back, with_arguments, wrapped}
 use Rattle.gate_command.proofs.Arriving.{goes_out}
-use Rattle.object_adapter.specs.Laws.{status_of}
 use Rattle.once_law.specs.Ends.{Delivery, IsDelivery, IsSent}
 use Rattle.once_law.proofs.Turns.{single_turns, own_turns}
 use Rattle.ice_node.specs.Through.{IsThrough, GatedTurnsAreSingle, GatedSuccessesHaveTurns}

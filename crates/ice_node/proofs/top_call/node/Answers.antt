@@ -1,7 +1,6 @@
 use Rattle.std.proofs.Common.{[], Option, subst, refl}
 use Rattle.node_commands.specs.Words.{words_of}
 use Rattle.call_command.specs.Words.{seen}
-use Rattle.gate_command.specs.declared.words.GateCommand.{GateCommand}
 use Rattle.gate_command.specs.Words as gates
 use Rattle.serve_command.specs.declared.words.ServeCommand.{ServeCommand}
 use Rattle.serve_command.specs.Words.{ServeForm, Exactly, asked_of, command_of}
