@@ -1,0 +1,5 @@
+pub mod Tables
+pub mod Slices
+pub mod Visits
+pub mod Nested
+pub mod Assembled

@@ -1,0 +1,4 @@
+pub mod Standing
+pub mod Tables
+pub mod Fitting
+pub mod Written
