@@ -1,7 +1,7 @@
 -- Frames one inside the other, and values without parts in a row.
 use Rattle.std.proofs.Common.{◌≡◌, ℕ, zero, suc, ◌+◌, ◌-◌, ◌<◌, ◌≤◌, List, [], ◌∷◌, ◌++◌, length, take, drop, map, get_or, replicate, refl, sym, ap, ◌∙◌, subst, arith, append_assoc}
 use Rattle.std.specs.Prelude.{slice_get}
-use Rattle.std.proofs.lemmas.List.{drop-map, drop_more, append-nil}
+use Rattle.std.proofs.lemmas.List.{drop-map, drop_more, append-nil, take-append-drop, take_at, length-append, length-drop}
 use Rattle.ice_types.specs.declared.kind.TypeRef.{TypeRef}
 use Rattle.ice_types.specs.declared.declarations.Member.{Member}
 use Rattle.ice_types.specs.Tables.{Tables}
@@ -9,7 +9,7 @@ use Rattle.canonical_values.specs.declared.frame.Left.TheVariants.{Items, Member
 use Rattle.canonical_values.specs.declared.frame.Frame.{Frame}
 use Rattle.canonical_values.specs.declared.frame.Step.TheVariants as steps
 use Rattle.canonical_values.specs.Standing.{Stands, StandEach, LeafStands, members_of, kinds_of, only_null}
-use Rattle.canonical_values.specs.Frames.{Fills, FillAll, Steps, ItemsPassed, MembersPassed}
+use Rattle.canonical_values.specs.Frames.{Fills, FillAll, Passes, Steps, ItemsPassed, MembersPassed}
 use Rattle.canonical_values.proofs.Joined.{passes_front, passes_then, items_less}
 use Rattle.canonical_values.proofs.Rows.{each_less}
 
@@ -30,19 +30,26 @@ module _ (t : Tables) (input : List ℕ) where
   closed (g ∷ fs) f a b h (inner, own, e, all, k) =
       (a ++ inner, own, ap (λ (l : List ℕ). a ++ l) e ∙ sym (append_assoc a inner own), closed fs f a inner h all, k)
 
+  -- what was passed is the bytes in between
+  pub passed_take : (at next : ℕ) (front : List ℕ) → at ≤ length input → Passes t input at next front → take next input ≡ take at input ++ front
+  passed_take at next front le (few, is) =
+      let parts : input ≡ (take at input ++ front) ++ drop next input = sym (take-append-drop at input) ∙ ap (λ (l : List ℕ). take at input ++ l) is ∙ sym (append_assoc (take at input) front (drop next input)) in
+      let many : length (take at input ++ front) ≡ next = omega (arith, ap length parts, length-append (take at input ++ front) (drop next input), length-drop next input, few) in
+      ap (take next) parts ∙ take_at (take at input ++ front) (drop next input) next many
+
   -- what is left behind a step is what was left before it
-  pub went_on : (fs : List Frame) (old new : Frame) (at next : ℕ) → Steps t input at old (steps.On next new) → FillAll t input (fs ++ new ∷ []) (drop next input) → FillAll t input (fs ++ old ∷ []) (drop at input)
-  went_on fs old new at next (front, passes, grow) h =
-      let o = opened fs new (drop next input) h in
-      subst (λ (l : List ℕ). FillAll t input (fs ++ old ∷ []) l) (sym (passes.1 ∙ ap (λ (l : List ℕ). front ++ l) o.2 ∙ sym (append_assoc front o.0 o.1)))
+  pub went_on : (fs : List Frame) (old new : Frame) (front more : List ℕ) → ((more : List ℕ) → Fills t input new more → Fills t input old (front ++ more)) → FillAll t input (fs ++ new ∷ []) more → FillAll t input (fs ++ old ∷ []) (front ++ more)
+  went_on fs old new front more grow h =
+      let o = opened fs new more h in
+      subst (λ (l : List ℕ). FillAll t input (fs ++ old ∷ []) l) (sym (ap (λ (l : List ℕ). front ++ l) o.2 ∙ sym (append_assoc front o.0 o.1)))
       (closed fs old (front ++ o.0) o.1 (grow o.0 o.3) o.4)
 
-  pub went_in : (fs : List Frame) (old new inside : Frame) (at next : ℕ) → Steps t input at old (steps.Into next new inside)
-      → FillAll t input ((fs ++ new ∷ []) ++ inside ∷ []) (drop next input) → FillAll t input (fs ++ old ∷ []) (drop at input)
-  went_in fs old new inside at next (front, passes, grow) h =
-      let o = opened (fs ++ new ∷ []) inside (drop next input) h in
+  pub went_in : (fs : List Frame) (old new inside : Frame) (front more : List ℕ) → ((inner more : List ℕ) → Fills t input inside inner → Fills t input new more → Fills t input old (front ++ (inner ++ more)))
+      → FillAll t input ((fs ++ new ∷ []) ++ inside ∷ []) more → FillAll t input (fs ++ old ∷ []) (front ++ more)
+  went_in fs old new inside front more grow h =
+      let o = opened (fs ++ new ∷ []) inside more h in
       let p = opened fs new o.1 o.4 in
-      let parts : drop at input ≡ (front ++ (o.0 ++ p.0)) ++ p.1 = passes.1 ∙ ap (λ (l : List ℕ). front ++ l) (o.2 ∙ ap (λ (l : List ℕ). o.0 ++ l) p.2 ∙ sym (append_assoc o.0 p.0 p.1)) ∙ sym (append_assoc front (o.0 ++ p.0) p.1) in
+      let parts : front ++ more ≡ (front ++ (o.0 ++ p.0)) ++ p.1 = ap (λ (l : List ℕ). front ++ l) (o.2 ∙ ap (λ (l : List ℕ). o.0 ++ l) p.2 ∙ sym (append_assoc o.0 p.0 p.1)) ∙ sym (append_assoc front (o.0 ++ p.0) p.1) in
       subst (λ (l : List ℕ). FillAll t input (fs ++ old ∷ []) l) (sym parts) (closed fs old (front ++ (o.0 ++ p.0)) p.1 (grow o.0 p.0 o.3 p.3) p.4)
 
   pub went_out : (fs : List Frame) (old : Frame) (bytes : List ℕ) → Fills t input old [] → FillAll t input fs bytes → FillAll t input (fs ++ old ∷ []) bytes

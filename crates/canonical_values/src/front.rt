@@ -19,7 +19,7 @@ pub(crate) fn bool_length(bytes: &[u8]) -> Option<usize>
 }
 
 /// The size at the front, and how many bytes it has. None where none stands there.
-pub(crate) fn size_front(bytes: &[u8]) -> Option<(u32, usize)>
+pub fn size_front(bytes: &[u8]) -> Option<(u32, usize)>
     ensures { IfSome result (λ f. IsFront (λ n. n < 2 ^ 31) size_bytes bytes.now f.0 f.1) }
 {
     match bytes {

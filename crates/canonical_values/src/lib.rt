@@ -29,4 +29,5 @@ mod part;
 mod row;
 mod walk;
 
-pub use walk::is_canonical;
+pub use front::size_front;
+pub use walk::{canonical_length, is_canonical};

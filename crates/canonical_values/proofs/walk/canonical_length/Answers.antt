@@ -1,8 +1,8 @@
 use Rattle.std.proofs.Common.{rules, arith, List, refl, ap, Vec, Global}
 use Rattle.canonical_values.specs.declared.frame.Frame.{Frame}
-use Rattle.canonical_values.proofs.Kept.{Kept, kept_at_first, same_place, kept_on, kept_in, kept_out}
-use Rattle.canonical_values.proofs.walk.is_canonical.Goals as goal
-use Rattle.canonical_values.proofs.walk.is_canonical.Goals.{in-On, in-Into+else-is_err, in-Done+in-Some}
+use Rattle.canonical_values.proofs.Kept.{Kept, leaves_canonical, kept_at_first, same_place, kept_on, kept_in, kept_out, kept_at_last}
+use Rattle.canonical_values.proofs.walk.canonical_length.Goals as goal
+use Rattle.canonical_values.proofs.walk.canonical_length.Goals.{in-On, in-Into+else-is_err, in-Done+in-Some}
 
 abbrev items_of : Vec Frame Global → List Frame
 items_of v = v.items
@@ -25,3 +25,10 @@ loop-preserved c =
           (kept_out t kind bytes c.loop.below.items w.pop.new.self.items c.loop.top w.in-Some.frame c.loop.at c.pass_next.result w.in-Done.is w.in-Some.ensures.items c.pass_next.ensures had)
     ] in
     record { within = kept.0; canonical = kept.1 }
+
+pub returns-then-is_leaf-clause-canonical : goal.returns-then-is_leaf-clause-canonical
+returns-then-is_leaf-clause-canonical c = leaves_canonical c.args.schema.now c.args.kind c.args.bytes.now c.leaf_length.result c.leaf_length.ensures.stands
+
+pub returns-in-Done+in-None-clause-canonical : goal.returns-in-Done+in-None-clause-canonical
+returns-in-Done+in-None-clause-canonical c =
+    kept_at_last c.args.schema.now c.args.kind c.args.bytes.now c.loop.below.items c.loop.top c.loop.at c.pass_next.result (search rules) (search rules) c.pass_next.ensures (c.loop.invariant.within, c.loop.invariant.canonical)
