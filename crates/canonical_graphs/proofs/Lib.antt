@@ -2,4 +2,10 @@ pub mod Tables
 pub mod Slices
 pub mod Visits
 pub mod Nested
+pub mod Plain
+pub mod Places
+pub mod Heads
+pub mod Sliced
+pub mod Looked
+pub mod Walked
 pub mod Assembled

@@ -1,18 +1,30 @@
-//! What it says of bytes that they are canonical already where class instances begin in them: functions without
-//! bodies, each with a law as its contract.
+//! Whether bytes are canonical already where class instances begin in them. One pass over them goes by the classes of
+//! the slices and builds no graph.
 //!
 //! Forms, and why they are so:
 //!
 //! - Of a stretch of bytes it is said which instances begin in it, by number, each whole, and how the pen stands
 //!   before and behind it. No graph is spoken of: whichever graph has these instances is written so, and a visit
 //!   comes to them in the order of their numbers.
-//! - What may be an instance of a number is a parameter of the stretches. Here it is one of its type, whose class is
-//!   that of its number by a function from outside: so a reference fits before the instance has been seen.
-//! - No way of reading is spoken of. That what is written for a graph is read as that graph is a law of `graph_laws`.
+//! - The answer `false` says nothing, and may come at any time: where memory runs out, at a slice that is not known,
+//!   at an optional member, at a part that is not told. Only `true` is a promise.
+//! - The walk keeps a stack of its own, a frame for each instance that is open, and of each instance that has begun
+//!   its class. Its invariant goes backwards over bytes: if what is left of them is what the frames wait for, the
+//!   whole is canonical, whichever classes the instances have that are still to begin.
+//! - The names in a table have to rise. Others may be canonical too, but to tell that none comes twice would take
+//!   memory for each.
 #![tactic(auto)]
 
+mod entry;
+mod frame;
+mod front;
+mod head;
 mod laws;
+mod member;
+mod slice;
+mod walk;
 
 pub use laws::{
     canonical_instances_stay, canonical_references_written, canonical_slices_stay,
 };
+pub use walk::is_canonical_instance;

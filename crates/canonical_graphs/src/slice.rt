@@ -1,0 +1,77 @@
+//! One slice of an instance, up to the entries of its table.
+
+ghost use Rattle.std.specs.Prelude.{◌≡◌, ◌≤◌, ◌==◌, ◌%◌, IfSome, length, not};
+ghost use Rattle.canonical_values.specs.Frames.{Passes};
+ghost use Rattle.canonical_graphs.specs.Heads.{sized_flags};
+ghost use Rattle.canonical_graphs.specs.Slices.{SliceFound, table_size};
+
+use crate::front::count_front;
+use crate::head::{Head, pass_head};
+use crate::member::pass_members;
+use canonical_values::size_front;
+use ice_types::Schema;
+use std::alloc::Global;
+
+/// A slice of a class.
+#[derive(Debug, Drop)]
+pub struct Passed {
+    pub class: u32,
+    /// The class that it extends.
+    pub base: Option<u32>,
+    /// The class that is declared at each place of its table.
+    pub needs: Vec<Option<u32>>,
+    /// Where its table's entries begin.
+    pub end: usize,
+}
+
+/// A slice, where the classes of the type ids before it that stood as texts are these. None where it is not told.
+pub(crate) fn pass_slice(
+    alloc: Global,
+    schema: &Schema,
+    input: &[u8],
+    at: usize,
+    ids: &mut Vec<u32>,
+) -> Option<Passed>
+    requires { at ≤ length input.now }
+    ensures { IfSome result (λ slice. SliceFound schema.now input.now at ids.old.items ids.new.items slice) }
+{
+    let head = pass_head(schema, input, at, ids)?;
+    let decl = schema.classes().get(head.class as usize)?;
+    let size = count_front(&input[head.end..])?;
+    let start = head.end + 4;
+    let mut needs = Vec::new(alloc);
+    let length = pass_members(alloc, schema, decl.members.as_slice(), &input[start..], &mut needs)?;
+    if size != length + 4 || !are_flags(head, needs.is_empty(), decl.base.is_none()) {
+        return None;
+    }
+    let end = table_front(input, start + length, needs.len())?;
+    Some(Passed {
+        class: head.class,
+        base: decl.base,
+        needs,
+        end,
+    })
+}
+
+/// Whether the flags are those of a slice with a size and no optional members.
+fn are_flags(head: Head, is_bare: bool, is_last: bool) -> bool
+    ensures { result ≡ (head.flags == sized_flags (head.flags % 4) (not is_bare) is_last) }
+{
+    let table = if is_bare { 0 } else { 8 };
+    let last = if is_last { 32 } else { 0 };
+    head.flags == head.flags % 4 + 16 + table + last
+}
+
+/// Where the entries of a table of so many begin: behind their number, where there is any.
+fn table_front(input: &[u8], at: usize, many: usize) -> Option<usize>
+    requires { at ≤ length input.now }
+    ensures { IfSome result (λ end. Passes schema.now input.now at end (table_size many)) }
+{
+    if many == 0 {
+        return Some(at);
+    }
+    match size_front(&input[at..]) {
+        Some((count, taken)) if count as usize == many => Some(at + taken),
+        _ => None,
+    }
+}
