@@ -1,0 +1,13 @@
+pub mod Coming
+pub mod Lengths
+pub mod Replying
+pub mod Outcomes
+pub mod Dead
+pub mod Back
+pub mod Bodies
+pub mod Runs
+pub mod Passing
+pub mod Spoken
+pub mod Handling
+pub mod Sessions
+pub mod Told

@@ -1,0 +1,29 @@
+use Rattle.std.proofs.Common.{◌≡◌, pos, [], refl, sym, subst, ◌∙◌, arith}
+use Rattle.std.specs.Prelude.{Option}
+use Rattle.std.proofs.lemmas.Result.{err_from_is_err_and}
+use Rattle.ice_messages.specs.declared.message.Call.{Call}
+use Rattle.ice_gateway.specs.Gate.{seen}
+use Rattle.ice_gateway.specs.Forwarded.{request_anew}
+use Rattle.ice_gateway.specs.Parts.{Passes}
+use Rattle.ice_gateway.specs.Runs.{net_seen}
+use Rattle.ice_gateway.proofs.Passing.{passed_by}
+use Rattle.ice_gateway.proofs.Runs.{ran_none}
+use Rattle.ice_gateway.proofs.forwarding.forward_oneway.Goals as goal
+
+pub returns-in_err-going-clause-told : goal.returns-in_err-going-clause-told
+returns-in_err-going-clause-told g c =
+    let failed = err_from_is_err_and c.from_residual.result c.from_residual.ensures.1 in
+    let net = net_seen (g.N.Net.told c.args.net.now) (g.N.Net.failures c.args.net.now) (g.N.Net.listen_failures c.args.net.now) in
+    rw failed.1 ([], ran_none c.args.gateway.now.upstream.now.endpoints net, omega arith)
+
+pub returns-in-Some-clause-told : goal.returns-in-Some-clause-told
+returns-in-Some-clause-told g c =
+    let gate = seen c.args.gateway.now in
+    let told = c.forward.ensures.told in
+    (told.0, told.1, subst (λ (o : Option Call). Passes gate (request_anew gate (pos 0) o) told.0 c.forward.result) (sym c.in-Some.is ∙ c.in_ok-going.ensures.is) told.2)
+
+pub returns-in-None-clause-told : goal.returns-in-None-clause-told
+returns-in-None-clause-told g c =
+    let gate = seen c.args.gateway.now in
+    let net = net_seen (g.N.Net.told c.args.net.now) (g.N.Net.failures c.args.net.now) (g.N.Net.listen_failures c.args.net.now) in
+    ([], ran_none gate.endpoints net, passed_by gate _ tt (sym (subst (λ (o : Option Call). request_anew gate (pos 0) o ≡ _) (sym c.in-None.is ∙ c.in_ok-going.ensures.is) refl)))
