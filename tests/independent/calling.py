@@ -204,12 +204,17 @@ def arguments_of(schema, operation, text, is_compact):
 
 def results_of(schema, operation, body):
     """Returns what a reply's encapsulation has, or raises its first `Fault`."""
+    return held(schema, operation.results, body)
+
+
+def held(schema, shape, body):
+    """Returns what an encapsulation of a shape has, or raises its first `Fault`."""
     inside = values.Cursor(body, 0, len(body)).encapsulation()
     first = inside.at
     if inside.version() != values.VERSION:
         raise values.Fault(first, "BadVersion")
     reader = Reader([it.kind.class_ for it in schema.rules.classes])
-    root = graphs.finished(reader.content(inside, operation.results), reader.instance)
+    root = graphs.finished(reader.content(inside, shape), reader.instance)
     misfits = list(reader.misfits())
     if misfits:
         raise values.Fault(min(misfits), "WrongClass")

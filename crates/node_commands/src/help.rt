@@ -34,6 +34,11 @@ usage: ice COMMAND
   serve [--workers W] [--connections C] FILE HOST PORT OBJECT..
                    listens at HOST and PORT, writes listening PORT, serves C connections, W at once,
                    each up to its end, and then writes served N, the number of those that it accepted
+  gate [--connections C] [--retries R] FILE INTERFACE HOST PORT PROXY
+                   listens as serve does, and serves C connections, one after the other: each call of
+                   an operation of INTERFACE goes out to the endpoints of PROXY, and what comes back
+                   is its answer; arguments and results are read under FILE and go on in canonical
+                   form, sliced. At the end it writes served N
   messages         reads messages of protocol 1.0, one after the other, from standard input, and
                    writes a line for each as soon as it is there, as
                    request 1 \"hello\" \"\" \"ice_ping\" 1 0 6
@@ -78,6 +83,22 @@ left out. OBJECT is one of these, cut at its first and second =, which are all d
 A connection that stays open holds a worker, and Ice clients keep theirs open: W is the number of
 clients that are served at once. Others wait until one is free; an Ice client gives up after 60
 seconds where nothing else is set, and also where a reply takes longer: serve sends no heartbeats.
+
+gate keeps a call's identity, facet, operation, mode and context; of PROXY its endpoints alone count,
+and it has some. It ends as serve does, with the words, FILE, INTERFACE, PROXY and then the net. What
+fails for one call ends nothing: the caller is answered with an unknown local exception, whose text is
+
+    bad arguments KIND at PLACE    the arguments are not those of the operation; they did not go out
+    too long                       they have more than 1,000,000 bytes in canonical form, or the
+                                   request more than 1,048,576, and did not go out; or the results
+    no upstream                    PROXY has no TCP endpoint
+    upstream failed                no connection was had, or it was lost
+    upstream ended                 the server's stream ended before a reply
+    upstream closed                the server closed the connection
+    upstream broke                 what the server sent is no message, or not the one that may come
+    bad results KIND at PLACE      the reply is not one of the operation
+
+A call that asks for no reply and cannot go out is dropped.
 
 CLIENT and SERVER are paths of files: a capture, which is all bytes that the client sent on one TCP
 connection, from its beginning on, and all that the server sent on it. A recorder that stands
