@@ -7,6 +7,7 @@ pub mod Back
 pub mod Bodies
 pub mod Runs
 pub mod Passing
+pub mod Fitting
 pub mod Spoken
 pub mod Handling
 pub mod Sessions

@@ -24,7 +24,7 @@ use Rattle.ice_gateway.specs.Mapped.{Mapped, ByOperation, ByArguments, admitted,
 use Rattle.ice_gateway.specs.Forwarded.{placed, going, request_anew, with_call, calls_anew, batch_anew}
 use Rattle.ice_gateway.specs.Laws.{CanGo}
 use Rattle.ice_gateway.specs.Handled.{Invocation, WasForwarded}
-use Rattle.ice_gateway.specs.Parts.{Answers, Passes, Tries}
+use Rattle.ice_gateway.specs.Parts.{Answers, CameTo, Passed}
 use Rattle.ice_gateway.proofs.Outcomes.{was_tried}
 
 -- ---- whether an endpoint can be used
@@ -37,12 +37,11 @@ placed_some gate m some = ap (λ (b : Bool). if b then Some m else None) some
 
 -- ---- a message for which no reply comes
 
-pub passed_by : {X E : Type 0} (gate : Gate) (due : Option Message) (x : X) → due ≡ None → Passes {E = E} gate due [] (Ok x)
-passed_by gate due x none = (None, refl, subst (λ (d : Option Message). WasForwarded gate d None) (sym none) tt)
+pub passed_by : (gate : Gate) (due : Option Message) → due ≡ None → Passed gate due []
+passed_by gate due none = (None, refl, subst (λ (d : Option Message). WasForwarded gate d None) (sym none) tt)
 
-pub was_sent : {X E : Type 0} (gate : Gate) (m : Message) (tried : List Tried) (r : Invoked) (x : X) → IsSome (tcp_at 0 gate.endpoints) → Invokes m gate.endpoints gate.retries tried (Ok r)
-    → Passes {E = E} gate (placed gate m) (tried ∷ []) (Ok x)
-was_sent gate m tried r x some h =
+pub was_sent : (gate : Gate) (m : Message) (tried : List Tried) (r : Invoked) → IsSome (tcp_at 0 gate.endpoints) → Invokes m gate.endpoints gate.retries tried (Ok r) → Passed gate (placed gate m) (tried ∷ [])
+was_sent gate m tried r some h =
     let i : Invocation = record { message = m; tried = tried; outcome = r.outcome } in
     let was = was_tried gate m tried r some h in
     (Some i, refl, subst (λ (d : Option Message). WasForwarded gate d (Some i)) (sym (placed_some gate m some)) (refl, was.0, was.1))
@@ -64,8 +63,8 @@ pub not_forwarded : {E : Type 0} (gate : Gate) (due : Option Message) (Is : Opti
 not_forwarded gate due Is (Ok answer) none is = (None, refl, subst (λ (d : Option Message). WasForwarded gate d None) (sym none) tt, is)
 not_forwarded gate due Is (Err e) none is = omega arith
 
-pub was_forwarded : {E F : Type 0} (gate : Gate) (m : Message) (Is : Option Outcome → Answer → Type 0) (runs : List (List Tried)) (outcome : Outcome) (r : Result Answer E) → IsSome (tcp_at 0 gate.endpoints)
-    → Tries {E = F} gate m runs (Ok outcome) → IfOk r (Is (Some outcome)) → Answers gate (placed gate m) Is runs r
+pub was_forwarded : {E : Type 0} (gate : Gate) (m : Message) (Is : Option Outcome → Answer → Type 0) (runs : List (List Tried)) (outcome : Outcome) (r : Result Answer E) → IsSome (tcp_at 0 gate.endpoints)
+    → CameTo gate m runs outcome → IfOk r (Is (Some outcome)) → Answers gate (placed gate m) Is runs r
 was_forwarded gate m Is runs outcome (Ok answer) some h is =
     let i : Invocation = record { message = m; tried = h.0; outcome = outcome } in
     (Some i, h.1, subst (λ (d : Option Message). WasForwarded gate d (Some i)) (sym (placed_some gate m some)) (refl, h.2, h.3), is)

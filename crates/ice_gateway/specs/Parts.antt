@@ -37,14 +37,22 @@ went_on false = Some LinkFailed
 
 -- ---- one message
 
--- a message was tried, and came to this; want of memory may come before, in and behind its attempts
+-- a message was tried, and came to this
+abbrev pub CameTo : Gate → Message → List (List Tried) → Outcome → Type 0
+CameTo gate m runs outcome = (tried : List Tried) × (runs ≡ tried ∷ []) × ClientDid m gate.retries tried (Some outcome) × Each is_uncached tried
+
+-- so it was; want of memory may come before, in and behind its attempts
 abbrev pub Tries : {E : Type 0} → Gate → Message → List (List Tried) → Result Outcome E → Type 0
-Tries gate m runs (Ok outcome) = (tried : List Tried) × (runs ≡ tried ∷ []) × ClientDid m gate.retries tried (Some outcome) × Each is_uncached tried
+Tries gate m runs (Ok outcome) = CameTo gate m runs outcome
 Tries gate m runs (Err e) = length runs ≤ 1
 
 -- the message that is due was tried, or none is due
+abbrev pub Passed : Gate → Option Message → List (List Tried) → Type 0
+Passed gate due runs = (i : Option Invocation) × (runs ≡ run_of i) × WasForwarded gate due i
+
+-- so it was, unless memory ran out
 abbrev pub Passes : {X E : Type 0} → Gate → Option Message → List (List Tried) → Result X E → Type 0
-Passes gate due runs (Ok x) = (i : Option Invocation) × (runs ≡ run_of i) × WasForwarded gate due i
+Passes gate due runs (Ok x) = Passed gate due runs
 Passes gate due runs (Err e) = length runs ≤ 1
 
 -- and this is the answer of a request of such a call

@@ -7,7 +7,7 @@ use Rattle.ice_gateway.proofs.Passing.{put_all, put_next}
 use Rattle.ice_gateway.proofs.forwarding.all_going.Goals as goal
 
 pub put_going-requires-clause-comes : goal.put_going-requires-clause-comes
-put_going-requires-clause-comes c κs within = (this_one Comes c.args.calls.now c.loop-call.call-index c.call-item.result c.loop-call-test.true c.call-item.is c.loop-call.invariant.come).0
+put_going-requires-clause-comes c = (this_one Comes c.args.calls.now c.loop-call.call-index c.call-item.result c.loop-call-test.true c.call-item.is c.loop-call.invariant.come).0
 
 pub loop-call-preserved : goal.loop-call-preserved
 loop-call-preserved c =

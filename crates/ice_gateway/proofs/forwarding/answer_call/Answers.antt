@@ -36,4 +36,4 @@ returns-clause-told g c =
     let gate = seen c.args.gateway.now in
     let told = c.in_ok-outcome.ensures.told in
     let some = some_place _ c.tcp_of.result (tcp_at 0 gate.endpoints) c.if-is_none.ensures c.tcp_of.ensures in
-    (told.0, told.1, was_forwarded {F = AllocError} gate (Request (pos 1) c.args.call.now) (ByOutcome gate (operation_seen c.args.known)) told.0 c.in_ok-outcome.outcome c.answer_to.result some told.2 c.answer_to.ensures.is)
+    (told.0, told.1, was_forwarded gate (Request (pos 1) c.args.call.now) (ByOutcome gate (operation_seen c.args.known)) told.0 c.in_ok-outcome.outcome c.answer_to.result some told.2 c.answer_to.ensures.is)
