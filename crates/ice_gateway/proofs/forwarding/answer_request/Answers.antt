@@ -15,7 +15,7 @@ pub returns-in_default-clause-told : goal.returns-in_default-clause-told
 returns-in_default-clause-told g c =
     let gate = seen c.args.gateway.now in
     let net = net_seen (g.N.Net.told c.args.net.now) (g.N.Net.failures c.args.net.now) (g.N.Net.listen_failures c.args.net.now) in
-    ([], ran_none gate.endpoints net, not_known gate c.args.call.now c.missed.result (c.in_default.ensures ∙ ap (λ (name : List ℕ). operation_of gate name) c.as_str.ensures.value) c.missed.ensures)
+    ([], ran_none gate.endpoints net, not_known gate c.args.call.now c.missed.result (c.in_default.ensures ∙ ap (λ (name : List ℕ). operation_of gate name) c.as_str.ensures) c.missed.ensures)
 
 pub returns-in_default-clause-replies : goal.returns-in_default-clause-replies
 returns-in_default-clause-replies g c = missed_4 c.args.call.now c.missed.result c.missed.ensures
@@ -27,13 +27,13 @@ returns-in_err-call-clause-told g c =
     rw failed.1 ([], ran_none c.args.gateway.now.upstream.now.endpoints net, omega arith)
 
 pub answer_call-requires : goal.answer_call-requires
-answer_call-requires g c = subst IsAdmitted c.in-Goes.is c.in_ok-call.ensures.sendable
+answer_call-requires g c κs lives = subst IsAdmitted c.in-Goes.is c.in_ok-call.ensures.sendable
 
 pub returns-in-Goes-clause-told : goal.returns-in-Goes-clause-told
 returns-in-Goes-clause-told g c =
     let gate = seen c.args.gateway.now in
     let told = c.answer_call.ensures.told in
-    (told.0, told.1, known_so gate c.args.call.now (operation_seen c.in-Some.known) (Goes c.in-Goes.call) told.0 c.answer_call.result (c.in-Some.ensures ∙ ap (λ (name : List ℕ). operation_of gate name) c.as_str.ensures.value) (sym c.in-Goes.is ∙ c.in_ok-call.ensures.is) told.2)
+    (told.0, told.1, known_so gate c.args.call.now (operation_seen c.in-Some.known) (Goes c.in-Goes.call) told.0 c.answer_call.result (c.in-Some.ensures ∙ ap (λ (name : List ℕ). operation_of gate name) c.as_str.ensures) (sym c.in-Goes.is ∙ c.in_ok-call.ensures.is) told.2)
 
 pub returns-in-Goes-clause-replies : goal.returns-in-Goes-clause-replies
 returns-in-Goes-clause-replies g c = each_reply c.args.call.now c.answer_call.result c.answer_call.ensures.replies
@@ -44,7 +44,7 @@ returns-in-Refused-clause-told g c =
     let net = net_seen (g.N.Net.told c.args.net.now) (g.N.Net.failures c.args.net.now) (g.N.Net.listen_failures c.args.net.now) in (
       [],
       ran_none gate.endpoints net,
-      known_so {E = AllocError} gate c.args.call.now (operation_seen c.in-Some.known) (Refused c.in-Refused.answer) [] (Ok c.in-Refused.answer) (c.in-Some.ensures ∙ ap (λ (name : List ℕ). operation_of gate name) c.as_str.ensures.value) (sym c.in-Refused.is ∙ c.in_ok-call.ensures.is) (None, refl, tt, refl),
+      known_so {E = AllocError} gate c.args.call.now (operation_seen c.in-Some.known) (Refused c.in-Refused.answer) [] (Ok c.in-Refused.answer) (c.in-Some.ensures ∙ ap (λ (name : List ℕ). operation_of gate name) c.as_str.ensures) (sym c.in-Refused.is ∙ c.in_ok-call.ensures.is) (None, refl, tt, refl),
     )
 
 pub returns-in-Refused-clause-replies : goal.returns-in-Refused-clause-replies

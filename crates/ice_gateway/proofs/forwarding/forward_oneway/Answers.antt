@@ -14,16 +14,16 @@ pub returns-in_err-call : goal.returns-in_err-call
 returns-in_err-call g c =
     let failed = err_from_is_err_and c.from_residual.result c.from_residual.ensures.1 in
     let net = net_seen (g.N.Net.told c.args.net.now) (g.N.Net.failures c.args.net.now) (g.N.Net.listen_failures c.args.net.now) in
-    rw failed.1 ([], ran_none c.args.gateway.now.upstream.now.endpoints net, omega arith)
+    rw failed.1 (record { told = ([], ran_none c.args.gateway.now.upstream.now.endpoints net, omega arith) })
 
 pub returns-in-Some : goal.returns-in-Some
 returns-in-Some g c =
     let gate = seen c.args.gateway.now in
     let told = c.forward.ensures.told in
-    (told.0, told.1, subst (λ (o : Option Call). Passes gate (request_anew gate (pos 0) o) told.0 c.forward.result) (sym c.in-Some.is ∙ c.in_ok-call.ensures.is) told.2)
+    record { told = (told.0, told.1, subst (λ (o : Option Call). Passes gate (request_anew gate (pos 0) o) told.0 c.forward.result) (sym c.in-Some.is ∙ c.in_ok-call.ensures.is) told.2) }
 
 pub returns-in-None : goal.returns-in-None
 returns-in-None g c =
     let gate = seen c.args.gateway.now in
     let net = net_seen (g.N.Net.told c.args.net.now) (g.N.Net.failures c.args.net.now) (g.N.Net.listen_failures c.args.net.now) in
-    ([], ran_none gate.endpoints net, passed_by gate _ (sym (subst (λ (o : Option Call). request_anew gate (pos 0) o ≡ _) (sym c.in-None.is ∙ c.in_ok-call.ensures.is) refl)))
+    record { told = ([], ran_none gate.endpoints net, passed_by gate _ (sym (subst (λ (o : Option Call). request_anew gate (pos 0) o ≡ _) (sym c.in-None.is ∙ c.in_ok-call.ensures.is) refl))) }
