@@ -1,9 +1,10 @@
-use Rattle.std.proofs.Common.{◌≡◌, pos, [], refl, sym, subst, ◌∙◌, arith}
+use Rattle.std.proofs.Common.{◌≡◌, pos, [], sym, ap, subst, ◌∙◌, arith}
 use Rattle.std.specs.Prelude.{Option}
 use Rattle.std.proofs.lemmas.Result.{err_from_is_err_and}
 use Rattle.ice_messages.specs.declared.message.Call.{Call}
 use Rattle.ice_gateway.specs.Gate.{seen}
-use Rattle.ice_gateway.specs.Forwarded.{request_anew}
+use Rattle.ice_gateway.specs.Forwarded.{going, request_anew}
+use Rattle.ice_gateway.specs.Mapped.{admitted}
 use Rattle.ice_gateway.specs.Parts.{Passes}
 use Rattle.ice_gateway.specs.Runs.{net_seen}
 use Rattle.ice_gateway.proofs.Passing.{passed_by}
@@ -26,4 +27,6 @@ pub returns-in-None : goal.returns-in-None
 returns-in-None g c =
     let gate = seen c.args.gateway.now in
     let net = net_seen (g.N.Net.told c.args.net.now) (g.N.Net.failures c.args.net.now) (g.N.Net.listen_failures c.args.net.now) in
-    record { told = ([], ran_none gate.endpoints net, passed_by gate _ (sym (subst (λ (o : Option Call). request_anew gate (pos 0) o ≡ _) (sym c.in-None.is ∙ c.in_ok-call.ensures.is) refl))) }
+    let is = sym c.in-None.is ∙ c.in_ok-call.ensures.is in
+    let due = request_anew gate (pos 0) (going (admitted gate c.args.call.now)) in
+    record { told = ([], ran_none gate.endpoints net, passed_by gate due (ap (λ (o : Option Call). request_anew gate (pos 0) o) (sym is))) }
