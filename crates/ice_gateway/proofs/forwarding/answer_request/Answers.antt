@@ -27,7 +27,7 @@ returns-in_err-call-clause-told g c =
     rw failed.1 ([], ran_none c.args.gateway.now.upstream.now.endpoints net, omega arith)
 
 pub answer_call-requires : goal.answer_call-requires
-answer_call-requires g c = (search rules, search rules, search rules, subst IsAdmitted c.in-Goes.is c.in_ok-call.ensures.sendable)
+answer_call-requires g c = (search rules, (search rules, (search rules, subst IsAdmitted c.in-Goes.is c.in_ok-call.ensures.sendable)))
 
 pub returns-in-Goes-clause-told : goal.returns-in-Goes-clause-told
 returns-in-Goes-clause-told g c =
