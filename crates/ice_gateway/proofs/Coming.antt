@@ -10,8 +10,8 @@ use Rattle.ice_messages.specs.declared.message.Message.TheVariants.{Request, Bat
 use Rattle.ice_messages.specs.Context.{Entry, AreRising, SpellsEntries, with_entry}
 use Rattle.ice_messages.specs.Calls as form
 use Rattle.ice_messages.specs.Messages.{SpellsMessage, count_of}
-use Rattle.ice_messages.proofs.Contexts.{rising_more}
 use Rattle.ice_gateway.specs.Laws.{Comes}
+use Rattle.ice_gateway.proofs.Rising.{rising_more}
 
 size_small : (bytes : List ℕ) (n : ℕ) → SpellsSize bytes n → n < 2 ^ 31
 size_small bytes n (inl h) = omega (arith, h.0)

@@ -65,7 +65,7 @@ failed_same L E e (Some d) now' is = is
 
 -- how often an accept gave none
 pub nones_some : (L E : Type 0) (answer : Option L) (link : L) (before now : ℕ) (over : Bool) → answer ≡ Some link → now ≡ count_after before (is_over {L = L} {E = E} (Ok answer)) → over ≡ false → now ≡ count_after before over
-nones_some L E answer link before now over some is no = is ∙ (ap (λ (o : Option L). count_after before (is_over {L = L} {E = E} (Ok o))) some ∙ ap (λ (b : Bool). count_after before b) (sym no))
+nones_some L E answer link before now over some is ends = is ∙ (ap (λ (o : Option L). count_after before (is_over {L = L} {E = E} (Ok o))) some ∙ ap (λ (b : Bool). count_after before b) (sym ends))
 
 pub nones_none : (L E : Type 0) (answer : Option L) (before now : ℕ) → answer ≡ None → now ≡ count_after before (is_over {L = L} {E = E} (Ok answer)) → now ≡ count_after before true
 nones_none L E answer before now none is = is ∙ ap (λ (o : Option L). count_after before (is_over {L = L} {E = E} (Ok o))) none

@@ -25,7 +25,7 @@ loop-accepted-preserved g c =
     let start = net_seen (g.N.Net.told c.args.net.now) (g.N.Net.failures c.args.net.now) (g.N.Net.listen_failures c.args.net.now) in
     let now = net_seen (g.N.Net.told s.new.net) (g.N.Net.failures s.new.net) (g.N.Net.listen_failures s.new.net) in
     let n = c.loop-accepted.accepted in
-    let is : s.result ≡ turns.Served = differs_false the_type (search rules) _ _ (sym c.ne.ensures ∙ c.if-ne.false) in
+    let is : s.result ≡ turns.Served = differs_false the_type (search rules) s.result turns.Served (sym c.ne.ensures ∙ c.if-ne.false) in
     let did = s.ensures.did (g.D.Listener.told c.args.door) start n (let a = c.loop-accepted-test.true in let b = c.ranges.connections in omega arith) i.served in
     record {
       served = subst (λ (t : Turn). HasServed (seen c.args.gateway.now) c.args.messages (g.D.Listener.told c.args.door) (g.D.Listener.told s.new.door) (g.D.Tray.Tray.told s.new.tray) start now (n + serves t) (starves t)) is did;
@@ -67,7 +67,7 @@ returns-then-ne-clause-failures g c =
 pub returns-then-ne-clause-ended : goal.returns-then-ne-clause-ended
 returns-then-ne-clause-ended g c fine fed =
     let s = c.serve_next-turn in let end = c.gathered.ensures in
-    let other : s.result ≡ turns.Served → ⊥ = differs_true the_type _ _ (sym c.ne.ensures ∙ c.if-ne.true) in
+    let other : s.result ≡ turns.Served → ⊥ = differs_true the_type s.result turns.Served (sym c.ne.ensures ∙ c.if-ne.true) in
     ended_by {A = c.gathered.result.accepted ≡ c.args.connections} {B = NoneToCome (g.D.Listener.told c.gathered.result.door)} s.result (g.D.Listener.nones c.args.door) (g.D.Listener.nones c.gathered.result.door)
     (sym end.failed ∙ fine) (sym end.starved ∙ fed) (λ is. absurd (other is)) (λ over. none_gathered (g.D.Listener.told s.new.door) _ _ end.told (s.ensures.no_more over))
     (end.nones ∙ (s.ensures.nones ∙ ap (λ (n : ℕ). count_after n (runs_out s.result)) c.loop-accepted.invariant.nones))
