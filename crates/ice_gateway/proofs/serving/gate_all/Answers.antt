@@ -33,8 +33,8 @@ loop-accepted-preserved g c =
       nones = s.ensures.nones ∙ (ap (λ (t : Turn). count_after (g.D.Listener.nones c.loop-accepted.door) (runs_out t)) is ∙ i.nones);
     }
 
-pub overflow_add-gathered : goal.overflow_add-gathered
-overflow_add-gathered g c =
+pub overflow_add-accepted : goal.overflow_add-accepted
+overflow_add-accepted g c =
     let few = one_at_most c.serve_next-turn.result in
     let a = c.loop-accepted-test.true in let l = c.links_of.ensures in let b = c.ranges.connections in omega arith
 

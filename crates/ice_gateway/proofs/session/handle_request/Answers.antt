@@ -31,8 +31,8 @@ returns-in_err-forward_oneway-clause-did g c =
       cut_off (seen c.args.gateway.now) (Request c.args.id c.args.call.now) told.0 c.in_err-forward_oneway.field-0.0 told.2,
     )
 
-pub returns-in_ok-forward_oneway-clause-did : goal.returns-in_ok-forward_oneway-clause-did
-returns-in_ok-forward_oneway-clause-did g c =
+pub returns-then-id-eq0-clause-did : goal.returns-then-id-eq0-clause-did
+returns-then-id-eq0-clause-did g c =
     let told = c.in_ok-forward_oneway.ensures.told in (
       silent,
       told.0,
