@@ -9,9 +9,9 @@ use Rattle.ice_messages.specs.declared.message.Call.{Call}
 use Rattle.ice_messages.specs.declared.message.Message.TheVariants.{Request, Batch}
 use Rattle.ice_messages.specs.Context.{Entry, AreRising, SpellsEntries, with_entry}
 use Rattle.ice_messages.specs.Calls as form
-use Rattle.ice_messages.specs.Messages.{SpellsMessage}
-use Rattle.ice_messages.proofs.Contexts.{rising_more}
+use Rattle.ice_messages.specs.Messages.{SpellsMessage, count_of}
 use Rattle.ice_gateway.specs.Laws.{Comes}
+use Rattle.ice_gateway.proofs.Rising.{rising_more}
 
 size_small : (bytes : List ℕ) (n : ℕ) → SpellsSize bytes n → n < 2 ^ 31
 size_small bytes n (inl h) = omega (arith, h.0)
@@ -32,7 +32,7 @@ entries_rise (suc n) before bytes es h rising are =
 
 call_comes : (bytes : List ℕ) (c : Call) → form.call.Spells bytes c → Comes c
 call_comes bytes c (x, is, (a, b, ab, identity, (d, e, de, facet, (f, g, fg, operation, (m, rest, mr, mode, (k, l, kl, (n, u, v, uv, size, entries), body)))))) =
-    subst Comes (sym is) (record { mode = leb-true _ _ mode.1; context = entries_rise n [] v x.1.1.1.1.0 entries none_rise tt; body = tt })
+    subst Comes (sym is) (record { mode = leb-true x.1.1.1.0 2 mode.1; context = entries_rise n [] v x.1.1.1.1.0 entries none_rise tt; body = tt })
 
 pub request_comes : (bytes : List ℕ) (id : ℤ) (c : Call) → SpellsMessage bytes (Request id c) → Comes c
 request_comes bytes id c (zero, head, body, parts, opens, most, (x, is, (a, b, ab, number, call))) =
@@ -51,7 +51,7 @@ pub batch_comes : (bytes : List ℕ) (calls : List Call) → SpellsMessage bytes
 batch_comes bytes calls (zero, head, body, parts, opens, most, spelled) = absurd (let e = spelled.1 in cc)
 batch_comes bytes calls (suc zero, head, body, parts, opens, most, (x, is, s)) =
     let same : calls ≡ x = (let e = is in cc) in
-    subst (Each Comes) (sym same) (times_come _ s.2 x s.5)
+    subst (Each Comes) (sym same) (times_come (count_of s.0) s.2 x s.5)
 batch_comes bytes calls (suc (suc zero), head, body, parts, opens, most, spelled) = absurd (let e = spelled.1 in cc)
 batch_comes bytes calls (suc (suc (suc zero)), head, body, parts, opens, most, spelled) = absurd (let e = spelled.1 in cc)
 batch_comes bytes calls (suc (suc (suc (suc n))), head, body, parts, opens, most, spelled) = absurd (let e = spelled.1 in cc)

@@ -16,27 +16,27 @@ use Rattle.ice_gateway.specs.Laws.{ForwardsOnce, IsDead}
 
 -- at a place that came from no cache no answer is stale
 not_stale : (cached : Bool) (answer : Answer) → cached ≡ false → is_stale cached answer ≡ true → ⊥
-not_stale true answer no stale = cc
-not_stale false answer no stale = cc
+not_stale true answer fresh stale = cc
+not_stale false answer fresh stale = cc
 
 row_dead : (o : Outgoing) (cached : Bool) (a : Attempt) (outcome : Outcome) (talk : Option Talk) → cached ≡ false → HasRow o cached a outcome talk → may_follow false a ≡ true → IsDead o talk
-row_dead o cached a outcome None no h may = tt
-row_dead o cached tries.NotConnected outcome (Some t) no h may = absurd h.0
-row_dead o cached tries.NotWhole outcome (Some t) no h may = inl h.0.0
-row_dead o cached tries.Sent outcome (Some t) no h may = absurd cc
-row_dead o cached tries.Lost outcome (Some t) no h may = absurd cc
-row_dead o cached tries.Closed outcome (Some t) no h may = inr (h.0.0, h.0.1)
-row_dead o cached tries.Stale outcome (Some t) no h may = absurd (not_stale cached h.0.0 no h.0.1.2)
-row_dead o cached tries.Broke outcome (Some t) no h may = absurd cc
-row_dead o cached tries.Replied outcome (Some t) no h may = absurd cc
+row_dead o cached a outcome None fresh h may = tt
+row_dead o cached tries.NotConnected outcome (Some t) fresh h may = absurd h.0
+row_dead o cached tries.NotWhole outcome (Some t) fresh h may = inl h.0.0
+row_dead o cached tries.Sent outcome (Some t) fresh h may = absurd cc
+row_dead o cached tries.Lost outcome (Some t) fresh h may = absurd cc
+row_dead o cached tries.Closed outcome (Some t) fresh h may = inr (h.0.0, h.0.1)
+row_dead o cached tries.Stale outcome (Some t) fresh h may = absurd (not_stale cached h.0.0 fresh h.0.1.2)
+row_dead o cached tries.Broke outcome (Some t) fresh h may = absurd cc
+row_dead o cached tries.Replied outcome (Some t) fresh h may = absurd cc
 
 not_true : (b : Bool) → (IsTrue b → ⊥) → b ≡ false
-not_true true no = absurd (no refl)
-not_true false no = refl
+not_true true fresh = absurd (fresh refl)
+not_true false fresh = refl
 
 each_dead : (o : Outgoing) (before : List Tried) → o.idempotent ≡ false → Each (IsFollowed o) before → ((x : Tried) → x.cached ≡ false → IsFollowed o x → IsDead o x.talk) → Each is_uncached before → Each (λ (x : Tried). IsDead o x.talk) before
-each_dead o [] no followed dead uncached = tt
-each_dead o (x ∷ xs) no followed dead uncached = (dead x uncached.0 followed.0, each_dead o xs no followed.1 dead uncached.1)
+each_dead o [] fresh followed dead uncached = tt
+each_dead o (x ∷ xs) fresh followed dead uncached = (dead x uncached.0 followed.0, each_dead o xs fresh followed.1 dead uncached.1)
 
 front : {A : Type 0} (P : A → Type 0) (xs ys : List A) → Each P (xs ++ ys) → Each P xs
 front P [] ys each = tt
@@ -47,12 +47,12 @@ forwards_once m retries tried outcome twice did uncached =
     let o = did.outgoing in
     let before = did.ended.0 in
     let last = did.ended.1 in
-    let no : o.idempotent ≡ false = not_true o.idempotent (λ yes. twice (did.is_of.idempotent.0 yes)) in
+    let fresh : o.idempotent ≡ false = not_true o.idempotent (λ is. twice (did.is_of.idempotent.0 is)) in
     let all = front is_uncached before (last ∷ []) (subst (Each is_uncached) did.ended.2 uncached) in (
       o,
       before,
       last,
       did.is_of,
       did.ended.2,
-      each_dead o before no did.ended.3 (λ x free followed. row_dead o x.cached x.attempt followed.0.0 x.talk free followed.0.1 (subst (λ (b : Bool). may_follow b x.attempt ≡ true) no followed.1)) all,
+      each_dead o before fresh did.ended.3 (λ x free followed. row_dead o x.cached x.attempt followed.0.0 x.talk free followed.0.1 (subst (λ (b : Bool). may_follow b x.attempt ≡ true) fresh followed.1)) all,
     )

@@ -21,7 +21,7 @@ use Rattle.ice_gateway.specs.Mapped.{Mapped, admitted}
 use Rattle.ice_gateway.specs.Forwarded.{forwarded, going, id_anew, request_anew}
 use Rattle.ice_gateway.specs.Handled.{Invocation, WasForwarded, WasAnswered, outcome_of, run_of, replies}
 use Rattle.ice_gateway.specs.Said.{Says}
-use Rattle.ice_gateway.specs.Parts.{Answers, Handling, Leaves, Passes}
+use Rattle.ice_gateway.specs.Parts.{Handling, Leaves, Passed}
 use Rattle.ice_gateway.proofs.Spoken.{none_begun}
 
 -- ---- ids
@@ -76,7 +76,7 @@ one_handled gate m runs i said t r invoked was answer says = record {
   says = subst (λ (z : List Message). Says z t r) (sym (append-nil said)) says;
 }
 
-pub cut_off : {E : Type 0} (gate : Gate) (m : Message) (runs : List (List Tried)) (e : E) → length runs ≤ 1 → Handling gate m runs silent {E = E} (Err e)
+pub cut_off : {E : Type 0} (gate : Gate) (m : Message) (runs : List (List Tried)) (e : E) → length runs ≤ 1 → Handling {E = E} gate m runs silent (Err e)
 cut_off gate m runs e few = record {
   handled = [];
   rest = m ∷ [];
@@ -90,29 +90,25 @@ cut_off gate m runs e few = record {
 
 -- ---- a message for which no reply is asked
 
-abbrev pub said_by : {X E : Type 0} → Result X E → Result Bool E
-said_by (Ok x) = Ok true
-said_by (Err e) = Err e
-
-pub passed : {X E : Type 0} (gate : Gate) (m : Message) (due : Option Message) (runs : List (List Tried)) (r : Result X E) → forwarded gate m ≡ due → ((o : Option Outcome) → WasAnswered gate m o []) → Passes gate due runs r
-    → Handling gate m runs silent (said_by r)
-passed gate m due runs (Ok x) is unasked h = one_handled gate m runs h.0 [] silent (Ok true) h.1 (subst (λ (d : Option Message). WasForwarded gate d h.0) (sym is) h.2) (unasked (outcome_of h.0)) (refl, (refl, tt))
-passed gate m due runs (Err e) is unasked few = cut_off gate m runs e few
+pub passed : {E : Type 0} (gate : Gate) (m : Message) (due : Option Message) (runs : List (List Tried)) → forwarded gate m ≡ due → ((o : Option Outcome) → WasAnswered gate m o []) → Passed gate due runs
+    → Handling {E = E} gate m runs silent (Ok true)
+passed {E} gate m due runs is unasked h =
+    one_handled {E = E} gate m runs h.0 [] silent (Ok true) h.1 (subst (λ (d : Option Message). WasForwarded gate d h.0) (sym is) h.2) (unasked (outcome_of h.0)) (refl, (refl, tt))
 
 -- a request with id 0
-pub oneway_passed : {X E : Type 0} (gate : Gate) (id : ℤ) (c : Call) (runs : List (List Tried)) (r : Result X E) → id ≡ pos 0 → Passes gate (request_anew gate (pos 0) (going (admitted gate c))) runs r
-    → Handling gate (Request id c) runs silent (said_by r)
-oneway_passed gate id c runs r is h =
-    subst (λ (z : ℤ). Handling gate (Request z c) runs silent (said_by r)) (sym is) (passed gate (Request (pos 0) c) (request_anew gate (pos 0) (going (admitted gate c))) runs r refl (λ o. refl) h)
+pub oneway_passed : {E : Type 0} (gate : Gate) (id : ℤ) (c : Call) (runs : List (List Tried)) → id ≡ pos 0 → Passed gate (request_anew gate (pos 0) (going (admitted gate c))) runs
+    → Handling {E = E} gate (Request id c) runs silent (Ok true)
+oneway_passed {E} gate id c runs is h =
+    subst (λ (z : ℤ). Handling {E = E} gate (Request z c) runs silent (Ok true)) (sym is) (passed {E = E} gate (Request (pos 0) c) (request_anew gate (pos 0) (going (admitted gate c))) runs refl (λ o. refl) h)
 
 -- ---- a request that asks for one
 
-pub request_cut : {E : Type 0} (gate : Gate) (id : ℤ) (c : Call) (runs : List (List Tried)) (e : E) → Answers gate (request_anew gate (pos 1) (going (admitted gate c))) (Mapped gate c) runs {E = E} (Err e)
-    → Handling gate (Request id c) runs silent {E = E} (Err e)
-request_cut gate id c runs e few = cut_off gate (Request id c) runs e few
+-- as `Answers` says it of an answer that is there
+abbrev pub CameAnswered : Gate → Option Message → (Option Outcome → Answer → Type 0) → List (List Tried) → Answer → Type 0
+CameAnswered gate due Is runs answer = (i : Option Invocation) × (runs ≡ run_of i) × WasForwarded gate due i × Is (outcome_of i) answer
 
-pub request_answered : {E F : Type 0} (gate : Gate) (id : ℤ) (c : Call) (runs : List (List Tried)) (answer : Answer) (t : Talk) (r : Result Bool E) → id ≢ pos 0
-    → Answers gate (request_anew gate (pos 1) (going (admitted gate c))) (Mapped gate c) runs {E = F} (Ok answer) → Says (Reply id answer ∷ []) t r → Handling gate (Request id c) runs t r
+pub request_answered : {E : Type 0} (gate : Gate) (id : ℤ) (c : Call) (runs : List (List Tried)) (answer : Answer) (t : Talk) (r : Result Bool E) → id ≢ pos 0
+    → CameAnswered gate (request_anew gate (pos 1) (going (admitted gate c))) (Mapped gate c) runs answer → Says (Reply id answer ∷ []) t r → Handling gate (Request id c) runs t r
 request_answered gate id c runs answer t r ne h says =
     one_handled gate (Request id c) runs h.0 (Reply id answer ∷ []) t r h.1
     (subst (λ (z : ℤ). WasForwarded gate (request_anew gate z (going (admitted gate c))) h.0) (sym (asked_anew id ne)) h.2) (answered gate id c (outcome_of h.0) answer ne h.3) says

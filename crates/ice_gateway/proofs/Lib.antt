@@ -1,3 +1,4 @@
+pub mod Rising
 pub mod Coming
 pub mod Lengths
 pub mod Replying

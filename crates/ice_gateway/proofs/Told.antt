@@ -1,12 +1,12 @@
 -- What listeners and trays tell while links are given, taken back and gathered, and connections that are served, one more.
-use Rattle.std.proofs.Common.{◌≡◌, ℕ, ◌+◌, ◌-◌, ◌<◌, ◌^◌, ◌⊎◌, inl, inr, if◌then◌else◌, Bool, true, false, List, [], ◌∷◌, ◌++◌, length, refl, sym, ap, ap₂, ◌∙◌, subst, arith, append_assoc, append-nil, length-append}
+use Rattle.std.proofs.Common.{◌≡◌, ℕ, ◌+◌, ◌-◌, ◌<◌, ◌≤◌, ◌^◌, ◌⊎◌, inl, inr, if◌then◌else◌, Bool, true, false, List, [], ◌∷◌, ◌++◌, length, refl, sym, ap, ap₂, ◌∙◌, subst, arith, append_assoc, append-nil, length-append}
 use Rattle.std.specs.Prelude.{◌↔◌, Option, Some, None, IfSome, Result, Ok, Err, is_err}
 use Rattle.std.proofs.lemmas.Bool.{lt-ltb}
 use Rattle.std.proofs.Math.Nat.{min-eq_left}
 use Rattle.ice_ports.specs.declared.talk.Talk.{Talk}
 use Rattle.ice_ports.specs.Talks.{silent, adds}
 use Rattle.ice_ports.specs.Failures.{count_after}
-use Rattle.ice_ports.specs.Nets.{ToldListener, told_after, accepted, IsNew, IsEmptyTray, behind, taken_behind, one_talk, gathers}
+use Rattle.ice_ports.specs.Nets.{ToldListener, told_after, accepted, is_over, IsNew, IsEmptyTray, behind, taken_behind, one_talk, gathers}
 use Rattle.ice_client.specs.ClientDid.{Tried}
 use Rattle.ice_gateway.specs.declared.end.GateEnd.{GateEnd}
 use Rattle.ice_gateway.specs.declared.serving.Turn.{Turn}
@@ -14,7 +14,7 @@ use Rattle.ice_gateway.specs.declared.serving.Turn.TheVariants as turns
 use Rattle.ice_gateway.specs.Gate.{Gate}
 use Rattle.ice_gateway.specs.Runs.{NetSeen, Ran}
 use Rattle.ice_gateway.specs.GateDid.{GateDid, end_of}
-use Rattle.ice_gateway.specs.Sessions.{Session, talks, all_runs, AllDid, HasEnd, AllFed, TrayTells, DoorTells, NoneToCome, HasServed, AllServed, starves, runs_out, fails}
+use Rattle.ice_gateway.specs.Sessions.{Session, talks, all_runs, AllDid, HasEnd, AllFed, TrayTells, DoorTells, NoneToCome, HasServed, AllServed, serves, starves, runs_out, fails}
 use Rattle.ice_gateway.proofs.Runs.{ran_none, ran_then}
 
 abbrev door : ℕ → ℕ → List Talk → Option ToldListener
@@ -62,6 +62,13 @@ unchanged L E answer none (Some d) now' is = is ∙ ap (λ (o : Option L). told_
 pub failed_same : (L E : Type 0) (e : E) (now now' : Option ToldListener) → now' ≡ told_after (accepted {L = L} {E = E} (Err e)) now → now' ≡ now
 failed_same L E e None now' is = is
 failed_same L E e (Some d) now' is = is
+
+-- how often an accept gave none
+pub nones_some : (L E : Type 0) (answer : Option L) (link : L) (before now : ℕ) (over : Bool) → answer ≡ Some link → now ≡ count_after before (is_over {L = L} {E = E} (Ok answer)) → over ≡ false → now ≡ count_after before over
+nones_some L E answer link before now over some is ends = is ∙ (ap (λ (o : Option L). count_after before (is_over {L = L} {E = E} (Ok o))) some ∙ ap (λ (b : Bool). count_after before b) (sym ends))
+
+pub nones_none : (L E : Type 0) (answer : Option L) (before now : ℕ) → answer ≡ None → now ≡ count_after before (is_over {L = L} {E = E} (Ok answer)) → now ≡ count_after before true
+nones_none L E answer before now none is = is ∙ ap (λ (o : Option L). count_after before (is_over {L = L} {E = E} (Ok o))) none
 
 -- ---- trays
 
@@ -127,7 +134,7 @@ pub link_served : {E : Type 0} (L F : Type 0) (reads writes : L → ℕ) (talk_o
     → answer ≡ Some link → now' ≡ told_after (accepted {L = L} {E = F} (Ok answer)) now → IfSome answer (λ l. IsNew now (talk_of l) × (reads l ≡ 0) × (writes l ≡ 0)) → o' ≡ adds (talk_of link) t → tray' ≡ taken_behind (one_talk o') tray
     → Ran gate.endpoints runs net net' → GateDid gate most t runs (end_of r) → starved ≡ is_err r → n + 1 < 2 ^ 64
     → HasServed gate most first now tray old net n false → HasServed gate most first now' tray' old net' (n + 1) starved
-link_served L F reads writes talk_of answer link gate most first r now now' tray tray' o' t runs old net net' n starved gives is new said into ran did fails few h =
+link_served L F reads writes talk_of answer link gate most first r now now' tray tray' o' t runs old net net' n starved gives is new said into ran did failing few h =
     let s : Session = record { talk = t; runs = runs; end = end_of r } in record {
       sessions = h.sessions ++ s ∷ [];
       did = did_last gate most h.sessions s h.did did;
@@ -136,14 +143,15 @@ link_served L F reads writes talk_of answer link gate most first r now now' tray
       tells = subst (TrayTells first tray') (sym (talks_append h.sessions (s ∷ [])))
           (tray_took first n now tray tray' (talk_of link) o' t (talks h.sessions) into said h.gave (new_link L reads writes talk_of answer link gives now new) h.tells);
       count = let c = h.count in let l = length-append h.sessions (s ∷ []) in omega arith;
-      fed = λ f. fed_last h.sessions s (h.fed refl) (ended r starved fails f);
+      fed = λ f. fed_last h.sessions s (h.fed refl) (ended r starved failing f);
     }
 
 -- none more
 pub none_served : (gate : Gate) (most : ℕ) (first now now' : Option ToldListener) (tray : Option (List Talk)) (old net : NetSeen) (n : ℕ) → now' ≡ now → HasServed gate most first now tray old net n false
     → HasServed gate most first now' tray old net (n + 0) false
 none_served gate most first now now' tray old net n same h =
-    subst (λ (k : ℕ). HasServed gate most first now' tray old net k false) (omega arith) (subst (λ (d : Option ToldListener). HasServed gate most first d tray old net n false) (sym same) h)
+    let more : n ≡ n + 0 = omega arith in
+    subst (λ (k : ℕ). HasServed gate most first now' tray old net k false) more (subst (λ (d : Option ToldListener). HasServed gate most first d tray old net n false) (sym same) h)
 
 -- the tray is gathered
 pub gathered : (gate : Gate) (most : ℕ) (first now now' : Option ToldListener) (tray : Option (List Talk)) (old net : NetSeen) (n : ℕ) (starved : Bool) → now' ≡ gathers tray now → HasServed gate most first now tray old net n starved
@@ -164,3 +172,9 @@ ended_by turns.Served before now fine fed reached no_more count = inl (reached r
 ended_by turns.Starved before now fine fed reached no_more count = absurd cc
 ended_by turns.Over before now fine fed reached no_more count = inr (count, no_more refl)
 ended_by turns.Failed before now fine fed reached no_more count = absurd cc
+
+pub one_at_most : (turn : Turn) → serves turn ≤ 1
+one_at_most turns.Served = omega arith
+one_at_most turns.Starved = omega arith
+one_at_most turns.Over = omega arith
+one_at_most turns.Failed = omega arith

@@ -15,10 +15,10 @@ use Rattle.ice_gateway.specs.declared.end.GateEnd.TheVariants as ends
 use Rattle.ice_gateway.specs.Gate.{seen}
 use Rattle.ice_gateway.specs.Forwarded.{batch_anew, calls_anew}
 use Rattle.ice_gateway.specs.Laws.{Comes}
-use Rattle.ice_gateway.specs.Parts.{Handling, Next, Passes}
+use Rattle.ice_gateway.specs.Parts.{Handling, Next, Passed}
 use Rattle.ice_gateway.specs.Runs.{net_seen}
 use Rattle.ice_gateway.proofs.Coming.{batch_comes}
-use Rattle.ice_gateway.proofs.Handling.{passed, request_fits}
+use Rattle.ice_gateway.proofs.Handling.{cut_off, passed, request_fits}
 use Rattle.ice_gateway.proofs.Runs.{ran_none}
 use Rattle.ice_gateway.proofs.Spoken.{quiet}
 use Rattle.ice_gateway.proofs.Sessions.{next_handled, next_quiet, next_end}
@@ -88,8 +88,7 @@ returns-in_err-forward_batch-in-Batch-clause-did g c =
       told.1,
       refl,
       λ bytes held first is spelled. next_handled gate (Err e) told.0 (Batch c.in-Batch.calls) bytes held first silent is (subst (λ (z : Message). SpellsMessage first z) c.in-Batch.is spelled)
-          (passed gate (Batch c.in-Batch.calls) _ told.0 c.forward_batch.result refl (λ o. refl)
-          (subst (λ (z : List Call). Passes gate (batch_anew gate (calls_anew gate z)) told.0 c.forward_batch.result) c.as_slice.ensures told.2)),
+          (cut_off gate (Batch c.in-Batch.calls) told.0 e told.2),
     )
 
 pub returns-in_ok-forward_batch-in-Batch-clause-did : goal.returns-in_ok-forward_batch-in-Batch-clause-did
@@ -102,8 +101,8 @@ returns-in_ok-forward_batch-in-Batch-clause-did g c =
       told.1,
       refl,
       λ bytes held first is spelled. next_handled gate {E = AllocError} (Ok true) told.0 (Batch c.in-Batch.calls) bytes held first silent is (subst (λ (z : Message). SpellsMessage first z) c.in-Batch.is spelled)
-          (passed {E = AllocError} gate (Batch c.in-Batch.calls) _ told.0 (Ok tt) refl (λ o. refl)
-          (subst (λ (z : List Call). Passes {E = AllocError} gate (batch_anew gate (calls_anew gate z)) told.0 (Ok tt)) c.as_slice.ensures told.2)),
+          (passed {E = AllocError} gate (Batch c.in-Batch.calls) (batch_anew gate (calls_anew gate c.in-Batch.calls)) told.0 refl (λ o. refl)
+          (subst (λ (z : List Call). Passed gate (batch_anew gate (calls_anew gate z)) told.0) c.as_slice.ensures told.2)),
     )
 
 pub returns-in-Validate-clause-did : goal.returns-in-Validate-clause-did

@@ -53,8 +53,8 @@ loop-taken-preserved g c =
     let gate = seen c.args.gateway.now in
     let mid : ℕ × ℕ = (g.L.Source.failures c.loop-taken.link, g.L.Sink.failures c.loop-taken.link) in
     let new : ℕ × ℕ = (g.L.Source.failures c.handle_next.new.link, g.L.Sink.failures c.handle_next.new.link) in
-    let at = net_seen (g.N.Net.told c.args.net.now) (g.N.Net.failures c.args.net.now) (g.N.Net.listen_failures c.args.net.now) in
-    let then = net_seen (g.N.Net.told c.loop-taken.net) (g.N.Net.failures c.loop-taken.net) (g.N.Net.listen_failures c.loop-taken.net) in
+    let start = net_seen (g.N.Net.told c.args.net.now) (g.N.Net.failures c.args.net.now) (g.N.Net.listen_failures c.args.net.now) in
+    let later = net_seen (g.N.Net.told c.loop-taken.net) (g.N.Net.failures c.loop-taken.net) (g.N.Net.listen_failures c.loop-taken.net) in
     let now = net_seen (g.N.Net.told c.handle_next.new.net) (g.N.Net.failures c.handle_next.new.net) (g.N.Net.listen_failures c.handle_next.new.net) in
     let none = c.in_default.is in
     let next = subst (λ (z : Option GateEnd). Next {E = AllocError} gate d.1 d.0 (c.loop-taken.frames.bytes ++ d.0.given) c.handle_next.new.frames.bytes (Ok z)) none d.4 in
@@ -64,7 +64,7 @@ loop-taken-preserved g c =
         and_then i.did.0 d.0,
         i.did.1 ++ d.1,
         adds_then (g.L.Link.talk c.args.link.now) (g.L.Link.talk c.loop-taken.link) (g.L.Link.talk c.handle_next.new.link) i.did.0 d.0 i.did.2 d.2,
-        ran_then gate.endpoints i.did.1 d.1 at then now i.did.3 d.3,
+        ran_then gate.endpoints i.did.1 d.1 start later now i.did.3 d.3,
         part_more gate AllocError i.did.1 d.1 i.did.0 d.0 c.loop-taken.frames.bytes c.handle_next.new.frames.bytes c.loop-taken.taken i.did.4 next,
       );
       counts = subst (λ (z : Option GateEnd). Counts (fails_next {E = AllocError} (Ok z)) mid new) none c.in_ok-end.ensures.counts ∙ i.counts;
@@ -75,14 +75,14 @@ returns-in_err-end-clause-did g c =
     let failed = err_from_is_err_and c.from_residual-in_err-end.result c.from_residual-in_err-end.ensures.1 in
     let i = c.loop-taken.invariant in let d = c.in_err-end.ensures.did in
     let gate = seen c.args.gateway.now in
-    let at = net_seen (g.N.Net.told c.args.net.now) (g.N.Net.failures c.args.net.now) (g.N.Net.listen_failures c.args.net.now) in
-    let then = net_seen (g.N.Net.told c.loop-taken.net) (g.N.Net.failures c.loop-taken.net) (g.N.Net.listen_failures c.loop-taken.net) in
+    let start = net_seen (g.N.Net.told c.args.net.now) (g.N.Net.failures c.args.net.now) (g.N.Net.listen_failures c.args.net.now) in
+    let later = net_seen (g.N.Net.told c.loop-taken.net) (g.N.Net.failures c.loop-taken.net) (g.N.Net.listen_failures c.loop-taken.net) in
     let now = net_seen (g.N.Net.told c.handle_next.new.net) (g.N.Net.failures c.handle_next.new.net) (g.N.Net.listen_failures c.handle_next.new.net) in
     rw failed.1 (
       and_then i.did.0 d.0,
       i.did.1 ++ d.1,
       adds_then (g.L.Link.talk c.args.link.now) (g.L.Link.talk c.loop-taken.link) _ i.did.0 d.0 i.did.2 d.2,
-      ran_then gate.endpoints i.did.1 d.1 at then now i.did.3 d.3,
+      ran_then gate.endpoints i.did.1 d.1 start later now i.did.3 d.3,
       starves gate c.args.messages c.loop-taken.taken i.did.1 d.1 i.did.0 d.0 c.loop-taken.frames.bytes c.handle_next.new.frames.bytes i.did.4 AllocError c.in_err-end.field-0.0 c.loop-taken-test.true d.4,
     )
 
@@ -90,14 +90,14 @@ pub returns-in-Some-clause-did : goal.returns-in-Some-clause-did
 returns-in-Some-clause-did g c =
     let i = c.loop-taken.invariant in let d = c.in_ok-end.ensures.did in
     let gate = seen c.args.gateway.now in
-    let at = net_seen (g.N.Net.told c.args.net.now) (g.N.Net.failures c.args.net.now) (g.N.Net.listen_failures c.args.net.now) in
-    let then = net_seen (g.N.Net.told c.loop-taken.net) (g.N.Net.failures c.loop-taken.net) (g.N.Net.listen_failures c.loop-taken.net) in
+    let start = net_seen (g.N.Net.told c.args.net.now) (g.N.Net.failures c.args.net.now) (g.N.Net.listen_failures c.args.net.now) in
+    let later = net_seen (g.N.Net.told c.loop-taken.net) (g.N.Net.failures c.loop-taken.net) (g.N.Net.listen_failures c.loop-taken.net) in
     let now = net_seen (g.N.Net.told c.handle_next.new.net) (g.N.Net.failures c.handle_next.new.net) (g.N.Net.listen_failures c.handle_next.new.net) in
     let next = subst (λ (z : Option GateEnd). Next {E = AllocError} gate d.1 d.0 (c.loop-taken.frames.bytes ++ d.0.given) c.handle_next.new.frames.bytes (Ok z)) c.in-Some.is d.4 in (
       and_then i.did.0 d.0,
       i.did.1 ++ d.1,
       adds_then (g.L.Link.talk c.args.link.now) (g.L.Link.talk c.loop-taken.link) (g.L.Link.talk c.handle_next.new.link) i.did.0 d.0 i.did.2 d.2,
-      ran_then gate.endpoints i.did.1 d.1 at then now i.did.3 d.3,
+      ran_then gate.endpoints i.did.1 d.1 start later now i.did.3 d.3,
       ended gate c.args.messages c.loop-taken.taken i.did.1 d.1 i.did.0 d.0 c.loop-taken.frames.bytes c.handle_next.new.frames.bytes i.did.4 AllocError c.in-Some.end c.loop-taken-test.true next,
     )
 
