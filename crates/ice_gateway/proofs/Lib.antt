@@ -5,7 +5,6 @@ pub mod Replying
 pub mod Outcomes
 pub mod Dead
 pub mod Back
-pub mod Bodies
 pub mod Runs
 pub mod Passing
 pub mod Fitting
