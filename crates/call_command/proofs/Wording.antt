@@ -6,7 +6,7 @@ use Rattle.std.proofs.lemmas.List.Elements.{All-head, All-tail}
 use Rattle.node_commands.specs.declared.words.Task.{Task}
 use Rattle.instance_writing.specs.declared.format.Format.TheVariants as formats
 use Rattle.node_commands.specs.declared.words.Task.TheVariants as tasks
-use Rattle.node_commands.specs.Words.{Word, Command, IsWord, values, check, proxy, audit, drill, messages, help, version, Form, task_words}
+use Rattle.node_commands.specs.Words.{Word, Command, IsWord, values, check, proxy, audit, compat, drill, messages, help, version, Form, task_words}
 use Rattle.call_command.specs.declared.words.CallCommand.{CallCommand}
 use Rattle.std.specs.Prelude.{IfSome, unwrap_or}
 use Rattle.call_command.specs.declared.words.TheConstants.{MOST_RETRIES, MOST_TIMES}
@@ -37,6 +37,7 @@ apart words c (values task file kind) form other = no_task_word task file kind w
 apart words c (check file) form other = let e : 25448 ≡ 25441 = sym (ap mark other.0) ∙ of_call words c form in omega (arith, e)
 apart words c (proxy text) form other = let e : 28786 ≡ 25441 = sym (ap mark other.0) ∙ of_call words c form in omega (arith, e)
 apart words c (audit client server) form other = let e : 24949 ≡ 25441 = sym (ap mark other.0) ∙ of_call words c form in omega (arith, e)
+apart words c (compat old new kind) form other = let e : 25455 ≡ 25441 = sym (ap mark other.0) ∙ of_call words c form in omega (arith, e)
 apart words c (drill start count) form other = let e : 25714 ≡ 25441 = sym (ap mark other.0) ∙ of_call words c form in omega (arith, e)
 apart words c messages form other = let e : 28005 ≡ 25441 = sym (ap mark other) ∙ of_call words c form in omega (arith, e)
 apart words c help form other = let e : 11565 ≡ 25441 = sym (ap mark other) ∙ of_call words c form in omega (arith, e)

@@ -75,11 +75,11 @@ module _ (once : ForwardsOnce) (gate : Gate) where
   sent_once : (due : Option Message) (i : Option Invocation) → WasForwarded gate due i → IsSentOnce i
   sent_once due None was = tt
   sent_once None (Some i) was = absurd was
-  sent_once (Some m) (Some i) (is, did, uncached) never =
+  sent_once (Some m) (Some i) (is, did, uncached) = λ never.
       once i.message gate.retries i.tried i.outcome never (subst (λ (x : Message). ClientDid x gate.retries i.tried (Some i.outcome)) (sym is) did) uncached
 
 pub gates_once_by : ForwardsOnce → GatesOnce
-gates_once_by once c gate net later count failed starved h = all h.heard.all.sessions h.heard.all.did
+gates_once_by once c gate net later count failed lacked h = all h.heard.all.sessions h.heard.all.did
   where
     handled_once : (hs : List Handled) → Each (WasHandled gate) hs → Each (λ (x : Handled). IsSentOnce x.invocation) hs
     handled_once [] did = tt

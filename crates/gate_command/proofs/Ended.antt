@@ -1,5 +1,5 @@
 -- How `gate` ends, from what its steps came to.
-use Rattle.std.proofs.Common.{◌≡◌, ◌⊎◌, ℕ, Bool, true, false, List, [], ◌++◌, Option, refl, sym, ap, ◌∙◌, subst, inl, inr, append_assoc}
+use Rattle.std.proofs.Common.{◌≡◌, ℕ, Bool, true, false, List, [], ◌++◌, Option, refl, sym, ap, ◌∙◌, subst, inl, inr, append_assoc}
 use Rattle.std.specs.Io.KnownBytes.{Keeps, Appends}
 use Rattle.std.proofs.KnownBytes.{Appends-trans}
 use Rattle.ice_ports.specs.Nets.{ToldListener, IsNewListener}
@@ -53,7 +53,7 @@ module _ (c : GateWords) (files files' : Option Files) (input errors errors' out
     rw e (inr (
       refl,
       (same, refl, n),
-      (listening port ++ more.0, more.1, ap (λ (z : List ℕ). listening port ++ z) more.2 ∙ simp append_assoc, Appends-trans out mid out' (listening port) more.0 first more.3),
+      (listening port ++ more.0, more.1, ap (λ (z : List ℕ). listening port ++ z) more.2 ∙ simp append_assoc, Appends-trans out mid out' (listening port) more.0 first more.3, more.4),
     )),
   )
 

@@ -16,10 +16,10 @@ use Rattle.gate_command.specs.declared.words.Options.{Options}
 use Rattle.gate_command.specs.Words.{GateWords, GateForm, AreNamed, Gathers, Gives, IsNamed, IsNumbered, IsOption, IsSetBy, IsWithin, asked_of, no_options, seen}
 use Rattle.gate_command.proofs.Giving.{gives_same}
 
-abbrev word_at : ℕ → List Word → Word
+abbrev pub word_at : ℕ → List Word → Word
 word_at n words = get_or words n []
 
-abbrev five : GateWords → List Word
+abbrev pub five : GateWords → List Word
 five c = c.file ∷ c.interface ∷ c.host ∷ decimal c.port ∷ c.proxy ∷ []
 
 -- ---- the last five words

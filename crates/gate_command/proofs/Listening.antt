@@ -1,15 +1,19 @@
 -- Listening and forwarding, from what their steps came to.
-use Rattle.std.proofs.Common.{◌≡◌, ◌≤◌, ◌⊎◌, ℕ, Bool, false, List, refl, subst, inl, inr}
+use Rattle.std.proofs.Common.{◌≡◌, ◌≤◌, ◌⊎◌, ℕ, Bool, true, false, List, refl, sym, subst, inl, inr}
 use Rattle.std.specs.Prelude.{nat_lt, Option}
-use Rattle.ice_ports.specs.Failures.{count_after}
-use Rattle.ice_ports.specs.Failures.{one_more}
+use Rattle.std.proofs.lemmas.Bool.{false≢true}
+use Rattle.ice_ports.specs.Failures.{count_after, one_more}
 use Rattle.ice_ports.specs.Nets.{ToldNet, ToldListener, IsNewListener, told_after, asked_to_listen, came_back, gathered_of}
+use Rattle.ice_ports.specs.Writing.{AppendsPrefix}
 use Rattle.ice_gateway.specs.Gate.{Gate}
 use Rattle.ice_gateway.specs.Runs.{NetSeen, net_seen}
 use Rattle.ice_gateway.specs.Sessions.{AllServed, NoneToCome}
 use Rattle.serve_command.specs.declared.serving.TheConstants.{MOST_MESSAGES}
 use Rattle.serve_command.specs.declared.ending.Ending.{Ending}
 use Rattle.serve_command.specs.declared.ending.Ending.TheVariants as endings
+use Rattle.node_commands.specs.declared.outcome.Outcome.TheVariants as outcomes
+use Rattle.serve_command.specs.Served.{listening}
+use Rattle.serve_command.specs.Steps.{Tells}
 use Rattle.serve_command.proofs.Endings.{retired, retired_unused, why_ended}
 use Rattle.gate_command.specs.Words.{GateWords}
 use Rattle.gate_command.specs.Gated.{Heard, IsPort, asked}
@@ -39,6 +43,15 @@ pub back_unused : (net : NetSeen) (first : Option ToldListener) (told : Option T
 back_unused net first told failures counted n back kept retires none =
     let same : counted ≡ net.listen_failures = retired_unused net.listen_failures counted n retires none in
     λ i. record { told = back i; failures = kept i; listen_failures = same i }
+
+-- where it listens could not be told
+pub untold : (c : GateWords) (gate : Gate) (first : Option ToldListener) (port number : ℕ) (old new : Option (List ℕ)) (before after : ℕ) (net : NetSeen) (told : Option ToldNet) (failures counted n : ℕ) (b : Bool)
+    → Tells old new before after b (listening number) → b ≡ false → number ≡ port
+    → told ≡ came_back (gathered_of first) net.told → failures ≡ net.failures → counted ≡ count_after net.listen_failures (nat_lt 0 n) → n ≡ 0
+    → Listens c gate first port old new before after net (net_seen told failures counted) (endings.Known outcomes.WriteFailed)
+untold c gate first port number old new before after net told failures counted n true h off is back kept retires none = absurd (false≢true (sym off))
+untold c gate first port number old new before after net told failures counted n false h off is back kept retires none =
+    inl (refl, subst (λ (z : ℕ). AppendsPrefix old new (listening z)) is h.0, h.1, back_unused net first told failures counted n back kept retires none)
 
 module _ (c : GateWords) (gate : Gate) (old new : Option (List ℕ)) (before after : ℕ) (net : NetSeen) (told : Option ToldNet) (failures counted : ℕ) where
   -- the net could not listen

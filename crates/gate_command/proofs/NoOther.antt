@@ -4,7 +4,7 @@ use Rattle.std.proofs.lemmas.List.{length-append}
 use Rattle.instance_writing.specs.declared.format.Format.TheVariants as formats
 use Rattle.node_commands.specs.declared.words.Task.{Task}
 use Rattle.node_commands.specs.declared.words.Task.TheVariants as tasks
-use Rattle.node_commands.specs.Words.{Word, Command, values, check, proxy, audit, drill, messages, help, version, task_words, Form}
+use Rattle.node_commands.specs.Words.{Word, Command, values, check, proxy, audit, compat, drill, messages, help, version, task_words, Form}
 use Rattle.serve_command.specs.Words.{Serve, ServeForm}
 use Rattle.gate_command.specs.Words.{GateWords, GateForm, IsNoOther}
 
@@ -26,6 +26,7 @@ few words (values task file kind) p = omega (arith, ap length p.0, few_of_task t
 few words (check file) p = omega (arith, ap length p.0)
 few words (proxy text) p = omega (arith, ap length p.0)
 few words (audit client server) p = omega (arith, ap length p.0)
+few words (compat old new kind) p = omega (arith, ap length p.0)
 few words (drill start count) p = omega (arith, ap length p.0)
 few words messages p = omega (arith, ap length p)
 few words help p = omega (arith, ap length p)

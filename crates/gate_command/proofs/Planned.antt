@@ -1,5 +1,5 @@
 -- What is decided before the net is asked, from what its steps came to.
-use Rattle.std.proofs.Common.{◌≡◌, ◌⊎◌, ℕ, [], Option, Result, Ok, Err, refl, sym, subst, ◌∙◌, inl, inr}
+use Rattle.std.proofs.Common.{◌≡◌, ℕ, Option, Result, Ok, Err, refl, sym, subst, ◌∙◌, inl, inr}
 use Rattle.ice_types.specs.declared.proxy.Proxy.{Proxy}
 use Rattle.ice_types.specs.Tables.{Tables}
 use Rattle.proxy_text.specs.Grammar.{proxy_text}

@@ -94,6 +94,7 @@ done_body (Missing status i f o) = []
 done_body (Unknown status what) = []
 
 written_done : (r : Renewed) (body : List ℕ) → Done body ≡ wrapped Done r → r ≡ renewals.Written body
+unfolding done_body
 written_done (renewals.Written x) body e = ap renewals.Written (ap done_body (sym e))
 written_done renewals.TooLong body e = absurd cc
 written_done (renewals.Broken fault) body e = absurd cc

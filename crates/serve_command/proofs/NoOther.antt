@@ -3,7 +3,7 @@ use Rattle.std.proofs.Common.{◌≡◌, ◌<◌, ◌+◌, ◌*◌, ◌⊎◌, �
 use Rattle.instance_writing.specs.declared.format.Format.TheVariants as formats
 use Rattle.node_commands.specs.declared.words.Task.{Task}
 use Rattle.node_commands.specs.declared.words.Task.TheVariants as tasks
-use Rattle.node_commands.specs.Words.{Word, Command, values, check, proxy, audit, drill, messages, help, version, task_words, Form}
+use Rattle.node_commands.specs.Words.{Word, Command, values, check, proxy, audit, compat, drill, messages, help, version, task_words, Form}
 use Rattle.serve_command.specs.Words.{Serve, ServeForm}
 
 -- how long the first word is, and its first byte: 5115 of `serve`
@@ -27,6 +27,7 @@ apart words (values task file kind) e p = task_mark task file kind (sym (ap mark
 apart words (check file) e p = other_mark 5099 (sym (ap mark p.0) ∙ e) (inl (omega arith))
 apart words (proxy text) e p = other_mark 5112 (sym (ap mark p.0) ∙ e) (inl (omega arith))
 apart words (audit client server) e p = other_mark 5097 (sym (ap mark p.0) ∙ e) (inl (omega arith))
+apart words (compat old new kind) e p = other_mark 6099 (sym (ap mark p.0) ∙ e) (inr (omega arith))
 apart words (drill start count) e p = other_mark 5100 (sym (ap mark p.0) ∙ e) (inl (omega arith))
 apart words messages e p = other_mark 8109 (sym (ap mark p) ∙ e) (inr (omega arith))
 apart words help e p = other_mark 6045 (sym (ap mark p) ∙ e) (inr (omega arith))
