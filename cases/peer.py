@@ -1,15 +1,16 @@
 """The other end of a case's connections over 127.0.0.1: it gives and takes the bytes that the case says, step by step.
 
 A peer that listens has ports that the system chooses; the Nth connection does what the Nth link says, and comes at its port. One that
-connects goes to the port that the program tells, once for each link.
+connects goes to the port that the program tells, once for each link. About a program that is between it does both: it listens for the
+links, and connects once for each caller.
 """
 import re
 import socket
-import struct
 import threading
 import time
 
-HERE = "127.0.0.1"
+from links import HERE, received, reset
+
 SECONDS = 10
 VALIDATE, CLOSE = (b"IceP\1\0\1\0" + bytes((kind, 0)) + (14).to_bytes(4, "little") for kind in (3, 4))
 KNOWN = {"validate": VALIDATE, "close": CLOSE}
@@ -18,7 +19,8 @@ LINK = re.compile(r"(?:(?P<beside>beside)|(?P<refused>refused)?(?:(?:^| )at (?P<
 # The lines of a link, and which of them have a value: bytes, a number, or none.
 OF_BYTES, OF_NUMBERS, ALONE = ("gives", "gives-apart", "takes"), ("takes-any", "waits"), ("closes", "dies", "ends")
 STEPS = (*OF_BYTES, *OF_NUMBERS, *ALONE)
-LINES = ("link", *STEPS)
+BEGINS = ("link", "caller")
+LINES = (*BEGINS, *STEPS)
 ENDS = ("closes", "dies", "ends")
 
 
@@ -45,10 +47,24 @@ class Link:
         self.beside, self.door, self.steps, self.refused = beside, door, [], set()
 
 
+def sides_of(lines):
+    """Returns the lines of the links, and those of the callers as lines of links."""
+    sides, side = ([], []), None
+    for key, value in lines:
+        if key in BEGINS:
+            side = sides[key == "caller"]
+        if side is None:
+            raise BadPeer(f"{key} behind no link")
+        side.append(("link", value) if key in BEGINS else (key, value))
+    return sides
+
+
 def links_of(lines):
     """Returns the links of a case by their lines, behind one that only says at which ports nobody listens from the beginning."""
     links, refused, is_open = [Link()], set(), False
     for key, value in lines:
+        if key == "caller":
+            raise BadPeer("a caller, but the program is not between")
         if key != "link":
             if not is_open:
                 raise BadPeer(f"{key} behind no link")
@@ -76,27 +92,19 @@ def shown(data):
     return f"{len(data)} bytes {data[:40].hex(' ').upper()}{' ..' if len(data) > 40 else ''}" if data else "nothing"
 
 
-def received(stream, count):
-    """Returns so many bytes, or fewer where the stream ends."""
-    data = b""
-    while len(data) < count:
-        piece = stream.recv(min(count - len(data), 1 << 16))
-        if not piece:
-            break
-        data += piece
-    return data
-
-
-def reset(stream):
-    stream.setsockopt(socket.SOL_SOCKET, socket.SO_LINGER, struct.pack("ii", 1, 0))
-
-
 class Peer:
     """One peer for one run. `faults` tells what came otherwise than it was wanted."""
+
+    own = None  # the program's port, where that is another one
 
     def __init__(self, lines):
         self.first, *self.links = links_of(lines)
         self.faults, self.threads, self.port = [], [], None
+
+    @staticmethod
+    def check(lines):
+        """Raises `BadPeer` where the lines are no links."""
+        links_of(lines)
 
     def port_of(self, door):
         """Returns the port with this number."""
@@ -247,4 +255,32 @@ class Connecting(Peer):
             running.append(self.begin(self.do, number, stream))
 
 
-PEERS = {"listens": Listening, "connects": Connecting}
+class Between:
+    """The peers at both sides of a program: servers that listen for its links, and callers that connect to it."""
+
+    def __init__(self, lines):
+        links, callers = sides_of(lines)
+        self.servers, self.callers = Listening(links), Connecting(callers)
+        self.port = self.servers.port
+
+    @staticmethod
+    def check(lines):
+        for it in sides_of(lines):
+            links_of(it)
+
+    @property
+    def own(self):
+        """The port that the program has told."""
+        return self.callers.port
+
+    def port_of(self, door):
+        return self.servers.port_of(door)
+
+    def start(self, first_line):
+        self.callers.start(first_line)
+
+    def finish(self):
+        return [*(f"caller: {it}" for it in self.callers.finish()), *self.servers.finish()]
+
+
+PEERS = {"listens": Listening, "connects": Connecting, "between": Between}

@@ -13,7 +13,6 @@ is looked at what the peer has seen:
   peer answered by a close message, which are not dispatched
 - no line was written about a message that had not come whole
 """
-import contextlib
 import dataclasses
 import itertools
 import socket
@@ -21,7 +20,8 @@ import threading
 
 from failing_runs import SAMPLE, Answer, Run, Trial
 from failing_talks import BOARD, CLOSE, COUNTER, ECHO, HERE, RING, STORE, VALIDATE, WAITED, done, missing, number
-from failing_talks import part_of, proxy, raised, reply, taken_message, taken_to_end, text, unknown, whole_messages
+from failing_talks import part_of, proxy, raised, reply, taken_message, text, unknown, whole_messages
+from links import end_side, say, take
 from program import answer_of
 
 # What stands for the port of the peer in what it gives.
@@ -39,15 +39,12 @@ class Link:
 
     def play(self, stream, port):
         """Returns all that came."""
-        with contextlib.suppress(BrokenPipeError, ConnectionResetError):
-            stream.sendall(self.first)
+        say(stream, self.first)
         data = taken_message(stream) if self.first else b""
-        with contextlib.suppress(BrokenPipeError, ConnectionResetError):
-            stream.sendall(self.then.replace(number(PORT), number(port)))
+        say(stream, self.then.replace(number(PORT), number(port)))
         if self.ends:
-            with contextlib.suppress(OSError):
-                stream.shutdown(socket.SHUT_WR)
-        return data + taken_to_end(stream)
+            end_side(stream)
+        return data + take(stream)
 
 
 @dataclasses.dataclass(frozen=True)
@@ -135,8 +132,7 @@ def words_of(interface, proxy_text, operation, *options):
 
 def call(name, words, roots, *links, instances="", **more):
     data = f'{{"instances":[{instances}],"roots":{roots}}}\n'.encode()
-    _, files = part_of(words[-3])
-    return Call(f"call {name}", words, data, files=files, links=links, **more)
+    return Call(f"call {name}", words, data, links=links, **{"files": part_of(words[-3])[1], **more})
 
 
 def answered(answer):
@@ -200,7 +196,7 @@ def refusal_trials():
     yield call("of no JSON", add, "{", status=4)
     yield call("of no proxy", words_of(COUNTER, "water:tcp -q 1", "add"), '{"n":2}', status=4)
     yield call("of no locator", words_of(COUNTER, "water", "add", "--locator", "a b"), '{"n":2}', status=4)
-    yield call("of no interface", (*add[:2], BOARD, *add[3:]), '{"n":2}', status=2)
+    yield call("of no interface", (*add[:2], BOARD, *add[3:]), '{"n":2}', status=2, files=part_of(COUNTER)[1])
     yield call("of no operation", words_of(COUNTER, WATER, "put"), '{"n":2}', status=2)
     yield call("oneway for results", words_of(COUNTER, f"water -o{AT}", "add"), '{"n":2}', status=2)
     yield call("under no file", ("call", "none.ice", COUNTER, WATER, "add"), '{"n":2}', status=3)

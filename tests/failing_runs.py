@@ -11,7 +11,7 @@ NO_MEMORY = 9, b"ice: no memory\n"
 FOUND = 99
 FOREVER = 2**63
 # The commands that write lines before they are done.
-BY_LINES = ("messages", "call", "serve")
+BY_LINES = ("messages", "call", "serve", "gate")
 
 
 @dataclasses.dataclass(frozen=True)

@@ -37,14 +37,15 @@ LEAST_OF_A_REPLY = messages.HEADER + 5
 
 @dataclasses.dataclass
 class Client:
-    """A connection: what is said, and how it ends. This side ends and the other is waited for, or it is only waited for; or the client is
-    gone once it has heard so many bytes: its side is closed, or reset."""
+    """A connection: what is said, in pieces or a message at a time, and how it ends. This side ends and the other is waited for, or it is
+    only waited for; or the client is gone once it has heard so many bytes: its side is closed, or reset."""
 
     data: bytes
     pieces: list
     ends: str
     hears: int
     is_polite: bool  # it says nothing before the validate message
+    is_patient: bool = False  # nor before the answer to what it has asked
 
     def __post_init__(self):
         self.taken, self.how = serving.heard(self.data)
@@ -60,16 +61,37 @@ class Client:
     def talk(self, port):
         """Returns what was heard."""
         with socket.create_connection((HERE, port), SECONDS) as link:
-            link.settimeout(SECONDS)
-            data = take(link, len(serving.VALIDATE)) if self.is_polite else b""
-            give(link, self.pieces)
-            if self.is_cut:
-                data += take(link, max(0, self.hears - len(data)))
-                reset(link) if self.ends == "dies" else link.close()
-                return data
-            if self.ends == "ends":
-                end_side(link)
-            return data + take(link)
+            return self.talk_over(link)
+
+    def talk_over(self, link):
+        link.settimeout(SECONDS)
+        data = take(link, len(serving.VALIDATE)) if self.is_polite or self.is_patient else b""
+        data += self.asked_in_turn(link) if self.is_patient else b""
+        give(link, [] if self.is_patient else self.pieces)
+        if self.is_cut:
+            data += take(link, max(0, self.hears - len(data)))
+            reset(link) if self.ends == "dies" else link.close()
+            return data
+        if self.ends == "ends":
+            end_side(link)
+        return data + take(link)
+
+    def asked_in_turn(self, link):
+        """Says a message at a time, and returns the answers."""
+        rest, answers = self.data, b""
+        for calls in self.taken:
+            size = messages.size_of(rest[: messages.HEADER])
+            give(link, [(rest[:size], 0)])
+            rest = rest[size:]
+            for _ in range(sum(number != 0 for number, _ in calls)):
+                answers += taken_message(link)
+        give(link, [(rest, 0)])
+        return answers
+
+
+def taken_message(link):
+    header = take(link, messages.HEADER)
+    return header + take(link, messages.size_of(header) - len(header) if len(header) == messages.HEADER else 0)
 
 
 # What clients say
@@ -77,6 +99,8 @@ class Client:
 
 class Maker:
     """Draws a trial."""
+
+    counts = 0, 1, 2, 3, 5  # of the messages of a client
 
     def __init__(self, chance):
         self.chance, self.text = chance, talks.text_of(chance.choice(list(OBJECTS)))
@@ -90,12 +114,13 @@ class Maker:
 
     def client(self):
         chance = self.chance
-        data = b"".join(self.message() for _ in range(chance.choice((0, 1, 2, 3, 5))))
+        data = b"".join(self.message() for _ in range(chance.choice(self.counts)))
         if chance.random() < self.harm and data and len(data) < MOST_OF_A_CHANGE:
             data = self.harmed(data)
         ends = chance.choices(("ends", "waits", "dies", "closes"), (5, 2, 1, 1))[0]
         hears = chance.choice((0, 0, 7, 14, 14, 20, 50))
-        return Client(data, talks.in_pieces(chance, data), ends, hears, chance.random() < 0.3)
+        is_polite, is_patient = chance.random() < 0.3, ends in ("ends", "waits") and chance.random() < 0.2
+        return Client(data, talks.in_pieces(chance, data), ends, hears, is_polite, is_patient)
 
     def harmed(self, data):
         chance, way = self.chance, self.chance.random()
@@ -138,6 +163,10 @@ class Maker:
         body = self.arguments(servant, schema, operation)
         if chance.random() < 0.05:
             name, category, mode = chance.choice(((b"nobody", category), (name, b"none"), (name, category))) + (chance.randrange(3),)
+        return self.spelled_call(name, category, operation, mode, body)
+
+    def spelled_call(self, name, category, operation, mode, body):
+        chance = self.chance
         facet = chance.choice((b"\0",) * 12 + (b"\1\0", b"\1\1f"))
         keys = chance.sample(message_inputs.TEXTS, chance.choice((0,) * 8 + (1, 2)))
         context = values.spelled_size(len(keys)) + b"".join(2 * values.spelled_string(it) for it in keys)

@@ -15,9 +15,10 @@ import messages
 import mutations
 import names
 import values
+from calling import CLOSE, VALIDATE
 from program import TOP
+from relay import classes_of
 
-VALIDATE, CLOSE = calling.message_of(messages.VALIDATE, b""), calling.message_of(messages.CLOSE, b"")
 OFFICE = f"{TOP}/tests/peer/office/Office.ice"
 # The Slice files of trials: the one that is named, and all that it includes.
 FILES = {"meter.ice": ["sample/meter.ice"], "Office.ice": [OFFICE], "store.ice": ["sample/store.ice", "sample/shop.ice"]}
@@ -79,13 +80,9 @@ class Spelled(calling.ShapeWriter, graph_inputs.VariedWriter):
     """Writes arguments or results in any way that is read as them, or with a part changed."""
 
 
-def rows_of(schema):
-    return [it.kind.class_ for it in schema.rules.classes]
-
-
 def drawn(chance, schema, shape):
     """Returns a graph of what a shape has."""
-    rows, most = rows_of(schema), chance.choice((0, 1, 2, 4, 8))
+    rows, most = classes_of(schema), chance.choice((0, 1, 2, 4, 8))
     keeps = chance.random() < 0.3
     maker = graph_inputs.KeepingMaker(chance, rows, most, "Some") if keeps else graph_inputs.GraphMaker(chance, rows, most)
     required = [maker.value(kind) for _, kind in shape.required]
@@ -126,7 +123,7 @@ def spelled(chance, graph, shape):
 
 def spelled_exception(chance, text):
     """Returns an encapsulation of a user exception of a text, likewise, with kept slices or without."""
-    rows, most = rows_of(text.schema), chance.choice((0, 1, 3))
+    rows, most = classes_of(text.schema), chance.choice((0, 1, 3))
     row = chance.choice(text.exceptions) if text.exceptions else None
     if rows and (row is None or chance.random() < 0.3):
         kept = types.SimpleNamespace(rows=dict(enumerate(rows)), module="Some", raised=dict(enumerate(text.exceptions)))

@@ -3,9 +3,10 @@
 //   calls once PORT                                    one call of `add`, and its result
 //   calls add PORT CONNECTIONS OUTSTANDING CALLS       so many calls of `add` over so many connections, each with a thread of its own
 //                                                      and with so many calls at once
+//   calls routed PORT ROUTER OUTSTANDING CALLS         so many calls of `add` over a session with the Glacier2 router at that port
 //   calls tree PORT COUNT CALLS                        a balanced tree of so many nodes, put and got so many times
 //
-// The line of the last two has the microseconds that all took together.
+// The line of all but the first has the microseconds that all took together.
 #include "mapping.h"
 #include <chrono>
 #include <condition_variable>
@@ -88,17 +89,10 @@ static void putAndGet(const std::shared_ptr<ForestPrx>& forest, int count, int c
     }
 }
 
-// Each connection is made before the time runs.
-static void add(const Ice::CommunicatorPtr& communicator, char** words)
+// Makes so many calls of the counters together, each counter with a thread of its own.
+static void addAll(const std::vector<std::shared_ptr<CounterPrx>>& counters, int outstanding, int calls)
 {
-    const int connections = atoi(words[1]), outstanding = atoi(words[2]), calls = atoi(words[3]);
-    std::vector<std::shared_ptr<CounterPrx>> counters;
-    for (int at = 0; at < connections; ++at)
-    {
-        auto named = proxyOf(communicator, "counter", words[0])->ice_connectionId(std::to_string(at));
-        counters.push_back(Ice::uncheckedCast<CounterPrx>(named));
-        counters.back()->ice_ping();
-    }
+    const int connections = static_cast<int>(counters.size());
     std::vector<std::thread> threads;
     auto begun = std::chrono::steady_clock::now();
     for (auto& it : counters)
@@ -123,6 +117,39 @@ static void add(const Ice::CommunicatorPtr& communicator, char** words)
     }
     auto took = std::chrono::steady_clock::now() - begun;
     printf("%lld\n", static_cast<long long>(std::chrono::duration_cast<std::chrono::microseconds>(took).count()));
+}
+
+// Each connection is made before the time runs.
+static void add(const Ice::CommunicatorPtr& communicator, char** words)
+{
+    std::vector<std::shared_ptr<CounterPrx>> counters;
+    for (int at = 0; at < atoi(words[1]); ++at)
+    {
+        auto named = proxyOf(communicator, "counter", words[0])->ice_connectionId(std::to_string(at));
+        counters.push_back(Ice::uncheckedCast<CounterPrx>(named));
+        counters.back()->ice_ping();
+    }
+    addAll(counters, atoi(words[2]), atoi(words[3]));
+}
+
+// A session is that of the connection that has created it.
+static void routed(const Ice::CommunicatorPtr& communicator, char** words)
+{
+    auto router = Ice::uncheckedCast<Ice::RouterPrx>(proxyOf(communicator, "Glacier2/router", words[1]));
+    Ice::OutputStream out(communicator);
+    out.startEncapsulation();
+    out.write("user");
+    out.write("password");
+    out.endEncapsulation();
+    Ice::ByteSeq arguments, results;
+    out.finished(arguments);
+    if (!router->ice_invoke("createSession", Ice::OperationMode::Normal, arguments, results))
+    {
+        throw std::runtime_error("no session");
+    }
+    auto counter = Ice::uncheckedCast<CounterPrx>(proxyOf(communicator, "counter", words[0])->ice_router(router));
+    counter->ice_ping();
+    addAll({counter}, atoi(words[2]), atoi(words[3]));
 }
 
 static void trees(const Ice::CommunicatorPtr& communicator, char** words)
@@ -151,6 +178,10 @@ int main(int argc, char** argv)
         else if (strcmp(argv[1], "add") == 0 && argc == 6)
         {
             add(holder.communicator(), argv + 2);
+        }
+        else if (strcmp(argv[1], "routed") == 0 && argc == 6)
+        {
+            routed(holder.communicator(), argv + 2);
         }
         else if (strcmp(argv[1], "tree") == 0 && argc == 5)
         {

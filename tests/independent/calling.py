@@ -29,9 +29,10 @@ import names
 import proxies
 import values
 from json_notation import FIRST, Misfit, demand, members_of
+from messages import HEADER
+from relay import classes_of
 
 MOST_OF_A_BODY = 1_000_000
-HEADER = 14
 OWN = b"""module Ice { sequence<string> StringSeq; interface \\Object {
     idempotent void ice_ping(); idempotent bool ice_isA(string id); idempotent string ice_id(); idempotent StringSeq ice_ids(); }; };"""
 LOCATOR = b"""module Ice { struct Identity { string name; string category; };
@@ -190,7 +191,7 @@ def arguments_of(schema, operation, text, is_compact):
     if json_notation.is_too_many(told):
         raise Ends(4, "text refused: TooMany")
     try:
-        graph = Notes([it.kind.class_ for it in schema.rules.classes]).whole(told, operation.arguments)
+        graph = Notes(classes_of(schema)).whole(told, operation.arguments)
     except Misfit:
         raise Ends(4, "text refused: Misfit") from None
     begun = graphs.led_to(graph.instances, operation.arguments.refs_in(graph.root))
@@ -204,12 +205,17 @@ def arguments_of(schema, operation, text, is_compact):
 
 def results_of(schema, operation, body):
     """Returns what a reply's encapsulation has, or raises its first `Fault`."""
+    return held(schema, operation.results, body)
+
+
+def held(schema, shape, body):
+    """Returns what an encapsulation of a shape has, or raises its first `Fault`."""
     inside = values.Cursor(body, 0, len(body)).encapsulation()
     first = inside.at
     if inside.version() != values.VERSION:
         raise values.Fault(first, "BadVersion")
-    reader = Reader([it.kind.class_ for it in schema.rules.classes])
-    root = graphs.finished(reader.content(inside, operation.results), reader.instance)
+    reader = Reader(classes_of(schema))
+    root = graphs.finished(reader.content(inside, shape), reader.instance)
     misfits = list(reader.misfits())
     if misfits:
         raise values.Fault(min(misfits), "WrongClass")
@@ -223,7 +229,7 @@ def line_of(schema, operation, body):
 
 def raised_by(schema, body):
     """Returns the first slice of the exception that a reply's encapsulation is, or raises its first `Fault`."""
-    return exceptions.decode(body, schema.rules.exceptions, [it.kind.class_ for it in schema.rules.classes]).slices[0]
+    return exceptions.decode(body, schema.rules.exceptions, classes_of(schema)).slices[0]
 
 
 # Connections
@@ -393,8 +399,12 @@ class Places(Place):
         return refuse(self.schema, reply)
 
 
-def message_of(kind, rest):
-    return b"IceP\1\0\1\0" + bytes([kind, 0]) + (HEADER + len(rest)).to_bytes(4, "little") + rest
+def message_of(kind, rest=b""):
+    head = messages.MAGIC + 2 * messages.VERSION + bytes([kind, 0])
+    return head + (HEADER + len(rest)).to_bytes(4, "little") + rest
+
+
+VALIDATE, CLOSE = message_of(messages.VALIDATE), message_of(messages.CLOSE)
 
 
 def called(proxy, operation, body, mode=None):

@@ -7,7 +7,6 @@ other, so what came over all connections has to be one order of their calls that
 
 Of an enum the least number is taken for that of the first enumerator, so files where it is another one have no place here.
 """
-import types
 from dataclasses import dataclass, field
 
 import calling
@@ -19,9 +18,9 @@ import loading
 import messages
 import proxies
 import values
+from calling import VALIDATE
 from values import Cursor, Fault
 
-VALIDATE = calling.message_of(messages.VALIDATE, b"")
 MOST_OF_RESULTS = 1_000_000
 INT = kinds.BUILT_IN["int"]
 OBJECT_ID = "::Ice::Object"
@@ -40,17 +39,23 @@ class Call:
     facet: bytes
     operation: bytes
     mode: int
+    context: tuple
     body: bytes
+
+    def names(self):
+        """Returns the bytes that tell the object and the operation."""
+        facet = b"\1" + values.spelled_string(self.facet) if self.facet else b"\0"
+        identity = values.spelled_string(self.name) + values.spelled_string(self.category)
+        return identity + facet + values.spelled_string(self.operation)
 
 
 def call_at(cursor):
     name, category, facet, operation = cursor.string(), cursor.string(), cursor.facet(), cursor.string()
     mode = cursor.number(1, False)
-    for _ in range(cursor.size()):
-        cursor.string(), cursor.string()
+    context = tuple((cursor.string(), cursor.string()) for _ in range(cursor.size()))
     first = cursor.at
     cursor.encapsulation()
-    return Call(name, category, facet, operation, mode, cursor.data[first : cursor.at])
+    return Call(name, category, facet, operation, mode, context, bytes(cursor.data[first : cursor.at]))
 
 
 def calls_in(kind, cursor):
@@ -95,9 +100,7 @@ def done(content):
 
 def missed(status, call):
     """The object, the facet or the operation is not there."""
-    facet = b"\1" + values.spelled_string(call.facet) if call.facet else b"\0"
-    parts = values.spelled_string(call.name), values.spelled_string(call.category), facet, values.spelled_string(call.operation)
-    return bytes([status]) + b"".join(parts)
+    return bytes([status]) + call.names()
 
 
 def failed(text):
@@ -106,7 +109,7 @@ def failed(text):
 
 def arguments_of(schema, operation, body):
     """Returns the graph that the arguments are, or raises their first `Fault`."""
-    return calling.results_of(schema, types.SimpleNamespace(results=operation.arguments), body)
+    return calling.held(schema, operation.arguments, body)
 
 
 def is_empty(shape):

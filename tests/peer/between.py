@@ -1,7 +1,8 @@
 """What stands between `ice call` and a server, and does to each connection what is said: hands it on, cuts its reply, or holds its call."""
 import socket
-import struct
 import threading
+
+from links import reset
 
 SECONDS = 20
 VALIDATE = 14
@@ -86,9 +87,7 @@ class Between:
 
 def end(link, is_reset):
     """Closes a connection. With a reset what was sent is delivered first, as far as the other end reads it at once."""
-    if is_reset:
-        link.setsockopt(socket.SOL_SOCKET, socket.SO_LINGER, struct.pack("ii", 1, 0))
-    link.close()
+    reset(link) if is_reset else link.close()
 
 
 def received(link, length):

@@ -1,16 +1,14 @@
-"""`ice serve` with the interfaces of office/Office.ice."""
+"""`ice serve` and `ice gate` with the interfaces of office/Office.ice."""
 import socket
 import subprocess
 
 from offices import FILE
 
 
-class Serve:
-    """`ice serve` in a process of its own."""
+class Listening:
+    """A command that listens, in a process of its own."""
 
-    def __init__(self, program, *objects, workers=1, connections=None):
-        options = ["--workers", str(workers), *(["--connections", str(connections)] if connections else [])]
-        words = [program, "serve", *options, FILE, "127.0.0.1", "0", *objects]
+    def __init__(self, *words):
         self.process = subprocess.Popen(words, stdout=subprocess.PIPE, stderr=subprocess.PIPE)
         line = self.process.stdout.readline()
         if not line.startswith(b"listening "):
@@ -34,3 +32,19 @@ class Serve:
     def __exit__(self, *_):
         self.process.kill()
         self.process.communicate()
+
+
+def counted(connections):
+    return ["--connections", str(connections)] if connections else []
+
+
+class Serve(Listening):
+    def __init__(self, program, *objects, workers=1, connections=None):
+        super().__init__(program, "serve", "--workers", str(workers), *counted(connections), FILE, "127.0.0.1", "0", *objects)
+
+
+class Gate(Listening):
+    """It forwards to the endpoints of a proxy, whose identity does not count."""
+
+    def __init__(self, program, proxy, interface="Desk", file=FILE, retries=1, connections=None):
+        super().__init__(program, "gate", "--retries", str(retries), *counted(connections), file, f"::Office::{interface}", "127.0.0.1", "0", proxy)

@@ -7,6 +7,7 @@ use Rattle.node_commands.specs.declared.words.Task.{Task}
 use Rattle.instance_writing.specs.declared.format.Format.TheVariants as formats
 use Rattle.node_commands.specs.declared.words.Task.TheVariants as tasks
 use Rattle.node_commands.specs.Words.{Word, Command, IsWord, values, check, proxy, audit, compat, drill, messages, help, version, Form, task_words}
+use Rattle.node_commands.proofs.CommandForms.{page_few}
 use Rattle.call_command.specs.declared.words.CallCommand.{CallCommand}
 use Rattle.std.specs.Prelude.{IfSome, unwrap_or}
 use Rattle.call_command.specs.declared.words.TheConstants.{MOST_RETRIES, MOST_TIMES}
@@ -32,6 +33,10 @@ no_task_word tasks.Dump file kind words are first = let e : 25717 ≡ 25441 = sy
 no_task_word (tasks.Encode formats.Sliced) file kind words are first = let e : 25966 ≡ 25441 = sym (ap mark are) ∙ first in omega (arith, e)
 no_task_word (tasks.Encode formats.Compact) file kind words are first = let e : 25966 ≡ 25441 = sym (ap mark are) ∙ first in omega (arith, e)
 
+-- there are five words or more
+long : (words : List Word) (c : CallWords) → CallForm words c → 5 ≤ length words
+long words c form = omega (arith, ap length form.words_are, length-append form.options form.named, ap length form.names.words_are)
+
 pub apart : (words : List Word) (c : CallWords) (other : Command) → CallForm words c → Form words other → ⊥
 apart words c (values task file kind) form other = no_task_word task file kind words other.0 (of_call words c form)
 apart words c (check file) form other = let e : 25448 ≡ 25441 = sym (ap mark other.0) ∙ of_call words c form in omega (arith, e)
@@ -40,7 +45,7 @@ apart words c (audit client server) form other = let e : 24949 ≡ 25441 = sym (
 apart words c (compat old new kind) form other = let e : 25455 ≡ 25441 = sym (ap mark other.0) ∙ of_call words c form in omega (arith, e)
 apart words c (drill start count) form other = let e : 25714 ≡ 25441 = sym (ap mark other.0) ∙ of_call words c form in omega (arith, e)
 apart words c messages form other = let e : 28005 ≡ 25441 = sym (ap mark other) ∙ of_call words c form in omega (arith, e)
-apart words c help form other = let e : 11565 ≡ 25441 = sym (ap mark other) ∙ of_call words c form in omega (arith, e)
+apart words c (help page) form other = omega (arith, long words c form, ap length other, page_few page)
 apart words c version form other = let e : 11565 ≡ 25441 = sym (ap mark other) ∙ of_call words c form in omega (arith, e)
 
 -- ---- the limits of options

@@ -16,7 +16,7 @@ pub(crate) struct Known<'a> {
 }
 
 /// The interface of this type id.
-pub(crate) fn interface_of(schema: &Schema, id: &str) -> Option<u32>
+pub fn interface_of(schema: &Schema, id: &str) -> Option<u32>
     ensures { FindsInterface schema.now id.now result }
 {
     schema.rules();

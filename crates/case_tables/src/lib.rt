@@ -1,4 +1,5 @@
-//! Named codes: a table gives each of its names a code, which counts the rows from 0.
+//! Named codes: a table gives each of its names a code, which counts the rows from 0. And tables of bytes that break
+//! an input, for tests.
 //!
 //! Forms, and why they are so:
 //!
@@ -18,10 +19,14 @@ macro_rules! case_table {
     };
 }
 
+mod broken;
+mod broken_inputs;
 mod flags;
 mod protocol_words;
 mod slice_words;
 
+pub use broken::{BrokenRow, BrokenTable};
+pub use broken_inputs::{broken_messages, broken_values, rows_apart};
 pub use flags::flags_valid;
 pub use protocol_words::{formats, message_types, operation_modes, proxy_modes, reply_statuses};
 pub use slice_words::{codes_apart, keywords, symbols};

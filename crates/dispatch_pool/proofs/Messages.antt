@@ -26,20 +26,6 @@ spelled_both (m ∷ a) b h k = (h.0, spelled_both a b h.1 k)
 pub said_then : (a b : List Message) (x y : List ℕ) → IsSaid a x → IsSaid b y → IsSaid (a ++ b) (x ++ y)
 said_then a b x y h k = (ap₂ (λ (u v : List ℕ). u ++ v) h.0 k.0 ∙ sym (bytes_append a b), spelled_both a b h.1 k.1)
 
-pub begun_then : (a b : List Message) (x y : List ℕ) → IsSaid a x → IsBegun b y → IsBegun (a ++ b) (x ++ y)
-begun_then a b x y h k = record {
-  whole = a ++ k.whole;
-  last = k.last;
-  parts = ap (λ (z : List Message). a ++ z) k.parts ∙ sym (append_assoc a k.whole k.last);
-  one = k.one;
-  spelled = spelled_both a k.whole h.1 k.spelled;
-  begun = k.begun;
-  lacks = k.lacks;
-  taken_is = ap₂ (λ (u v : List ℕ). u ++ v) h.0 k.taken_is ∙ (sym (append_assoc (bytes_of a) (bytes_of k.whole) k.begun) ∙ ap (λ (z : List ℕ). z ++ k.begun) (sym (bytes_append a k.whole)));
-  last_is = k.last_is;
-  last_spelled = k.last_spelled;
-}
-
 -- nothing was taken of at most one message
 pub none_begun : (ms : List Message) → length ms ≤ 1 → IsBegun ms []
 none_begun ms few = record { whole = []; last = ms; parts = refl; one = few; spelled = tt; begun = []; lacks = bytes_of ms; taken_is = refl; last_is = refl; last_spelled = inl refl }

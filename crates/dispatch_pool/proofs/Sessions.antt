@@ -1,26 +1,27 @@
 -- Messages that are taken one after the other, and how a session ends.
-use Rattle.std.proofs.Common.{◌≡◌, ◌≢◌, ℕ, ◌+◌, ◌<◌, Bool, true, false, ◌||◌, List, [], ◌∷◌, ◌++◌, length, refl, sym, ap, ap₂, ◌∙◌, subst, arith, append_assoc, append-nil, length-append}
-use Rattle.std.specs.Prelude.{Option, Some, None, Result, Ok, Err}
+use Rattle.std.proofs.Common.{◌≡◌, ◌≢◌, ℕ, suc, ◌+◌, ◌<◌, ◌≤◌, inl, inr, Bool, true, false, ◌||◌, List, [], ◌∷◌, ◌++◌, length, refl, sym, ap, ap₂, ◌∙◌, subst, arith, append_assoc, append-nil, length-append}
+use Rattle.std.specs.Prelude.{ℤ, pos, Option, Some, None, Result, Ok, Err}
 use Rattle.turnstile.specs.declared.turned.Turned.{Ghosts}
 use Rattle.turnstile.specs.declared.passes.Pass.{Pass}
+use Rattle.ice_encoding.specs.Parts.{Each}
 use Rattle.ice_ports.specs.declared.talk.Talk.{Talk}
 use Rattle.ice_ports.specs.Talks.{and_then, gives, silent}
 use Rattle.ice_messages.specs.declared.message.Call.{Call}
 use Rattle.ice_messages.specs.declared.message.Answer.{Answer}
 use Rattle.ice_messages.specs.declared.message.Message.{Message}
-use Rattle.ice_messages.specs.declared.message.Message.TheVariants.{Validate, Close}
+use Rattle.ice_messages.specs.declared.message.Message.TheVariants.{Request, Batch, Reply, Validate, Close}
 use Rattle.ice_messages.specs.Messages.{SpellsMessage}
 use Rattle.ice_messages.specs.Streams.{Stream}
 use Rattle.dispatch_pool.specs.declared.object.Object.{Object}
 use Rattle.dispatch_pool.specs.declared.end.End.{End}
 use Rattle.dispatch_pool.specs.declared.end.End.TheVariants as ends
 use Rattle.dispatch_pool.specs.Rows.{RowGrew}
-use Rattle.dispatch_pool.specs.Handled.{Keys, Asked, Handled, asked, asked_of, asking, replies, turns_of}
-use Rattle.dispatch_pool.specs.Said.{IsSaid, IsBegun}
-use Rattle.dispatch_pool.specs.ServerDid.{ServerDid, Shows, WasSaid, ClosesBy, IsLeft, closing}
-use Rattle.dispatch_pool.specs.Parts.{Says, Handling, Next, Part, IsNext, LeavesNone, went_on}
+use Rattle.dispatch_pool.specs.Handled.{Keys, Asked, Handled, answer_of, asked, asked_of, asking, replies, reply_of, turns_of, unasked}
+use Rattle.dispatch_pool.specs.Said.{bytes_of, IsSaid, IsBegun}
+use Rattle.dispatch_pool.specs.ServerDid.{ServerDid, IsCut, IsTaken, Shows, WasSaid, ClosesBy, IsLeft, all_said}
+use Rattle.dispatch_pool.specs.Parts.{ComesBy, IsSingle, Says, Handling, Next, Part, IsNext, LeavesNone, StepSaid, went_on}
 use Rattle.dispatch_pool.proofs.Turning.{row_still}
-use Rattle.dispatch_pool.proofs.Messages.{said_then, begun_then, said_begun}
+use Rattle.dispatch_pool.proofs.Messages.{said_then, said_begun}
 use Rattle.dispatch_pool.proofs.Calls.{asking_append, replies_append, outcomes_append, grew_more}
 
 -- ---- lists
@@ -43,26 +44,66 @@ stepped (Err e) = Err e
 
 next_by : {E : Type 0} (r : Result Bool E) (m : Message) (t : Talk) (held : List ℕ) (rest : List Asked) (messages : List Message) → LeavesNone rest r → Says messages t r → IsNext t held (m ∷ []) held rest messages (stepped r)
 next_by (Ok true) m t held rest messages none s = (refl, refl, none, s.1)
-next_by (Ok false) m t held rest messages none s = (s.2, none, s.1, λ e. cc)
+next_by (Ok false) m t held rest messages none s = (s.2, none, s.1, tt)
 next_by (Err e) m t held rest messages none s = s.1
 
-nothing_said : (end : End) (t : Talk) → t.taken ≡ [] → WasSaid (Some end) [] t.taken
-nothing_said ends.PeerEnded t none = (none, tt)
-nothing_said ends.PeerClosed t none = (none, tt)
-nothing_said (ends.PeerBroke fault) t none = (none, tt)
-nothing_said ends.LinkFailed t none = said_begun [] t.taken (none, tt)
-nothing_said ends.Enough t none = (none, tt)
+nothing_said : (end : End) (t : Talk) → end ≢ ends.Enough → t.taken ≡ [] → StepSaid end [] t.taken
+nothing_said ends.PeerEnded t ne none = (none, tt)
+nothing_said ends.PeerClosed t ne none = (none, tt)
+nothing_said (ends.PeerBroke fault) t ne none = (none, tt)
+nothing_said ends.LinkFailed t ne none = said_begun [] t.taken (none, tt)
+nothing_said ends.Enough t ne none = ne refl
+
+nothing_taken : (end : End) → end ≢ ends.Enough → ComesBy end []
+nothing_taken ends.PeerEnded ne = refl
+nothing_taken ends.PeerClosed ne = refl
+nothing_taken (ends.PeerBroke fault) ne = refl
+nothing_taken ends.LinkFailed ne = tt
+nothing_taken ends.Enough ne = ne refl
+
+asking_long : (hs : List Handled) → length (asking hs) ≡ length hs
+asking_long [] = refl
+asking_long (h ∷ hs) = ap suc (asking_long hs)
+
+few_asked : (asks rest : List Asked) (hs : List Handled) → asks ≡ asking hs ++ rest → length asks ≤ 1 → length hs ≤ 1
+few_asked asks rest hs is few = let a = ap (λ (z : List Asked). length z) is in let b = length-append (asking hs) rest in let c = asking_long hs in omega arith
+
+-- the calls of a batch ask for no reply
+unasked_quiet : (cs : List Call) (rest : List Asked) (hs : List Handled) → unasked cs ≡ asking hs ++ rest → replies hs ≡ []
+unasked_quiet cs rest [] is = refl
+unasked_quiet [] rest (h ∷ hs) is = absurd (let a = ap (λ (z : List Asked). length z) is in omega arith)
+unasked_quiet (c ∷ cs) rest (h ∷ hs) is =
+    let id : pos 0 ≡ h.asked.id = ap (λ (z : List Asked). id_of z) is in
+    let more : unasked cs ≡ asking hs ++ rest = ap (λ (z : List Asked). behind_first z) is in
+    ap (λ (z : ℤ). reply_of z (answer_of h.outcome) ++ replies hs) (sym id) ∙ unasked_quiet cs rest hs more
+  where
+    id_of : List Asked → ℤ
+    id_of [] = pos 0
+    id_of (a ∷ others) = a.id
+
+    behind_first : List Asked → List Asked
+    behind_first [] = []
+    behind_first (a ∷ others) = others
+
+single_of : (m : Message) (rest : List Asked) (hs : List Handled) → asked_of m ≡ asking hs ++ rest → IsSingle hs
+single_of (Request id call) rest hs is = inl (few_asked (asked_of (Request id call)) rest hs is (omega arith))
+single_of (Batch calls) rest hs is = inr (unasked_quiet calls rest hs is)
+single_of (Reply id answer) rest hs is = inl (few_asked [] rest hs is (omega arith))
+single_of Validate rest hs is = inl (few_asked [] rest hs is (omega arith))
+single_of Close rest hs is = inl (few_asked [] rest hs is (omega arith))
 
 module _ {g : Ghosts Object Call Answer} (keys : Keys) where
   pub next_handled : {E : Type 0} (r : Result Bool E) (ps qs : List (Pass Object Call Answer g)) (m : Message) (bytes held first : List ℕ) (t : Talk) → bytes ≡ first ++ held → SpellsMessage first m
-      → Handling keys ps qs (asked_of m) t r → Next keys ps qs t bytes held (stepped r)
-  next_handled r ps qs m bytes held first t is spelled h = record {
+      → IsTaken m → Handling keys ps qs (asked_of m) t r → Next keys ps qs t bytes held (stepped r)
+  next_handled r ps qs m bytes held first t is spelled going h = record {
     reads = m ∷ [];
     left = held;
     handled = h.handled;
     rest = h.rest;
     stream = (first, held, is, spelled, refl);
     few = omega arith;
+    going = (going, tt);
+    single = single_of m h.rest h.handled h.calls;
     calls = append-nil (asked_of m) ∙ h.calls;
     outcomes = h.outcomes;
     grew = h.grew;
@@ -70,15 +111,17 @@ module _ {g : Ghosts Object Call Answer} (keys : Keys) where
   }
 
   -- a message without calls
-  pub next_quiet : {E : Type 0} (ps : List (Pass Object Call Answer g)) (m : Message) (bytes held first : List ℕ) → bytes ≡ first ++ held → SpellsMessage first m → asked_of m ≡ []
+  pub next_quiet : {E : Type 0} (ps : List (Pass Object Call Answer g)) (m : Message) (bytes held first : List ℕ) → bytes ≡ first ++ held → SpellsMessage first m → IsTaken m → asked_of m ≡ []
       → Next keys ps ps {E = E} silent bytes held (Ok None)
-  next_quiet ps m bytes held first is spelled none = record {
+  next_quiet ps m bytes held first is spelled going none = record {
     reads = m ∷ [];
     left = held;
     handled = [];
     rest = [];
     stream = (first, held, is, spelled, refl);
     few = omega arith;
+    going = (going, tt);
+    single = inl (omega arith);
     calls = append-nil (asked_of m) ∙ none;
     outcomes = tt;
     grew = row_still ps;
@@ -93,10 +136,12 @@ module _ {g : Ghosts Object Call Answer} (keys : Keys) where
     rest = [];
     stream = refl;
     few = omega arith;
+    going = tt;
+    single = inl (omega arith);
     calls = refl;
     outcomes = tt;
     grew = row_still ps;
-    how = (shows, refl, nothing_said end t none, ne);
+    how = (shows, refl, nothing_said end t ne none, nothing_taken end ne);
   }
 
   pub next_starved : {E : Type 0} (e : E) (ps : List (Pass Object Call Answer g)) (t : Talk) (bytes held : List ℕ) → t.taken ≡ [] → Next keys ps ps {E = E} t bytes held (Err e)
@@ -107,6 +152,8 @@ module _ {g : Ghosts Object Call Answer} (keys : Keys) where
     rest = [];
     stream = refl;
     few = omega arith;
+    going = tt;
+    single = inl (omega arith);
     calls = refl;
     outcomes = tt;
     grew = row_still ps;
@@ -133,6 +180,8 @@ next_behind keys ps qs r before got held t none n = record {
   rest = n.rest;
   stream = subst (λ (z : List ℕ). Stream (before ++ z) n.reads n.left) (sym (append-nil got) ∙ ap (λ (z : List ℕ). got ++ z) (sym none)) n.stream;
   few = n.few;
+  going = n.going;
+  single = n.single;
   calls = n.calls;
   outcomes = n.outcomes;
   grew = n.grew;
@@ -152,30 +201,89 @@ shows_later a s left (ends.PeerBroke fault) h = h
 shows_later a s left ends.LinkFailed h = or_right a.failed s.failed h
 shows_later a s left ends.Enough h = h
 
-was_then : (e : End) (a b : List Message) (x y : List ℕ) → IsSaid a x → WasSaid (Some e) b y → WasSaid (Some e) (a ++ b) (x ++ y)
-was_then ends.PeerEnded a b x y h k = said_then a b x y h k
-was_then ends.PeerClosed a b x y h k = said_then a b x y h k
-was_then (ends.PeerBroke fault) a b x y h k = said_then a b x y h k
-was_then ends.LinkFailed a b x y h k = begun_then a b x y h k
-was_then ends.Enough a b x y h k = said_then a b x y h k
-
-not_closed : (e : End) (n most : ℕ) → e ≢ ends.Enough → ClosesBy (Some e) false n most
-not_closed ends.PeerEnded n most ne = refl
-not_closed ends.PeerClosed n most ne = refl
-not_closed (ends.PeerBroke fault) n most ne = refl
-not_closed ends.LinkFailed n most ne = λ f. absurd cc
-not_closed ends.Enough n most ne = absurd (ne refl)
+not_closed : (e : End) (reads : List Message) (before total most : ℕ) → ComesBy e reads → before < most → total ≡ before + length reads → ClosesBy (Some e) false total most
+not_closed ends.PeerEnded reads before total most by lt is = let none = ap (λ (z : List Message). length z) by in (refl, omega arith)
+not_closed ends.PeerClosed reads before total most by lt is = let none = ap (λ (z : List Message). length z) by in (refl, omega arith)
+not_closed (ends.PeerBroke fault) reads before total most by lt is = let none = ap (λ (z : List Message). length z) by in (refl, omega arith)
+not_closed ends.LinkFailed reads before total most by lt is = λ f. absurd cc
+not_closed ends.Enough reads before total most by lt is = absurd by
 
 -- validate and replies, one part and another
 said_more : (xs ys : List Handled) → (Validate ∷ replies xs) ++ replies ys ≡ Validate ∷ replies (xs ++ ys)
 said_more xs ys = ap (λ (z : List Message). Validate ∷ z) (sym (replies_append xs ys))
 
-unclosed : (hs : List Handled) → Validate ∷ replies hs ≡ Validate ∷ (replies hs ++ closing false)
+unclosed : (hs : List Handled) → Validate ∷ replies hs ≡ all_said hs false
 unclosed hs = ap (λ (z : List Message). Validate ∷ z) (sym (append-nil (replies hs)))
+
+said_both : (xs ys : List Handled) (x y : List ℕ) → IsSaid (Validate ∷ replies xs) x → IsSaid (replies ys) y → IsSaid (all_said (xs ++ ys) false) (x ++ y)
+said_both xs ys x y h k =
+    subst (λ (z : List Message). IsSaid z (x ++ y)) (said_more xs ys ∙ unclosed (xs ++ ys)) (said_then (Validate ∷ replies xs) (replies ys) x y h k)
+
+-- ---- what was said, where a write failed or memory lacked
+
+-- nothing was taken of no messages
+nothing_begun : (ms : List Message) (y : List ℕ) → ms ≡ [] → IsBegun ms y → y ≡ []
+nothing_begun ms y none k =
+    let two = both_none k.whole k.last (sym k.parts ∙ none) in
+    let begun = both_none k.begun k.lacks (sym k.last_is ∙ ap bytes_of two.1) in
+    k.taken_is ∙ ap₂ (λ (a b : List ℕ). a ++ b) (ap bytes_of two.0) begun.0
+  where
+    both_none : {A : Type 0} (a b : List A) → a ++ b ≡ [] → (a ≡ []) × (b ≡ [])
+    both_none [] b e = (refl, e)
+    both_none {A} (x ∷ a) b e = absurd (let z = ap (λ (y : List A). length y) e in omega arith)
+
+cut_behind : (xs ys : List Handled) (x y : List ℕ) → IsSingle ys → IsSaid (Validate ∷ replies xs) x → IsBegun (replies ys) y → IsCut (xs ++ ys) false (x ++ y)
+cut_behind xs ys x y (inl one) h k = inr (record {
+  whole = xs;
+  last = ys;
+  parts = refl;
+  one = one;
+  before = x;
+  behind = y;
+  taken_is = refl;
+  said = h;
+  begun = subst (λ (z : List Message). IsBegun z y) (sym (append-nil (replies ys))) k;
+})
+cut_behind xs ys x y (inr none) h k = inr (record {
+  whole = xs ++ ys;
+  last = [];
+  parts = sym (append-nil (xs ++ ys));
+  one = omega arith;
+  before = x ++ [];
+  behind = [];
+  taken_is = ap (λ (z : List ℕ). x ++ z) (nothing_begun (replies ys) y none k) ∙ sym (append-nil (x ++ []));
+  said = subst (λ (z : List Message). IsSaid z (x ++ [])) (said_more xs ys)
+      (said_then (Validate ∷ replies xs) (replies ys) x [] h (subst (λ (z : List Message). IsSaid z []) (sym none) (refl, tt)));
+  begun = said_begun [] [] (refl, tt);
+})
+
+cut_close : (hs : List Handled) (x y : List ℕ) → IsSaid (Validate ∷ replies hs) x → IsBegun (Close ∷ []) y → IsCut hs true (x ++ y)
+cut_close hs x y h k = inr (record {
+  whole = hs;
+  last = [];
+  parts = sym (append-nil hs);
+  one = omega arith;
+  before = x;
+  behind = y;
+  taken_is = refl;
+  said = h;
+  begun = k;
+})
+
+was_then : (e : End) (xs ys : List Handled) (x y : List ℕ) → IsSingle ys → IsSaid (Validate ∷ replies xs) x → StepSaid e (replies ys) y → WasSaid (Some e) (xs ++ ys) false (x ++ y)
+was_then ends.PeerEnded xs ys x y one h k = said_both xs ys x y h k
+was_then ends.PeerClosed xs ys x y one h k = said_both xs ys x y h k
+was_then (ends.PeerBroke fault) xs ys x y one h k = said_both xs ys x y h k
+was_then ends.LinkFailed xs ys x y one h k = cut_behind xs ys x y one h k
+was_then ends.Enough xs ys x y one h k = absurd k
+
+taken_append : (ms ns : List Message) → Each IsTaken ms → Each IsTaken ns → Each IsTaken (ms ++ ns)
+taken_append [] ns a b = b
+taken_append (m ∷ ms) ns a b = (a.0, taken_append ms ns a.1 b)
 
 module _ {g : Ghosts Object Call Answer} (keys : Keys) where
   pub part_begun : (E : Type 0) (ps : List (Pass Object Call Answer g)) (t : Talk) → Says {E = E} (Validate ∷ []) t (Ok true) → Part keys ps ps t [] 0
-  part_begun E ps t h = record { reads = []; handled = []; stream = h.0; long = refl; calls = refl; outcomes = tt; grew = row_still ps; said = h.1 }
+  part_begun E ps t h = record { reads = []; handled = []; stream = h.0; long = refl; going = tt; calls = refl; outcomes = tt; grew = row_still ps; said = h.1 }
 
   pub part_more : (E : Type 0) (ps qs rs : List (Pass Object Call Answer g)) (t s : Talk) (held now : List ℕ) (i : ℕ) → Part keys ps qs t held i → Next keys qs rs {E = E} s (held ++ s.given) now (Ok None)
       → Part keys ps rs (and_then t s) now (i + 1)
@@ -184,6 +292,7 @@ module _ {g : Ghosts Object Call Answer} (keys : Keys) where
     handled = p.handled ++ n.handled;
     stream = subst (λ (z : List ℕ). Stream (t.given ++ s.given) (p.reads ++ n.reads) z) n.how.1 (stream_then p.reads n.reads t.given held s.given n.left p.stream n.stream);
     long = let l = length-append p.reads n.reads in let a = p.long in let b = n.how.0 in omega arith;
+    going = taken_append p.reads n.reads p.going n.going;
     calls = asked_append p.reads n.reads ∙ (ap₂ (λ (a b : List Asked). a ++ b) p.calls (n.calls ∙ (ap (λ (z : List Asked). asking n.handled ++ z) n.how.2 ∙ append-nil (asking n.handled))) ∙ sym (asking_append p.handled n.handled));
     outcomes = outcomes_append keys p.handled n.handled p.outcomes n.outcomes;
     grew = grew_more ps qs rs p.handled n.handled p.grew n.grew;
@@ -201,15 +310,15 @@ module _ {g : Ghosts Object Call Answer} (keys : Keys) where
         left = n.left;
         stream = stream_then p.reads n.reads t.given held s.given n.left p.stream n.stream;
         few = let l = length-append p.reads n.reads in let a = p.long in let b = n.few in omega arith;
+        going = taken_append p.reads n.reads p.going n.going;
         shows = shows_later t s n.left e n.how.0;
         rest = n.rest;
         calls = asked_append p.reads n.reads ∙ (ap₂ (λ (a b : List Asked). a ++ b) p.calls n.calls ∙ (sym (append_assoc (asking p.handled) (asking n.handled) n.rest) ∙ ap (λ (z : List Asked). z ++ n.rest) (sym (asking_append p.handled n.handled))));
         is_left = n.how.1;
         outcomes = outcomes_append keys p.handled n.handled p.outcomes n.outcomes;
         closes = false;
-        closes_by = not_closed e (length (p.reads ++ n.reads)) most n.how.3;
-        said = subst (λ (z : List Message). WasSaid (Some e) z (t.taken ++ s.taken)) (said_more p.handled n.handled ∙ unclosed (p.handled ++ n.handled))
-            (was_then e (Validate ∷ replies p.handled) (replies n.handled) t.taken s.taken p.said n.how.2);
+        closes_by = not_closed e n.reads i (length (p.reads ++ n.reads)) most n.how.3 lt (length-append p.reads n.reads ∙ ap (λ (k : ℕ). k + length n.reads) p.long);
+        said = was_then e p.handled n.handled t.taken s.taken n.single p.said n.how.2;
       },
     )
 
@@ -222,6 +331,7 @@ module _ {g : Ghosts Object Call Answer} (keys : Keys) where
         left = n.left;
         stream = stream_then p.reads n.reads t.given held s.given n.left p.stream n.stream;
         few = let l = length-append p.reads n.reads in let a = p.long in let b = n.few in omega arith;
+        going = taken_append p.reads n.reads p.going n.going;
         shows = tt;
         rest = n.rest;
         calls = asked_append p.reads n.reads ∙ (ap₂ (λ (a b : List Asked). a ++ b) p.calls n.calls ∙ (sym (append_assoc (asking p.handled) (asking n.handled) n.rest) ∙ ap (λ (z : List Asked). z ++ n.rest) (sym (asking_append p.handled n.handled))));
@@ -229,14 +339,13 @@ module _ {g : Ghosts Object Call Answer} (keys : Keys) where
         outcomes = outcomes_append keys p.handled n.handled p.outcomes n.outcomes;
         closes = false;
         closes_by = λ f. absurd cc;
-        said = subst (λ (z : List Message). IsBegun z (t.taken ++ s.taken)) (said_more p.handled n.handled ∙ unclosed (p.handled ++ n.handled))
-            (begun_then (Validate ∷ replies p.handled) (replies n.handled) t.taken s.taken p.said n.how);
+        said = cut_behind p.handled n.handled t.taken s.taken n.single p.said n.how;
       },
     )
 
   -- after the stated number of messages
   module _ (most : ℕ) (ps qs : List (Pass Object Call Answer g)) (t s : Talk) (held : List ℕ) (p : Part keys ps qs t held most) where
-    closed : (end : Option End) → s.given ≡ [] → Shows (and_then t s) held end → ClosesBy end true (length p.reads) most → WasSaid end ((Validate ∷ replies p.handled) ++ Close ∷ []) (t.taken ++ s.taken) → IsLeft end []
+    closed : (end : Option End) → s.given ≡ [] → Shows (and_then t s) held end → ClosesBy end true (length p.reads) most → WasSaid end p.handled true (t.taken ++ s.taken) → IsLeft end []
         → (hs : List Handled) × RowGrew ps qs (turns_of hs) × ServerDid keys most (and_then t s) hs end
     closed end none shows by said left = (
       p.handled,
@@ -246,6 +355,7 @@ module _ {g : Ghosts Object Call Answer} (keys : Keys) where
         left = held;
         stream = subst (λ (z : List ℕ). Stream z p.reads held) (sym (append-nil t.given) ∙ ap (λ (z : List ℕ). t.given ++ z) (sym none)) p.stream;
         few = let a = p.long in omega arith;
+        going = p.going;
         shows = shows;
         rest = [];
         calls = p.calls ∙ sym (append-nil (asking p.handled));
@@ -261,22 +371,22 @@ module _ {g : Ghosts Object Call Answer} (keys : Keys) where
     enough E h = closed (Some ends.Enough) h.0 tt (refl, p.long) (said_then (Validate ∷ replies p.handled) (Close ∷ []) t.taken s.taken p.said h.1) refl
 
     pub not_said : (E : Type 0) → Says {E = E} (Close ∷ []) s (Ok false) → (hs : List Handled) × RowGrew ps qs (turns_of hs) × ServerDid keys most (and_then t s) hs (Some ends.LinkFailed)
-    not_said E h = closed (Some ends.LinkFailed) h.0 (or_right t.failed s.failed h.2) (λ f. p.long) (begun_then (Validate ∷ replies p.handled) (Close ∷ []) t.taken s.taken p.said h.1) refl
+    not_said E h = closed (Some ends.LinkFailed) h.0 (or_right t.failed s.failed h.2) (λ f. p.long) (cut_close p.handled t.taken s.taken p.said h.1) refl
 
     pub starved_last : (E : Type 0) (e : E) → Says {E = E} (Close ∷ []) s (Err e) → (hs : List Handled) × RowGrew ps qs (turns_of hs) × ServerDid keys most (and_then t s) hs None
-    starved_last E e h = closed None h.0 tt (λ f. p.long) (begun_then (Validate ∷ replies p.handled) (Close ∷ []) t.taken s.taken p.said h.1) tt
+    starved_last E e h = closed None h.0 tt (λ f. p.long) (cut_close p.handled t.taken s.taken p.said h.1) tt
 
   -- not even a validate was said
-  not_begun : (most : ℕ) (ps : List (Pass Object Call Answer g)) (t : Talk) (end : Option End) → t.given ≡ [] → Shows t [] end → ClosesBy end false 0 most → IsLeft end [] → WasSaid end (Validate ∷ []) t.taken
+  not_begun : (most : ℕ) (ps : List (Pass Object Call Answer g)) (t : Talk) (end : Option End) → t.given ≡ [] → Shows t [] end → ClosesBy end false 0 most → IsLeft end [] → WasSaid end [] false t.taken
       → (hs : List Handled) × RowGrew ps ps (turns_of hs) × ServerDid keys most t hs end
   not_begun most ps t end none shows by left said = (
     [],
     row_still ps,
-    record { reads = []; left = []; stream = none; few = omega arith; shows = shows; rest = []; calls = refl; is_left = left; outcomes = tt; closes = false; closes_by = by; said = said },
+    record { reads = []; left = []; stream = none; few = omega arith; going = tt; shows = shows; rest = []; calls = refl; is_left = left; outcomes = tt; closes = false; closes_by = by; said = said },
   )
 
   pub no_validate : (E : Type 0) (most : ℕ) (ps : List (Pass Object Call Answer g)) (t : Talk) → Says {E = E} (Validate ∷ []) t (Ok false) → (hs : List Handled) × RowGrew ps ps (turns_of hs) × ServerDid keys most t hs (Some ends.LinkFailed)
-  no_validate E most ps t h = not_begun most ps t (Some ends.LinkFailed) h.0 h.2 (λ f. absurd cc) refl h.1
+  no_validate E most ps t h = not_begun most ps t (Some ends.LinkFailed) h.0 h.2 (λ f. absurd cc) refl (inl (refl, refl, h.1))
 
   pub starved_first : (E : Type 0) (e : E) (most : ℕ) (ps : List (Pass Object Call Answer g)) (t : Talk) → Says {E = E} (Validate ∷ []) t (Err e) → (hs : List Handled) × RowGrew ps ps (turns_of hs) × ServerDid keys most t hs None
-  starved_first E e most ps t h = not_begun most ps t None h.0 tt (λ f. absurd cc) tt h.1
+  starved_first E e most ps t h = not_begun most ps t None h.0 tt (λ f. absurd cc) tt (inl (refl, refl, h.1))

@@ -1,7 +1,8 @@
 -- The parts of a session: a message that is said, the calls of a message, a message that is taken.
-use Rattle.std.specs.Prelude.{ℕ, ◌≡◌, ◌≢◌, ◌≤◌, ◌⊎◌, Bool, true, false, List, [], ◌∷◌, ◌++◌, length, Option, Some, None, Result, Ok, Err}
+use Rattle.std.specs.Prelude.{ℕ, ◌≡◌, ◌≤◌, ◌⊎◌, Bool, true, false, List, [], ◌∷◌, ◌++◌, length, Option, Some, None, Result, Ok, Err}
 use Rattle.turnstile.specs.declared.turned.Turned.{Ghosts}
 use Rattle.turnstile.specs.declared.passes.Pass.{Pass}
+use Rattle.ice_encoding.specs.Parts.{Each}
 use Rattle.ice_ports.specs.declared.talk.Talk.{Talk}
 use Rattle.ice_ports.specs.Failures.{one_more}
 use Rattle.ice_messages.specs.declared.message.Call.{Call}
@@ -15,7 +16,7 @@ use Rattle.dispatch_pool.specs.declared.end.End.TheVariants.{LinkFailed, PeerEnd
 use Rattle.dispatch_pool.specs.Rows.{RowGrew}
 use Rattle.dispatch_pool.specs.Handled.{Keys, Outcome, Asked, Handled, IsOutcome, AreOutcomes, answer_of, turn_of, turns_of, asked, asking, replies}
 use Rattle.dispatch_pool.specs.Said.{IsSaid, IsBegun}
-use Rattle.dispatch_pool.specs.ServerDid.{Shows, WasSaid}
+use Rattle.dispatch_pool.specs.ServerDid.{IsTaken, Shows}
 
 -- ---- counts of failures
 
@@ -68,9 +69,29 @@ abbrev pub LeavesNone : {E : Type 0} → List Asked → Result Bool E → Type 0
 LeavesNone rest (Ok went) = rest ≡ []
 LeavesNone rest (Err e) = Unit {0}
 
+-- only where the link failed a reply may lack bytes
+abbrev pub StepSaid : End → List Message → List ℕ → Type 0
+StepSaid PeerEnded messages taken = IsSaid messages taken
+StepSaid PeerClosed messages taken = IsSaid messages taken
+StepSaid (PeerBroke fault) messages taken = IsSaid messages taken
+StepSaid LinkFailed messages taken = IsBegun messages taken
+StepSaid Enough messages taken = ⊥
+
+-- only where the link failed a message was taken before the end
+abbrev pub ComesBy : End → List Message → Type 0
+ComesBy PeerEnded reads = reads ≡ []
+ComesBy PeerClosed reads = reads ≡ []
+ComesBy (PeerBroke fault) reads = reads ≡ []
+ComesBy LinkFailed reads = Unit {0}
+ComesBy Enough reads = ⊥
+
+-- one call that asks for a reply, or such as ask for none
+abbrev pub IsSingle : List Handled → Type 0
+IsSingle handled = (length handled ≤ 1) ⊎ (replies handled ≡ [])
+
 abbrev pub IsNext : {E : Type 0} → Talk → List ℕ → List Message → List ℕ → List Asked → List Message → Result (Option End) E → Type 0
 IsNext t held reads left rest messages (Ok None) = (length reads ≡ 1) × (left ≡ held) × (rest ≡ []) × IsSaid messages t.taken
-IsNext t held reads left rest messages (Ok (Some end)) = Shows t left (Some end) × (rest ≡ []) × WasSaid (Some end) messages t.taken × (end ≢ Enough)
+IsNext t held reads left rest messages (Ok (Some end)) = Shows t left (Some end) × (rest ≡ []) × StepSaid end messages t.taken × ComesBy end reads
 IsNext t held reads left rest messages (Err e) = IsBegun messages t.taken
 
 module _ {g : Ghosts Object Call Answer} (keys : Keys) (ps qs : List (Pass Object Call Answer g)) where
@@ -94,6 +115,7 @@ module _ {g : Ghosts Object Call Answer} (keys : Keys) (ps qs : List (Pass Objec
     pub handled : List Handled
     pub stream : Stream t.given reads held
     pub long : length reads ≡ count
+    pub going : Each IsTaken reads
     pub calls : asked reads ≡ asking handled
     pub outcomes : AreOutcomes keys handled
     pub grew : RowGrew ps qs (turns_of handled)
@@ -107,6 +129,8 @@ module _ {g : Ghosts Object Call Answer} (keys : Keys) (ps qs : List (Pass Objec
     pub rest : List Asked
     pub stream : Stream bytes reads left
     pub few : length reads ≤ 1
+    pub going : Each IsTaken reads
+    pub single : IsSingle handled
     pub calls : asked reads ≡ asking handled ++ rest
     pub outcomes : AreOutcomes keys handled
     pub grew : RowGrew ps qs (turns_of handled)

@@ -1,5 +1,6 @@
 -- What a server did on one connection.
-use Rattle.std.specs.Prelude.{ℕ, ◌≡◌, ◌≤◌, ◌⊎◌, Bool, true, false, List, [], ◌∷◌, ◌++◌, length, Option, Some, None, Result, Ok, Err}
+use Rattle.std.specs.Prelude.{ℕ, ◌≡◌, ◌≢◌, ◌<◌, ◌≤◌, ◌⊎◌, Bool, true, false, List, [], ◌∷◌, ◌++◌, length, Option, Some, None, Result, Ok, Err}
+use Rattle.ice_encoding.specs.Parts.{Each}
 use Rattle.ice_ports.specs.declared.talk.Talk.{Talk}
 use Rattle.ice_messages.specs.declared.message.Message.{Message}
 use Rattle.ice_messages.specs.declared.message.Message.TheVariants.{Validate, Close}
@@ -28,12 +29,12 @@ Shows t left (Some (PeerBroke fault)) = (next_at left ≡ Err fault) ⊎ ((m : M
 Shows t left (Some LinkFailed) = t.failed ≡ true
 Shows t left (Some Enough) = Unit {0}
 
--- a close message is said only after the stated number of messages
+-- a close message is said exactly after the stated number of messages, and before that no other end is one of these
 abbrev pub ClosesBy : Option End → Bool → ℕ → ℕ → Type 0
 ClosesBy None closes read most = closes ≡ true → read ≡ most
-ClosesBy (Some PeerEnded) closes read most = closes ≡ false
-ClosesBy (Some PeerClosed) closes read most = closes ≡ false
-ClosesBy (Some (PeerBroke fault)) closes read most = closes ≡ false
+ClosesBy (Some PeerEnded) closes read most = (closes ≡ false) × (read < most)
+ClosesBy (Some PeerClosed) closes read most = (closes ≡ false) × (read < most)
+ClosesBy (Some (PeerBroke fault)) closes read most = (closes ≡ false) × (read < most)
 ClosesBy (Some LinkFailed) closes read most = closes ≡ true → read ≡ most
 ClosesBy (Some Enough) closes read most = (closes ≡ true) × (read ≡ most)
 
@@ -41,14 +42,39 @@ abbrev pub closing : Bool → List Message
 closing true = Close ∷ []
 closing false = []
 
--- only where the link failed, and at want of memory, the last message may lack bytes
-abbrev pub WasSaid : Option End → List Message → List ℕ → Type 0
-WasSaid None messages taken = IsBegun messages taken
-WasSaid (Some PeerEnded) messages taken = IsSaid messages taken
-WasSaid (Some PeerClosed) messages taken = IsSaid messages taken
-WasSaid (Some (PeerBroke fault)) messages taken = IsSaid messages taken
-WasSaid (Some LinkFailed) messages taken = IsBegun messages taken
-WasSaid (Some Enough) messages taken = IsSaid messages taken
+-- a connection goes on behind it: no client sends any other message but a close
+abbrev pub IsTaken : Message → Type 0
+IsTaken m = (server_fault m ≡ None) × (m ≢ Close)
+
+-- The replies of all calls but the last that was handled were said. That of the last may lack bytes, or the close message
+-- behind it.
+pub record IsCutBehind (handled : List Handled) (closes : Bool) (taken : List ℕ) : Type 0 where
+  pub whole : List Handled
+  pub last : List Handled
+  pub parts : handled ≡ whole ++ last
+  pub one : length last ≤ 1
+  pub before : List ℕ
+  pub behind : List ℕ
+  pub taken_is : taken ≡ before ++ behind
+  pub said : IsSaid (Validate ∷ replies whole) before
+  pub begun : IsBegun (replies last ++ closing closes) behind
+
+-- so it was; or not even the validate message was said, and no call was handled
+abbrev pub IsCut : List Handled → Bool → List ℕ → Type 0
+IsCut handled closes taken = ((handled ≡ []) × (closes ≡ false) × IsBegun (Validate ∷ []) taken) ⊎ IsCutBehind handled closes taken
+
+-- validate, the replies in order, and then a close message or none
+abbrev pub all_said : List Handled → Bool → List Message
+all_said handled closes = Validate ∷ (replies handled ++ closing closes)
+
+-- only where the link failed, and at want of memory, the last of them may lack bytes
+abbrev pub WasSaid : Option End → List Handled → Bool → List ℕ → Type 0
+WasSaid None handled closes taken = IsCut handled closes taken
+WasSaid (Some PeerEnded) handled closes taken = IsSaid (all_said handled closes) taken
+WasSaid (Some PeerClosed) handled closes taken = IsSaid (all_said handled closes) taken
+WasSaid (Some (PeerBroke fault)) handled closes taken = IsSaid (all_said handled closes) taken
+WasSaid (Some LinkFailed) handled closes taken = IsCut handled closes taken
+WasSaid (Some Enough) handled closes taken = IsSaid (all_said handled closes) taken
 
 -- only at want of memory calls are left that were not handled
 abbrev pub IsLeft : Option End → List Asked → Type 0
@@ -62,13 +88,14 @@ pub record ServerDid (keys : Keys) (most : ℕ) (t : Talk) (handled : List Handl
   pub left : List ℕ
   pub stream : Stream t.given reads left
   pub few : length reads ≤ most
+  pub going : Each IsTaken reads
   pub shows : Shows t left end
   -- their calls were handled, each once and in order
   pub rest : List Asked
   pub calls : asked reads ≡ asking handled ++ rest
   pub is_left : IsLeft end rest
   pub outcomes : AreOutcomes keys handled
-  -- validate, the replies in order, and then a close message or none
+  -- and this was said
   pub closes : Bool
   pub closes_by : ClosesBy end closes (length reads) most
-  pub said : WasSaid end (Validate ∷ (replies handled ++ closing closes)) t.taken
+  pub said : WasSaid end handled closes t.taken

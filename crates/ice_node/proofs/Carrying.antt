@@ -24,7 +24,7 @@ use Rattle.node_commands.specs.Decided.{DoesTask, Decides, Decided}
 use Rattle.ice_node.specs.Carrying.{IsReader, Carries}
 use Rattle.node_commands.specs.Statuses.{Answered}
 use Rattle.node_commands.specs.TypeWords.{IsTypeWord}
-use Rattle.node_commands.proofs.CommandForms.{values_apart, no_task}
+use Rattle.node_commands.proofs.CommandForms.{page_no_task, values_apart, no_task}
 
 done_is : (a b : List ℕ) → done a ≡ done b → a ≡ b
 done_is a b e = cc
@@ -59,7 +59,7 @@ module _ (files : Files) (input : List ℕ) (fits : IsBytes input) (t : Tables) 
     by_command words (Some (compat f g k)) are form decides = absurd (no_task words _ (tasks.Relay formats.Sliced) file word are form.0 refl)
     by_command words (Some (drill start count)) are form decides = absurd (no_task words _ (tasks.Relay formats.Sliced) file word are form.0 refl)
     by_command words (Some messages) are form decides = absurd (no_task words _ (tasks.Relay formats.Sliced) file word are form refl)
-    by_command words (Some help) are form decides = absurd (no_task words _ (tasks.Relay formats.Sliced) file word are form refl)
+    by_command words (Some (help page)) are form decides = absurd (no_task words _ (tasks.Relay formats.Sliced) file word are form (page_no_task page))
     by_command words (Some version) are form decides = absurd (no_task words _ (tasks.Relay formats.Sliced) file word are form refl)
     by_command words None are form decides = absurd cc
 

@@ -1,3 +1,4 @@
 pub mod Carrying
 pub mod Promising
 pub mod Ending
+pub mod Passing

@@ -11,6 +11,9 @@ use Rattle.node_commands.specs.Statuses.{Answered, EndsWithStatus}
 use Rattle.call_command.specs.Words.{CallWords, CallForm}
 use Rattle.call_command.specs.Rounds.{NetSeen}
 use Rattle.call_command.specs.Called.{Called}
+use Rattle.gate_command.specs.Words.{GateWords, GateForm}
+use Rattle.gate_command.specs.Gated.{Gated}
+use Rattle.ice_gateway.specs.Runs as gateways
 use Rattle.serve_command.specs.Words.{Serve, ServeForm, IsServe}
 use Rattle.serve_command.specs.Served.{Network, Served, network}
 use Rattle.ice_node.specs.Carrying.{Carries}
@@ -44,12 +47,18 @@ pub record Starves (words : List Word) (before after : Outside) (status : ℕ) :
 abbrev pub listened : NetSeen → Network
 listened n = network n.told n.listen_failures
 
+-- and `gate`
+abbrev pub gated : NetSeen → gateways.NetSeen
+gated n = gateways.net_seen n.told n.failures n.listen_failures
+
 pub record KeepsPromises (words : List Word) (before after : Outside) (net later : NetSeen) (status : ℕ) : Type 0 where
   -- any other command leaves the net as it was
-  pub locally : ((c : CallWords) → CallForm words c → ⊥) → ((c : Serve) → ServeForm words c → ⊥)
+  pub locally : ((c : CallWords) → CallForm words c → ⊥) → ((c : GateWords) → GateForm words c → ⊥) → ((c : Serve) → ServeForm words c → ⊥)
       → (KeepsLocally words before after status ⊎ Starves words before after status) × (later ≡ net)
   -- `call` does what its words say
   pub called : (c : CallWords) → CallForm words c → Called c before after net later status
-  -- so does `serve`
+  -- so does `gate`
+  pub gates : (c : GateWords) → GateForm words c → Gated c before after (gated net) (gated later) status
+  -- and `serve`
   pub served : (c : Serve) → ServeForm words c
       → Served c before after (listened net) (listened later) status ⊎ (Starves words before after status × (later ≡ net))

@@ -1,5 +1,5 @@
 //! Laws of the whole program: the numbers of the limits, so that none of them can change unseen; and that what both
-//! ends of calls say is one world (`once`).
+//! ends of calls say is one world (`once`), and a gateway between them forwards each call once (`gates_once`).
 
 ghost use Rattle.std.specs.Prelude.{◌≡◌};
 ghost use Rattle.ice_encoding.specs.declared.limits.TheConstants.{GREATEST, LARGEST, SMALLEST};
@@ -19,7 +19,9 @@ ghost use Rattle.call_command.specs.declared.arguments.TheConstants.{MOST_OF_ARG
 ghost use Rattle.serve_command.specs.declared.words.TheConstants.{MOST_WORDS};
 ghost use Rattle.serve_command.specs.declared.operands.TheConstants.{MOST_WORKERS, MOST_CONNECTIONS};
 ghost use Rattle.serve_command.specs.declared.serving.TheConstants.{MOST_MESSAGES as MOST_SERVED};
+ghost use Rattle.ice_node.specs.Through.{GatedSuccessesHaveTurns, GatedTurnsAreSingle};
 
+pub use gate_command::gates_once;
 pub use once_law::{once, successes_have_turns, turns_are_single};
 
 /// The limits that the definitions name, each by its number: of encapsulations and messages, types, reads, Slice
@@ -39,4 +41,16 @@ pub fn limits_numbered()
     ensures word { MOST_OF_A_WORD ≡ 8192 }
     ensures calls { (MOST_RETRIES ≡ 10) × (MOST_TIMES ≡ 1000) × (MOST_OF_ARGUMENTS ≡ 1000000) }
     ensures serving { (MOST_WORDS ≡ 64) × (MOST_WORKERS ≡ 64) × (MOST_CONNECTIONS ≡ 1000000) × (MOST_SERVED ≡ 1000000) }
+{}
+
+/// What a gateway and the servers behind it say, joined: over all attempts at a message that it forwarded, whatever was
+/// lost, closed or tried again, a call that is not idempotent has one turn of an object at most.
+/// (Ice manual, "At-Most-Once Semantics".)
+pub fn gated_turns_are_single()
+    ensures { GatedTurnsAreSingle }
+{}
+
+/// And a success that its caller is told is the answer of such a turn, with the results written anew.
+pub fn gated_successes_have_turns()
+    ensures { GatedSuccessesHaveTurns }
 {}

@@ -6,6 +6,7 @@ ghost use Rattle.call_command.specs.Rounds.{net_seen};
 ghost use Rattle.ice_node.specs.Promises.{KeepsLocally, KeepsPromises};
 
 use call_command::{call, call_of};
+use gate_command::{gate, gate_of};
 use ice_ports::{Net, Shelf, Sink, Source};
 use node_commands::{Outcome, report, run};
 use serve_command::{serve, serve_of};
@@ -37,10 +38,13 @@ pub fn node<R: Threads + Wait + Sync, H: Shelf, S: Source, K: Sink, E: Sink, N: 
 {
     match call_of(words) {
         Some(command) => call(alloc, command, shelf, source, sink, errors, net),
-        None => match serve_of(alloc, words) {
-            Ok(Some(command)) => serve(rt, alloc, command, shelf, sink, errors, net),
-            Ok(None) => stay(alloc, words, shelf, source, sink, errors),
-            Err(_) => report(Outcome::Memory, errors),
+        None => match gate_of(words) {
+            Some(command) => gate(alloc, command, shelf, sink, errors, net),
+            None => match serve_of(alloc, words) {
+                Ok(Some(command)) => serve(rt, alloc, command, shelf, sink, errors, net),
+                Ok(None) => stay(alloc, words, shelf, source, sink, errors),
+                Err(_) => report(Outcome::Memory, errors),
+            },
         },
     }
 }

@@ -1,13 +1,17 @@
 -- The listed forms are apart, and so is what words ask for.
-use Rattle.std.proofs.Common.{◌≡◌, ◌≤◌, ◌<◌, ◌+◌, ◌*◌, ℕ, suc, cond, eqb, String, string_bytes, List, [], ◌∷◌, ◌++◌, length, Option, None, Some, refl, sym, ap, ◌∙◌, arith, get_or, codes}
+use Rattle.std.proofs.Common.{◌≡◌, ◌≤◌, ◌<◌, ◌+◌, ◌*◌, ℕ, suc, Bool, true, false, ◌&&◌, cond, eqb, String, string_bytes, List, [], ◌∷◌, ◌++◌, length, Option, None, Some, refl, sym, ap, ◌∙◌, arith, get_or, codes}
 use Rattle.std.proofs.lemmas.Option.{same_Some}
 use Rattle.std.proofs.lemmas.Fmt.{decimal_injective}
+use Rattle.std.proofs.lemmas.Slice.Eq.{bytes_eq-Decides}
+use Rattle.std.specs.Str.{bytes_eq}
 use Rattle.std.specs.declared.alloc.Global.{Global}
 use Rattle.std.specs.Fmt.{decimal}
 use Rattle.instance_writing.specs.declared.format.Format.TheVariants as formats
 use Rattle.node_commands.specs.declared.words.Task.{Task}
 use Rattle.node_commands.specs.declared.words.Task.TheVariants as tasks
-use Rattle.node_commands.specs.Words.{Word, Command, values, check, proxy, audit, compat, drill, messages, help, version, task_words, Form, Asks, words_of}
+use Rattle.node_commands.specs.declared.words.Page.{Page}
+use Rattle.node_commands.specs.declared.words.Page.TheVariants as pages
+use Rattle.node_commands.specs.Words.{Word, Command, values, check, proxy, audit, compat, drill, messages, help, version, task_words, page_words, IsNoHelp, Form, Asks, words_of}
 
 -- how many words there are, how long the first is, and its second byte: each form has numbers of its own
 abbrev pub mark : List Word → ℕ
@@ -72,7 +76,7 @@ sort (check file) = 1
 sort (proxy text) = 2
 sort (drill start count) = 3
 sort messages = 4
-sort help = 5
+sort (help page) = 5
 sort version = 6
 sort (audit client server) = 7
 sort (compat old new kind) = 8
@@ -81,8 +85,12 @@ sort (compat old new kind) = 8
 abbrev sort_at : ℕ → ℕ
 sort_at n = cond (eqb n 52104) 1 (cond (eqb n 52114) 2 (cond (eqb n 53114) 3 (cond (eqb n 81101) 4 (cond (eqb n 61045) 5 (cond (eqb n 91045) 6 (cond (eqb n 53117) 7 (cond (eqb n 64111) 8 0)))))))
 
+-- two words of which the second asks for help
+abbrev asks_for_help : List Word → Bool
+asks_for_help words = eqb (length words) 2 && bytes_eq (get_or words 1 []) (codes "--help")
+
 abbrev sort_of : List Word → ℕ
-sort_of words = sort_at (mark words)
+sort_of words = cond (asks_for_help words) 5 (sort_at (mark words))
 
 sort_of_task : (task : Task) (file kind : Word) → sort_of (task_form task file kind) ≡ 0
 sort_of_task (tasks.Relay formats.Sliced) file kind = refl
@@ -92,16 +100,114 @@ sort_of_task tasks.Dump file kind = refl
 sort_of_task (tasks.Encode formats.Sliced) file kind = refl
 sort_of_task (tasks.Encode formats.Compact) file kind = refl
 
+sort_of_page : (page : Page) → sort_of (page_words page) ≡ 5
+sort_of_page pages.All = refl
+sort_of_page pages.Relay = refl
+sort_of_page pages.Same = refl
+sort_of_page pages.Dump = refl
+sort_of_page pages.Encode = refl
+sort_of_page pages.Check = refl
+sort_of_page pages.Proxy = refl
+sort_of_page pages.Call = refl
+sort_of_page pages.Serve = refl
+sort_of_page pages.Gate = refl
+sort_of_page pages.Messages = refl
+sort_of_page pages.Audit = refl
+sort_of_page pages.Compat = refl
+sort_of_page pages.Drill = refl
+
+no_help : (word : Word) → IsNoHelp word → bytes_eq word (codes "--help") ≡ false
+no_help word h = by (bytes_eq word (codes "--help")) refl
+  where
+    by : (b : Bool) → bytes_eq word (codes "--help") ≡ b → bytes_eq word (codes "--help") ≡ false
+    by true e = absurd (h ((bytes_eq-Decides word (codes "--help")).0 e))
+    by false e = e
+
 sorted : (words : List Word) (c : Command) → Form words c → sort_of words ≡ sort c
 sorted words (values task file kind) p = ap sort_of p.0 ∙ sort_of_task task file kind
-sorted words (check file) p = ap sort_of p.0
-sorted words (proxy text) p = ap sort_of p.0
+sorted words (check file) p = ap sort_of p.0 ∙ ap (λ (b : Bool). cond b 5 1) (no_help file p.2)
+sorted words (proxy text) p = ap sort_of p.0 ∙ ap (λ (b : Bool). cond b 5 2) (no_help text p.2)
 sorted words (audit client server) p = ap sort_of p.0
 sorted words (compat old new kind) p = ap sort_of p.0
 sorted words (drill start count) p = ap sort_of p.0
 sorted words messages p = ap sort_of p
-sorted words help p = ap sort_of p
+sorted words (help page) p = ap sort_of p ∙ sort_of_page page
 sorted words version p = ap sort_of p
+
+-- ---- pages
+
+-- by the first two bytes of the first word
+abbrev page_at : ℕ → Option Page
+page_at n = cond (eqb n 45045) (Some pages.All)
+    (cond (eqb n 114101) (Some pages.Relay)
+    (cond (eqb n 115097) (Some pages.Same)
+    (cond (eqb n 100117) (Some pages.Dump)
+    (cond (eqb n 101110) (Some pages.Encode)
+    (cond (eqb n 99104) (Some pages.Check)
+    (cond (eqb n 112114) (Some pages.Proxy)
+    (cond (eqb n 99097) (Some pages.Call)
+    (cond (eqb n 115101) (Some pages.Serve)
+    (cond (eqb n 103097) (Some pages.Gate)
+    (cond (eqb n 109101) (Some pages.Messages)
+    (cond (eqb n 97117) (Some pages.Audit)
+    (cond (eqb n 99111) (Some pages.Compat)
+    (cond (eqb n 100114) (Some pages.Drill) None)))))))))))))
+
+abbrev page_mark : List Word → ℕ
+page_mark words = 1000 * get_or (get_or words 0 []) 0 0 + get_or (get_or words 0 []) 1 0
+
+page_is : (page : Page) → page_at (page_mark (page_words page)) ≡ Some page
+page_is pages.All = refl
+page_is pages.Relay = refl
+page_is pages.Same = refl
+page_is pages.Dump = refl
+page_is pages.Encode = refl
+page_is pages.Check = refl
+page_is pages.Proxy = refl
+page_is pages.Call = refl
+page_is pages.Serve = refl
+page_is pages.Gate = refl
+page_is pages.Messages = refl
+page_is pages.Audit = refl
+page_is pages.Compat = refl
+page_is pages.Drill = refl
+
+-- they are those of no task
+pub page_no_task : (page : Page) → task_at (mark (page_words page)) ≡ None
+page_no_task pages.All = refl
+page_no_task pages.Relay = refl
+page_no_task pages.Same = refl
+page_no_task pages.Dump = refl
+page_no_task pages.Encode = refl
+page_no_task pages.Check = refl
+page_no_task pages.Proxy = refl
+page_no_task pages.Call = refl
+page_no_task pages.Serve = refl
+page_no_task pages.Gate = refl
+page_no_task pages.Messages = refl
+page_no_task pages.Audit = refl
+page_no_task pages.Compat = refl
+page_no_task pages.Drill = refl
+
+-- there are two words at most
+pub page_few : (page : Page) → length (page_words page) ≤ 2
+page_few pages.All = omega arith
+page_few pages.Relay = omega arith
+page_few pages.Same = omega arith
+page_few pages.Dump = omega arith
+page_few pages.Encode = omega arith
+page_few pages.Check = omega arith
+page_few pages.Proxy = omega arith
+page_few pages.Call = omega arith
+page_few pages.Serve = omega arith
+page_few pages.Gate = omega arith
+page_few pages.Messages = omega arith
+page_few pages.Audit = omega arith
+page_few pages.Compat = omega arith
+page_few pages.Drill = omega arith
+
+pages_apart : (words : List Word) (a b : Page) → words ≡ page_words a → words ≡ page_words b → a ≡ b
+pages_apart words a b p q = same_Some a b (sym (page_is a) ∙ ap (λ (x : List Word). page_at (page_mark x)) (one_list words (page_words a) (page_words b) p q) ∙ page_is b)
 
 drills_apart : (words : List Word) (m n k l : ℕ) → Form words (drill m n) → Form words (drill k l) → drill m n ≡ drill k l
 drills_apart words m n k l p q =
@@ -118,7 +224,7 @@ forms_apart words (audit f g) (audit h k) p q = cc (p.0, q.0)
 forms_apart words (compat f g k) (compat h l m) p q = cc (p.0, q.0)
 forms_apart words (drill m n) (drill k l) p q = drills_apart words m n k l p q
 forms_apart words messages messages p q = refl
-forms_apart words help help p q = refl
+forms_apart words (help a) (help b) p q = ap help (pages_apart words a b p q)
 forms_apart words version version p q = refl
 forms_apart words a b p q = absurd (omega (arith, sym (sorted words a p) ∙ sorted words b q))
 

@@ -212,7 +212,7 @@ decides_apart (Some (audit client server)) files input a b p q = audits_apart fi
 decides_apart (Some (compat old new word)) files input a b p q = files_apart files old new word a b p q
 decides_apart (Some (drill start count)) files input a b p q = drills_apart start count a b p q
 decides_apart (Some messages) files input a b p q = dumps_one input a b p q
-decides_apart (Some help) files input a b p q = p ∙ sym q
+decides_apart (Some (help page)) files input a b p q = p ∙ sym q
 decides_apart (Some version) files input a b p q = p ∙ sym q
 decides_apart None files input a b p q = p ∙ sym q
 

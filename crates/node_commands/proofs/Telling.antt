@@ -66,7 +66,7 @@ to_be_written (Some (proxy text)) files input bytes d = d
 to_be_written (Some (audit client server)) files input bytes d = inl d
 to_be_written (Some (compat old new word)) files input bytes d = inl d
 to_be_written (Some (drill start count)) files input bytes d = d
-to_be_written (Some help) files input bytes d = d
+to_be_written (Some (help page)) files input bytes d = d
 to_be_written (Some version) files input bytes d = d
 to_be_written None files input bytes d = d
 

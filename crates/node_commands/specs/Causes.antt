@@ -24,7 +24,7 @@ ReadFails (Some (audit client server)) files before after = ShelfFailed before a
 ReadFails (Some (compat old new word)) files before after = ShelfFailed before after
 ReadFails (Some (drill start count)) files before after = ⊥
 ReadFails (Some messages) files before after = ⊥
-ReadFails (Some help) files before after = ⊥
+ReadFails (Some (help page)) files before after = ⊥
 ReadFails (Some version) files before after = ⊥
 ReadFails None files before after = ⊥
 
@@ -37,7 +37,7 @@ MayRunOut (Some (audit client server)) = Unit {0}
 MayRunOut (Some (compat old new word)) = Unit {0}
 MayRunOut (Some (drill start count)) = Unit {0}
 MayRunOut (Some messages) = ⊥
-MayRunOut (Some help) = ⊥
+MayRunOut (Some (help page)) = ⊥
 MayRunOut (Some version) = ⊥
 MayRunOut None = ⊥
 
@@ -60,7 +60,7 @@ IsToBeWritten (Some (audit client server)) files input bytes = Decides (Some (au
 IsToBeWritten (Some (compat old new word)) files input bytes = Decides (Some (compat old new word)) files input (done bytes)
     ⊎ Decides (Some (compat old new word)) files input (different bytes)
 IsToBeWritten (Some (drill start count)) files input bytes = Decides (Some (drill start count)) files input (done bytes)
-IsToBeWritten (Some help) files input bytes = Decides (Some help) files input (done bytes)
+IsToBeWritten (Some (help page)) files input bytes = Decides (Some (help page)) files input (done bytes)
 IsToBeWritten (Some version) files input bytes = Decides (Some version) files input (done bytes)
 IsToBeWritten None files input bytes = Decides None files input (done bytes)
 
@@ -73,7 +73,7 @@ HasTold (Some (proxy text)) input written = ⊥
 HasTold (Some (audit client server)) input written = ⊥
 HasTold (Some (compat old new word)) input written = ⊥
 HasTold (Some (drill start count)) input written = ⊥
-HasTold (Some help) input written = ⊥
+HasTold (Some (help page)) input written = ⊥
 HasTold (Some version) input written = ⊥
 HasTold None input written = ⊥
 

@@ -35,7 +35,8 @@ use Rattle.slice_compat.specs.Verdicts as compatibility
 use Rattle.ice_ports.specs.Files.{file_named}
 use Rattle.slice_meaning.specs.Printed.{LoadBreak}
 use Rattle.slice_meaning.specs.Loading.{Loads, LoadBreaks}
-use Rattle.node_commands.specs.declared.help.TheConstants.{HELP, VERSION}
+use Rattle.node_commands.specs.declared.help.TheConstants.{VERSION}
+use Rattle.node_commands.specs.Pages.{page_text}
 use Rattle.node_commands.specs.Words.{Word, Command, values, check, proxy, audit, compat, drill, messages, help, version, Asks}
 use Rattle.node_commands.specs.declared.words.Task.{Task}
 use Rattle.node_commands.specs.declared.words.Task.TheVariants as tasks
@@ -268,7 +269,7 @@ Decides (Some (audit client server)) files input answer = Audits files client se
 Decides (Some (compat old new word)) files input answer = ComparesFiles files old new word answer
 Decides (Some (drill start count)) files input answer = Drills start count answer
 Decides (Some messages) files input answer = TellsMessages input answer
-Decides (Some help) files input answer = answer ≡ done HELP.now
+Decides (Some (help page)) files input answer = answer ≡ done (page_text page)
 Decides (Some version) files input answer = answer ≡ done VERSION.now
 Decides None files input answer = answer ≡ usage
 

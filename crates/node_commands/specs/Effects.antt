@@ -28,7 +28,7 @@ TakesInput (Some (audit client server)) old new = Keeps old new
 TakesInput (Some (compat before after word)) old new = Keeps old new
 TakesInput (Some (drill start count)) old new = Keeps old new
 TakesInput (Some messages) old new = ReadsFrugally old new
-TakesInput (Some help) old new = Keeps old new
+TakesInput (Some (help page)) old new = Keeps old new
 TakesInput (Some version) old new = Keeps old new
 TakesInput None old new = Keeps old new
 

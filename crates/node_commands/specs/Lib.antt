@@ -1,4 +1,5 @@
 pub mod Words
+pub mod Pages
 pub mod TypeWords
 pub mod Outside
 pub mod Answers

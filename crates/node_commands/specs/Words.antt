@@ -7,6 +7,8 @@ use Rattle.node_commands.specs.declared.words.TheConstants.{MOST_OF_A_WORD, MOST
 use Rattle.instance_writing.specs.declared.format.Format.TheVariants as formats
 use Rattle.node_commands.specs.declared.words.Task.{Task}
 use Rattle.node_commands.specs.declared.words.Task.TheVariants as tasks
+use Rattle.node_commands.specs.declared.words.Page.{Page}
+use Rattle.node_commands.specs.declared.words.Page.TheVariants as pages
 use Rattle.node_commands.specs.declared.words.Command.{Command as Written}
 use Rattle.node_commands.specs.declared.words.Command.TheVariants as written
 
@@ -29,7 +31,8 @@ pub data Command : Type 0 where
   -- the number that the graph is drawn from, and how many nodes it has
   drill : ℕ → ℕ → Command
   messages : Command
-  help : Command
+  -- on all commands, or on one
+  help : Page → Command
   version : Command
 
 -- not longer than the longest word
@@ -45,6 +48,27 @@ task_words tasks.Dump = codes "dump" ∷ []
 task_words (tasks.Encode formats.Sliced) = codes "encode" ∷ []
 task_words (tasks.Encode formats.Compact) = codes "encode" ∷ codes "--compact" ∷ []
 
+-- the words for a page of help
+abbrev pub page_words : Page → List Word
+page_words pages.All = codes "--help" ∷ []
+page_words pages.Relay = codes "relay" ∷ codes "--help" ∷ []
+page_words pages.Same = codes "same" ∷ codes "--help" ∷ []
+page_words pages.Dump = codes "dump" ∷ codes "--help" ∷ []
+page_words pages.Encode = codes "encode" ∷ codes "--help" ∷ []
+page_words pages.Check = codes "check" ∷ codes "--help" ∷ []
+page_words pages.Proxy = codes "proxy" ∷ codes "--help" ∷ []
+page_words pages.Call = codes "call" ∷ codes "--help" ∷ []
+page_words pages.Serve = codes "serve" ∷ codes "--help" ∷ []
+page_words pages.Gate = codes "gate" ∷ codes "--help" ∷ []
+page_words pages.Messages = codes "messages" ∷ codes "--help" ∷ []
+page_words pages.Audit = codes "audit" ∷ codes "--help" ∷ []
+page_words pages.Compat = codes "compat" ∷ codes "--help" ∷ []
+page_words pages.Drill = codes "drill" ∷ codes "--help" ∷ []
+
+-- behind a command the word for help is no file and no text
+abbrev pub IsNoHelp : Word → Type 0
+IsNoHelp word = word ≢ codes "--help"
+
 -- where an option may stand, FILE is none
 abbrev pub IsNoOption : Task → Word → Type 0
 IsNoOption (tasks.Relay format) word = word ≢ codes "--compact"
@@ -56,14 +80,14 @@ IsNoOption (tasks.Encode format) word = word ≢ codes "--compact"
 abbrev pub Form : List Word → Command → Type 0
 Form words (values task file kind) =
     (words ≡ task_words task ++ file ∷ kind ∷ []) × IsWord file × IsWord kind × IsNoOption task file
-Form words (check file) = (words ≡ codes "check" ∷ file ∷ []) × IsWord file
-Form words (proxy text) = (words ≡ codes "proxy" ∷ text ∷ []) × IsWord text
+Form words (check file) = (words ≡ codes "check" ∷ file ∷ []) × IsWord file × IsNoHelp file
+Form words (proxy text) = (words ≡ codes "proxy" ∷ text ∷ []) × IsWord text × IsNoHelp text
 Form words (audit client server) = (words ≡ codes "audit" ∷ client ∷ server ∷ []) × IsWord client × IsWord server
 Form words (compat old new kind) = (words ≡ codes "compat" ∷ old ∷ new ∷ kind ∷ []) × IsWord old × IsWord new × IsWord kind
 Form words (drill start count) = (words ≡ codes "drill" ∷ decimal start ∷ decimal count ∷ [])
     × (start ≤ MOST_OF_A_START) × (0 < count) × (count ≤ MOST_NODES)
 Form words messages = words ≡ codes "messages" ∷ []
-Form words help = words ≡ codes "--help" ∷ []
+Form words (help page) = words ≡ page_words page
 Form words version = words ≡ codes "--version" ∷ []
 
 -- the words ask for this command, or, where they are no listed form, for none
@@ -89,6 +113,6 @@ asked_of (Some (written.Audit client server)) = Some (audit client.now server.no
 asked_of (Some (written.Compat old new kind)) = Some (compat old.now new.now kind.now)
 asked_of (Some (written.Drill start count)) = Some (drill start count)
 asked_of (Some written.Messages) = Some messages
-asked_of (Some written.Help) = Some help
+asked_of (Some (written.Help page)) = Some (help page)
 asked_of (Some written.Version) = Some version
 asked_of None = None

@@ -93,8 +93,5 @@ fn tagged(members: &[Member], tag: u32) -> Option<&Member>
 fn is_tag(own: Option<u32>, tag: u32) -> bool
     ensures { result ≡ tag_is tag own }
 {
-    match own {
-        Some(own) => own == tag,
-        None => false,
-    }
+    own == Some(tag)
 }

@@ -11,10 +11,11 @@ use crate::audit::audit;
 use crate::checking::check;
 use crate::compat::compat;
 use crate::drill::drill;
-use crate::help::{HELP, VERSION};
+use crate::help::VERSION;
 use crate::messages::messages;
 use crate::outcome::Outcome;
 use crate::output::{print, print_found};
+use crate::pages::text_of;
 use crate::proxy::proxy;
 use crate::values::found_of;
 use crate::words::{Command, command_of};
@@ -66,7 +67,7 @@ pub fn run<'a, H: Shelf, S: Source, K: Sink>(
             Err(outcome) => outcome,
         },
         Some(Command::Messages) => messages(alloc, source, sink),
-        Some(Command::Help) => print(HELP.as_bytes(), sink),
+        Some(Command::Help { page }) => print(text_of(page).as_bytes(), sink),
         Some(Command::Version) => print(VERSION.as_bytes(), sink),
         None => Outcome::Usage,
     }

@@ -19,7 +19,8 @@
 //!   for it.
 //! - The commands find what is to be written, or an outcome, and `run` writes it. A task with values finds bytes
 //!   or a verdict (`Found`), so FILE and TYPE are dealt with once, in `found_of`, and each task is said by what
-//!   it does with a source and a type (`FindsTask`). `audit` and `compat` find bytes too: their lines, or bytes that say no.
+//!   it does with a source and a type (`FindsTask`). `audit` and `compat` find bytes too: their lines, or bytes
+//!   that say no.
 //! - That no two forms are one is shown by a number that the words tell (how many they are, how long the first
 //!   is, its second byte), so a further command is a line and not a row against each other one.
 //! - `drill` takes its numbers in one form each: a sign or a zero in front is a faulty command line, so that one
@@ -42,6 +43,7 @@ mod loading;
 mod messages;
 mod outcome;
 mod output;
+mod pages;
 mod pieces;
 mod proxy;
 mod relay;

@@ -1,7 +1,8 @@
 //! The command line.
 
-ghost use Rattle.std.specs.Prelude.{◌≡◌, ◌≢◌, List, [], ◌∷◌, codes};
-ghost use Rattle.node_commands.specs.Words.{Word, Command as Asked, Form, Asks, SpellsWithin, asked_of, words_of};
+ghost use Rattle.std.specs.Prelude.{◌≡◌, ◌≢◌, List, MatchOption, [], ◌∷◌, codes};
+ghost use Rattle.node_commands.specs.declared.words.Page.{Page};
+ghost use Rattle.node_commands.specs.Words.{Word, Command as Asked, Form, Asks, SpellsWithin, asked_of, page_words, words_of};
 
 use class_slices::Format;
 use ice_relay::MOST_NODES;
@@ -12,6 +13,9 @@ pub const MOST_OF_A_WORD: usize = 8192;
 
 /// The greatest number that a drill starts from.
 pub(crate) const MOST_OF_A_START: u32 = 2_147_483_647;
+
+/// The word that asks for help, alone or behind a command.
+const HELP_WORD: &str = "--help";
 
 /// The option for compact format.
 const COMPACT: &str = "--compact";
@@ -27,6 +31,25 @@ pub enum Task {
     Dump,
     /// To write one that is told in JSON, in the format.
     Encode(Format),
+}
+
+/// A page of help: on all commands, or on one.
+#[derive(Clone, Copy, Debug, PartialEq, Eq)]
+pub enum Page {
+    All,
+    Relay,
+    Same,
+    Dump,
+    Encode,
+    Check,
+    Proxy,
+    Call,
+    Serve,
+    Gate,
+    Messages,
+    Audit,
+    Compat,
+    Drill,
 }
 
 /// What the words ask the program to do.
@@ -64,8 +87,10 @@ pub enum Command<'a> {
     },
     /// To tell the messages of the input.
     Messages,
-    /// To print how the program is called.
-    Help,
+    /// To print how the program is called, or what a command does.
+    Help {
+        page: Page,
+    },
     /// To print the program's version.
     Version,
 }
@@ -93,7 +118,7 @@ fn of_one_word(word: &str) -> Option<Command<'_>>
 {
     match word {
         "messages" => Some(Command::Messages),
-        "--help" => Some(Command::Help),
+        HELP_WORD => Some(Command::Help { page: Page::All }),
         "--version" => Some(Command::Version),
         _ => None,
     }
@@ -105,9 +130,36 @@ fn of_two_words<'a>(command: &'a str, word: &'a str) -> Option<Command<'a>>
     if word.len() > MOST_OF_A_WORD {
         return None;
     }
+    if word == HELP_WORD {
+        let page = page_of(command)?;
+        return Some(Command::Help { page });
+    }
     match command {
         "check" => Some(Command::Check { file: word }),
         "proxy" => Some(Command::Proxy { text: word }),
+        _ => None,
+    }
+}
+
+/// The page on a command.
+fn page_of(command: &str) -> Option<Page>
+    ensures { MatchOption result ((page : Page) → command.now ∷ codes "--help" ∷ [] ≡ page_words page → ⊥)
+        (λ page. command.now ∷ codes "--help" ∷ [] ≡ page_words page) }
+{
+    match command {
+        "relay" => Some(Page::Relay),
+        "same" => Some(Page::Same),
+        "dump" => Some(Page::Dump),
+        "encode" => Some(Page::Encode),
+        "check" => Some(Page::Check),
+        "proxy" => Some(Page::Proxy),
+        "call" => Some(Page::Call),
+        "serve" => Some(Page::Serve),
+        "gate" => Some(Page::Gate),
+        "messages" => Some(Page::Messages),
+        "audit" => Some(Page::Audit),
+        "compat" => Some(Page::Compat),
+        "drill" => Some(Page::Drill),
         _ => None,
     }
 }

@@ -348,7 +348,7 @@ module _ (o : Outgoing) (m : Message) (is_of : IsOf o m) (sent : IsSent m) (t : 
 
     second : (ms ≡ []) × IsSecond s.handled server.closes x
     second =
-        let r = reads_said s.end (Validate ∷ (replies s.handled ++ servers.closing server.closes)) read_two t.given s.talk.taken begins.0 server.said back stream_two in
+        let r = reads_said s.end s.handled server.closes read_two t.given s.talk.taken begins.0 server.said back stream_two in
         second_read s.handled server.closes ms x r.0 (dealt_with.one asks) reads.2.1 (tail_is r.1)
 
     two_read : 2 ≡ length read_two

@@ -115,6 +115,7 @@ module _ (call : Call) (answer : Answer) (good : IsDispatched answer) where
       left = bytes;
       stream = refl;
       few = omega arith;
+      going = tt;
       shows = tt;
       rest = [];
       calls = refl;
@@ -141,13 +142,14 @@ module _ (call : Call) (answer : Answer) (good : IsDispatched answer) where
       left = [];
       stream = (bytes, [], sym (append-nil bytes), spelled, refl);
       few = omega arith;
+      going = ((refl, λ e. cc), tt);
       shows = (nothing_yet, refl);
       rest = [];
       calls = refl;
       is_left = refl;
       outcomes = ((refl, good), tt);
       closes = false;
-      closes_by = refl;
+      closes_by = (refl, omega arith);
       said = (refl, (validate, (replied, tt)));
     }
 
@@ -304,13 +306,14 @@ module _ (call : Call) (answer : Answer) (good : IsDispatched answer) where
       left = [];
       stream = (batch_bytes, [], sym (append-nil batch_bytes), spelled, refl);
       few = omega arith;
+      going = ((refl, λ e. cc), tt);
       shows = (nothing_yet, refl);
       rest = [];
       calls = refl;
       is_left = refl;
       outcomes = ((refl, good), ((refl, good), tt));
       closes = false;
-      closes_by = refl;
+      closes_by = (refl, omega arith);
       said = (refl, (validate, tt));
     }
 

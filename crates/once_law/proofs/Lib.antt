@@ -13,3 +13,4 @@ pub mod Deliveries
 pub mod Matching
 pub mod Turns
 pub mod Fitting
+pub mod Cut

@@ -1,13 +1,15 @@
 -- Messages one after the other, as both ends of a connection have them.
-use Rattle.std.proofs.Common.{◌≡◌, ℕ, ◌≤◌, ◌⊎◌, inl, inr, List, [], ◌∷◌, ◌++◌, length, Option, None, Some, refl, ap, sym, ◌∙◌, subst, arith, append_assoc, append-nil, length-append}
+use Rattle.std.proofs.Common.{◌≡◌, ℕ, ◌≤◌, ◌⊎◌, inl, inr, Bool, List, [], ◌∷◌, ◌++◌, length, Option, None, Some, refl, ap, sym, ◌∙◌, subst, arith, append_assoc, append-nil, length-append}
 use Rattle.ice_messages.specs.declared.message.Message.{Message}
+use Rattle.ice_messages.specs.declared.message.Message.TheVariants.{Validate}
 use Rattle.ice_messages.specs.Messages.{message_bytes, SpellsMessage}
 use Rattle.ice_messages.specs.Streams.{Stream}
 use Rattle.ice_messages.proofs.Streams.{messages_apart, message_long}
 use Rattle.dispatch_pool.specs.declared.end.End.{End}
 use Rattle.dispatch_pool.specs.declared.end.End.TheVariants.{LinkFailed, PeerEnded, PeerClosed, PeerBroke, Enough}
 use Rattle.dispatch_pool.specs.Said.{bytes_of, AreSpelled, IsSaid, IsBegun}
-use Rattle.dispatch_pool.specs.ServerDid.{WasSaid}
+use Rattle.dispatch_pool.specs.Handled.{Handled, answer_of, replies, reply_of}
+use Rattle.dispatch_pool.specs.ServerDid.{IsCut, WasSaid, all_said, closing}
 use Rattle.once_law.specs.Ends.{IsPrefix}
 
 -- ---- first bytes
@@ -107,19 +109,55 @@ begun_began messages taken h = elim h.last_spelled [
   }
 ]
 
-pub began : (end : Option End) (messages : List Message) (taken : List ℕ) → WasSaid end messages taken → Began messages taken
-began None messages taken h = begun_began messages taken h
-began (Some PeerEnded) messages taken h = said_began messages taken h
-began (Some PeerClosed) messages taken h = said_began messages taken h
-began (Some (PeerBroke fault)) messages taken h = said_began messages taken h
-began (Some LinkFailed) messages taken h = begun_began messages taken h
-began (Some Enough) messages taken h = said_began messages taken h
+-- messages that were said, before such as were begun
+spelled_before : (a some : List Message) (bytes : List ℕ) → AreSpelled a → Stream bytes some [] → Stream (bytes_of a ++ bytes) (a ++ some) []
+spelled_before [] some bytes h k = k
+spelled_before (m ∷ a) some bytes h k = (message_bytes m, bytes_of a ++ bytes, append_assoc (message_bytes m) (bytes_of a) bytes, h.0, spelled_before a some bytes h.1 k)
+
+said_then_began : (a b : List Message) (x y : List ℕ) → IsSaid a x → Began b y → Began (a ++ b) (x ++ y)
+said_then_began a b x y h k = record {
+  bytes = bytes_of a ++ k.bytes;
+  some = a ++ k.some;
+  others = k.others;
+  parts = append_assoc a k.some k.others ∙ ap (λ (z : List Message). a ++ z) k.parts;
+  stream = spelled_before a k.some k.bytes h.1 k.stream;
+  taken_is = (
+    k.taken_is.0,
+    append_assoc x y k.taken_is.0
+        ∙ (ap (λ (z : List ℕ). z ++ (y ++ k.taken_is.0)) h.0 ∙ ap (λ (z : List ℕ). bytes_of a ++ z) k.taken_is.1),
+  );
+}
+
+replies_append : (xs ys : List Handled) → replies (xs ++ ys) ≡ replies xs ++ replies ys
+replies_append [] ys = refl
+replies_append (x ∷ xs) ys = ap (λ (z : List Message). reply_of x.asked.id (answer_of x.outcome) ++ z) (replies_append xs ys)
+    ∙ sym (append_assoc (reply_of x.asked.id (answer_of x.outcome)) (replies xs) (replies ys))
+
+cut_began : (handled : List Handled) (closes : Bool) (taken : List ℕ) → IsCut handled closes taken → Began (all_said handled closes) taken
+cut_began handled closes taken (inl (none, opens, begun)) =
+    subst (λ (z : List Handled). Began (all_said z closes) taken) (sym none)
+    (subst (λ (b : Bool). Began (all_said [] b) taken) (sym opens) (begun_began (Validate ∷ []) taken begun))
+cut_began handled closes taken (inr cut) =
+    let all : (Validate ∷ replies cut.whole) ++ (replies cut.last ++ closing closes) ≡ all_said handled closes =
+    ap (λ (z : List Message). Validate ∷ z) (sym (append_assoc (replies cut.whole) (replies cut.last) (closing closes))
+    ∙ (ap (λ (z : List Message). z ++ closing closes) (sym (replies_append cut.whole cut.last)) ∙ ap (λ (z : List Handled). replies z ++ closing closes) (sym cut.parts))) in
+    subst (λ (z : List ℕ). Began (all_said handled closes) z) (sym cut.taken_is)
+    (subst (λ (z : List Message). Began z (cut.before ++ cut.behind)) all
+    (said_then_began (Validate ∷ replies cut.whole) (replies cut.last ++ closing closes) cut.before cut.behind cut.said (begun_began (replies cut.last ++ closing closes) cut.behind cut.begun)))
+
+pub began : (end : Option End) (handled : List Handled) (closes : Bool) (taken : List ℕ) → WasSaid end handled closes taken → Began (all_said handled closes) taken
+began None handled closes taken h = cut_began handled closes taken h
+began (Some PeerEnded) handled closes taken h = said_began (all_said handled closes) taken h
+began (Some PeerClosed) handled closes taken h = said_began (all_said handled closes) taken h
+began (Some (PeerBroke fault)) handled closes taken h = said_began (all_said handled closes) taken h
+began (Some LinkFailed) handled closes taken h = cut_began handled closes taken h
+began (Some Enough) handled closes taken h = said_began (all_said handled closes) taken h
 
 -- the messages that a client reads are the first that the server said
-pub reads_said : (end : Option End) (messages reads : List Message) (given taken rest : List ℕ) → WasSaid end messages taken → IsPrefix given taken
-    → Stream given reads rest → (others : List Message) × (reads ++ others ≡ messages)
-reads_said end messages reads given taken rest said first stream =
-    let b = began end messages taken said in
+pub reads_said : (end : Option End) (handled : List Handled) (closes : Bool) (reads : List Message) (given taken rest : List ℕ) → WasSaid end handled closes taken → IsPrefix given taken
+    → Stream given reads rest → (others : List Message) × (reads ++ others ≡ all_said handled closes)
+reads_said end handled closes reads given taken rest said first stream =
+    let b = began end handled closes taken said in
     let p = prefix_trans given taken b.bytes first b.taken_is in
     let f = first_messages given p.0 reads b.some rest stream (subst (λ (z : List ℕ). Stream z b.some []) (sym p.1) b.stream) in
     (f.0 ++ b.others, sym (append_assoc reads f.0 b.others) ∙ (ap (λ (z : List Message). z ++ b.others) f.1 ∙ b.parts))

@@ -3,3 +3,4 @@ pub mod Ends
 pub mod Shown
 pub mod Matched
 pub mod Laws
+pub mod Cut

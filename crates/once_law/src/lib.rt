@@ -13,6 +13,7 @@
 
 ghost use Rattle.once_law.specs.Laws.{EndsAreOneWorld, MatchedEndsAreOneWorld, EndsCanFit};
 ghost use Rattle.once_law.specs.Laws.{TurnsAreSingle, SuccessesHaveTurns};
+ghost use Rattle.once_law.specs.Cut.{CutCallsAreNone};
 
 /// What clients and servers say, apart and matched, or each session within its attempt: it is one world, in which a
 /// call that is not idempotent is dispatched at most once, and a success carries that dispatch's reply.
@@ -37,4 +38,10 @@ pub fn successes_have_turns()
 /// sessions, and with a batch.
 pub fn ends_can_fit()
     ensures { EndsCanFit }
+{}
+
+/// Of a request that was cut no call is handled, wherever it was cut, and of one that came whole at most one; a
+/// heartbeat may come before it. (Ice manual, "Request Message".)
+pub fn cut_call()
+    ensures { CutCallsAreNone }
 {}

@@ -1,6 +1,7 @@
 //! `node` over an outside in memory: a call of each command and refusal, and what comes of each
 //! failure. What comes of other words, texts and inputs, the cases show.
 
+use case_tables::{BrokenRow, BrokenTable, broken_messages, broken_values};
 use ice_node::node;
 use ice_ports::{MemNet, MemSink, MemSource};
 use ice_types::List;
@@ -18,6 +19,7 @@ const FILES: &[(&str, &str)] = &[
     ),
     ("t.ice", "module T { sequence<byte> Small; };"),
     ("u.ice", "module M { class C; sequence<C> Q; };"),
+    ("n.ice", "module M { class N { int v; N next; }; };"),
 ];
 
 /// The words of a call, and the status, output and line that are wanted.
@@ -56,6 +58,13 @@ const TEXT: &[u8] = b"{\"instances\":[],\"roots\":{\"$value\":[7,8]}}";
 
 /// A message that is a header alone.
 const MESSAGE: &[u8] = b"IceP\x01\x00\x01\x00\x03\x00\x0e\x00\x00\x00";
+
+/// An instance of `::M::N` that is its own next one.
+const RING: &[u8] = b"\x1A\0\0\0\x01\x01\x01\x39\x06::M::N\x09\0\0\0\x07\0\0\0\x01\x01\x02";
+
+/// A request of `ice_ping`.
+const PING: &[u8] =
+    b"IceP\x01\0\x01\0\0\0\x2B\0\0\0\x01\0\0\0\x05hello\0\0\x08ice_ping\x01\0\x06\0\0\0\x01\x01";
 
 const RELAY: &[&str] = &["relay", "s.ice", "::T::Small"];
 
@@ -208,5 +217,72 @@ fn an_input_that_has_ended_is_not_read_again(rt: HostRuntime) -> Result<(), Fail
             "in call {at}"
         );
     }
+    Ok(())
+}
+
+/// Whether the input with this byte is refused as the row says.
+fn is_refused<R: Threads + Wait + Sync>(
+    rt: &R,
+    alloc: Global,
+    words: &[&str],
+    input: &[u8],
+    row: &BrokenRow,
+) -> Result<bool, AllocError> {
+    let mut broken = Vec::from_slice(alloc, input)?;
+    if let Some(byte) = broken.get_mut(row.at as usize) {
+        *byte = row.byte;
+    }
+    let line = format!(in alloc; "ice: input refused at {}: {}\n", row.place, row.kind)?;
+    comes(
+        rt,
+        alloc,
+        words,
+        broken.as_slice(),
+        &WELL,
+        4,
+        b"",
+        line.as_str(),
+    )
+}
+
+/// The name of the first row whose input is not refused as it says.
+fn first_taken<R: Threads + Wait + Sync, const N: usize>(
+    rt: &R,
+    alloc: Global,
+    words: &[&str],
+    input: &[u8],
+    table: &BrokenTable<N>,
+) -> Result<Option<&'static str>, AllocError> {
+    for at in 0..N {
+        let Some(row) = table.get(at) else {
+            return Ok(Some("no row"));
+        };
+        if !is_refused(rt, alloc, words, input, row)? {
+            return Ok(Some(row.name));
+        }
+    }
+    Ok(None)
+}
+
+#[test]
+fn a_byte_that_breaks_a_value_is_told(rt: HostRuntime) -> Result<(), Fail> {
+    let (words, table): (&[&str], _) = (&["relay", "n.ice", "::M::N"], broken_values());
+    assert!(rt;
+        comes(&rt, rt.alloc(), words, RING, &WELL, 0, RING, "")?,
+        "as it stands"
+    );
+    assert_eq!(rt; first_taken(&rt, rt.alloc(), words, RING, &table)?, None);
+    Ok(())
+}
+
+#[test]
+fn a_byte_that_breaks_a_message_is_told(rt: HostRuntime) -> Result<(), Fail> {
+    let (words, table): (&[&str], _) = (&["messages"], broken_messages());
+    let told = b"request 1 \"hello\" \"\" \"ice_ping\" 1 0 6\n";
+    assert!(rt;
+        comes(&rt, rt.alloc(), words, PING, &WELL, 0, told, "")?,
+        "as it stands"
+    );
+    assert_eq!(rt; first_taken(&rt, rt.alloc(), words, PING, &table)?, None);
     Ok(())
 }

@@ -30,5 +30,6 @@ mod words;
 pub use ending::{Ending, report};
 pub use laws::{refusals_are_single, serve_ends_as_refused, serve_ends_for_cause, serve_first};
 pub use object_words::ObjectWord;
-pub use serving::{MOST_MESSAGES, serve};
+pub use operands::{MOST_CONNECTIONS, MOST_PORT};
+pub use serving::{MOST_MESSAGES, end_with, serve, tell};
 pub use words::{MOST_WORDS, ServeCommand, serve_is_no_other, serve_of};

@@ -167,7 +167,12 @@ fn serve_links<R: Threads + Wait + Sync, K: Sink, N: Net>(
 }
 
 /// Tells how many links were served, where nothing failed and memory did not lack.
-fn end_with<K: Sink>(accepted: u64, failed: bool, starved: bool, sink: &mut K) -> Ending<'static>
+pub fn end_with<K: Sink>(
+    accepted: u64,
+    failed: bool,
+    starved: bool,
+    sink: &mut K,
+) -> Ending<'static>
     ensures { EndsWith (K.taken sink.old) (K.taken sink.new) (K.failures sink.old) (K.failures sink.new)
         (served accepted) failed starved result }
 {
@@ -185,7 +190,7 @@ fn end_with<K: Sink>(accepted: u64, failed: bool, starved: bool, sink: &mut K) -
 }
 
 /// Writes a line: the words and a number. False where a write failed.
-fn tell<K: Sink>(sink: &mut K, words: &str, number: u64) -> bool
+pub fn tell<K: Sink>(sink: &mut K, words: &str, number: u64) -> bool
     ensures { Tells (K.taken sink.old) (K.taken sink.new) (K.failures sink.old) (K.failures sink.new) result
         (words.now ++ (decimal number ++ codes "\n")) }
 {

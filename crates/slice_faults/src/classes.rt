@@ -86,9 +86,11 @@ fn defined<'a>(
     requires plain { IsPlain word.now.name }
     requires kept { IsKept (known_of known.old) }
     ensures fault { IfOk result (λ fault. fault
-        ≡ noted None (faults (known_of known.old) (items.Class word.now compact.now base.now (Some fields.now)))) }
+        ≡ noted None (faults (known_of known.old)
+        (items.Class word.now compact.now base.now (Some fields.now)))) }
     ensures after { IfOk result (λ fault. fault ≡ None
-        → known_of known.new ≡ after (known_of known.old) (items.Class word.now compact.now base.now (Some fields.now))) }
+        → known_of known.new ≡ after (known_of known.old)
+        (items.Class word.now compact.now base.now (Some fields.now))) }
 {
     rows_known();
     sound_fits();

@@ -1,6 +1,8 @@
 // A client of real Ice for `ice serve`: calls what it serves of Office.ice, and tells what came otherwise. Its words are properties of
 // Ice; --Office.Port=N says where, --Office.Clients=N how many clients there are at once, each with a connection and a thread of its
-// own, --Office.Rounds=N how often each adds to the counter, and --Office.Nodes=N how large the tree is that each puts. Its last line is `N passed, M failed`.
+// own, --Office.Rounds=N how often each adds to the counter, and --Office.Nodes=N how large the tree is that each puts; with
+// --Office.Values=1 it makes only those calls of the desk that give their arguments back, which any server of Office.ice has. Its last
+// line is `N passed, M failed`.
 #include "mapping.h"
 #include <cstdio>
 #include <pthread.h>
@@ -98,6 +100,7 @@ struct Client
         RAISES(Ice::FacetNotExistException, proxy("desk -f back")->ice_ping());
         RAISES(Ice::OperationNotExistException, CAST(Forest, proxy("desk"))->get());
         RAISES(Ice::OperationNotExistException, CAST(Desk, desk)->total());
+        see("add of an echo", CAST(Desk, desk)->add(-77) == -77);
     }
 
     void plain() const
@@ -137,7 +140,6 @@ struct Client
         liked[ENTRY(Color, red)] = true;
         see("maps", desk->maps(counts, named, liked, places, countsOut, namedOut, likedOut) == places);
         see("maps, out", counts == countsOut && named == namedOut && liked == likedOut);
-        see("add of an echo", desk->add(-77) == -77);
     }
 
     void proxies() const
@@ -229,6 +231,7 @@ struct Client
 struct Run
 {
     int number, rounds, nodes;
+    bool isOfValues;
     std::string at;
     std::vector<std::string> words;
     pthread_t thread;
@@ -245,10 +248,14 @@ struct Run
         client.nodes = nodes;
         std::ostringstream log;
         log << "log" << number;
-        client.own();
         client.plain();
         client.proxies();
         client.graphs();
+        if (isOfValues)
+        {
+            return;
+        }
+        client.own();
         client.stores(rounds);
         client.noReplies(log.str());
         client.again();
@@ -277,6 +284,7 @@ int main(int argc, char** argv)
     {
         runs[at].number = static_cast<int>(at);
         runs[at].rounds = properties->getPropertyAsIntWithDefault("Office.Rounds", 10);
+        runs[at].isOfValues = properties->getPropertyAsInt("Office.Values") > 0;
         runs[at].nodes = properties->getPropertyAsIntWithDefault("Office.Nodes", 1000);
         runs[at].at = ":tcp -h 127.0.0.1 -p " + properties->getProperty("Office.Port");
         runs[at].words.assign(argv + 1, argv + argc);

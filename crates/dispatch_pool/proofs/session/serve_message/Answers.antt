@@ -43,7 +43,7 @@ returns-in_err-went-in-Request-clause-did g c =
       d.0,
       d.1,
       quiet _ d.0 (Err e) d.2.says,
-      λ bytes held first is spelled. next_handled keys (Err e) ps qs m bytes held first d.0 is (subst (λ (z : Message). SpellsMessage first z) c.in-Request.is spelled) (subst (λ (z : ℤ). Handling keys ps qs {E = AllocError} (record { id = z; call = c.in-Request.call } ∷ []) d.0 (Err e)) (to_z-of_z fits) d.2),
+      λ bytes held first is spelled. next_handled keys (Err e) ps qs m bytes held first d.0 is (subst (λ (z : Message). SpellsMessage first z) c.in-Request.is spelled) (refl, λ e. cc) (subst (λ (z : ℤ). Handling keys ps qs {E = AllocError} (record { id = z; call = c.in-Request.call } ∷ []) d.0 (Err e)) (to_z-of_z fits) d.2),
     )
 
 pub serve_batch-requires-clause-few : goal.serve_batch-requires-clause-few
@@ -59,7 +59,7 @@ returns-in_err-serve_batch-in-Batch-clause-did g c =
       silent,
       sym (adds_nothing (g.L.Link.talk c.args.link.now)),
       refl,
-      λ bytes held first is spelled. next_handled keys (Err e) ps qs (Batch c.in-Batch.calls) bytes held first silent is (subst (λ (z : Message). SpellsMessage first z) c.in-Batch.is spelled)
+      λ bytes held first is spelled. next_handled keys (Err e) ps qs (Batch c.in-Batch.calls) bytes held first silent is (subst (λ (z : Message). SpellsMessage first z) c.in-Batch.is spelled) (refl, λ e. cc)
           (subst (λ (z : List Call). Handling keys ps qs {E = AllocError} (unasked z) silent (Err e)) c.as_slice.ensures d),
     )
 
@@ -72,7 +72,7 @@ returns-in_ok-went-in-Request-clause-did g c =
       d.1,
       quiet {E = AllocError} _ d.0 (Ok c.in_ok-went-in-Request.went) d.2.says,
       λ bytes held first is spelled. subst (λ (z : Option End). Next keys ps qs {E = AllocError} d.0 bytes held (Ok z)) (sym c.went_on.ensures)
-          (next_handled keys (Ok c.in_ok-went-in-Request.went) ps qs m bytes held first d.0 is (subst (λ (z : Message). SpellsMessage first z) c.in-Request.is spelled)
+          (next_handled keys (Ok c.in_ok-went-in-Request.went) ps qs m bytes held first d.0 is (subst (λ (z : Message). SpellsMessage first z) c.in-Request.is spelled) (refl, λ e. cc)
           (subst (λ (z : ℤ). Handling keys ps qs {E = AllocError} (record { id = z; call = c.in-Request.call } ∷ []) d.0 (Ok c.in_ok-went-in-Request.went)) (to_z-of_z fits) d.2)),
     )
 
@@ -83,7 +83,7 @@ returns-in_ok-serve_batch-in-Batch-clause-did g c =
       silent,
       sym (adds_nothing (g.L.Link.talk c.args.link.now)),
       refl,
-      λ bytes held first is spelled. next_handled keys (Ok true) ps qs (Batch c.in-Batch.calls) bytes held first silent is (subst (λ (z : Message). SpellsMessage first z) c.in-Batch.is spelled)
+      λ bytes held first is spelled. next_handled keys (Ok true) ps qs (Batch c.in-Batch.calls) bytes held first silent is (subst (λ (z : Message). SpellsMessage first z) c.in-Batch.is spelled) (refl, λ e. cc)
           (subst (λ (z : List Call). Handling keys ps qs {E = AllocError} (unasked z) silent (Ok true)) c.as_slice.ensures d),
     )
 
@@ -92,7 +92,7 @@ returns-in-Validate-clause-did g c = (
   silent,
   sym (adds_nothing (g.L.Link.talk c.args.link.now)),
   refl,
-  λ bytes held first is spelled. next_quiet c.args.service.now.lanes.now.keys c.args.passes.now.passes.items Validate bytes held first is (subst (λ (z : Message). SpellsMessage first z) c.in-Validate.is spelled) refl,
+  λ bytes held first is spelled. next_quiet c.args.service.now.lanes.now.keys c.args.passes.now.passes.items Validate bytes held first is (subst (λ (z : Message). SpellsMessage first z) c.in-Validate.is spelled) (refl, λ e. cc) refl,
 )
 
 pub returns-in-Close-clause-did : goal.returns-in-Close-clause-did

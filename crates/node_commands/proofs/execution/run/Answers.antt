@@ -1,7 +1,8 @@
-use Rattle.std.proofs.Common.{[], Some, string_bytes, refl, inr}
+use Rattle.std.proofs.Common.{ℕ, List, [], Some, string_bytes, refl, inr, subst}
 use Rattle.node_commands.specs.Words.{values, check, proxy, audit, compat, drill, messages, help}
-use Rattle.node_commands.specs.declared.help.TheConstants.{HELP}
+use Rattle.node_commands.specs.Pages.{page_text}
 use Rattle.node_commands.specs.Outside.{counts}
+use Rattle.node_commands.specs.Effects.{Outputs}
 use Rattle.node_commands.specs.Outcomes.{answer_of, found_bytes}
 use Rattle.node_commands.proofs.Answering.{printed, found_printed, outputs_nothing, takes_nothing}
 use Rattle.node_commands.proofs.Denying.{no_is_to_be_written}
@@ -84,12 +85,21 @@ returns-in-Err-compat g c =
 
 pub returns-in-Some-Help : goal.returns-in-Some-Help
 returns-in-Some-Help g c =
+    let page = c.in-Some-Help.page in
+    let text = page_text page in
     let input = g.S.Source.left c.args.source.now in
-    let came = printed (Some help) (g.H.Shelf.files c.args.shelf.now) input input
+    let came = printed (Some (help page)) (g.H.Shelf.files c.args.shelf.now) input input
     (record { shelf = g.H.Shelf.failures c.args.shelf.now; source = g.S.Source.failures c.args.source.now; sink = g.K.Sink.failures c.args.sink.now })
     (record { shelf = g.H.Shelf.failures c.args.shelf.now; source = g.S.Source.failures c.args.source.now; sink = g.K.Sink.failures c.print-in-Some-Help.new.sink })
-    HELP.now c.print-in-Some-Help.result refl refl refl (keeps_itself input) c.print-in-Some-Help.ensures.outcome in
-    (HELP.now, Some help, (rw c.in-Some-Help.field-0-is at c.in-Some-Help.ensures), came.0, came.1, (rw c.as_bytes-in-Some-Help.ensures.value at c.print-in-Some-Help.ensures.output))
+    text c.print-in-Some-Help.result refl refl refl (keeps_itself input) c.print-in-Some-Help.ensures.outcome in (
+      text,
+      Some (help page),
+      (rw c.in-Some-Help.field-0-is at c.in-Some-Help.ensures),
+      came.0,
+      came.1,
+      subst (λ (z : List ℕ). Outputs (g.K.Sink.taken c.args.sink.now) (g.K.Sink.taken c.print-in-Some-Help.new.sink) (answer_of c.print-in-Some-Help.result z))
+          c.text_of.ensures (rw c.as_bytes-in-Some-Help.ensures.value at c.print-in-Some-Help.ensures.output),
+    )
 
 pub returns-in-Ok-proxy : goal.returns-in-Ok-proxy
 returns-in-Ok-proxy g c =

@@ -1,0 +1,12 @@
+-- What a table of broken bytes is to its callers.
+use Rattle.std.specs.Prelude.{ℕ, ◌≡◌, List, Some, slice_get}
+use Rattle.case_tables.specs.declared.broken.BrokenTable.{BrokenTable}
+use Rattle.case_tables.specs.Tables.{Name}
+use Rattle.case_tables.specs.BrokenRows.{Row, rows_seen, row_names}
+
+abbrev pub rows_of : {N : ℕ} → BrokenTable N → List Row
+rows_of table = rows_seen table.rows.now
+
+-- no name stands in two rows
+abbrev pub HasOneRow : {N : ℕ} → BrokenTable N → Type 0
+HasOneRow table = (at other : ℕ) (name : Name) → slice_get (row_names (rows_of table)) at ≡ Some name → slice_get (row_names (rows_of table)) other ≡ Some name → at ≡ other

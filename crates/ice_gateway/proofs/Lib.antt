@@ -1,0 +1,14 @@
+pub mod Rising
+pub mod Coming
+pub mod Lengths
+pub mod Replying
+pub mod Outcomes
+pub mod Dead
+pub mod Back
+pub mod Runs
+pub mod Passing
+pub mod Fitting
+pub mod Spoken
+pub mod Handling
+pub mod Sessions
+pub mod Told

@@ -1,0 +1,357 @@
+-- Messages that are taken one after the other, and how a session ends.
+use Rattle.std.proofs.Common.{◌≡◌, ◌≢◌, ℕ, suc, ◌+◌, ◌<◌, ◌≤◌, inl, inr, Bool, true, false, ◌||◌, List, [], ◌∷◌, ◌++◌, length, refl, sym, ap, ap₂, ◌∙◌, subst, arith, append_assoc, append-nil, length-append}
+use Rattle.std.specs.Prelude.{Option, Some, None, Result, Ok, Err, IfOk}
+use Rattle.ice_encoding.specs.Parts.{Each}
+use Rattle.ice_ports.specs.declared.talk.Talk.{Talk}
+use Rattle.ice_ports.specs.Talks.{and_then, gives, silent}
+use Rattle.ice_messages.specs.declared.message.Message.{Message}
+use Rattle.ice_messages.specs.declared.message.Message.TheVariants.{Validate, Close}
+use Rattle.ice_messages.specs.Messages.{SpellsMessage}
+use Rattle.ice_messages.specs.Streams.{Stream}
+use Rattle.ice_client.specs.ClientDid.{Tried}
+use Rattle.ice_gateway.specs.declared.end.GateEnd.{GateEnd}
+use Rattle.ice_gateway.specs.declared.end.GateEnd.TheVariants as ends
+use Rattle.ice_gateway.specs.Gate.{Gate}
+use Rattle.ice_gateway.specs.Handled.{Handled, WasHandled, messages, runs_of, run_of, replies}
+use Rattle.ice_gateway.specs.Said.{IsSaid, IsBegun, Says}
+use Rattle.ice_gateway.specs.GateDid.{GateDid, IsCut, IsTaken, Shows, WasSaid, ClosesBy, IsLeft, all_said}
+use Rattle.ice_gateway.specs.Parts.{ComesBy, Handling, Next, Part, IsNext, Leaves, StepSaid, went_on}
+use Rattle.ice_gateway.proofs.Spoken.{said_then, said_begun}
+use Rattle.ice_gateway.proofs.Handling.{one_handled}
+
+-- ---- lists
+
+stream_then : (ms ns : List Message) (bytes rest more left : List ℕ) → Stream bytes ms rest → Stream (rest ++ more) ns left → Stream (bytes ++ more) (ms ++ ns) left
+stream_then [] ns bytes rest more left h k = subst (λ (z : List ℕ). Stream (z ++ more) ns left) (sym h) k
+stream_then (m ∷ ms) ns bytes rest more left h k =
+    (h.0, h.1 ++ more, ap (λ (z : List ℕ). z ++ more) h.2 ∙ append_assoc h.0 h.1 more, h.3, stream_then ms ns h.1 rest more left h.4 k)
+
+messages_append : (xs ys : List Handled) → messages (xs ++ ys) ≡ messages xs ++ messages ys
+messages_append [] ys = refl
+messages_append (x ∷ xs) ys = ap (λ (z : List Message). x.message ∷ z) (messages_append xs ys)
+
+runs_append : (xs ys : List Handled) → runs_of (xs ++ ys) ≡ runs_of xs ++ runs_of ys
+runs_append [] ys = refl
+runs_append (x ∷ xs) ys = ap (λ (z : List (List Tried)). run_of x.invocation ++ z) (runs_append xs ys) ∙ sym (append_assoc (run_of x.invocation) (runs_of xs) (runs_of ys))
+
+replies_append : (xs ys : List Handled) → replies (xs ++ ys) ≡ replies xs ++ replies ys
+replies_append [] ys = refl
+replies_append (x ∷ xs) ys = ap (λ (z : List Message). x.replies ++ z) (replies_append xs ys) ∙ sym (append_assoc x.replies (replies xs) (replies ys))
+
+each_append : (gate : Gate) (xs ys : List Handled) → Each (WasHandled gate) xs → Each (WasHandled gate) ys → Each (WasHandled gate) (xs ++ ys)
+each_append gate [] ys a b = b
+each_append gate (x ∷ xs) ys a b = (a.0, each_append gate xs ys a.1 b)
+
+-- what was handled and is left, behind what was handled
+behind : {A : Type 0} (f : List Handled → List A) → ((xs ys : List Handled) → f (xs ++ ys) ≡ f xs ++ f ys) → (xs ys : List Handled) (a b rest : List A) → a ≡ f xs → b ≡ f ys ++ rest → a ++ b ≡ f (xs ++ ys) ++ rest
+behind {A} f append xs ys a b rest one two =
+    ap₂ (λ (u v : List A). u ++ v) one two ∙ (sym (append_assoc (f xs) (f ys) rest) ∙ ap (λ (z : List A). z ++ rest) (sym (append xs ys)))
+
+-- ---- one message
+
+-- what a message that was handled comes to
+abbrev pub stepped : {E : Type 0} → Result Bool E → Result (Option GateEnd) E
+stepped (Ok b) = Ok (went_on b)
+stepped (Err e) = Err e
+
+next_by : {E : Type 0} (r : Result Bool E) (m : Message) (t : Talk) (held : List ℕ) (rest : List Message) (cut : List (List Tried)) (said : List Message) → Leaves rest cut r → Says said t r → IsNext t held (m ∷ []) held rest cut said (stepped r)
+next_by (Ok true) m t held rest cut said none s = (refl, refl, none.0, none.1, s.1)
+next_by (Ok false) m t held rest cut said none s = (s.2, none.0, none.1, s.1, tt)
+next_by (Err e) m t held rest cut said none s = (none.0, none.1, s.1)
+
+nothing_said : (end : GateEnd) (t : Talk) → end ≢ ends.Enough → t.taken ≡ [] → StepSaid end [] t.taken
+nothing_said ends.PeerEnded t ne none = (none, tt)
+nothing_said ends.PeerClosed t ne none = (none, tt)
+nothing_said (ends.PeerBroke fault) t ne none = (none, tt)
+nothing_said ends.LinkFailed t ne none = said_begun [] t.taken (none, tt)
+nothing_said ends.Enough t ne none = ne refl
+
+nothing_taken : (end : GateEnd) → end ≢ ends.Enough → ComesBy end []
+nothing_taken ends.PeerEnded ne = refl
+nothing_taken ends.PeerClosed ne = refl
+nothing_taken (ends.PeerBroke fault) ne = refl
+nothing_taken ends.LinkFailed ne = tt
+nothing_taken ends.Enough ne = ne refl
+
+module _ (gate : Gate) where
+  pub next_handled : {E : Type 0} (r : Result Bool E) (runs : List (List Tried)) (m : Message) (bytes held first : List ℕ) (t : Talk) → bytes ≡ first ++ held → SpellsMessage first m
+      → IsTaken m → Handling gate m runs t r → Next gate runs t bytes held (stepped r)
+  next_handled r runs m bytes held first t is spelled going h = record {
+    reads = m ∷ [];
+    left = held;
+    handled = h.handled;
+    rest = h.rest;
+    cut = h.cut;
+    stream = (first, held, is, spelled, refl);
+    few = omega arith;
+    going = (going, tt);
+    taken = h.taken;
+    did = h.did;
+    invoked = h.invoked;
+    how = next_by r m t held h.rest h.cut (replies h.handled) h.left h.says;
+  }
+
+  -- a message of which nothing comes
+  pub next_quiet : {E : Type 0} (bytes held first : List ℕ) → bytes ≡ first ++ held → SpellsMessage first Validate → Next {E = E} gate [] silent bytes held (Ok None)
+  next_quiet {E = E} bytes held first is spelled = next_handled {E = E} (Ok true) [] Validate bytes held first silent is spelled (refl, λ e. cc) (one_handled gate Validate [] None [] silent (Ok true) refl tt refl (refl, (refl, tt)))
+
+  pub next_end : {E : Type 0} (t : Talk) (bytes held : List ℕ) (end : GateEnd) → t.taken ≡ [] → Shows t bytes (Some end) → end ≢ ends.Enough → Next {E = E} gate [] t bytes held (Ok (Some end))
+  next_end t bytes held end none shows ne = record {
+    reads = [];
+    left = bytes;
+    handled = [];
+    rest = [];
+    cut = [];
+    stream = refl;
+    few = omega arith;
+    going = tt;
+    taken = refl;
+    did = tt;
+    invoked = refl;
+    how = (shows, refl, refl, nothing_said end t ne none, nothing_taken end ne);
+  }
+
+  pub next_starved : {E : Type 0} (e : E) (t : Talk) (bytes held : List ℕ) → t.taken ≡ [] → Next {E = E} gate [] t bytes held (Err e)
+  next_starved e t bytes held none = record {
+    reads = [];
+    left = bytes;
+    handled = [];
+    rest = [];
+    cut = [];
+    stream = refl;
+    few = omega arith;
+    going = tt;
+    taken = refl;
+    did = tt;
+    invoked = refl;
+    how = (omega arith, omega arith, said_begun [] t.taken (none, tt));
+  }
+
+-- behind the bytes of a message
+shown_behind : {E : Type 0} (got : List ℕ) (t : Talk) (held : List ℕ) (reads : List Message) (left : List ℕ) (rest : List Message) (cut : List (List Tried)) (said : List Message) (r : Result (Option GateEnd) E)
+    → IsNext t held reads left rest cut said r → IsNext (and_then (gives got) t) held reads left rest cut said r
+shown_behind got t held reads left rest cut said (Ok None) h = h
+shown_behind got t held reads left rest cut said (Ok (Some ends.PeerEnded)) h = h
+shown_behind got t held reads left rest cut said (Ok (Some ends.PeerClosed)) h = h
+shown_behind got t held reads left rest cut said (Ok (Some (ends.PeerBroke fault))) h = h
+shown_behind got t held reads left rest cut said (Ok (Some ends.LinkFailed)) h = h
+shown_behind got t held reads left rest cut said (Ok (Some ends.Enough)) h = h
+shown_behind got t held reads left rest cut said (Err e) h = h
+
+pub next_behind : {E : Type 0} (gate : Gate) (runs : List (List Tried)) (r : Result (Option GateEnd) E) (before got held : List ℕ) (t : Talk) → t.given ≡ []
+    → Next gate runs t (before ++ got) held r → Next gate runs (and_then (gives got) t) (before ++ (got ++ t.given)) held r
+next_behind gate runs r before got held t none n = record {
+  reads = n.reads;
+  left = n.left;
+  handled = n.handled;
+  rest = n.rest;
+  cut = n.cut;
+  stream = subst (λ (z : List ℕ). Stream (before ++ z) n.reads n.left) (sym (append-nil got) ∙ ap (λ (z : List ℕ). got ++ z) (sym none)) n.stream;
+  few = n.few;
+  going = n.going;
+  taken = n.taken;
+  did = n.did;
+  invoked = n.invoked;
+  how = shown_behind got t held n.reads n.left n.rest n.cut (replies n.handled) r n.how;
+}
+
+-- ---- the whole session
+
+or_right : (a b : Bool) → b ≡ true → (a || b) ≡ true
+or_right true b e = refl
+or_right false b e = e
+
+shows_later : (a s : Talk) (left : List ℕ) (e : GateEnd) → Shows s left (Some e) → Shows (and_then a s) left (Some e)
+shows_later a s left ends.PeerEnded h = (h.0, or_right a.ended s.ended h.1)
+shows_later a s left ends.PeerClosed h = h
+shows_later a s left (ends.PeerBroke fault) h = h
+shows_later a s left ends.LinkFailed h = or_right a.failed s.failed h
+shows_later a s left ends.Enough h = h
+
+not_closed : (e : GateEnd) (reads : List Message) (before total most : ℕ) → ComesBy e reads → before < most → total ≡ before + length reads → ClosesBy (Some e) false total most
+not_closed ends.PeerEnded reads before total most by lt is = let none = ap (λ (z : List Message). length z) by in (refl, omega arith)
+not_closed ends.PeerClosed reads before total most by lt is = let none = ap (λ (z : List Message). length z) by in (refl, omega arith)
+not_closed (ends.PeerBroke fault) reads before total most by lt is = let none = ap (λ (z : List Message). length z) by in (refl, omega arith)
+not_closed ends.LinkFailed reads before total most by lt is = λ f. absurd cc
+not_closed ends.Enough reads before total most by lt is = absurd by
+
+-- validate and replies, one part and another
+said_more : (xs ys : List Handled) → (Validate ∷ replies xs) ++ replies ys ≡ Validate ∷ replies (xs ++ ys)
+said_more xs ys = ap (λ (z : List Message). Validate ∷ z) (sym (replies_append xs ys))
+
+unclosed : (hs : List Handled) → Validate ∷ replies hs ≡ all_said hs false
+unclosed hs = ap (λ (z : List Message). Validate ∷ z) (sym (append-nil (replies hs)))
+
+said_both : (xs ys : List Handled) (x y : List ℕ) → IsSaid (Validate ∷ replies xs) x → IsSaid (replies ys) y → IsSaid (all_said (xs ++ ys) false) (x ++ y)
+said_both xs ys x y h k =
+    subst (λ (z : List Message). IsSaid z (x ++ y)) (said_more xs ys ∙ unclosed (xs ++ ys)) (said_then (Validate ∷ replies xs) (replies ys) x y h k)
+
+-- ---- what was said, where a write failed or memory lacked
+
+messages_long : (hs : List Handled) → length (messages hs) ≡ length hs
+messages_long [] = refl
+messages_long (h ∷ hs) = ap suc (messages_long hs)
+
+-- of one message one at most was handled
+one_at_most : (reads rest : List Message) (hs : List Handled) → reads ≡ messages hs ++ rest → length reads ≤ 1 → length hs ≤ 1
+one_at_most reads rest hs is few = let a = ap (λ (z : List Message). length z) is in let b = length-append (messages hs) rest in let c = messages_long hs in omega arith
+
+cut_behind : (xs ys : List Handled) (x y : List ℕ) → length ys ≤ 1 → IsSaid (Validate ∷ replies xs) x → IsBegun (replies ys) y → IsCut (xs ++ ys) false (x ++ y)
+cut_behind xs ys x y one h k = inr (record {
+  whole = xs;
+  last = ys;
+  parts = refl;
+  one = one;
+  before = x;
+  behind = y;
+  taken_is = refl;
+  said = h;
+  begun = subst (λ (z : List Message). IsBegun z y) (sym (append-nil (replies ys))) k;
+})
+
+cut_close : (hs : List Handled) (x y : List ℕ) → IsSaid (Validate ∷ replies hs) x → IsBegun (Close ∷ []) y → IsCut hs true (x ++ y)
+cut_close hs x y h k = inr (record {
+  whole = hs;
+  last = [];
+  parts = sym (append-nil hs);
+  one = omega arith;
+  before = x;
+  behind = y;
+  taken_is = refl;
+  said = h;
+  begun = k;
+})
+
+was_then : (e : GateEnd) (xs ys : List Handled) (x y : List ℕ) → length ys ≤ 1 → IsSaid (Validate ∷ replies xs) x → StepSaid e (replies ys) y → WasSaid (Some e) (xs ++ ys) false (x ++ y)
+was_then ends.PeerEnded xs ys x y one h k = said_both xs ys x y h k
+was_then ends.PeerClosed xs ys x y one h k = said_both xs ys x y h k
+was_then (ends.PeerBroke fault) xs ys x y one h k = said_both xs ys x y h k
+was_then ends.LinkFailed xs ys x y one h k = cut_behind xs ys x y one h k
+was_then ends.Enough xs ys x y one h k = absurd k
+
+taken_append : (ms ns : List Message) → Each IsTaken ms → Each IsTaken ns → Each IsTaken (ms ++ ns)
+taken_append [] ns a b = b
+taken_append (m ∷ ms) ns a b = (a.0, taken_append ms ns a.1 b)
+
+module _ (gate : Gate) where
+  pub part_begun : (E : Type 0) (t : Talk) → Says {E = E} (Validate ∷ []) t (Ok true) → Part gate [] t [] 0
+  part_begun E t h = record { reads = []; handled = []; stream = h.0; long = refl; going = tt; taken = refl; did = tt; invoked = refl; said = h.1 }
+
+  pub part_more : (E : Type 0) (runs more : List (List Tried)) (t s : Talk) (held now : List ℕ) (i : ℕ) → Part gate runs t held i → Next {E = E} gate more s (held ++ s.given) now (Ok None)
+      → Part gate (runs ++ more) (and_then t s) now (i + 1)
+  part_more E runs more t s held now i p n = record {
+    reads = p.reads ++ n.reads;
+    handled = p.handled ++ n.handled;
+    stream = subst (λ (z : List ℕ). Stream (t.given ++ s.given) (p.reads ++ n.reads) z) n.how.1 (stream_then p.reads n.reads t.given held s.given n.left p.stream n.stream);
+    long = let l = length-append p.reads n.reads in let a = p.long in let b = n.how.0 in omega arith;
+    going = taken_append p.reads n.reads p.going n.going;
+    taken = behind messages messages_append p.handled n.handled p.reads n.reads [] p.taken (n.taken ∙ ap (λ (z : List Message). messages n.handled ++ z) n.how.2) ∙ append-nil (messages (p.handled ++ n.handled));
+    did = each_append gate p.handled n.handled p.did n.did;
+    invoked = behind runs_of runs_append p.handled n.handled runs more [] p.invoked (n.invoked ∙ ap (λ (z : List (List Tried)). runs_of n.handled ++ z) n.how.3) ∙ append-nil (runs_of (p.handled ++ n.handled));
+    said = subst (λ (z : List Message). IsSaid z (t.taken ++ s.taken)) (said_more p.handled n.handled) (said_then (Validate ∷ replies p.handled) (replies n.handled) t.taken s.taken p.said n.how.4);
+  }
+
+  -- the last message, or what came in its place
+  module _ (most i : ℕ) (runs more : List (List Tried)) (t s : Talk) (held now : List ℕ) (p : Part gate runs t held i) where
+    pub ended : (E : Type 0) (e : GateEnd) → i < most → Next {E = E} gate more s (held ++ s.given) now (Ok (Some e)) → GateDid gate most (and_then t s) (runs ++ more) (Some e)
+    ended E e lt n = record {
+      reads = p.reads ++ n.reads;
+      left = n.left;
+      stream = stream_then p.reads n.reads t.given held s.given n.left p.stream n.stream;
+      few = let l = length-append p.reads n.reads in let a = p.long in let b = n.few in omega arith;
+      going = taken_append p.reads n.reads p.going n.going;
+      shows = shows_later t s n.left e n.how.0;
+      handled = p.handled ++ n.handled;
+      rest = n.rest;
+      taken = behind messages messages_append p.handled n.handled p.reads n.reads n.rest p.taken n.taken;
+      did = each_append gate p.handled n.handled p.did n.did;
+      cut = n.cut;
+      invoked = behind runs_of runs_append p.handled n.handled runs more n.cut p.invoked n.invoked;
+      is_left = (n.how.1, n.how.2);
+      closes = false;
+      closes_by = not_closed e n.reads i (length (p.reads ++ n.reads)) most n.how.4 lt (length-append p.reads n.reads ∙ ap (λ (k : ℕ). k + length n.reads) p.long);
+      said = was_then e p.handled n.handled t.taken s.taken (one_at_most n.reads n.rest n.handled n.taken n.few) p.said n.how.3;
+    }
+
+    pub starves : (E : Type 0) (e : E) → i < most → Next {E = E} gate more s (held ++ s.given) now (Err e) → GateDid gate most (and_then t s) (runs ++ more) None
+    starves E e lt n = record {
+      reads = p.reads ++ n.reads;
+      left = n.left;
+      stream = stream_then p.reads n.reads t.given held s.given n.left p.stream n.stream;
+      few = let l = length-append p.reads n.reads in let a = p.long in let b = n.few in omega arith;
+      going = taken_append p.reads n.reads p.going n.going;
+      shows = tt;
+      handled = p.handled ++ n.handled;
+      rest = n.rest;
+      taken = behind messages messages_append p.handled n.handled p.reads n.reads n.rest p.taken n.taken;
+      did = each_append gate p.handled n.handled p.did n.did;
+      cut = n.cut;
+      invoked = behind runs_of runs_append p.handled n.handled runs more n.cut p.invoked n.invoked;
+      is_left = (n.how.0, n.how.1);
+      closes = false;
+      closes_by = λ f. absurd cc;
+      said = cut_behind p.handled n.handled t.taken s.taken (one_at_most n.reads n.rest n.handled n.taken n.few) p.said n.how.2;
+    }
+
+  -- after the stated number of messages
+  module _ (most : ℕ) (runs : List (List Tried)) (t s : Talk) (held : List ℕ) (p : Part gate runs t held most) where
+    closed : (end : Option GateEnd) → s.given ≡ [] → Shows (and_then t s) held end → ClosesBy end true (length p.reads) most → WasSaid end p.handled true (t.taken ++ s.taken) → IsLeft end [] []
+        → GateDid gate most (and_then t s) runs end
+    closed end none shows by said left = record {
+      reads = p.reads;
+      left = held;
+      stream = subst (λ (z : List ℕ). Stream z p.reads held) (sym (append-nil t.given) ∙ ap (λ (z : List ℕ). t.given ++ z) (sym none)) p.stream;
+      few = let a = p.long in omega arith;
+      going = p.going;
+      shows = shows;
+      handled = p.handled;
+      rest = [];
+      taken = p.taken ∙ sym (append-nil (messages p.handled));
+      did = p.did;
+      cut = [];
+      invoked = p.invoked ∙ sym (append-nil (runs_of p.handled));
+      is_left = left;
+      closes = true;
+      closes_by = by;
+      said = said;
+    }
+
+    pub enough : (E : Type 0) → Says {E = E} (Close ∷ []) s (Ok true) → GateDid gate most (and_then t s) runs (Some ends.Enough)
+    enough E h = closed (Some ends.Enough) h.0 tt (refl, p.long) (said_then (Validate ∷ replies p.handled) (Close ∷ []) t.taken s.taken p.said h.1) (refl, refl)
+
+    pub not_said : (E : Type 0) → Says {E = E} (Close ∷ []) s (Ok false) → GateDid gate most (and_then t s) runs (Some ends.LinkFailed)
+    not_said E h = closed (Some ends.LinkFailed) h.0 (or_right t.failed s.failed h.2) (λ f. p.long) (cut_close p.handled t.taken s.taken p.said h.1) (refl, refl)
+
+    pub starved_last : (E : Type 0) (e : E) → Says {E = E} (Close ∷ []) s (Err e) → GateDid gate most (and_then t s) runs None
+    starved_last E e h = closed None h.0 tt (λ f. p.long) (cut_close p.handled t.taken s.taken p.said h.1) (omega arith, omega arith)
+
+  -- not even a validate was said
+  not_begun : (most : ℕ) (t : Talk) (end : Option GateEnd) → t.given ≡ [] → Shows t [] end → ClosesBy end false 0 most → IsLeft end [] [] → WasSaid end [] false t.taken → GateDid gate most t [] end
+  not_begun most t end none shows by left said = record {
+    reads = [];
+    left = [];
+    stream = none;
+    few = omega arith;
+    going = tt;
+    shows = shows;
+    handled = [];
+    rest = [];
+    taken = refl;
+    did = tt;
+    cut = [];
+    invoked = refl;
+    is_left = left;
+    closes = false;
+    closes_by = by;
+    said = said;
+  }
+
+  pub no_validate : (E : Type 0) (most : ℕ) (t : Talk) → Says {E = E} (Validate ∷ []) t (Ok false) → GateDid gate most t [] (Some ends.LinkFailed)
+  no_validate E most t h = not_begun most t (Some ends.LinkFailed) h.0 h.2 (λ f. absurd cc) (refl, refl) (inl (refl, refl, h.1))
+
+  pub starved_first : (E : Type 0) (e : E) (most : ℕ) (t : Talk) → Says {E = E} (Validate ∷ []) t (Err e) → GateDid gate most t [] None
+  starved_first E e most t h = not_begun most t None h.0 tt (λ f. absurd cc) (omega arith, omega arith) (inl (refl, refl, h.1))
+
+pub ok_either : {A B : Type 0} (r : Result A B) (P : A → Type 0) → ((x : A) → P x) → IfOk r P
+ok_either (Ok x) P f = f x
+ok_either (Err e) P f = tt

@@ -1,0 +1,11 @@
+pub mod Gate
+pub mod Anew
+pub mod Mapped
+pub mod Forwarded
+pub mod Runs
+pub mod Handled
+pub mod Said
+pub mod GateDid
+pub mod Parts
+pub mod Sessions
+pub mod Laws

@@ -1,0 +1,38 @@
+-- WHAT A GATEWAY AND THE SERVERS BEHIND IT SAY, joined. (Ice manual, "At-Most-Once Semantics".)
+use Rattle.std.specs.Prelude.{ℕ, ℤ, ◌≡◌, false, List, [], ◌∷◌, map, Some, slice_get}
+use Rattle.ice_encoding.specs.Parts.{Each}
+use Rattle.ice_messages.specs.declared.message.Answer.{Answer}
+use Rattle.ice_messages.specs.declared.message.Answer.TheVariants.{Done}
+use Rattle.ice_messages.specs.declared.message.Call.{Call}
+use Rattle.ice_messages.specs.declared.message.Message.TheVariants.{Request, Reply}
+use Rattle.ice_gateway.specs.declared.renewing.Renewed.TheVariants.{Written}
+use Rattle.ice_gateway.specs.Anew.{body_anew}
+use Rattle.ice_gateway.specs.Gate.{Gate, Operation, operation_of}
+use Rattle.ice_gateway.specs.Handled.{Handled, Invocation, WasHandled}
+use Rattle.once_law.specs.Ends.{Delivery, HasOtherEnd, tried_of}
+use Rattle.once_law.specs.Laws.{HasTurn}
+use Rattle.once_law.specs.Shown.{calls_of}
+
+-- a message that a gateway handled and forwarded: the attempts at it, with the sessions of servers at their other ends
+pub record IsThrough (gate : Gate) (h : Handled) (d : Delivery) : Type 0 where
+  pub handled : WasHandled gate h
+  pub invocation : Invocation
+  pub invoked : h.invocation ≡ Some invocation
+  pub message_is : d.message ≡ invocation.message
+  pub retries_are : d.retries ≡ gate.retries
+  pub attempts_are : map tried_of d.attempts ≡ invocation.tried
+  pub outcome_is : d.outcome ≡ Some invocation.outcome
+  pub ends : Each HasOtherEnd d.attempts
+
+-- over all attempts at what was forwarded a call that is not idempotent has a turn at most once
+abbrev pub GatedTurnsAreSingle : Type 0
+GatedTurnsAreSingle =
+    (gate : Gate) (h : Handled) (d : Delivery) → IsThrough gate h d → (seat : ℕ) (call : Call) → slice_get (calls_of d.message) seat ≡ Some (call, false)
+    → (m n : ℕ) (a b : Answer) → HasTurn d m seat a → HasTurn d n seat b → m ≡ n
+
+-- a success that the caller is told is that of a turn, with its results written anew
+abbrev pub GatedSuccessesHaveTurns : Type 0
+GatedSuccessesHaveTurns =
+    (gate : Gate) (h : Handled) (d : Delivery) → IsThrough gate h d → (id : ℤ) (c : Call) (op : Operation) (body : List ℕ)
+    → h.message ≡ Request id c → operation_of gate c.operation ≡ Some op → h.replies ≡ Reply id (Done body) ∷ []
+    → (n : ℕ) × (came : List ℕ) × HasTurn d n 0 (Done came) × (body_anew op.tables op.declared.results came ≡ Written body)
