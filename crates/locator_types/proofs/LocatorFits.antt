@@ -1,71 +1,17 @@
 -- The rows of the locator's schema may be added.
-use Rattle.std.proofs.Common.{ℕ, zero, suc, ◌≡◌, ◌≢◌, ◌<◌, ◌≤◌, true, false, List, [], ◌∷◌, map, All, None, Some, codes, refl, arith}
+use Rattle.std.proofs.Common.{ℕ, ◌≡◌, ◌≢◌, ◌<◌, true, false, List, [], ◌∷◌, All, None, codes, refl, arith}
 use Rattle.std.specs.Prelude.{IsTrue}
 use Rattle.std.specs.Str.{bytes_eq, str_to_ascii_lowercase}
 use Rattle.std.proofs.lemmas.Slice.Eq.{bytes_eq-Decides}
 use Rattle.std.proofs.lemmas.List.Elements.{All-nil, All-cons}
 use Rattle.ice_types.specs.declared.kind.TypeRef.{TypeRef}
 use Rattle.ice_types.specs.declared.kind.TypeRef.TheVariants as kinds
-use Rattle.ice_types.specs.declared.kind.RowRef.TheVariants as rows
-use Rattle.ice_types.specs.Names.{IsFree, AreNew}
-use Rattle.ice_types.specs.Tables.{Tables, IsNewId, is_defined, no_types}
+use Rattle.ice_types.specs.Names.{IsFree}
+use Rattle.ice_types.specs.Tables.{is_defined, no_types}
 use Rattle.ice_types.specs.Measures.{measure, built_in, structure, with_member, no_members, proxy}
-use Rattle.ice_types.specs.Fits.{IsOf, AreOf, AreRequired, ShapeFits, OpFits, StructFits, ExceptionFits, InterfaceFits}
+use Rattle.ice_types.specs.Fits.{IsOf, AreOf, AreRequired, ShapeFits, OpFits, StructFits, InterfaceFits}
 use Rattle.ice_types.specs.Object.{required}
-use Rattle.locator_types.specs.Locator.{identity_decl, identity_declared, object_declared, types_declared, locator_declared, finding, find_object, find_adapter, locator_operations}
-
--- ---- ids
-
-differs : (a b : List ℕ) → bytes_eq a b ≡ false → Some a ≡ Some b → ⊥
-differs a b apart e =
-    let same : a ≡ b = cc in
-    let equal : bytes_eq a b ≡ true = (bytes_eq-Decides a b).1 same in
-    cc
-
-nothing : (a : List ℕ) → None ≡ Some a → ⊥
-nothing a e = cc
-
-pub identity_new : IsNewId no_types (codes "::Ice::Identity")
-identity_new (rows.Seq at) h = nothing (codes "::Ice::Identity") h
-identity_new (rows.Dict at) h = nothing (codes "::Ice::Identity") h
-identity_new (rows.Struct at) h = nothing (codes "::Ice::Identity") h
-identity_new (rows.Enum at) h = nothing (codes "::Ice::Identity") h
-identity_new (rows.Class at) h = nothing (codes "::Ice::Identity") h
-identity_new (rows.Exception at) h = nothing (codes "::Ice::Identity") h
-identity_new (rows.Interface at) h = nothing (codes "::Ice::Identity") h
-
-pub object_new : IsNewId identity_declared (codes "::Ice::ObjectNotFoundException")
-object_new (rows.Seq at) h = nothing (codes "::Ice::ObjectNotFoundException") h
-object_new (rows.Dict at) h = nothing (codes "::Ice::ObjectNotFoundException") h
-object_new (rows.Struct zero) h = differs (codes "::Ice::Identity") (codes "::Ice::ObjectNotFoundException") refl h
-object_new (rows.Struct (suc at)) h = nothing (codes "::Ice::ObjectNotFoundException") h
-object_new (rows.Enum at) h = nothing (codes "::Ice::ObjectNotFoundException") h
-object_new (rows.Class at) h = nothing (codes "::Ice::ObjectNotFoundException") h
-object_new (rows.Exception at) h = nothing (codes "::Ice::ObjectNotFoundException") h
-object_new (rows.Interface at) h = nothing (codes "::Ice::ObjectNotFoundException") h
-
-pub adapter_new : IsNewId object_declared (codes "::Ice::AdapterNotFoundException")
-adapter_new (rows.Seq at) h = nothing (codes "::Ice::AdapterNotFoundException") h
-adapter_new (rows.Dict at) h = nothing (codes "::Ice::AdapterNotFoundException") h
-adapter_new (rows.Struct zero) h = differs (codes "::Ice::Identity") (codes "::Ice::AdapterNotFoundException") refl h
-adapter_new (rows.Struct (suc at)) h = nothing (codes "::Ice::AdapterNotFoundException") h
-adapter_new (rows.Enum at) h = nothing (codes "::Ice::AdapterNotFoundException") h
-adapter_new (rows.Class at) h = nothing (codes "::Ice::AdapterNotFoundException") h
-adapter_new (rows.Exception zero) h = differs (codes "::Ice::ObjectNotFoundException") (codes "::Ice::AdapterNotFoundException") refl h
-adapter_new (rows.Exception (suc at)) h = nothing (codes "::Ice::AdapterNotFoundException") h
-adapter_new (rows.Interface at) h = nothing (codes "::Ice::AdapterNotFoundException") h
-
-pub locator_new : IsNewId types_declared (codes "::Ice::Locator")
-locator_new (rows.Seq at) h = nothing (codes "::Ice::Locator") h
-locator_new (rows.Dict at) h = nothing (codes "::Ice::Locator") h
-locator_new (rows.Struct zero) h = differs (codes "::Ice::Identity") (codes "::Ice::Locator") refl h
-locator_new (rows.Struct (suc at)) h = nothing (codes "::Ice::Locator") h
-locator_new (rows.Enum at) h = nothing (codes "::Ice::Locator") h
-locator_new (rows.Class at) h = nothing (codes "::Ice::Locator") h
-locator_new (rows.Exception zero) h = differs (codes "::Ice::ObjectNotFoundException") (codes "::Ice::Locator") refl h
-locator_new (rows.Exception (suc zero)) h = differs (codes "::Ice::AdapterNotFoundException") (codes "::Ice::Locator") refl h
-locator_new (rows.Exception (suc (suc at))) h = nothing (codes "::Ice::Locator") h
-locator_new (rows.Interface at) h = nothing (codes "::Ice::Locator") h
+use Rattle.locator_types.specs.Locator.{identity_decl, locator_declared, finding, find_object, find_adapter, locator_operations}
 
 -- ---- names
 
@@ -94,10 +40,6 @@ identity_fits = (
   (free (codes "name"), (beside (codes "name") (codes "category") refl, tt)),
   All-cons (λ m. m.tag ≡ None) (required (codes "name") kinds.Text) (required (codes "category") kinds.Text ∷ []) refl (no_tag (codes "category") kinds.Text),
 )
-
--- an exception without members and without a base
-pub nothing_fits : (t : Tables) → ExceptionFits t None []
-nothing_fits t = (tt, (All-nil (λ m. IsOf t m.kind), tt, (All-nil (λ n. n ≤ 2147483647), tt)))
 
 -- ---- operations
 

@@ -2,6 +2,7 @@
 
 ghost use Rattle.std.specs.Prelude.{◌≡◌, IfOk};
 ghost use Rattle.ice_types.specs.Object.{required};
+ghost use Rattle.ice_types.specs.Tables.{no_types};
 ghost use Rattle.ice_types.specs.declared.kind.TypeRef.TheVariants as kinds;
 ghost use Rattle.locator_types.specs.Locator.{identity_decl, identity_declared, locator_tables, object_declared};
 ghost use Rattle.locator_types.specs.Locator.{types_declared, without_members};
@@ -15,38 +16,58 @@ use std::alloc::{AllocError, Global};
 pub fn locator_schema(alloc: Global) -> Result<Schema, AllocError>
     ensures { IfOk result (λ schema. schema ≡ locator_tables) }
 {
-    let mut schema = with_exceptions(alloc)?;
+    let mut schema = Schema::new(alloc);
+    declare(alloc, &mut schema)?;
+    Ok(schema)
+}
+
+/// Declares all of them.
+fn declare(alloc: Global, schema: &mut Schema) -> Result<(), AllocError>
+    requires { schema.old ≡ no_types }
+    ensures { IfOk result (λ _. schema.new ≡ locator_tables) }
+{
+    add_identity(alloc, schema)?;
+    add_object_not_found(alloc, schema)?;
+    add_adapter_not_found(alloc, schema)?;
+    add_locator(alloc, schema)
+}
+
+/// Declares the struct.
+fn add_identity(alloc: Global, schema: &mut Schema) -> Result<(), AllocError>
+    requires { schema.old ≡ no_types }
+    ensures { IfOk result (λ _. schema.new ≡ identity_declared) }
+{
+    schema.add_struct(identity_decl(alloc)?)?;
+    Ok(())
+}
+
+/// Declares the exception of objects.
+fn add_object_not_found(alloc: Global, schema: &mut Schema) -> Result<(), AllocError>
+    requires { schema.old ≡ identity_declared }
+    ensures { IfOk result (λ _. schema.new ≡ object_declared) }
+{
+    schema.add_exception(without_members(alloc, "::Ice::ObjectNotFoundException")?)?;
+    Ok(())
+}
+
+/// Declares the exception of adapters.
+fn add_adapter_not_found(alloc: Global, schema: &mut Schema) -> Result<(), AllocError>
+    requires { schema.old ≡ object_declared }
+    ensures { IfOk result (λ _. schema.new ≡ types_declared) }
+{
+    schema.add_exception(without_members(alloc, "::Ice::AdapterNotFoundException")?)?;
+    Ok(())
+}
+
+/// Declares the interface.
+fn add_locator(alloc: Global, schema: &mut Schema) -> Result<(), AllocError>
+    requires { schema.old ≡ types_declared }
+    ensures { IfOk result (λ _. schema.new ≡ locator_tables) }
+{
     schema.add_interface(Name::of(alloc, "::Ice::Locator")?)?;
     let operations = locator_operations(alloc)?;
     schema.define_interface(0, List::new(alloc), operations);
-    Ok(schema)
-}
-
-/// The struct and both exceptions.
-fn with_exceptions(alloc: Global) -> Result<Schema, AllocError>
-    ensures { IfOk result (λ schema. schema ≡ types_declared) }
-{
-    let mut schema = with_object_not_found(alloc)?;
-    schema.add_exception(without_members(alloc, "::Ice::AdapterNotFoundException")?)?;
-    Ok(schema)
-}
-
-/// The struct and the exception of objects.
-fn with_object_not_found(alloc: Global) -> Result<Schema, AllocError>
-    ensures { IfOk result (λ schema. schema ≡ object_declared) }
-{
-    let mut schema = with_identity(alloc)?;
-    schema.add_exception(without_members(alloc, "::Ice::ObjectNotFoundException")?)?;
-    Ok(schema)
-}
-
-/// The struct.
-fn with_identity(alloc: Global) -> Result<Schema, AllocError>
-    ensures { IfOk result (λ schema. schema ≡ identity_declared) }
-{
-    let mut schema = Schema::new(alloc);
-    schema.add_struct(identity_decl(alloc)?)?;
-    Ok(schema)
+    Ok(())
 }
 
 /// A name, and a category.
