@@ -6,7 +6,7 @@
 //! found one; with LOOKUPS also the nanoseconds that they took. Without words there are 200,000.
 #![tactic(auto)]
 
-use ice_types::{Identity, Name};
+use ice_types::{Identity, Name, Schema};
 use itoa::Buffer;
 use locator_types::locator_schema;
 use object_adapter::{Adapter, Found, MOST_OBJECTS, Servant};
@@ -24,17 +24,40 @@ fn identity_of(alloc: Global, number: u32) -> Result<Identity, AllocError> {
     })
 }
 
-/// As many echoes as may be, whose names are the numbers from 0 on.
-fn filled(alloc: Global) -> Result<Adapter, AllocError> {
-    let schema = Arc::new(alloc, locator_schema(alloc)?)?;
-    let mut adapter = Adapter::new(alloc);
-    for number in 0..MOST_OBJECTS {
-        let echo = Servant::echo(Arc::clone(&schema)?, 0);
-        let added = adapter.add(identity_of(alloc, number)?, Name::of(alloc, "")?, echo);
-        if added.is_err() {
-            return Err(AllocError);
-        }
+/// Puts an echo under this number.
+fn add(
+    alloc: Global,
+    adapter: &mut Adapter,
+    schema: &Arc<Schema>,
+    number: u32,
+) -> Result<(), AllocError> {
+    let identity = identity_of(alloc, number)?;
+    let facet = Name::of(alloc, "")?;
+    let echo = Servant::echo(Arc::clone(schema)?, 0);
+    match adapter.add(identity, facet, echo) {
+        Ok(()) => Ok(()),
+        Err(_) => Err(AllocError),
     }
+}
+
+/// Puts in as many echoes as may be, whose names are the numbers from 0 on.
+fn fill(alloc: Global, adapter: &mut Adapter, schema: &Arc<Schema>) -> Result<(), AllocError> {
+    for number in 0..MOST_OBJECTS {
+        add(alloc, adapter, schema, number)?;
+    }
+    Ok(())
+}
+
+/// The types of locators.
+fn schema(alloc: Global) -> Result<Arc<Schema>, AllocError> {
+    Arc::new(alloc, locator_schema(alloc)?)
+}
+
+/// An adapter with all of them.
+fn filled(alloc: Global) -> Result<Adapter, AllocError> {
+    let schema = schema(alloc)?;
+    let mut adapter = Adapter::new(alloc);
+    fill(alloc, &mut adapter, &schema)?;
     Ok(adapter)
 }
 
@@ -65,21 +88,31 @@ fn found_of(adapter: &Adapter, identities: &[Identity], lookups: u32) -> u32 {
     found
 }
 
-fn main(rt: HostRuntime) -> io::Result<()> {
-    let alloc = rt.alloc();
-    let words: Vec<String> = env::args(&rt)?.collect(alloc)?;
-    let adapter = filled(alloc)?;
-    let identities = sought(alloc)?;
-    let asked = words
-        .as_slice()
-        .get(1)
-        .and_then(|word| word.as_str().parse::<u32>().ok());
-    let start = Instant::now(&rt)?;
-    let found = found_of(&adapter, identities.as_slice(), asked.unwrap_or(200_000));
-    let nanoseconds = start.elapsed(&rt)?.as_nanos();
+/// Looks them up so many times, and writes the line.
+fn look_up(
+    rt: &HostRuntime,
+    adapter: &Adapter,
+    identities: &[Identity],
+    asked: Option<u32>,
+) -> io::Result<()> {
+    let start = Instant::now(rt)?;
+    let found = found_of(adapter, identities, asked.unwrap_or(200_000));
+    let nanoseconds = start.elapsed(rt)?.as_nanos();
     let objects = adapter.len();
     match asked {
         Some(_) => println!(rt; "objects {objects} found {found} nanoseconds {nanoseconds}"),
         None => println!(rt; "objects {objects} found {found}"),
     }
+}
+
+fn main(rt: HostRuntime) -> io::Result<()> {
+    let alloc = rt.alloc();
+    let words: Vec<String> = env::args(&rt)?.collect(alloc)?;
+    let asked = words
+        .as_slice()
+        .get(1)
+        .and_then(|word| word.as_str().parse::<u32>().ok());
+    let identities = sought(alloc)?;
+    let adapter = filled(alloc)?;
+    look_up(&rt, &adapter, identities.as_slice(), asked)
 }

@@ -5,9 +5,9 @@ ghost use Rattle.ice_ports.specs.MemLinks.{IsPlan};
 ghost use Rattle.ice_messages.specs.Written.{IsWritableCall};
 
 use ice_client::{Invoked, invoke, send};
-use ice_messages::{Call, Message, read_message};
+use ice_messages::{Call, Message, WriteFault, read_message};
 use ice_ports::{MemNet, Plan};
-use ice_types::List;
+use ice_types::{List, Proxy};
 use proxy_text::parse_text;
 use retry_core::Attempt;
 use retry_core::Attempt::{Lost, NotWhole, Replied, Sent};
@@ -88,24 +88,47 @@ fn call_of(alloc: Global, request: &[u8]) -> Result<(i32, Call), Fail>
     }
 }
 
-/// Sends the request, or calls by it where it asks for a reply.
-fn tried(alloc: Global, net: &mut MemNet, request: &[u8]) -> Result<Invoked, Fail> {
-    let proxy = parse_text(alloc, "c:tcp -h localhost -p 4100")?;
-    let (id, call) = call_of(alloc, request)?;
+/// Sends the call, or calls by it where the id asks for a reply.
+fn tried(
+    alloc: Global,
+    net: &mut MemNet,
+    proxy: &Proxy,
+    id: i32,
+    call: Call,
+) -> Result<Invoked, WriteFault>
+    requires { IsWritableCall call }
+{
     if id == 0 {
         let message = Message::Request { id: 0, call };
-        return Ok(send(alloc, net, &proxy, &message, 1)?);
+        return send(alloc, net, proxy, &message, 1);
     }
-    Ok(invoke(alloc, net, &proxy, &call, 1)?)
+    invoke(alloc, net, proxy, &call, 1)
+}
+
+/// The same, by the bytes of a request.
+fn tried_of(
+    alloc: Global,
+    net: &mut MemNet,
+    proxy: &Proxy,
+    request: &[u8],
+) -> Result<Invoked, Fail> {
+    let (id, call) = call_of(alloc, request)?;
+    Ok(tried(alloc, net, proxy, id, call)?)
+}
+
+/// Whether the attempts of the row end so.
+fn comes(alloc: Global, proxy: &Proxy, row: &Row) -> Result<bool, Fail> {
+    let (request, links, attempts) = row;
+    let mut net = net_of(alloc, links)?;
+    let invoked = tried_of(alloc, &mut net, proxy, request)?;
+    Ok(invoked.attempts.as_slice() == *attempts)
 }
 
 #[test]
 fn what_was_not_taken_whole_is_tried_again(rt: HostRuntime) -> Result<(), Fail> {
-    let alloc = rt.alloc();
-    for (request, links, attempts) in ROWS {
-        let mut net = net_of(alloc, links)?;
-        let invoked = tried(alloc, &mut net, request)?;
-        assert!(rt; invoked.attempts.as_slice() == *attempts);
+    let proxy = parse_text(rt.alloc(), "c:tcp -h localhost -p 4100")?;
+    for (at, row) in ROWS.iter().enumerate() {
+        assert!(rt; comes(rt.alloc(), &proxy, row)?, "in row {at}");
     }
     Ok(())
 }

@@ -12,9 +12,7 @@ use Rattle.ice_client.specs.Rows.{IsReplied, Row}
 use Rattle.ice_client.specs.Asking.{HasRow}
 use Rattle.ice_client.specs.ClientDid.{Comes, Tried}
 use Rattle.ice_client.proofs.OneRow.{one_answer, one_row}
-use Rattle.ice_gateway.specs.declared.admitting.Admitted.{Admitted}
 use Rattle.ice_gateway.specs.declared.admitting.Admitted.TheVariants.{Goes}
-use Rattle.ice_gateway.specs.declared.renewing.Renewed.{Renewed}
 use Rattle.ice_gateway.specs.Gate.{Operation}
 use Rattle.ice_gateway.specs.Mapped.{ByArguments, ByOperation, IsOutcomes, admitted_by, wrapped}
 use Rattle.ice_gateway.specs.Laws.{SuccessesComeBack}

@@ -2,7 +2,7 @@
 //! standard streams do, the cases show.
 
 use ice_ports::{Failed, FolderShelf, MemSink, MemSource, Shelf, Sink, Source};
-use std::alloc::Global;
+use std::alloc::{AllocError, Global};
 use std::test::Fail;
 use test_outside::{bytes, calls};
 
@@ -26,17 +26,32 @@ fn has<H: Shelf>(alloc: Global, shelf: &mut H, name: &str, content: Option<&[u8]
 /// room for five, where the fourth write fails.
 const MOVES: &[Result<usize, Failed>] = &[Ok(4), Err(Failed), Ok(1), Ok(0), Err(Failed)];
 
+/// Whether they move so.
+fn pieces_move(source: &mut MemSource, sink: &mut MemSink) -> bool {
+    for want in MOVES {
+        if move_piece(source, sink) != *want {
+            return false;
+        }
+    }
+    (sink.taken() == b"abcde".as_slice())
+        & (source.calls() == 5)
+        & (source.failures() == 1)
+        & (sink.calls() == 4)
+        & (sink.failures() == 1)
+}
+
+/// The same, with a new source and a new sink.
+fn all_move(alloc: Global) -> Result<bool, AllocError> {
+    let input = bytes(alloc, b"abcdef")?;
+    let reads = calls(alloc, &[1])?;
+    let mut sink = MemSink::new(alloc, 5, calls(alloc, &[3])?)?;
+    let mut source = MemSource::new(input, 4, reads);
+    Ok(pieces_move(&mut source, &mut sink))
+}
+
 #[test]
 fn pieces_move_until_the_end_of_the_input_and_of_the_room(rt: HostRuntime) -> Result<(), Fail> {
-    let alloc = rt.alloc();
-    let mut source = MemSource::new(bytes(alloc, b"abcdef")?, 4, calls(alloc, &[1])?);
-    let mut sink = MemSink::new(alloc, 5, calls(alloc, &[3])?)?;
-    for want in MOVES {
-        assert!(rt; move_piece(&mut source, &mut sink) == *want);
-    }
-    assert!(rt; sink.taken() == b"abcde".as_slice());
-    assert!(rt; source.calls() == 5 && source.failures() == 1);
-    assert!(rt; sink.calls() == 4 && sink.failures() == 1);
+    assert!(rt; all_move(rt.alloc())?);
     Ok(())
 }
 

@@ -3,7 +3,7 @@ ghost use Rattle.std.specs.Prelude.{◌≤◌, All, IfOk};
 ghost use Rattle.ice_ports.specs.MemLinks.{IsPlan};
 
 use crate::carrying::echo;
-use ice_ports::{Asked, Failed, Listener, MemNet, Net, Plan, Talk, Tray};
+use ice_ports::{Asked, Failed, Listener, MemListener, MemNet, Net, Plan, Talk, Tray};
 use ice_types::List;
 use std::alloc::{AllocError, Global};
 use std::test::Fail;
@@ -58,32 +58,58 @@ fn planned(alloc: Global) -> Result<MemNet, AllocError> {
     MemNet::new(alloc, outgoing, incoming, fails, false)
 }
 
-#[test]
-fn a_net_in_memory_tells_what_went_over_its_links(rt: HostRuntime) -> Result<(), Fail> {
-    let mut net = planned(rt.alloc())?;
+/// Whether the first link fails while it echoes, and no other is given.
+fn one_connects(net: &mut MemNet) -> Result<bool, Failed> {
     let mut asking = net.connect("first", 1)?;
-    assert!(rt; echo(&mut asking) == Err(Failed));
+    let echoed = echo(&mut asking);
     net.hang_up(asking);
-    assert!(rt; net.connect("second", 2).is_err() && net.connect("third", 3).is_err());
-    let mut listener = net.listen("here", 0)?;
-    assert!(rt; listener.port() == 4100 && listener.accept().is_err());
+    let others = net.connect("second", 2).is_err() & net.connect("third", 3).is_err();
+    Ok((echoed == Err(Failed)) & others)
+}
+
+/// Whether the accept that follows the one that fails gives a link that echoes, and no other is given.
+fn one_comes(listener: &mut MemListener) -> Result<bool, Failed> {
+    let failed = listener.accept().is_err();
     let mut answering = listener.accept()?.ok_or(Failed)?;
-    assert!(rt; echo(&mut answering) == Ok(3));
-    assert!(rt; matches!(listener.accept(), Ok(None)) && listener.nones() == 1);
+    let echoed = echo(&mut answering);
+    let ended = matches!(listener.accept(), Ok(None)) & (listener.nones() == 1);
     let mut tray = listener.tray();
     tray.take_back(answering);
     listener.gather(tray);
+    Ok(failed & (echoed == Ok(3)) & ended)
+}
+
+/// Whether the one listener gives one link, and no other is given.
+fn one_listens(net: &mut MemNet) -> Result<bool, Failed> {
+    let mut listener = net.listen("here", 0)?;
+    let port = listener.port();
+    let came = one_comes(&mut listener);
     net.retire(listener);
-    assert!(rt; net.listen("there", 7).is_err());
-    assert!(rt; net.failures() == 3 && net.listen_failures() == 2);
+    Ok((came == Ok(true)) & (port == 4100) & net.listen("there", 7).is_err())
+}
+
+/// Whether the net tells what went over its links.
+fn tells(net: &MemNet) -> bool {
     let mut talks = net.talks().iter();
-    assert!(rt; says(talks.next(), b"to", b"", false, true));
-    assert!(rt; says(talks.next(), b"abcde", b"abcde", true, false));
-    assert!(rt; talks.next().is_none());
+    let first = says(talks.next(), b"to", b"", false, true);
+    let second = says(talks.next(), b"abcde", b"abcde", true, false);
+    first & second & talks.next().is_none() & (net.failures() == 3) & (net.listen_failures() == 2)
+}
+
+/// Whether the net tells what was asked of it.
+fn tells_what_was_asked(net: &MemNet) -> bool {
     let mut asked = net.asked().iter();
-    assert!(rt; is_for(asked.next(), b"first", 1));
-    assert!(rt; is_for(asked.next(), b"second", 2));
-    assert!(rt; asked.next().is_none());
-    assert!(rt; is_for(net.listened(), b"here", 0));
+    let first = is_for(asked.next(), b"first", 1);
+    let second = is_for(asked.next(), b"second", 2);
+    first & second & asked.next().is_none() & is_for(net.listened(), b"here", 0)
+}
+
+#[test]
+fn a_net_in_memory_tells_what_went_over_its_links(rt: HostRuntime) -> Result<(), Fail> {
+    let mut net = planned(rt.alloc())?;
+    let connected = one_connects(&mut net);
+    let listened = one_listens(&mut net);
+    assert!(rt; connected == Ok(true) && listened == Ok(true));
+    assert!(rt; tells(&net) && tells_what_was_asked(&net));
     Ok(())
 }

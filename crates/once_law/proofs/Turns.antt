@@ -10,7 +10,7 @@ use Rattle.ice_client.specs.declared.outcome.Outcome.TheVariants as outcomes
 use Rattle.ice_client.specs.Sending.{asks_reply}
 use Rattle.object_adapter.specs.Laws.{status_of}
 use Rattle.call_world.specs.Service.{free_rules}
-use Rattle.call_world.specs.World.{Connection, Seat, Turn, Dispatched, Place, Dispatch, Invocation}
+use Rattle.call_world.specs.World.{Seat, Dispatched, Place, Dispatch, Invocation}
 use Rattle.call_world.specs.World as worlds
 use Rattle.call_world.specs.Counts.{is_of, belongs}
 use Rattle.call_world.specs.Laws.{AtMostOnce, OwnReplies}

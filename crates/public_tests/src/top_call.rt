@@ -3,7 +3,7 @@
 
 use case_tables::{BrokenRow, BrokenTable, broken_messages, broken_values};
 use ice_node::node;
-use ice_ports::{MemNet, MemSink, MemSource};
+use ice_ports::{MemNet, MemShelf, MemSink, MemSource};
 use ice_types::List;
 use std::alloc::{AllocError, Global};
 use std::sync::Wait;
@@ -138,6 +138,67 @@ fn words_of(alloc: Global, texts: &[&str]) -> Result<List<String>, AllocError> {
     Ok(words)
 }
 
+/// The input, with the reads that fail.
+fn source_of(alloc: Global, input: &[u8], outside: &Outside) -> Result<MemSource, AllocError> {
+    let input = bytes(alloc, input)?;
+    let reads = calls(alloc, outside.2)?;
+    Ok(MemSource::new(input, outside.0.max(1), reads))
+}
+
+/// A sink of so many bytes, with the writes that fail.
+fn sink_of(alloc: Global, room: u32, writes: &[u64]) -> Result<MemSink, AllocError> {
+    MemSink::new(alloc, room.min(99), calls(alloc, writes)?)
+}
+
+/// A net without links.
+fn net_of(alloc: Global) -> Result<MemNet, AllocError> {
+    MemNet::new(
+        alloc,
+        List::new(alloc),
+        List::new(alloc),
+        List::new(alloc),
+        true,
+    )
+}
+
+/// The status of the call, with this shelf and these streams.
+fn status_of<R: Threads + Wait + Sync>(
+    rt: &R,
+    alloc: Global,
+    words: &[String],
+    shelf: &mut MemShelf,
+    source: &mut MemSource,
+    sink: &mut MemSink,
+    errors: &mut MemSink,
+) -> Result<u8, AllocError> {
+    let mut net = net_of(alloc)?;
+    Ok(node(rt, alloc, words, shelf, source, sink, errors, &mut net))
+}
+
+/// The same, with a shelf of the files, and this input.
+fn ends_with<R: Threads + Wait + Sync>(
+    rt: &R,
+    alloc: Global,
+    words: &[&str],
+    input: &[u8],
+    outside: &Outside,
+    sink: &mut MemSink,
+    errors: &mut MemSink,
+) -> Result<u8, AllocError> {
+    let words = words_of(alloc, words)?;
+    let mut shelf = shelf(alloc, FILES, outside.1)?;
+    let mut source = source_of(alloc, input, outside)?;
+    status_of(
+        rt,
+        alloc,
+        words.as_slice(),
+        &mut shelf,
+        &mut source,
+        sink,
+        errors,
+    )
+}
+
 /// Whether the call comes to the status, output and line.
 fn comes<R: Threads + Wait + Sync>(
     rt: &R,
@@ -149,31 +210,10 @@ fn comes<R: Threads + Wait + Sync>(
     output: &[u8],
     line: &str,
 ) -> Result<bool, AllocError> {
-    let (piece, loads, reads, writes, room, line_room) = outside;
-    let words = words_of(alloc, words)?;
-    let mut shelf = shelf(alloc, FILES, loads)?;
-    let mut source = MemSource::new(bytes(alloc, input)?, (*piece).max(1), calls(alloc, reads)?);
-    let mut sink = MemSink::new(alloc, (*room).min(99), calls(alloc, writes)?)?;
-    let mut errors = MemSink::new(alloc, (*line_room).min(99), calls(alloc, &[])?)?;
-    let mut net = MemNet::new(
-        alloc,
-        List::new(alloc),
-        List::new(alloc),
-        List::new(alloc),
-        true,
-    )?;
-    let words = words.as_slice();
-    let ended = node(
-        rt,
-        alloc,
-        words,
-        &mut shelf,
-        &mut source,
-        &mut sink,
-        &mut errors,
-        &mut net,
-    );
-    Ok(ended == status && sink.taken() == output && errors.taken() == line.as_bytes())
+    let mut sink = sink_of(alloc, outside.4, outside.3)?;
+    let mut errors = sink_of(alloc, outside.5, &[])?;
+    let ended = ends_with(rt, alloc, words, input, outside, &mut sink, &mut errors)?;
+    Ok((ended == status) & (sink.taken() == output) & (errors.taken() == line.as_bytes()))
 }
 
 #[test]

@@ -2,11 +2,10 @@
 //! wait for each other would wait in vain.
 
 use crate::meeting::{Meeting, MeetingNet};
-use ice_ports::{Failed, MemSink};
+use ice_ports::{Failed, MemShelf, MemSink};
 use ice_types::List;
 use serve_command::{serve, serve_of};
-use std::alloc::Global;
-use std::process::Abort;
+use std::alloc::{AllocError, Global};
 use std::sync::atomic::{AtomicU64, Ordering};
 use std::sync::{Arc, Wait};
 use std::test::Fail;
@@ -25,62 +24,81 @@ fn words_of(alloc: Global, text: &str) -> Result<Vec<String>, Fail> {
     Ok(words)
 }
 
-/// Has so many links meet that the words serve, and compares what was written.
-fn meet_by<R: Threads + Wait + Abort + Sync>(
+/// So many links that are to meet.
+fn meeting_of(alloc: Global, wanted: u64) -> Result<Arc<Meeting>, AllocError> {
+    Arc::new(
+        alloc,
+        Meeting {
+            wanted,
+            begun: AtomicU64::new(0),
+            met: AtomicU64::new(0),
+        },
+    )
+}
+
+/// A sink that takes a line or two.
+fn sink_of(alloc: Global) -> Result<MemSink, AllocError> {
+    MemSink::new(alloc, 1000, List::new(alloc))
+}
+
+/// The status of the words.
+fn status_of<R: Threads + Wait + Sync>(
+    rt: &R,
+    alloc: Global,
+    words: &[String],
+    files: &mut MemShelf,
+    sink: &mut MemSink,
+    errors: &mut MemSink,
+    net: &mut MeetingNet,
+) -> Result<u8, Fail> {
+    let command = serve_of(alloc, words)?.ok_or(Failed)?;
+    Ok(serve(rt, alloc, command, files, sink, errors, net))
+}
+
+/// Whether the words serve the links of the net, and write this.
+fn says<R: Threads + Wait + Sync>(
+    rt: &R,
+    alloc: Global,
+    text: &str,
+    net: &mut MeetingNet,
+    wanted: &str,
+) -> Result<bool, Fail> {
+    let words = words_of(alloc, text)?;
+    let mut sink = sink_of(alloc)?;
+    let mut errors = sink_of(alloc)?;
+    let mut files = shelf(alloc, &[("t.ice", COUNTER)], &[])?;
+    let words = words.as_slice();
+    let status = status_of(rt, alloc, words, &mut files, &mut sink, &mut errors, net)?;
+    let said = (sink.taken() == wanted.as_bytes()) & errors.taken().is_empty();
+    Ok(said & (status == 0))
+}
+
+/// Whether so many links meet that the words serve, and they write this.
+fn all_meet<R: Threads + Wait + Sync>(
     rt: &R,
     alloc: Global,
     count: u64,
     text: &str,
     wanted: &str,
-) -> Result<(), Fail> {
-    let words = words_of(alloc, text)?;
-    let mut files = shelf(alloc, &[("t.ice", COUNTER)], &[])?;
-    let mut sink = MemSink::new(alloc, 1000, List::new(alloc))?;
-    let mut errors = MemSink::new(alloc, 1000, List::new(alloc))?;
-    let meeting = Arc::new(
-        alloc,
-        Meeting {
-            wanted: count,
-            begun: AtomicU64::new(0),
-            met: AtomicU64::new(0),
-        },
-    )?;
+) -> Result<bool, Fail> {
+    let meeting = meeting_of(alloc, count)?;
     let mut net = MeetingNet::new(alloc, Arc::clone(&meeting)?);
-    let command = serve_of(alloc, words.as_slice())?.ok_or(Failed)?;
-    let status = serve(
-        rt,
-        alloc,
-        command,
-        &mut files,
-        &mut sink,
-        &mut errors,
-        &mut net,
-    );
-    assert!(rt; meeting.met.load(Ordering::SeqCst) == count);
-    assert!(rt; sink.taken() == wanted.as_bytes());
-    assert!(rt; errors.taken() == "".as_bytes());
-    assert!(rt; status == 0);
-    Ok(())
+    let said = says(rt, alloc, text, &mut net, wanted)?;
+    Ok(said & (meeting.met.load(Ordering::SeqCst) == count))
 }
 
 #[test]
 fn two_workers_serve_two_links_at_once(rt: HostRuntime) -> Result<(), Fail> {
-    meet_by(
-        &rt,
-        rt.alloc(),
-        2,
-        "serve --workers 2 --connections 2 t.ice localhost 4100 store=c=::T::Counter",
-        "listening 4100\nserved 2\n",
-    )
+    let words = "serve --workers 2 --connections 2 t.ice localhost 4100 store=c=::T::Counter";
+    let wanted = "listening 4100\nserved 2\n";
+    assert!(rt; all_meet(&rt, rt.alloc(), 2, words, wanted)?);
+    Ok(())
 }
 
 #[test]
 fn four_workers_serve_four_links_at_once(rt: HostRuntime) -> Result<(), Fail> {
-    meet_by(
-        &rt,
-        rt.alloc(),
-        4,
-        "serve --workers 4 --connections 4 t.ice localhost 4100 store=c=::T::Counter",
-        "listening 4100\nserved 4\n",
-    )
+    let words = "serve --workers 4 --connections 4 t.ice localhost 4100 store=c=::T::Counter";
+    let wanted = "listening 4100\nserved 4\n";
+    assert!(rt; all_meet(&rt, rt.alloc(), 4, words, wanted)?);
+    Ok(())
 }

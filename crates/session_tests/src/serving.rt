@@ -7,7 +7,7 @@ ghost use Rattle.dispatch_pool.specs.Lanes.{AreOf};
 use dispatch_pool::{End, LanePasses, Lanes, OpenGate, serve_connection};
 use ice_messages::{Answer, Call};
 use ice_ports::{Failed, MemNet, Net, Plan};
-use ice_types::{Identity, List, Name};
+use ice_types::{Identity, List, Name, Schema};
 use object_adapter::{Adapter, Servant};
 use slice_check::load;
 use std::alloc::{AllocError, Global};
@@ -26,17 +26,46 @@ pub(crate) fn identity(alloc: Global, name: &str) -> Result<Identity, AllocError
     })
 }
 
+/// The types of a text.
+fn types_of(alloc: Global, text: &str) -> Result<Schema, Fail> {
+    let mut files = shelf(alloc, &[("t.ice", text)], &[])?;
+    Ok(load(alloc, &mut files, "t.ice").ok().ok_or(Failed)?)
+}
+
+/// Puts a store of the one interface under this name and the default facet.
+fn add_store(
+    alloc: Global,
+    objects: &mut Adapter,
+    types: &Arc<Schema>,
+    name: &str,
+) -> Result<(), Fail> {
+    let identity = identity(alloc, name)?;
+    let facet = Name::of(alloc, "")?;
+    let store = Servant::store(alloc, types.clone()?, 0)?;
+    match objects.add(identity, facet, store) {
+        Ok(()) => Ok(()),
+        Err(_) => Err(Fail::from("no room")),
+    }
+}
+
+/// Puts one under each of these names.
+fn add_stores(
+    alloc: Global,
+    objects: &mut Adapter,
+    types: &Arc<Schema>,
+    names: &[&str],
+) -> Result<(), Fail> {
+    for name in names {
+        add_store(alloc, objects, types, name)?;
+    }
+    Ok(())
+}
+
 /// Stores of the one interface of a text, under these names and the default facet.
 pub(crate) fn stores(alloc: Global, text: &str, names: &[&str]) -> Result<Adapter, Fail> {
-    let mut files = shelf(alloc, &[("t.ice", text)], &[])?;
-    let types = load(alloc, &mut files, "t.ice").ok().ok_or(Failed)?;
-    let types = Arc::new(alloc, types)?;
+    let types = Arc::new(alloc, types_of(alloc, text)?)?;
     let mut objects = Adapter::new(alloc);
-    for name in names {
-        let store = Servant::store(alloc, types.clone()?, 0)?;
-        let added = objects.add(identity(alloc, name)?, Name::of(alloc, "")?, store);
-        added.ok().ok_or(Failed)?;
-    }
+    add_stores(alloc, &mut objects, &types, names)?;
     Ok(objects)
 }
 
@@ -61,27 +90,30 @@ pub(crate) fn plan(alloc: Global, gives: &str) -> Result<Plan, Fail>
     })
 }
 
-/// How a connection ends that gives these bytes, and what it takes.
-pub(crate) fn serve<R: Wait>(
+/// A net with one link, which gives these bytes.
+fn net_of(alloc: Global, gives: &str) -> Result<MemNet, Fail> {
+    let mut plans = List::new(alloc);
+    plans.push(plan(alloc, gives)?)?;
+    Ok(MemNet::new(alloc, plans, List::new(alloc), List::new(alloc), false)?)
+}
+
+/// How the connection of this net ends.
+fn serve<R: Wait>(
     rt: &R,
     alloc: Global,
     lanes: &Lanes,
     passes: &mut LanePasses,
-    messages: u64,
-    gives: &str,
-) -> Result<(End, Vec<u8>), Fail>
+    net: &mut MemNet,
+) -> Result<End, Failed>
     requires { AreOf lanes.now passes.old }
     ensures { AreOf lanes.now passes.new }
 {
-    let mut plans = List::new(alloc);
-    plans.push(plan(alloc, gives)?)?;
-    let mut net = MemNet::new(alloc, plans, List::new(alloc), List::new(alloc), false)?;
     let mut link = net.connect("localhost", 4100)?;
-    let end = serve_connection(rt, alloc, lanes, passes, &OpenGate, &mut link, messages)?;
+    let end = serve_connection(rt, alloc, lanes, passes, &OpenGate, &mut link, 1_000_000);
     net.hang_up(link);
-    match net.talks().iter().next() {
-        Some(talk) => Ok((end, Vec::from_slice(alloc, talk.taken.as_slice())?)),
-        None => Err(Fail::from("no talk")),
+    match end {
+        Ok(end) => Ok(end),
+        Err(_) => Err(Failed),
     }
 }
 
@@ -128,18 +160,31 @@ const ROWS: &[Row] = &[
 /// Whether the object `c` answers the row so.
 fn answers(alloc: Global, objects: &mut Adapter, row: &Row) -> Result<bool, Fail> {
     let (operation, mode, arguments, results) = row;
+    let results = decoded(alloc, results)?;
     let call = call(alloc, "c", operation, *mode, arguments)?;
     let answer = asked(alloc, objects, &call)?;
-    Ok(has_results(&answer, decoded(alloc, results)?.as_slice()))
+    Ok(has_results(&answer, results.as_slice()))
+}
+
+/// Whether it answers each row so.
+fn answer_all(alloc: Global, objects: &mut Adapter, rows: &[Row]) -> Result<bool, Fail> {
+    for row in rows {
+        if !answers(alloc, objects, row)? {
+            return Ok(false);
+        }
+    }
+    Ok(true)
+}
+
+/// The same of a store that is new.
+fn a_store_answers(alloc: Global, rows: &[Row]) -> Result<bool, Fail> {
+    let mut objects = stores(alloc, COUNTER, &["c"])?;
+    answer_all(alloc, &mut objects, rows)
 }
 
 #[test]
 fn a_store_adds_up(rt: HostRuntime) -> Result<(), Fail> {
-    let alloc = rt.alloc();
-    let mut objects = stores(alloc, COUNTER, &["c"])?;
-    for row in ROWS {
-        assert!(rt; answers(alloc, &mut objects, row)?);
-    }
+    assert!(rt; a_store_answers(rt.alloc(), ROWS)?);
     Ok(())
 }
 
@@ -150,22 +195,40 @@ pub(crate) fn lanes_of(alloc: Global, objects: Adapter) -> Result<(Lanes, LanePa
     Lanes::new(alloc, objects)
 }
 
-/// The objects, once the lanes are closed.
-fn closed(alloc: Global, lanes: Lanes, passes: LanePasses) -> Result<Adapter, Failed>
-    requires { AreOf lanes passes }
-{
-    lanes.close(alloc, passes).ok().ok_or(Failed)
+/// A ping of `c`.
+const PING: &str = "49636550010001000000270000000100000001630000086963655f70696e670100060000000101";
+
+/// A total of nothing.
+const ZERO: Row = ("total", 2, "060000000101", "0a000000010100000000");
+
+/// The objects once the connection of the net has been served and the lanes are closed.
+fn left<R: Wait>(
+    rt: &R,
+    alloc: Global,
+    objects: Adapter,
+    net: &mut MemNet,
+) -> Result<Adapter, Failed> {
+    let (lanes, mut passes) = lanes_of(alloc, objects)?;
+    let served = serve(rt, alloc, &lanes, &mut passes, net).is_ok();
+    let closed = lanes.close(alloc, passes).ok().ok_or(Failed);
+    if served { closed } else { Err(Failed) }
+}
+
+/// Whether the connection is served, and a store answers each row so behind it.
+fn a_served_store_answers<R: Wait>(
+    rt: &R,
+    alloc: Global,
+    gives: &str,
+    rows: &[Row],
+) -> Result<bool, Fail> {
+    let mut net = net_of(alloc, gives)?;
+    let mut objects = left(rt, alloc, stores(alloc, COUNTER, &["c"])?, &mut net)?;
+    answer_all(alloc, &mut objects, rows)
 }
 
 /// A ping leaves a store as it was.
 #[test]
 fn lanes_close_with_the_objects_as_calls_left_them(rt: HostRuntime) -> Result<(), Fail> {
-    let alloc = rt.alloc();
-    let (lanes, mut passes) = lanes_of(alloc, stores(alloc, COUNTER, &["c"])?)?;
-    let ping = "49636550010001000000270000000100000001630000086963655f70696e670100060000000101";
-    serve(&rt, alloc, &lanes, &mut passes, 1_000_000, ping)?;
-    let mut objects = closed(alloc, lanes, passes)?;
-    let zero = ("total", 2, "060000000101", "0a000000010100000000");
-    assert!(rt; answers(alloc, &mut objects, &zero)?);
+    assert!(rt; a_served_store_answers(&rt, rt.alloc(), PING, &[ZERO])?);
     Ok(())
 }

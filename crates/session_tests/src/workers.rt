@@ -9,6 +9,7 @@ use dispatch_pool::{Gate, LanePasses, Lanes, OpenGate};
 use ice_messages::Call;
 use ice_ports::{Listener, MemNet, Net};
 use ice_types::List;
+use object_adapter::Adapter;
 use std::alloc::Global;
 use std::process::Abort;
 use std::sync::Wait;
@@ -96,6 +97,37 @@ fn serve_door<D: Listener, G: Gate, R: Threads + Wait + Sync>(
     (door, accepted, failed, closed && !starved)
 }
 
+/// The same of what comes by the net, with lanes of these objects.
+fn serve_net<R: Threads + Wait + Sync, G: Gate>(
+    rt: &R,
+    alloc: Global,
+    objects: Adapter,
+    gate: &G,
+    workers: u32,
+    connections: u64,
+    net: &mut MemNet,
+) -> Result<(u64, bool), Fail>
+    requires { 0 < workers }
+{
+    let door = net.listen("localhost", 4100)?;
+    let (lanes, passes) = lanes_of(alloc, objects)?;
+    let (door, accepted, failed, closed) = serve_door(
+        rt,
+        alloc,
+        lanes,
+        passes,
+        gate,
+        door,
+        workers,
+        connections,
+    );
+    net.retire(door);
+    if !closed {
+        return Err(Fail::from("no memory, or a stray"));
+    }
+    Ok((accepted, failed))
+}
+
 /// How many talks are over and have a reply.
 fn replied(net: &MemNet) -> usize {
     net.talks()
@@ -116,23 +148,9 @@ fn serve_both<R: Threads + Wait + Sync, G: Gate>(
 ) -> Result<(u64, bool, usize), Fail>
     requires { 0 < workers }
 {
-    let (lanes, passes) = lanes_of(alloc, stores(alloc, COUNTER, &["a", "b"])?)?;
+    let objects = stores(alloc, COUNTER, &["a", "b"])?;
     let mut net = net_of(alloc, fails)?;
-    let door = net.listen("localhost", 4100)?;
-    let (door, accepted, failed, closed) = serve_door(
-        rt,
-        alloc,
-        lanes,
-        passes,
-        gate,
-        door,
-        workers,
-        connections,
-    );
-    net.retire(door);
-    if !closed {
-        return Err(Fail::from("no memory, or a stray"));
-    }
+    let (accepted, failed) = serve_net(rt, alloc, objects, gate, workers, connections, &mut net)?;
     Ok((accepted, failed, replied(&net)))
 }
 

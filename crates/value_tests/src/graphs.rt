@@ -7,6 +7,7 @@ ghost use Rattle.graph_arena.specs.View.{view};
 
 use graph_arena::{Graph, Instance, Members, Slice, Value, resolve_members};
 use ice_types::List;
+use std::alloc::AllocError;
 use std::process::Abort;
 use std::test::Fail;
 
@@ -46,7 +47,7 @@ fn within(rt: &impl Abort, name: Option<u32>, count: u32) -> Value
     Value::Reference(name)
 }
 
-fn pair_of(rt: &(impl AllocGlobal + Abort), pair: Pair, count: u32) -> Result<Members, Fail>
+fn pair_of(rt: &(impl AllocGlobal + Abort), pair: Pair, count: u32) -> Result<Members, AllocError>
     ensures { IfOk result (λ members. ContentFits count (view_content members)) }
 {
     let alloc = rt.alloc();
@@ -64,7 +65,7 @@ fn put(
     graph: &mut Graph,
     at: u32,
     pair: Pair,
-) -> Result<(), Fail> {
+) -> Result<(), AllocError> {
     let members = pair_of(rt, pair, graph.len())?;
     let mut slices = List::new(rt.alloc());
     slices.push(Slice::Known { class: 0, members })?;
@@ -73,14 +74,17 @@ fn put(
     Ok(())
 }
 
-/// So many instances without slices.
-fn reserved(rt: &(impl AllocGlobal + Abort), count: u32) -> Result<Graph, Fail> {
-    let mut graph = Graph::new(rt.alloc());
+/// Reserves so many instances, which are without slices.
+fn reserve(
+    rt: &(impl AllocGlobal + Abort),
+    graph: &mut Graph,
+    count: u32,
+) -> Result<(), AllocError> {
     for at in 0..count {
         assert!(rt; !graph.is_full());
         assert_eq!(rt; graph.reserve()?, at);
     }
-    Ok(graph)
+    Ok(())
 }
 
 fn see_visits(
@@ -102,19 +106,51 @@ fn first_visits(rt: HostRuntime) -> Result<(), Fail> {
     Ok(())
 }
 
+/// Puts in the instances, and the roots.
+fn fill(
+    rt: &(impl AllocGlobal + Abort),
+    graph: &mut Graph,
+    roots: Pair,
+    instances: &[Pair],
+) -> Result<(), AllocError> {
+    assert!(rt; instances.len() <= 10);
+    reserve(rt, graph, instances.len() as u32)?;
+    for (at, pair) in instances.iter().enumerate() {
+        put(rt, graph, at as u32, *pair)?;
+    }
+    let roots = pair_of(rt, roots, graph.len())?;
+    graph.set_roots(roots);
+    Ok(())
+}
+
 fn graph_of(
     rt: &(impl AllocGlobal + Abort),
     roots: Pair,
     instances: &[Pair],
-) -> Result<Graph, Fail> {
-    assert!(rt; instances.len() <= 10);
-    let mut graph = reserved(rt, instances.len() as u32)?;
-    for (at, pair) in instances.iter().enumerate() {
-        put(rt, &mut graph, at as u32, *pair)?;
-    }
-    let roots = pair_of(rt, roots, graph.len())?;
-    graph.set_roots(roots);
+) -> Result<Graph, AllocError> {
+    let mut graph = Graph::new(rt.alloc());
+    fill(rt, &mut graph, roots, instances)?;
     Ok(graph)
+}
+
+/// How the graph is written.
+fn written(
+    rt: &(impl AllocGlobal + Abort),
+    roots: Pair,
+    instances: &[Pair],
+) -> Result<String, AllocError> {
+    let graph = graph_of(rt, roots, instances)?;
+    format!(in rt.alloc(); "{graph:?}")
+}
+
+/// The same, once its instances are numbered by first visits.
+fn written_anew(
+    rt: &(impl AllocGlobal + Abort),
+    roots: Pair,
+    instances: &[Pair],
+) -> Result<String, AllocError> {
+    let graph = graph_of(rt, roots, instances)?.renumbered()?;
+    format!(in rt.alloc(); "{graph:?}")
 }
 
 /// The roots do not lead to the instance 4.
@@ -127,38 +163,55 @@ fn named_by_first_visits(rt: HostRuntime) -> Result<(), Fail> {
         (None, Some(0)),
         (Some(4), Some(1)),
     ];
-    let graph = graph_of(&rt, (Some(0), Some(3)), &instances)?.renumbered()?;
     let in_order = [
         (Some(1), Some(3)),
         (Some(2), Some(1)),
         (None, Some(0)),
         (Some(2), None),
     ];
-    let want = graph_of(&rt, (Some(0), Some(2)), &in_order)?;
     assert_eq!(rt;
-        format!(in rt.alloc(); "{graph:?}")?,
-        format!(in rt.alloc(); "{want:?}")?
+        written_anew(&rt, (Some(0), Some(3)), &instances)?,
+        written(&rt, (Some(0), Some(2)), &in_order)?
     );
     Ok(())
 }
 
-/// Each instance names the next, and the last one the first.
+const IN_THE_RING: u32 = 100_000;
+
+/// Each instance names the next, and the last one the first; the roots name the one at 7.
+fn make_ring(rt: &(impl AllocGlobal + Abort), graph: &mut Graph) -> Result<(), AllocError> {
+    reserve(rt, graph, IN_THE_RING)?;
+    for at in 0..IN_THE_RING {
+        put(rt, graph, at, (Some((at + 1) % IN_THE_RING), None))?;
+    }
+    let roots = pair_of(rt, (Some(7), None), graph.len())?;
+    graph.set_roots(roots);
+    Ok(())
+}
+
+/// How many instances are visited, the first of them and the last.
+fn ends_of(graph: &Graph) -> Result<(usize, Option<u32>, Option<u32>), AllocError> {
+    let places = graph.first_visit()?;
+    let last = places.len().saturating_sub(1);
+    Ok((
+        places.len(),
+        places.get(0).copied(),
+        places.get(last).copied(),
+    ))
+}
+
+/// The same of the graph, and once its instances are numbered by first visits.
+fn ends_anew(graph: Graph) -> Result<(usize, Option<u32>, Option<u32>), AllocError> {
+    let graph = graph.renumbered()?;
+    ends_of(&graph)
+}
+
 #[test]
 fn a_long_ring(rt: HostRuntime) -> Result<(), Fail> {
-    let count: u32 = 100_000;
-    let mut graph = reserved(&rt, count)?;
-    for at in 0..count {
-        put(&rt, &mut graph, at, (Some((at + 1) % count), None))?;
-    }
-    let roots = pair_of(&rt, (Some(7), None), graph.len())?;
-    graph.set_roots(roots);
-    let places = graph.first_visit()?;
-    assert_eq!(rt; places.len(), 100_000);
-    assert_eq!(rt; places.get(0).copied(), Some(7));
-    assert_eq!(rt; places.get(99_999).copied(), Some(6));
-    let places = graph.renumbered()?.first_visit()?;
-    assert_eq!(rt; places.get(0).copied(), Some(0));
-    assert_eq!(rt; places.get(99_999).copied(), Some(99_999));
+    let mut graph = Graph::new(rt.alloc());
+    make_ring(&rt, &mut graph)?;
+    assert_eq!(rt; ends_of(&graph)?, (100_000, Some(7), Some(6)));
+    assert_eq!(rt; ends_anew(graph)?, (100_000, Some(0), Some(99_999)));
     Ok(())
 }
 

@@ -93,13 +93,17 @@ fn value_of(alloc: Global, key: Key) -> Result<Value, AllocError> {
         Enum(n) => Ok(Value::Enum(n)),
         Proxy(None) => Ok(Value::Proxy(None)),
         Proxy(Some(name)) => Ok(Value::Proxy(Some(Box::new(alloc, proxy_of(alloc, name)?)?))),
-        Both(text, n) => {
-            let mut members = List::new(alloc);
-            members.push(Value::Text(Name::of(alloc, text)?))?;
-            members.push(Value::Int(n))?;
-            Ok(Value::Members(members))
-        }
+        Both(text, n) => both(alloc, text, n),
     }
+}
+
+/// A struct of the two.
+fn both(alloc: Global, text: &str, n: i32) -> Result<Value, AllocError> {
+    let text = Name::of(alloc, text)?;
+    let mut members = List::new(alloc);
+    members.push(Value::Text(text))?;
+    members.push(Value::Int(n))?;
+    Ok(Value::Members(members))
 }
 
 /// The bytes as so many items.
@@ -111,11 +115,13 @@ fn items_of(alloc: Global, bytes: &[u8]) -> Result<Value, AllocError> {
     Ok(Value::Seq(items))
 }
 
-/// A proxy of this name, with an endpoint of each sort.
-fn proxy_of(alloc: Global, name: &str) -> Result<ice_types::Proxy, AllocError> {
+/// An endpoint of each sort.
+fn endpoints_of(alloc: Global) -> Result<List<Endpoint>, AllocError> {
+    let host = Name::of(alloc, "host")?;
+    let bytes = Bytes::from_vec(Vec::from_slice(alloc, &[7, 8])?);
     let mut endpoints = List::new(alloc);
     endpoints.push(Endpoint::Tcp {
-        host: Name::of(alloc, "host")?,
+        host,
         port: 10000,
         timeout: -1,
         compress: false,
@@ -124,41 +130,92 @@ fn proxy_of(alloc: Global, name: &str) -> Result<ice_types::Proxy, AllocError> {
         kind: 3,
         major: 1,
         minor: 0,
-        bytes: Bytes::from_vec(Vec::from_slice(alloc, &[7, 8])?),
+        bytes,
     })?;
+    Ok(endpoints)
+}
+
+/// A proxy of this name, with an endpoint of each sort.
+fn proxy_of(alloc: Global, name: &str) -> Result<ice_types::Proxy, AllocError> {
+    let name = Name::of(alloc, name)?;
+    let category = Name::of(alloc, "")?;
+    let facet = Name::of(alloc, "f")?;
+    let adapter = Name::of(alloc, "")?;
     Ok(ice_types::Proxy {
-        identity: Identity {
-            name: Name::of(alloc, name)?,
-            category: Name::of(alloc, "")?,
-        },
-        facet: Name::of(alloc, "f")?,
+        identity: Identity { name, category },
+        facet,
         mode: 0,
         secure: false,
         protocol: (1, 0),
         encoding: (1, 1),
-        endpoints,
-        adapter: Name::of(alloc, "")?,
+        endpoints: endpoints_of(alloc)?,
+        adapter,
     })
 }
 
-/// A dictionary of these keys, each with itself as its value.
+/// A key with itself as its value.
+fn pair_of(alloc: Global, key: Key) -> Result<(Value, Value), AllocError> {
+    let first = value_of(alloc, key)?;
+    Ok((first, value_of(alloc, key)?))
+}
+
+/// Puts in these keys.
+fn put_pairs(
+    alloc: Global,
+    pairs: &mut List<(Value, Value)>,
+    keys: &[Key],
+) -> Result<(), AllocError> {
+    for key in keys {
+        pairs.push(pair_of(alloc, *key)?)?;
+    }
+    Ok(())
+}
+
+/// A dictionary of these keys.
 fn pairs_of(alloc: Global, keys: &[Key]) -> Result<Value, AllocError> {
     let mut pairs = List::new(alloc);
-    for key in keys {
-        pairs.push((value_of(alloc, *key)?, value_of(alloc, *key)?))?;
-    }
+    put_pairs(alloc, &mut pairs, keys)?;
     Ok(Value::Pairs(pairs))
+}
+
+/// The value as that of a dictionary's one key.
+fn in_pairs(alloc: Global, value: Value) -> Result<Value, AllocError> {
+    let mut pairs = List::new(alloc);
+    pairs.push((Value::Byte(0), value))?;
+    Ok(Value::Pairs(pairs))
+}
+
+/// The values as a list's.
+fn listed(alloc: Global, value: Value) -> Result<List<Value>, AllocError> {
+    let mut values = List::new(alloc);
+    values.push(value)?;
+    Ok(values)
 }
 
 /// The dictionary inside a dictionary's value inside a struct inside a sequence.
 fn nested(alloc: Global, keys: &[Key]) -> Result<Value, AllocError> {
-    let mut pairs = List::new(alloc);
-    pairs.push((Value::Byte(0), pairs_of(alloc, keys)?))?;
-    let mut members = List::new(alloc);
-    members.push(Value::Pairs(pairs))?;
-    let mut items = List::new(alloc);
-    items.push(Value::Members(members))?;
-    Ok(Value::Seq(items))
+    let inner = in_pairs(alloc, pairs_of(alloc, keys)?)?;
+    let members = Value::Members(listed(alloc, inner)?);
+    Ok(Value::Seq(listed(alloc, members)?))
+}
+
+/// How a value is written.
+fn written(alloc: Global, value: &Value) -> Result<String, AllocError> {
+    format!(in alloc; "{value:?}")
+}
+
+/// How the dictionary of these keys is written.
+fn written_of(alloc: Global, keys: &[Key]) -> Result<String, AllocError> {
+    let value = nested(alloc, keys)?;
+    written(alloc, &value)
+}
+
+/// Whether it is sorted, and what sorting answers and leaves.
+fn sorted(alloc: Global, keys: &[Key]) -> Result<(bool, bool, String), AllocError> {
+    let mut value = nested(alloc, keys)?;
+    let before = is_sorted(&value);
+    let sorted = sort_pairs(alloc, &mut value)?;
+    Ok((before, sorted, written(alloc, &value)?))
 }
 
 /// The value sorted, or as it was where two keys are equal.
@@ -167,13 +224,11 @@ fn see_sorted(
     keys: &[Key],
     rising: Option<&[Key]>,
 ) -> Result<(), Fail> {
-    let alloc = rt.alloc();
-    let mut value = nested(alloc, keys)?;
-    let want = nested(alloc, rising.unwrap_or(keys))?;
-    assert_eq!(rt; is_sorted(&value), keys.is_empty());
-    assert_eq!(rt; sort_pairs(alloc, &mut value)?, rising.is_some());
-    let found = format!(in alloc; "{value:?}")?;
-    assert_eq!(rt; found, format!(in alloc; "{want:?}")?);
+    let want = written_of(rt.alloc(), rising.unwrap_or(keys))?;
+    let (before, sorted, found) = sorted(rt.alloc(), keys)?;
+    assert_eq!(rt; before, keys.is_empty());
+    assert_eq!(rt; sorted, rising.is_some());
+    assert_eq!(rt; found, want);
     Ok(())
 }
 

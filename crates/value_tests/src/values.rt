@@ -2,6 +2,7 @@ use graph_arena::{Members, Value};
 use ice_prims::{Cursor, Fault, Kind, ReadFault};
 use ice_types::{Member, Name, Schema, TypeRef};
 use ice_values::{DeclaredMembers, Numbers, Optionals, read_members};
+use std::alloc::{AllocError, Global};
 use std::process::Abort;
 use std::test::Fail;
 use value_checks::fits;
@@ -34,27 +35,24 @@ const REFUSED: &[(Optionals, &[u8], u64, Kind)] = &[
     (Optionals::Marked, b"\x07\0\0\0\x0d\x03hi", 5, Kind::Short),
 ];
 
+/// A member.
+fn member(
+    alloc: Global,
+    name: &str,
+    kind: TypeRef,
+    tag: Option<u32>,
+) -> Result<Member, AllocError> {
+    let name = Name::of(alloc, name)?;
+    Ok(Member { name, kind, tag })
+}
+
 /// The members of the bytes, where an int is required, and a text of tag 1 and a bool of tag 3 are
 /// optional.
 fn read(rt: &impl AllocGlobal, optionals: Optionals, bytes: &[u8]) -> Result<Members, ReadFault> {
     let alloc = rt.alloc();
-    let members = [
-        Member {
-            name: Name::of(alloc, "t")?,
-            kind: TypeRef::Text,
-            tag: Some(1),
-        },
-        Member {
-            name: Name::of(alloc, "n")?,
-            kind: TypeRef::Int,
-            tag: None,
-        },
-        Member {
-            name: Name::of(alloc, "b")?,
-            kind: TypeRef::Bool,
-            tag: Some(3),
-        },
-    ];
+    let text = member(alloc, "t", TypeRef::Text, Some(1))?;
+    let number = member(alloc, "n", TypeRef::Int, None)?;
+    let members = [text, number, member(alloc, "b", TypeRef::Bool, Some(3))?];
     let fields = DeclaredMembers {
         required: &members,
         optional: &members,

@@ -6,7 +6,7 @@ use Rattle.turnstile.specs.declared.history.Entry.{Entry}
 use Rattle.turnstile.specs.declared.turned.Turned.{Ghosts}
 use Rattle.turnstile.specs.declared.passes.Pass.{Pass}
 use Rattle.turnstile.specs.History.{tickets}
-use Rattle.turnstile.specs.Passes.{seen, own, DidJoin}
+use Rattle.turnstile.specs.Passes.{seen, own}
 use Rattle.ice_ports.specs.declared.talk.Talk.{Talk}
 use Rattle.ice_messages.specs.declared.message.Call.{Call}
 use Rattle.ice_messages.specs.declared.message.Answer.{Answer}

@@ -1,5 +1,5 @@
 -- The shares of passes, added up.
-use Rattle.std.proofs.Common.{◌≡◌, ℕ, zero, suc, ◌+◌, ◌<◌, List, [], ◌∷◌, ◌++◌, length, get_or, refl, sym, ap, ◌∙◌, subst, arith}
+use Rattle.std.proofs.Common.{◌≡◌, ℕ, zero, suc, ◌+◌, ◌<◌, List, [], ◌∷◌, ◌++◌, length, get_or, refl, sym, ap, ◌∙◌, arith}
 use Rattle.turnstile.specs.declared.turned.Turned.{Ghosts}
 use Rattle.turnstile.specs.declared.passes.Pass.{Pass}
 use Rattle.turnstile.specs.Passes.{parts, SameShare, SharesOf}

@@ -1,12 +1,12 @@
 -- What listeners, trays and links tell while links are given, taken back and gathered.
-use Rattle.std.proofs.Common.{◌≡◌, ℕ, ◌+◌, ◌-◌, ◌<◌, ◌≤◌, ◌^◌, if◌then◌else◌, Bool, true, false, List, [], ◌∷◌, ◌++◌, length, refl, sym, ap, ap₂, ◌∙◌, subst, arith, append_assoc, append-nil, length-append}
-use Rattle.std.specs.Prelude.{◌↔◌, nat_lt, Option, Some, None, IfSome, Result, Ok, Err}
+use Rattle.std.proofs.Common.{◌≡◌, ℕ, ◌+◌, ◌-◌, ◌<◌, ◌^◌, if◌then◌else◌, Bool, List, [], ◌∷◌, ◌++◌, length, refl, sym, ap, ap₂, ◌∙◌, subst, arith, length-append}
+use Rattle.std.specs.Prelude.{◌↔◌, Option, Some, None, IfSome, Ok}
 use Rattle.std.proofs.lemmas.Bool.{lt-ltb}
 use Rattle.std.proofs.Math.Nat.{min-eq_left}
 use Rattle.ice_ports.specs.declared.talk.Talk.{Talk}
-use Rattle.ice_ports.specs.Talks.{silent, and_then, adds}
+use Rattle.ice_ports.specs.Talks.{adds}
 use Rattle.ice_ports.specs.Nets.{ToldListener, told_after, accepted, IsNew, IsEmptyTray, behind, taken_behind, one_talk, gathers}
-use Rattle.worker_pool.specs.Sessions.{IfFresh, LinkTells, TrayTells, DoorTells, NoneToCome}
+use Rattle.worker_pool.specs.Sessions.{LinkTells, TrayTells, DoorTells, NoneToCome}
 
 abbrev door : ℕ → ℕ → List Talk → Option ToldListener
 door given to_come gathered = Some (record { given = given; to_come = to_come; gathered = gathered })

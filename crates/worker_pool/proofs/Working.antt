@@ -1,6 +1,6 @@
 -- Threads that serve, one link more; and how what they did is put together.
-use Rattle.std.proofs.Common.{◌≡◌, ◌≢◌, ℕ, ◌+◌, ◌<◌, ◌^◌, ◌⊎◌, inl, inr, take, drop, Bool, true, false, List, [], ◌∷◌, ◌++◌, length, get_or, refl, sym, ap, ◌∙◌, subst, arith, append-nil, length-append}
-use Rattle.std.specs.Prelude.{◌||◌, Option, Some, None, Result, Ok, Err, is_err}
+use Rattle.std.proofs.Common.{◌≡◌, ◌≢◌, ℕ, ◌+◌, ◌<◌, ◌⊎◌, inl, inr, take, drop, Bool, true, false, List, [], ◌∷◌, ◌++◌, length, get_or, refl, sym, ap, ◌∙◌, subst, arith, append-nil, length-append}
+use Rattle.std.specs.Prelude.{◌||◌, Option, Result, Ok, Err, is_err}
 use Rattle.std.proofs.lemmas.List.{get_or_append_left, drop_all, take_all}
 use Rattle.std.proofs.Math.Seq.{get_or-append_seam}
 use Rattle.ice_ports.specs.declared.talk.Talk.{Talk}

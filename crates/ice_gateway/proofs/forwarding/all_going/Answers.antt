@@ -1,5 +1,3 @@
-use Rattle.std.proofs.Common.{sym, ap, subst, List}
-use Rattle.ice_messages.specs.declared.message.Call.{Call}
 use Rattle.ice_messages.proofs.Puts.{this_one}
 use Rattle.ice_gateway.specs.Gate.{seen}
 use Rattle.ice_gateway.specs.Laws.{Comes}

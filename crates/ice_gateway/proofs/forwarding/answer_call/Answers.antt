@@ -1,6 +1,5 @@
 use Rattle.std.proofs.Common.{pos, []}
 use Rattle.std.proofs.lemmas.Result.{err_from_is_err_and}
-use Rattle.std.specs.declared.alloc.AllocError.{AllocError}
 use Rattle.ice_proxy.specs.Usable.{tcp_at}
 use Rattle.ice_messages.specs.declared.message.Message.TheVariants.{Request}
 use Rattle.ice_client.proofs.Delivering.{no_place, some_place}

@@ -1,4 +1,4 @@
-use Rattle.std.proofs.Common.{◌≡◌, pos, [], sym, ap, subst, ◌∙◌, arith}
+use Rattle.std.proofs.Common.{pos, [], sym, ap, subst, ◌∙◌, arith}
 use Rattle.std.specs.Prelude.{Option}
 use Rattle.std.proofs.lemmas.Result.{err_from_is_err_and}
 use Rattle.ice_messages.specs.declared.message.Call.{Call}

@@ -7,7 +7,7 @@ use Rattle.ice_encoding.specs.Parts.{Each}
 use Rattle.ice_ports.specs.Talks.{silent}
 use Rattle.ice_messages.specs.declared.message.Call.{Call}
 use Rattle.ice_messages.specs.declared.message.Message.{Message}
-use Rattle.ice_messages.specs.declared.message.Message.TheVariants.{Request, Batch, Validate}
+use Rattle.ice_messages.specs.declared.message.Message.TheVariants.{Request, Batch}
 use Rattle.ice_messages.specs.Messages.{SpellsMessage}
 use Rattle.talking.proofs.Adding.{adds_nothing}
 use Rattle.ice_gateway.specs.declared.end.GateEnd.{GateEnd}

@@ -1,4 +1,4 @@
-use Rattle.std.proofs.Common.{◌≡◌, ◌∙◌, ℕ, ◌+◌, ◌<◌, [], refl, sym, ap, subst, arith, get_or, length}
+use Rattle.std.proofs.Common.{◌≡◌, ◌∙◌, ℕ, ◌<◌, [], sym, ap, subst, arith, get_or, length}
 use Rattle.std.specs.Prelude.{Some}
 use Rattle.ice_ports.specs.Failures.{count_after}
 use Rattle.worker_pool.specs.Endings.{has_run_out}

@@ -1,4 +1,4 @@
-use Rattle.std.proofs.Common.{ℕ, ◌+◌, ◌<◌, arith}
+use Rattle.std.proofs.Common.{ℕ, arith}
 use Rattle.worker_pool.proofs.Told.{door_gave, link_new}
 use Rattle.worker_pool.proofs.door.Door.accept.Goals as goal
 

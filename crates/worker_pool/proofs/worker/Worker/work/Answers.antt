@@ -1,4 +1,4 @@
-use Rattle.std.proofs.Common.{◌≡◌, ◌∙◌, sym, subst, ℕ, ◌+◌}
+use Rattle.std.proofs.Common.{◌∙◌, sym, subst, ℕ}
 use Rattle.worker_pool.specs.Sessions.{split_off, HasServed}
 use Rattle.worker_pool.proofs.worker.Worker.work.Goals as goal
 
