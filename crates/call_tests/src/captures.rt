@@ -1,7 +1,6 @@
 use ice_audit::{Line, Seen, Side, Verdict, Why, audit};
 use ice_prims::Kind;
-use std::process::Abort;
-use std::test::Fail;
+use std::alloc::Global;
 
 /// A request with the id 1.
 const REQUEST: &[u8] =
@@ -60,45 +59,32 @@ const FAULTS: &[(&[u8], &[u8], Side, u64, Why)] = &[
     ),
 ];
 
-/// The one line of a capture.
-fn see_line(
-    rt: &(impl AllocGlobal + Abort),
-    client: &[u8],
-    server: &[u8],
-    line: Line,
-) -> Result<(), Fail> {
-    let Ok(Verdict::Yes(lines)) = audit(rt.alloc(), client, server) else {
-        return Err(Fail::from("no such answer"));
-    };
-    assert_eq!(rt; lines.len(), 1);
-    assert_eq!(rt; lines.get(0), Some(&line));
-    Ok(())
+/// Whether this is the one line of a capture.
+fn is_told(alloc: Global, client: &[u8], server: &[u8], line: &Line) -> bool {
+    match audit(alloc, client, server) {
+        Ok(Verdict::Yes(lines)) => lines.len() == 1 && lines.get(0) == Some(line),
+        _ => false,
+    }
 }
 
 /// What is wrong with a capture.
-fn see_fault(
-    rt: &(impl AllocGlobal + Abort),
-    client: &[u8],
-    server: &[u8],
-    wanted: (Side, u64, Why),
-) -> Result<(), Fail> {
-    let Ok(Verdict::No { side, place, why }) = audit(rt.alloc(), client, server) else {
-        return Err(Fail::from("no such answer"));
-    };
-    assert_eq!(rt; (side, place, why), wanted);
-    Ok(())
+fn fault_of(alloc: Global, client: &[u8], server: &[u8]) -> Option<(Side, u64, Why)> {
+    match audit(alloc, client, server) {
+        Ok(Verdict::No { side, place, why }) => Some((side, place, why)),
+        _ => None,
+    }
 }
 
 #[test]
-fn captures_by_their_bytes(rt: HostRuntime) -> Result<(), Fail> {
-    for (server, seen) in TOLD {
+fn captures_by_their_bytes(rt: HostRuntime) {
+    for (at, (server, seen)) in TOLD.iter().enumerate() {
         let line = Line {
             id: 1,
             calls: 1,
             batch: false,
             seen: *seen,
         };
-        see_line(&rt, REQUEST, server, line)?;
+        assert!(rt; is_told(rt.alloc(), REQUEST, server, &line), "in row {at}");
     }
     let batch = Line {
         id: 0,
@@ -106,9 +92,9 @@ fn captures_by_their_bytes(rt: HostRuntime) -> Result<(), Fail> {
         batch: true,
         seen: Seen::Either,
     };
-    see_line(&rt, BATCH, VALIDATE, batch)?;
-    for (client, server, side, place, why) in FAULTS {
-        see_fault(&rt, client, server, (*side, *place, *why))?;
+    assert!(rt; is_told(rt.alloc(), BATCH, VALIDATE, &batch));
+    for (at, (client, server, side, place, why)) in FAULTS.iter().enumerate() {
+        let fault = fault_of(rt.alloc(), client, server);
+        assert!(rt; fault == Some((*side, *place, *why)), "in fault {at}");
     }
-    Ok(())
 }

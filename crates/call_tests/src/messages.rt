@@ -1,7 +1,6 @@
 use ice_messages::{FeedFault, Frames, read_message, write_message};
 use ice_prims::{Fault, Kind, ReadFault};
-use std::process::Abort;
-use std::test::Fail;
+use std::alloc::Global;
 
 /// Messages as a client and a server of Ice send them: each is read, and what is written of it is the same bytes.
 const MESSAGES: &[&[u8]] = &[
@@ -49,60 +48,67 @@ const FAULTS: &[(&[u8], u64, Kind)] = &[
     ),
 ];
 
-/// The message that the bytes are, and the bytes that are written of it.
-fn see_message(rt: &(impl AllocGlobal + Abort), bytes: &[u8]) -> Result<(), Fail> {
-    let Ok(message) = read_message(rt.alloc(), bytes) else {
-        return Err(Fail::from("no such answer"));
+/// Whether the bytes that are written of the message that the bytes are are these.
+fn is_written_as_it_stands(alloc: Global, bytes: &[u8]) -> bool {
+    let Ok(message) = read_message(alloc, bytes) else {
+        return false;
     };
-    let Ok(written) = write_message(rt.alloc(), &message) else {
-        return Err(Fail::from("no such answer"));
-    };
-    assert_eq!(rt; written.as_slice(), bytes);
-    Ok(())
-}
-
-/// The first fault of the bytes.
-fn see_fault(
-    rt: &(impl AllocGlobal + Abort),
-    bytes: &[u8],
-    place: u64,
-    kind: Kind,
-) -> Result<(), Fail> {
-    let Err(ReadFault::Broken(fault)) = read_message(rt.alloc(), bytes) else {
-        return Err(Fail::from("no such answer"));
-    };
-    assert_eq!(rt; fault, Fault { place, kind });
-    Ok(())
-}
-
-/// The bytes fed one at a time: no message before the last byte, and then one, and nothing held.
-fn see_pieces(rt: &(impl AllocGlobal + Abort), bytes: &[u8]) -> Result<(), Fail> {
-    let mut frames = Frames::new(rt.alloc());
-    for at in 0..bytes.len() {
-        assert!(rt; matches!(frames.next(), Ok(None)));
-        assert_eq!(rt; frames.held(), at);
-        assert_eq!(rt; frames.feed(&bytes[at..at + 1]), Ok(()));
+    match write_message(alloc, &message) {
+        Ok(written) => written.as_slice() == bytes,
+        Err(_) => false,
     }
-    assert!(rt; matches!(frames.next(), Ok(Some(_))));
-    assert_eq!(rt; frames.held(), 0);
-    Ok(())
+}
+
+/// The first fault of the bytes, or None.
+fn fault_of(alloc: Global, bytes: &[u8]) -> Option<Fault> {
+    match read_message(alloc, bytes) {
+        Err(ReadFault::Broken(fault)) => Some(fault),
+        _ => None,
+    }
+}
+
+/// Whether a message is next, or the fault where the bytes are none.
+fn is_next(frames: &mut Frames) -> Result<bool, Option<Fault>> {
+    match frames.next() {
+        Ok(message) => Ok(message.is_some()),
+        Err(ReadFault::Broken(fault)) => Err(Some(fault)),
+        Err(_) => Err(None),
+    }
+}
+
+/// Whether of the bytes fed one at a time no message comes before the last byte, and then one, and nothing is held.
+fn comes_whole(alloc: Global, bytes: &[u8]) -> bool {
+    let mut frames = Frames::new(alloc);
+    for at in 0..bytes.len() {
+        let early = is_next(&mut frames) != Ok(false) || frames.held() != at;
+        if early || frames.feed(&bytes[at..at + 1]).is_err() {
+            return false;
+        }
+    }
+    is_next(&mut frames) == Ok(true) && frames.held() == 0
 }
 
 #[test]
-fn messages_by_their_bytes(rt: HostRuntime) -> Result<(), Fail> {
-    for bytes in MESSAGES {
-        see_message(&rt, bytes)?;
-        see_pieces(&rt, bytes)?;
+fn messages_by_their_bytes(rt: HostRuntime) {
+    for (at, bytes) in MESSAGES.iter().enumerate() {
+        assert!(rt;
+            is_written_as_it_stands(rt.alloc(), bytes),
+            "in message {at}"
+        );
+        assert!(rt; comes_whole(rt.alloc(), bytes), "in message {at}");
     }
-    for (bytes, place, kind) in FAULTS {
-        see_fault(&rt, bytes, *place, *kind)?;
+    for (at, (bytes, place, kind)) in FAULTS.iter().enumerate() {
+        let fault = Fault {
+            place: *place,
+            kind: *kind,
+        };
+        assert_eq!(rt; fault_of(rt.alloc(), bytes), Some(fault), "in fault {at}");
     }
-    Ok(())
 }
 
 /// A fault comes as soon as its byte is there, and for good.
 #[test]
-fn a_reader_that_has_stopped(rt: HostRuntime) -> Result<(), Fail> {
+fn a_reader_that_has_stopped(rt: HostRuntime) {
     let mut frames = Frames::new(rt.alloc());
     let fault = Fault {
         place: 3,
@@ -110,11 +116,7 @@ fn a_reader_that_has_stopped(rt: HostRuntime) -> Result<(), Fail> {
     };
     assert_eq!(rt; frames.feed(b"IceQ"), Ok(()));
     for _ in 0..2 {
-        let Err(ReadFault::Broken(found)) = frames.next() else {
-            return Err(Fail::from("no such answer"));
-        };
-        assert_eq!(rt; found, fault);
+        assert_eq!(rt; is_next(&mut frames), Err(Some(fault)));
         assert_eq!(rt; frames.feed(b"x"), Err(FeedFault::Stopped));
     }
-    Ok(())
 }

@@ -2,7 +2,6 @@ use Attempt::{Closed, Lost, NotConnected, NotWhole, Replied, Sent, Stale};
 use ClientAction::{AwaitReply, AwaitValidate, Connect, Finish, Send};
 use ClientEvent::{CloseRead, ConnectFailed, Connected, Refused2, ReplyRead, Taken, Validated};
 use retry_core::{Attempt, Client, ClientAction, ClientEvent, Server, ServerAction, ServerEvent};
-use std::process::Abort;
 use std::test::Fail;
 
 /// What comes, and what the client does then.
@@ -108,15 +107,22 @@ const CALLS: &[(bool, u32, Steps, &[Attempt])] = &[
     ),
 ];
 
+/// The first step that cannot come, or at which the client does something else.
+fn other_step(client: &mut Client, steps: &[(ClientEvent, ClientAction)]) -> Option<usize> {
+    for (at, (event, action)) in steps.iter().enumerate() {
+        if !client.accepts(*event) || client.step(*event) != *action {
+            return Some(at);
+        }
+    }
+    None
+}
+
 #[test]
 fn clients(rt: HostRuntime) -> Result<(), Fail> {
-    for &(idempotent, retries, steps, attempts) in CALLS {
+    for (at, &(idempotent, retries, steps, attempts)) in CALLS.iter().enumerate() {
         let mut client = Client::new(rt.alloc(), idempotent, true, 38, retries)?;
-        for &(event, action) in steps {
-            assert!(rt; client.accepts(event), "{event:?} of {steps:?}");
-            assert_eq!(rt; client.step(event), action, "at {event:?} of {steps:?}");
-        }
-        assert_eq!(rt; client.attempts(), attempts, "after {steps:?}");
+        assert_eq!(rt; other_step(&mut client, steps), None, "in call {at}");
+        assert_eq!(rt; client.attempts(), attempts, "after call {at}");
     }
     Ok(())
 }
@@ -134,10 +140,7 @@ fn oneways(rt: HostRuntime) -> Result<(), Fail> {
         (Taken(36), Finish(Sent)),
     ];
     let mut client = Client::new(rt.alloc(), false, false, 36, 1)?;
-    for (event, action) in steps {
-        assert!(rt; client.accepts(event), "{event:?}");
-        assert_eq!(rt; client.step(event), action, "at {event:?}");
-    }
+    assert_eq!(rt; other_step(&mut client, &steps), None);
     assert_eq!(rt;
         client.into_attempts().as_slice(),
         [NotWhole, Sent].as_slice()
@@ -190,17 +193,23 @@ const CONNECTIONS: &[&[(ServerEvent, ServerAction)]] = &[
     ],
 ];
 
-#[test]
-fn servers(rt: HostRuntime) -> Result<(), Fail> {
-    for &steps in CONNECTIONS {
-        let mut server = Server::new();
-        for &(event, action) in steps {
-            assert!(rt; server.accepts(event), "{event:?} of {steps:?}");
-            assert_eq!(rt; server.step(event), action, "at {event:?} of {steps:?}");
+/// The first step that cannot come, or at which the server does something else.
+fn other_turn(server: &mut Server, steps: &[(ServerEvent, ServerAction)]) -> Option<usize> {
+    for (at, (event, action)) in steps.iter().enumerate() {
+        if !server.accepts(*event) || server.step(*event) != *action {
+            return Some(at);
         }
+    }
+    None
+}
+
+#[test]
+fn servers(rt: HostRuntime) {
+    for (at, &steps) in CONNECTIONS.iter().enumerate() {
+        let mut server = Server::new();
+        assert_eq!(rt; other_turn(&mut server, steps), None, "in connection {at}");
         assert!(rt; !server.accepts(ServerEvent::Lost) && !server.accepts(REQUEST));
     }
-    Ok(())
 }
 
 #[test]
