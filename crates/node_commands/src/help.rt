@@ -32,8 +32,8 @@ error. The earlier step decides, as the command's page tells it.
   3  ice: FILE:PLACE: KIND       a Slice file is refused: its name, the fault's first byte, counted
                                  from 0, and its kind
   2  ice: no such name WORD      no type of FILE has the name TYPE, or of compat none of OLD or of NEW;
-                                 of audit, no file is at the path CLIENT or SERVER; of call and serve,
-                                 INTERFACE or OPERATION is none
+                                 of audit, no file is at the path CLIENT or SERVER; of call, serve and
+                                 gate, INTERFACE or OPERATION is none
   2  ice: twoway only OPERATION  PROXY asks for no reply, and OPERATION has results or throws
   4  ice: input refused at PLACE: KIND
                                  the input is not one encapsulation of a value of TYPE, or of same
@@ -55,15 +55,15 @@ error. The earlier step decides, as the command's page tells it.
                                  a word lacks
   5  ice: read failed            a file or standard input could not be read
   6  ice: write failed           standard output could not be written
-  7  ice: network failed         of call, the last attempt got no connection, or lost it; of serve, HOST
-                                 and PORT could not be had, or accepting failed
+  7  ice: network failed         of call, the last attempt got no connection, or lost it; of serve and
+                                 gate, HOST and PORT could not be had, or accepting failed
   8  ice: call ended: REASON     of call, no success came of the last attempt
   9  ice: no memory
   1  (no line)                   of same: different; of audit and compat: no
   0  (no line)                   done
 
 After 2 to 5 and 9 nothing was written to standard output, and after 6 the first part of the answer;
-but messages, call and serve have told what came before.
+but messages, call, serve and gate have told what came before.
 
 KIND of a Slice file is one of these:
 

@@ -185,6 +185,7 @@ What ends a call without success is told as ice: call ended: REASON, with one of
   missing STATUS             no such object (2), facet (3) or operation (4)
   unknown STATUS \"TEXT\"     the server failed: a local (5), user (6) or other exception (7)
   no endpoint                PROXY has no TCP endpoint
+  not located                the locator does not know the object or the adapter
   closed                     the server closed the connection, so the call was not dispatched
   ended                      the server's stream ended before a reply
   broke at PLACE: KIND       what the server sent is no message, not the one that may come, or no
@@ -211,6 +212,8 @@ choose. OBJECT is one of these, cut at its first and second =, which are all dif
     locator=IDENTITY           a locator, which finds the places below
     place=IDENTITY=PROXY       what locators answer for the object
     adapter=ID=PROXY           what locators answer for the adapter
+
+There are at most 64 words.
 
 A connection that stays open holds a worker, and Ice clients keep theirs open: W is the number of
 clients that are served at once. Others wait until one is free; an Ice client gives up after 60

@@ -2,7 +2,8 @@
 
 ghost use Rattle.std.specs.Prelude.{◌≡◌, ◌≢◌, List, MatchOption, [], ◌∷◌, codes};
 ghost use Rattle.node_commands.specs.declared.words.Page.{Page};
-ghost use Rattle.node_commands.specs.Words.{Word, Command as Asked, Form, Asks, SpellsWithin, asked_of, page_words, words_of};
+ghost use Rattle.node_commands.specs.Words.{Word, Command as Asked, Form, Asks, SpellsWithin};
+ghost use Rattle.node_commands.specs.Words.{asked_of, page_words, words_of};
 
 use class_slices::Format;
 use ice_relay::MOST_NODES;
