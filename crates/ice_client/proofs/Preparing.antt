@@ -12,4 +12,4 @@ use Rattle.ice_client.specs.Sending.{asks_reply, IsIdempotent, Prepares}
 pub prepared : (o : Outgoing) (m : Message) → o.replies ≡ asks_reply m → (IsTrue o.idempotent ↔ IsIdempotent m) → o.bytes ≡ message_bytes m → length o.bytes ≤ LARGEST → SpellsMessage o.bytes m → Prepares (Ok o) m
 prepared o m replies idempotent is few spelled =
     let long : HEADER_BYTES ≤ length o.bytes = message_long o.bytes m spelled in
-    (record { spelled = spelled; replies = replies; idempotent = idempotent }, subst (λ (z : List ℕ). length z ≤ LARGEST) is few, omega (arith, long))
+    (record { bytes_are = is; spelled = spelled; replies = replies; idempotent = idempotent }, subst (λ (z : List ℕ). length z ≤ LARGEST) is few, omega (arith, long))

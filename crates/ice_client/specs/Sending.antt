@@ -33,8 +33,9 @@ IsIdempotent (Reply id answer) = Unit {0}
 IsIdempotent Validate = Unit {0}
 IsIdempotent Close = Unit {0}
 
--- what is sent of the message
+-- what is sent of the message: the bytes that are put for it, which spell it
 pub record IsOf (o : Outgoing) (m : Message) : Type 0 where
+  pub bytes_are : o.bytes ≡ message_bytes m
   pub spelled : SpellsMessage o.bytes m
   pub replies : o.replies ≡ asks_reply m
   pub idempotent : IsTrue o.idempotent ↔ IsIdempotent m
