@@ -94,7 +94,7 @@ module _ {g : Ghosts Object Call Answer} (keys : Keys) (ps qs : List (Pass Objec
     left = tt;
     outcomes = tt;
     grew = w;
-    says = (refl, record { whole = []; last = []; parts = refl; one = omega arith; spelled = tt; begun = []; lacks = []; taken_is = refl; last_is = refl; last_spelled = inl refl });
+    says = (refl, refl);
   }
 
 -- ---- a batch
@@ -150,7 +150,7 @@ module _ {g : Ghosts Object Call Answer} (keys : Keys) where
     outcomes = b.outcomes;
     grew = grew_rest ps qs rs b.hs b.grew w;
     says = subst (λ (z : List Message). Says {E = E} z silent (Err e)) (sym b.quiet)
-        (refl, record { whole = []; last = []; parts = refl; one = omega arith; spelled = tt; begun = []; lacks = []; taken_is = refl; last_is = refl; last_spelled = inl refl });
+        (refl, refl);
   }
 
 same_state : (x y : ServerAction × ServerState) → Some x ≡ Some y → x.1 ≡ y.1

@@ -69,7 +69,7 @@ said_by_write E m bytes n false is spelled most same =
     )
 
 pub starved : (E : Type 0) (e : E) (ms : List Message) → length ms ≤ 1 → Says {E = E} ms silent (Err e)
-starved E e ms few = (refl, none_begun ms few)
+starved E e ms few = (refl, refl)
 
 -- ---- a reply
 

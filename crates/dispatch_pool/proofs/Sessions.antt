@@ -21,7 +21,7 @@ use Rattle.dispatch_pool.specs.Said.{bytes_of, IsSaid, IsBegun}
 use Rattle.dispatch_pool.specs.ServerDid.{ServerDid, IsCut, IsTaken, Shows, WasSaid, ClosesBy, IsLeft, all_said}
 use Rattle.dispatch_pool.specs.Parts.{ComesBy, IsSingle, Says, Handling, Next, Part, IsNext, LeavesNone, StepSaid, went_on}
 use Rattle.dispatch_pool.proofs.Turning.{row_still}
-use Rattle.dispatch_pool.proofs.Messages.{said_then, said_begun}
+use Rattle.dispatch_pool.proofs.Messages.{said_then, said_begun, none_begun, reply_few}
 use Rattle.dispatch_pool.proofs.Calls.{asking_append, replies_append, outcomes_append, grew_more}
 
 -- ---- lists
@@ -157,7 +157,7 @@ module _ {g : Ghosts Object Call Answer} (keys : Keys) where
     calls = refl;
     outcomes = tt;
     grew = row_still ps;
-    how = said_begun [] t.taken (none, tt);
+    how = none;
   }
 
 -- behind the bytes of a message
@@ -257,6 +257,30 @@ cut_behind xs ys x y (inr none) h k = inr (record {
   begun = said_begun [] [] (refl, tt);
 })
 
+-- nothing was said of what a message came to
+few_replies : (ys : List Handled) → length ys ≤ 1 → length (replies ys) ≤ 1
+few_replies [] one = omega arith
+few_replies (h ∷ []) one = let l = length-append (reply_of h.asked.id (answer_of h.outcome)) [] in let f = reply_few h.asked.id (answer_of h.outcome) in omega arith
+few_replies (h ∷ k ∷ r) one = absurd (omega arith)
+
+unsaid : (ys : List Handled) (y : List ℕ) → IsSingle ys → y ≡ [] → IsBegun (replies ys) y
+unsaid ys y (inl one) none = subst (λ (z : List ℕ). IsBegun (replies ys) z) (sym none) (none_begun (replies ys) (few_replies ys one))
+unsaid ys y (inr quiet) none = subst (λ (z : List ℕ). IsBegun (replies ys) z) (sym none) (subst (λ (z : List Message). IsBegun z []) (sym quiet) (said_begun [] [] (refl, tt)))
+
+-- nor of the close message
+cut_unsaid : (hs : List Handled) (x y : List ℕ) → IsSaid (Validate ∷ replies hs) x → y ≡ [] → IsCut hs false (x ++ y)
+cut_unsaid hs x y h none = inr (record {
+  whole = hs;
+  last = [];
+  parts = sym (append-nil hs);
+  one = omega arith;
+  before = x;
+  behind = y;
+  taken_is = refl;
+  said = h;
+  begun = subst (λ (z : List ℕ). IsBegun [] z) (sym none) (said_begun [] [] (refl, tt));
+})
+
 cut_close : (hs : List Handled) (x y : List ℕ) → IsSaid (Validate ∷ replies hs) x → IsBegun (Close ∷ []) y → IsCut hs true (x ++ y)
 cut_close hs x y h k = inr (record {
   whole = hs;
@@ -338,16 +362,16 @@ module _ {g : Ghosts Object Call Answer} (keys : Keys) where
         is_left = tt;
         outcomes = outcomes_append keys p.handled n.handled p.outcomes n.outcomes;
         closes = false;
-        closes_by = λ f. absurd cc;
-        said = cut_behind p.handled n.handled t.taken s.taken n.single p.said n.how;
+        closes_by = refl;
+        said = cut_behind p.handled n.handled t.taken s.taken n.single p.said (unsaid n.handled s.taken n.single n.how);
       },
     )
 
   -- after the stated number of messages
   module _ (most : ℕ) (ps qs : List (Pass Object Call Answer g)) (t s : Talk) (held : List ℕ) (p : Part keys ps qs t held most) where
-    closed : (end : Option End) → s.given ≡ [] → Shows (and_then t s) held end → ClosesBy end true (length p.reads) most → WasSaid end p.handled true (t.taken ++ s.taken) → IsLeft end []
+    closed : (end : Option End) (closes : Bool) → s.given ≡ [] → Shows (and_then t s) held end → ClosesBy end closes (length p.reads) most → WasSaid end p.handled closes (t.taken ++ s.taken) → IsLeft end []
         → (hs : List Handled) × RowGrew ps qs (turns_of hs) × ServerDid keys most (and_then t s) hs end
-    closed end none shows by said left = (
+    closed end closes none shows by said left = (
       p.handled,
       p.grew,
       record {
@@ -361,20 +385,20 @@ module _ {g : Ghosts Object Call Answer} (keys : Keys) where
         calls = p.calls ∙ sym (append-nil (asking p.handled));
         is_left = left;
         outcomes = p.outcomes;
-        closes = true;
+        closes = closes;
         closes_by = by;
         said = said;
       },
     )
 
     pub enough : (E : Type 0) → Says {E = E} (Close ∷ []) s (Ok true) → (hs : List Handled) × RowGrew ps qs (turns_of hs) × ServerDid keys most (and_then t s) hs (Some ends.Enough)
-    enough E h = closed (Some ends.Enough) h.0 tt (refl, p.long) (said_then (Validate ∷ replies p.handled) (Close ∷ []) t.taken s.taken p.said h.1) refl
+    enough E h = closed (Some ends.Enough) true h.0 tt (refl, p.long) (said_then (Validate ∷ replies p.handled) (Close ∷ []) t.taken s.taken p.said h.1) refl
 
     pub not_said : (E : Type 0) → Says {E = E} (Close ∷ []) s (Ok false) → (hs : List Handled) × RowGrew ps qs (turns_of hs) × ServerDid keys most (and_then t s) hs (Some ends.LinkFailed)
-    not_said E h = closed (Some ends.LinkFailed) h.0 (or_right t.failed s.failed h.2) (λ f. p.long) (cut_close p.handled t.taken s.taken p.said h.1) refl
+    not_said E h = closed (Some ends.LinkFailed) true h.0 (or_right t.failed s.failed h.2) (λ f. p.long) (cut_close p.handled t.taken s.taken p.said h.1) refl
 
     pub starved_last : (E : Type 0) (e : E) → Says {E = E} (Close ∷ []) s (Err e) → (hs : List Handled) × RowGrew ps qs (turns_of hs) × ServerDid keys most (and_then t s) hs None
-    starved_last E e h = closed None h.0 tt (λ f. p.long) (cut_close p.handled t.taken s.taken p.said h.1) tt
+    starved_last E e h = closed None false h.0 tt refl (cut_unsaid p.handled t.taken s.taken p.said h.1) tt
 
   -- not even a validate was said
   not_begun : (most : ℕ) (ps : List (Pass Object Call Answer g)) (t : Talk) (end : Option End) → t.given ≡ [] → Shows t [] end → ClosesBy end false 0 most → IsLeft end [] → WasSaid end [] false t.taken
@@ -389,4 +413,5 @@ module _ {g : Ghosts Object Call Answer} (keys : Keys) where
   no_validate E most ps t h = not_begun most ps t (Some ends.LinkFailed) h.0 h.2 (λ f. absurd cc) refl (inl (refl, refl, h.1))
 
   pub starved_first : (E : Type 0) (e : E) (most : ℕ) (ps : List (Pass Object Call Answer g)) (t : Talk) → Says {E = E} (Validate ∷ []) t (Err e) → (hs : List Handled) × RowGrew ps ps (turns_of hs) × ServerDid keys most t hs None
-  starved_first E e most ps t h = not_begun most ps t None h.0 tt (λ f. absurd cc) tt (inl (refl, refl, h.1))
+  starved_first E e most ps t h =
+      not_begun most ps t None h.0 tt refl tt (inl (refl, refl, subst (λ (z : List ℕ). IsBegun (Validate ∷ []) z) (sym h.1) (none_begun (Validate ∷ []) (omega arith))))

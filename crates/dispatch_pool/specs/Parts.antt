@@ -53,11 +53,11 @@ went_on false = Some LinkFailed
 
 -- ---- what is left of a message's calls and replies
 
--- these messages were said; or a write failed in the midst of the last one; or memory lacked
+-- these messages were said; or a write failed in the midst of the last one; or memory lacked, and nothing was said
 abbrev pub Says : {E : Type 0} → List Message → Talk → Result Bool E → Type 0
 Says messages t (Ok true) = (t.given ≡ []) × IsSaid messages t.taken
 Says messages t (Ok false) = (t.given ≡ []) × IsBegun messages t.taken × (t.failed ≡ true)
-Says messages t (Err e) = (t.given ≡ []) × IsBegun messages t.taken
+Says messages t (Err e) = (t.given ≡ []) × (t.taken ≡ [])
 
 -- after a call that says nothing
 abbrev pub said_by : {X E : Type 0} → Result X E → Result Bool E
@@ -92,7 +92,7 @@ IsSingle handled = (length handled ≤ 1) ⊎ (replies handled ≡ [])
 abbrev pub IsNext : {E : Type 0} → Talk → List ℕ → List Message → List ℕ → List Asked → List Message → Result (Option End) E → Type 0
 IsNext t held reads left rest messages (Ok None) = (length reads ≡ 1) × (left ≡ held) × (rest ≡ []) × IsSaid messages t.taken
 IsNext t held reads left rest messages (Ok (Some end)) = Shows t left (Some end) × (rest ≡ []) × StepSaid end messages t.taken × ComesBy end reads
-IsNext t held reads left rest messages (Err e) = IsBegun messages t.taken
+IsNext t held reads left rest messages (Err e) = t.taken ≡ []
 
 module _ {g : Ghosts Object Call Answer} (keys : Keys) (ps qs : List (Pass Object Call Answer g)) where
   -- a call had a turn, or a refusal without one

@@ -31,7 +31,7 @@ Shows t left (Some Enough) = Unit {0}
 
 -- a close message is said exactly after the stated number of messages, and before that no other end is one of these
 abbrev pub ClosesBy : Option End → Bool → ℕ → ℕ → Type 0
-ClosesBy None closes read most = closes ≡ true → read ≡ most
+ClosesBy None closes read most = closes ≡ false
 ClosesBy (Some PeerEnded) closes read most = (closes ≡ false) × (read < most)
 ClosesBy (Some PeerClosed) closes read most = (closes ≡ false) × (read < most)
 ClosesBy (Some (PeerBroke fault)) closes read most = (closes ≡ false) × (read < most)

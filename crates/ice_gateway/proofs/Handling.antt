@@ -22,7 +22,6 @@ use Rattle.ice_gateway.specs.Forwarded.{forwarded, going, id_anew, request_anew}
 use Rattle.ice_gateway.specs.Handled.{Invocation, WasForwarded, WasAnswered, outcome_of, run_of, replies}
 use Rattle.ice_gateway.specs.Said.{Says}
 use Rattle.ice_gateway.specs.Parts.{Handling, Leaves, Passed}
-use Rattle.ice_gateway.proofs.Spoken.{none_begun}
 
 -- ---- ids
 
@@ -85,7 +84,7 @@ cut_off gate m runs e few = record {
   did = tt;
   invoked = refl;
   left = (few, omega arith);
-  says = (refl, none_begun [] (omega arith));
+  says = (refl, refl);
 }
 
 -- ---- a message for which no reply is asked

@@ -1,22 +1,24 @@
 -- Messages that are taken one after the other, and how a session ends.
 use Rattle.std.proofs.Common.{◌≡◌, ◌≢◌, ℕ, suc, ◌+◌, ◌<◌, ◌≤◌, inl, inr, Bool, true, false, ◌||◌, List, [], ◌∷◌, ◌++◌, length, refl, sym, ap, ap₂, ◌∙◌, subst, arith, append_assoc, append-nil, length-append}
-use Rattle.std.specs.Prelude.{Option, Some, None, Result, Ok, Err, IfOk}
+use Rattle.std.specs.Prelude.{ℤ, pos, negsuc, zero, Option, Some, None, Result, Ok, Err, IfOk}
 use Rattle.ice_encoding.specs.Parts.{Each}
 use Rattle.ice_ports.specs.declared.talk.Talk.{Talk}
 use Rattle.ice_ports.specs.Talks.{and_then, gives, silent}
 use Rattle.ice_messages.specs.declared.message.Message.{Message}
-use Rattle.ice_messages.specs.declared.message.Message.TheVariants.{Validate, Close}
+use Rattle.ice_messages.specs.declared.message.Answer.{Answer}
+use Rattle.ice_messages.specs.declared.message.Message.TheVariants.{Request, Batch, Reply, Validate, Close}
 use Rattle.ice_messages.specs.Messages.{SpellsMessage}
 use Rattle.ice_messages.specs.Streams.{Stream}
+use Rattle.ice_client.specs.declared.outcome.Outcome.{Outcome}
 use Rattle.ice_client.specs.ClientDid.{Tried}
 use Rattle.ice_gateway.specs.declared.end.GateEnd.{GateEnd}
 use Rattle.ice_gateway.specs.declared.end.GateEnd.TheVariants as ends
 use Rattle.ice_gateway.specs.Gate.{Gate}
-use Rattle.ice_gateway.specs.Handled.{Handled, WasHandled, messages, runs_of, run_of, replies}
+use Rattle.ice_gateway.specs.Handled.{Handled, WasHandled, WasAnswered, outcome_of, messages, runs_of, run_of, replies}
 use Rattle.ice_gateway.specs.Said.{IsSaid, IsBegun, Says}
 use Rattle.ice_gateway.specs.GateDid.{GateDid, IsCut, IsTaken, Shows, WasSaid, ClosesBy, IsLeft, all_said}
 use Rattle.ice_gateway.specs.Parts.{ComesBy, Handling, Next, Part, IsNext, Leaves, StepSaid, went_on}
-use Rattle.ice_gateway.proofs.Spoken.{said_then, said_begun}
+use Rattle.ice_gateway.proofs.Spoken.{said_then, said_begun, none_begun}
 use Rattle.ice_gateway.proofs.Handling.{one_handled}
 
 -- ---- lists
@@ -124,7 +126,7 @@ module _ (gate : Gate) where
     taken = refl;
     did = tt;
     invoked = refl;
-    how = (omega arith, omega arith, said_begun [] t.taken (none, tt));
+    how = (omega arith, omega arith, none);
   }
 
 -- behind the bytes of a message
@@ -209,6 +211,57 @@ cut_behind xs ys x y one h k = inr (record {
   begun = subst (λ (z : List Message). IsBegun z y) (sym (append-nil (replies ys))) k;
 })
 
+-- nothing was said of what a message came to
+few_answers : (gate : Gate) (h : Handled) → WasHandled gate h → length h.replies ≤ 1
+few_answers gate h was = few h.message (outcome_of h.invocation) h.replies was.1
+  where
+    none : (rs : List Message) → rs ≡ [] → length rs ≤ 1
+    none rs is = let l = ap (λ (z : List Message). length z) is in omega arith
+
+    single : (id : ℤ) (answer : Answer) (rs : List Message) → rs ≡ Reply id answer ∷ [] → length rs ≤ 1
+    single id answer rs is = let l = ap (λ (z : List Message). length z) is in omega arith
+
+    few : (m : Message) (o : Option Outcome) (rs : List Message) → WasAnswered gate m o rs → length rs ≤ 1
+    few (Request (pos zero) c) o rs w = none rs w
+    few (Request (pos (suc n)) c) o rs w = single (pos (suc n)) w.0 rs w.1
+    few (Request (negsuc n) c) o rs w = single (negsuc n) w.0 rs w.1
+    few (Batch cs) o rs w = none rs w
+    few (Reply id answer) o rs w = none rs w
+    few Validate o rs w = none rs w
+    few Close o rs w = none rs w
+
+few_replies : (gate : Gate) (ys : List Handled) → Each (WasHandled gate) ys → length ys ≤ 1 → length (replies ys) ≤ 1
+few_replies gate [] did one = omega arith
+few_replies gate (h ∷ []) did one = let l = length-append h.replies [] in let f = few_answers gate h did.0 in omega arith
+few_replies gate (h ∷ k ∷ r) did one = absurd (omega arith)
+
+unsaid : (gate : Gate) (ys : List Handled) (y : List ℕ) → Each (WasHandled gate) ys → length ys ≤ 1 → y ≡ [] → IsBegun (replies ys) y
+unsaid gate ys y did one none = subst (λ (z : List ℕ). IsBegun (replies ys) z) (sym none) (none_begun (replies ys) (few_replies gate ys did one))
+
+-- nor of the close message
+cut_unsaid : (hs : List Handled) (x y : List ℕ) → IsSaid (Validate ∷ replies hs) x → y ≡ [] → IsCut hs false (x ++ y)
+cut_unsaid hs x y h none = inr (record {
+  whole = hs;
+  last = [];
+  parts = sym (append-nil hs);
+  one = omega arith;
+  before = x;
+  behind = y;
+  taken_is = refl;
+  said = h;
+  begun = subst (λ (z : List ℕ). IsBegun [] z) (sym none) (said_begun [] [] (refl, tt));
+})
+
+-- a message is left only where none was handled in its place
+all_before : (xs ys : List Handled) (reads rest : List Message) (x y : List ℕ) → reads ≡ messages ys ++ rest → length reads ≤ 1 → y ≡ [] → IsSaid (Validate ∷ replies xs) x
+    → (rest ≡ []) ⊎ IsSaid (Validate ∷ replies (xs ++ ys)) (x ++ y)
+all_before xs ys reads [] x y is few none h = inl refl
+all_before xs [] reads (m ∷ rest) x y is few none h =
+    inr (subst (λ (z : List Handled). IsSaid (Validate ∷ replies z) (x ++ y)) (sym (append-nil xs))
+    (subst (λ (z : List ℕ). IsSaid (Validate ∷ replies xs) z) (sym (ap (λ (z : List ℕ). x ++ z) none ∙ append-nil x)) h))
+all_before xs (k ∷ ys) reads (m ∷ rest) x y is few none h =
+    absurd (let a = ap (λ (z : List Message). length z) is in let b = length-append (messages (k ∷ ys)) (m ∷ rest) in omega arith)
+
 cut_close : (hs : List Handled) (x y : List ℕ) → IsSaid (Validate ∷ replies hs) x → IsBegun (Close ∷ []) y → IsCut hs true (x ++ y)
 cut_close hs x y h k = inr (record {
   whole = hs;
@@ -268,6 +321,7 @@ module _ (gate : Gate) where
       cut = n.cut;
       invoked = behind runs_of runs_append p.handled n.handled runs more n.cut p.invoked n.invoked;
       is_left = (n.how.1, n.how.2);
+      unhandled = inl n.how.1;
       closes = false;
       closes_by = not_closed e n.reads i (length (p.reads ++ n.reads)) most n.how.4 lt (length-append p.reads n.reads ∙ ap (λ (k : ℕ). k + length n.reads) p.long);
       said = was_then e p.handled n.handled t.taken s.taken (one_at_most n.reads n.rest n.handled n.taken n.few) p.said n.how.3;
@@ -288,16 +342,20 @@ module _ (gate : Gate) where
       cut = n.cut;
       invoked = behind runs_of runs_append p.handled n.handled runs more n.cut p.invoked n.invoked;
       is_left = (n.how.0, n.how.1);
+      unhandled = all_before p.handled n.handled n.reads n.rest t.taken s.taken n.taken n.few n.how.2 p.said;
       closes = false;
-      closes_by = λ f. absurd cc;
-      said = cut_behind p.handled n.handled t.taken s.taken (one_at_most n.reads n.rest n.handled n.taken n.few) p.said n.how.2;
+      closes_by = refl;
+      said = (
+          let one = one_at_most n.reads n.rest n.handled n.taken n.few in
+          cut_behind p.handled n.handled t.taken s.taken one p.said (unsaid gate n.handled s.taken n.did one n.how.2)
+          );
     }
 
   -- after the stated number of messages
   module _ (most : ℕ) (runs : List (List Tried)) (t s : Talk) (held : List ℕ) (p : Part gate runs t held most) where
-    closed : (end : Option GateEnd) → s.given ≡ [] → Shows (and_then t s) held end → ClosesBy end true (length p.reads) most → WasSaid end p.handled true (t.taken ++ s.taken) → IsLeft end [] []
+    closed : (end : Option GateEnd) (closes : Bool) → s.given ≡ [] → Shows (and_then t s) held end → ClosesBy end closes (length p.reads) most → WasSaid end p.handled closes (t.taken ++ s.taken) → IsLeft end [] []
         → GateDid gate most (and_then t s) runs end
-    closed end none shows by said left = record {
+    closed end closes none shows by said left = record {
       reads = p.reads;
       left = held;
       stream = subst (λ (z : List ℕ). Stream z p.reads held) (sym (append-nil t.given) ∙ ap (λ (z : List ℕ). t.given ++ z) (sym none)) p.stream;
@@ -311,19 +369,20 @@ module _ (gate : Gate) where
       cut = [];
       invoked = p.invoked ∙ sym (append-nil (runs_of p.handled));
       is_left = left;
-      closes = true;
+      unhandled = inl refl;
+      closes = closes;
       closes_by = by;
       said = said;
     }
 
     pub enough : (E : Type 0) → Says {E = E} (Close ∷ []) s (Ok true) → GateDid gate most (and_then t s) runs (Some ends.Enough)
-    enough E h = closed (Some ends.Enough) h.0 tt (refl, p.long) (said_then (Validate ∷ replies p.handled) (Close ∷ []) t.taken s.taken p.said h.1) (refl, refl)
+    enough E h = closed (Some ends.Enough) true h.0 tt (refl, p.long) (said_then (Validate ∷ replies p.handled) (Close ∷ []) t.taken s.taken p.said h.1) (refl, refl)
 
     pub not_said : (E : Type 0) → Says {E = E} (Close ∷ []) s (Ok false) → GateDid gate most (and_then t s) runs (Some ends.LinkFailed)
-    not_said E h = closed (Some ends.LinkFailed) h.0 (or_right t.failed s.failed h.2) (λ f. p.long) (cut_close p.handled t.taken s.taken p.said h.1) (refl, refl)
+    not_said E h = closed (Some ends.LinkFailed) true h.0 (or_right t.failed s.failed h.2) (λ f. p.long) (cut_close p.handled t.taken s.taken p.said h.1) (refl, refl)
 
     pub starved_last : (E : Type 0) (e : E) → Says {E = E} (Close ∷ []) s (Err e) → GateDid gate most (and_then t s) runs None
-    starved_last E e h = closed None h.0 tt (λ f. p.long) (cut_close p.handled t.taken s.taken p.said h.1) (omega arith, omega arith)
+    starved_last E e h = closed None false h.0 tt refl (cut_unsaid p.handled t.taken s.taken p.said h.1) (omega arith, omega arith)
 
   -- not even a validate was said
   not_begun : (most : ℕ) (t : Talk) (end : Option GateEnd) → t.given ≡ [] → Shows t [] end → ClosesBy end false 0 most → IsLeft end [] [] → WasSaid end [] false t.taken → GateDid gate most t [] end
@@ -341,6 +400,7 @@ module _ (gate : Gate) where
     cut = [];
     invoked = refl;
     is_left = left;
+    unhandled = inl refl;
     closes = false;
     closes_by = by;
     said = said;
@@ -350,7 +410,8 @@ module _ (gate : Gate) where
   no_validate E most t h = not_begun most t (Some ends.LinkFailed) h.0 h.2 (λ f. absurd cc) (refl, refl) (inl (refl, refl, h.1))
 
   pub starved_first : (E : Type 0) (e : E) (most : ℕ) (t : Talk) → Says {E = E} (Validate ∷ []) t (Err e) → GateDid gate most t [] None
-  starved_first E e most t h = not_begun most t None h.0 tt (λ f. absurd cc) (omega arith, omega arith) (inl (refl, refl, h.1))
+  starved_first E e most t h =
+      not_begun most t None h.0 tt refl (omega arith, omega arith) (inl (refl, refl, subst (λ (z : List ℕ). IsBegun (Validate ∷ []) z) (sym h.1) (none_begun (Validate ∷ []) (omega arith))))
 
 pub ok_either : {A B : Type 0} (r : Result A B) (P : A → Type 0) → ((x : A) → P x) → IfOk r P
 ok_either (Ok x) P f = f x

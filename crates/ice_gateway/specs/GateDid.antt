@@ -33,7 +33,7 @@ Shows t left (Some Enough) = Unit {0}
 
 -- a close message is said exactly after the stated number of messages, and before that no other end is one of these
 abbrev pub ClosesBy : Option GateEnd → Bool → ℕ → ℕ → Type 0
-ClosesBy None closes read most = closes ≡ true → read ≡ most
+ClosesBy None closes read most = closes ≡ false
 ClosesBy (Some PeerEnded) closes read most = (closes ≡ false) × (read < most)
 ClosesBy (Some PeerClosed) closes read most = (closes ≡ false) × (read < most)
 ClosesBy (Some (PeerBroke fault)) closes read most = (closes ≡ false) × (read < most)
@@ -102,6 +102,8 @@ pub record GateDid (gate : Gate) (most : ℕ) (t : Talk) (runs : List (List Trie
   pub cut : List (List Tried)
   pub invoked : runs ≡ runs_of handled ++ cut
   pub is_left : IsLeft end rest cut
+  -- where one is left, the replies before it were said
+  pub unhandled : (rest ≡ []) ⊎ IsSaid (Validate ∷ replies handled) t.taken
   -- and this was said
   pub closes : Bool
   pub closes_by : ClosesBy end closes (length reads) most

@@ -97,7 +97,7 @@ ComesBy Enough reads = ⊥
 abbrev pub IsNext : {E : Type 0} → Talk → List ℕ → List Message → List ℕ → List Message → List (List Tried) → List Message → Result (Option GateEnd) E → Type 0
 IsNext t held reads left rest cut said (Ok None) = (length reads ≡ 1) × (left ≡ held) × (rest ≡ []) × (cut ≡ []) × IsSaid said t.taken
 IsNext t held reads left rest cut said (Ok (Some end)) = Shows t left (Some end) × (rest ≡ []) × (cut ≡ []) × StepSaid end said t.taken × ComesBy end reads
-IsNext t held reads left rest cut said (Err e) = (length cut ≤ length rest) × (length rest ≤ 1) × IsBegun said t.taken
+IsNext t held reads left rest cut said (Err e) = (length cut ≤ length rest) × (length rest ≤ 1) × (t.taken ≡ [])
 
 -- of these bytes a message was taken and handled by these attempts, or the connection ends
 pub record Next {E : Type 0} (gate : Gate) (runs : List (List Tried)) (t : Talk) (bytes held : List ℕ) (r : Result (Option GateEnd) E) : Type 0 where

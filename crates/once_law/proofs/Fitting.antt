@@ -94,6 +94,7 @@ module _ (call : Call) (answer : Answer) (good : IsDispatched answer) where
 
     is_of : IsOf outgoing message
     is_of = record {
+      bytes_are = refl;
       spelled = spelled;
       replies = refl;
       idempotent = ((λ e. ltb-true 0 call.mode e), (λ l. lt-ltb 0 call.mode l));
@@ -283,6 +284,7 @@ module _ (call : Call) (answer : Answer) (good : IsDispatched answer) where
 
     sent_is_of : IsOf sent batch
     sent_is_of = record {
+      bytes_are = refl;
       spelled = spelled;
       replies = refl;
       idempotent = ((λ e. let l = ltb-true 0 call.mode e in (l, (l, tt))), (λ l. lt-ltb 0 call.mode l.0));

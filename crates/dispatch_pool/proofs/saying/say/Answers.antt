@@ -1,17 +1,17 @@
-use Rattle.std.proofs.Common.{◌∙◌, List, ℕ, ◌∷◌, [], refl, sym, subst, arith}
+use Rattle.std.proofs.Common.{◌∙◌, List, ℕ, refl, sym, subst}
 use Rattle.std.specs.declared.alloc.AllocError.{AllocError}
 use Rattle.std.proofs.lemmas.Result.{err_from_is_err_and}
 use Rattle.ice_ports.specs.Talks.{silent}
 use Rattle.ice_messages.specs.Messages.{SpellsMessage}
 use Rattle.talking.specs.Writing.{writes_part}
 use Rattle.talking.proofs.Adding.{adds_nothing}
-use Rattle.dispatch_pool.proofs.Messages.{none_begun, said_by_write}
+use Rattle.dispatch_pool.proofs.Messages.{said_by_write}
 use Rattle.dispatch_pool.proofs.saying.say.Goals as goal
 
 pub returns-in_err-bytes-clause-did : goal.returns-in_err-bytes-clause-did
 returns-in_err-bytes-clause-did g c =
     let failed = err_from_is_err_and c.from_residual.result c.from_residual.ensures.1 in
-    rw failed.1 (silent, sym (adds_nothing (g.L.Link.talk c.args.link.now)), (refl, none_begun (c.args.message.now ∷ []) (omega arith)))
+    rw failed.1 (silent, sym (adds_nothing (g.L.Link.talk c.args.link.now)), (refl, refl))
 
 pub returns-clause-did : goal.returns-clause-did
 returns-clause-did g c =

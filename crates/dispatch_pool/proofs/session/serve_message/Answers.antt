@@ -42,7 +42,7 @@ returns-in_err-went-in-Request-clause-did g c =
     rw failed.1 (
       d.0,
       d.1,
-      quiet _ d.0 (Err e) d.2.says,
+      quiet [] d.0 (Err e) d.2.says,
       λ bytes held first is spelled. next_handled keys (Err e) ps qs m bytes held first d.0 is (subst (λ (z : Message). SpellsMessage first z) c.in-Request.is spelled) (refl, λ e. cc) (subst (λ (z : ℤ). Handling keys ps qs {E = AllocError} (record { id = z; call = c.in-Request.call } ∷ []) d.0 (Err e)) (to_z-of_z fits) d.2),
     )
 

@@ -52,7 +52,7 @@ returns-in_err-went-in-Request-clause-did g c =
       d.1,
       d.2,
       d.3,
-      quiet _ d.0 (Err e) d.4.says,
+      quiet [] d.0 (Err e) d.4.says,
       λ bytes held first is spelled. next_handled gate (Err e) d.1 m bytes held first d.0 is (subst (λ (z : Message). SpellsMessage first z) c.in-Request.is spelled) (refl, λ e. cc)
           (subst (λ (z : ℤ). Handling {E = AllocError} gate (Request z c.in-Request.call) d.1 d.0 (Err e)) (to_z-of_z fits) d.4),
     )
