@@ -50,7 +50,7 @@ fn fill(alloc: Global, adapter: &mut Adapter, schema: &Arc<Schema>) -> Result<()
 
 /// The types of locators.
 fn schema(alloc: Global) -> Result<Arc<Schema>, AllocError> {
-    Arc::new(alloc, locator_schema(alloc)?)
+    Ok(Arc::new(alloc, locator_schema(alloc)?)?)
 }
 
 /// An adapter with all of them.
