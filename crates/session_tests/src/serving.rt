@@ -207,11 +207,15 @@ fn left<R: Wait>(
     alloc: Global,
     objects: Adapter,
     net: &mut MemNet,
-) -> Result<Adapter, Failed> {
+) -> Result<Adapter, Fail> {
     let (lanes, mut passes) = lanes_of(alloc, objects)?;
     let served = serve(rt, alloc, &lanes, &mut passes, net).is_ok();
-    let closed = lanes.close(alloc, passes).ok().ok_or(Failed);
-    if served { closed } else { Err(Failed) }
+    let closed = lanes.close(alloc, passes).ok().ok_or(Failed)?;
+    if served {
+        Ok(closed)
+    } else {
+        Err(Fail::from("the link failed, or no memory"))
+    }
 }
 
 /// Whether the connection is served, and a store answers each row so behind it.
