@@ -26,14 +26,12 @@ fn words_of(alloc: Global, text: &str) -> Result<Vec<String>, Fail> {
 
 /// So many links that are to meet.
 fn meeting_of(alloc: Global, wanted: u64) -> Result<Arc<Meeting>, AllocError> {
-    Arc::new(
-        alloc,
-        Meeting {
-            wanted,
-            begun: AtomicU64::new(0),
-            met: AtomicU64::new(0),
-        },
-    )
+    let meeting = Meeting {
+        wanted,
+        begun: AtomicU64::new(0),
+        met: AtomicU64::new(0),
+    };
+    Ok(Arc::new(alloc, meeting)?)
 }
 
 /// A sink that takes a line or two.
