@@ -28,13 +28,13 @@ pub struct BrokenTable<const N: usize> {
 }
 
 impl<const N: usize> BrokenTable<N> {
-    ghost use Rattle.std.specs.Prelude.{◌≡◌, ◌≤◌, ◌<◌, MatchOption, Some, slice_get};
+    ghost use Rattle.std.specs.Prelude.{◌≤◌, MatchOption};
     ghost use Rattle.case_tables.specs.BrokenRows.{row_seen};
-    ghost use Rattle.case_tables.specs.Broken.{rows_of};
+    ghost use Rattle.case_tables.specs.Broken.{IsRowAt};
 
     /// The row at this place, None from N on.
     pub fn get(&self, at: usize) -> Option<&BrokenRow>
-        ensures { MatchOption result (N ≤ at) (λ row. (at < N) × (slice_get (rows_of self.now) at ≡ Some (row_seen row.now))) }
+        ensures { MatchOption result (N ≤ at) (λ row. IsRowAt self.now at (row_seen row.now)) }
     {
         self.rows.get(at)
     }

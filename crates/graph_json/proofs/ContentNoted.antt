@@ -4,7 +4,7 @@ use Rattle.std.specs.Prelude.{option_map, option_and_then, nat_eq}
 use Rattle.std.proofs.lemmas.Bool.{eqb-true, eq-eqb}
 use Rattle.std.proofs.lemmas.Option.{same_Some, cond_some}
 use Rattle.serde_json.specs.Data as json
-use Rattle.serde_json.specs.Data.{Data, object}
+use Rattle.serde_json.specs.Data.{Data}
 use Rattle.serde_json.specs.Find.{as_object, get_member}
 use Rattle.serde_json.specs.Events.{members_len}
 use Rattle.ice_types.specs.declared.kind.TypeRef.{TypeRef}

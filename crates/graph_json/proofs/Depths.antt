@@ -8,7 +8,7 @@ use Rattle.std.specs.Cmp.Lexicographic.{slice_cmp}
 use Rattle.std.proofs.lemmas.Option.{none-some}
 use Rattle.std.proofs.lemmas.List.Elements.{All-nil, All-filter, recursion_from_All}
 use Rattle.serde_json.specs.Data as json
-use Rattle.serde_json.specs.Data.{Data, string, array, object, no_members, member, put, depth, members_depth}
+use Rattle.serde_json.specs.Data.{Data, string, array, no_members, member, put, depth, members_depth}
 use Rattle.ice_types.specs.declared.kind.TypeRef.{TypeRef}
 use Rattle.ice_types.specs.declared.kind.TypeRef.TheVariants as kinds
 use Rattle.ice_types.specs.declared.declarations.ClassDecl.{ClassDecl}

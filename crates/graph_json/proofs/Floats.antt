@@ -5,7 +5,7 @@ use Rattle.std.specs.Ordering.{nat_cmp, match_ordering}
 use Rattle.std.specs.Cmp.Lexicographic.{slice_cmp}
 use Rattle.std.proofs.lemmas.Bool.{or_parts}
 use Rattle.serde_json.specs.Data as json
-use Rattle.serde_json.specs.Data.{Data, string, array, object, no_members, member, put}
+use Rattle.serde_json.specs.Data.{Data, string, array, no_members, member, put}
 use Rattle.serde_json.specs.Find.{of_integer, is_float}
 use Rattle.serde_json.specs.Written.{has_float, members_have_float}
 use Rattle.ice_types.specs.declared.kind.TypeRef.{TypeRef}

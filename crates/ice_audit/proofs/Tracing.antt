@@ -2,7 +2,7 @@
 use Rattle.std.proofs.Common.{◌≡◌, ℕ, zero, suc, ◌+◌, ◌<◌, ◌≤◌, ◌⊎◌, inl, inr, List, [], ◌∷◌, ◌++◌, length, Option, None, Some, refl, ap, sym, ◌∙◌, subst, arith, Bool, true, false, append-nil, zero-add, length-append}
 use Rattle.std.specs.Prelude.{slice_get}
 use Rattle.call_world.specs.Service.{IsRefusal, free_rules}
-use Rattle.call_world.specs.World.{World, Sent, Seat, Connection}
+use Rattle.call_world.specs.World.{World, Sent, Seat}
 use Rattle.call_world.specs.World as world
 use Rattle.call_world.specs.Step.{IsReached}
 use Rattle.call_world.proofs.Lists.{get_within, get_last, get_cases}

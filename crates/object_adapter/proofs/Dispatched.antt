@@ -2,7 +2,7 @@
 use Rattle.std.proofs.Common.{◌≡◌, ◌≢◌, ℕ, List, ap, sym, inl, inr, ◌∙◌}
 use Rattle.ice_messages.specs.declared.message.Call.{Call}
 use Rattle.ice_messages.specs.declared.message.Answer.{Answer}
-use Rattle.ice_messages.specs.declared.message.Answer.TheVariants.{Done, Raised}
+use Rattle.ice_messages.specs.declared.message.Answer.TheVariants.{Done}
 use Rattle.object_adapter.specs.declared.servant.Servant.{Servant}
 use Rattle.object_adapter.specs.declared.servant.Servant.TheVariants.{Store, Echo, Locator}
 use Rattle.object_adapter.specs.declared.refusal.Refusal.{Refusal}

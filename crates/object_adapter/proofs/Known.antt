@@ -1,5 +1,5 @@
 -- Places of which one is new.
-use Rattle.std.proofs.Common.{ℕ, ◌≡◌, ◌<◌, ◌≤◌, Bool, true, false, List, length, Some, Ok, refl, sym, subst, ap, ◌∙◌, arith}
+use Rattle.std.proofs.Common.{ℕ, ◌≡◌, ◌<◌, Bool, true, false, List, length, Some, Ok, sym, subst, ap, ◌∙◌, arith}
 use Rattle.std.specs.Prelude.{if◌then◌else◌, slice_get}
 use Rattle.std.specs.List.{insert}
 use Rattle.std.specs.Cmp.{IsTotalOrder}
@@ -10,7 +10,7 @@ use Rattle.ice_encoding.specs.Proxy.{HasProxySizes}
 use Rattle.object_adapter.specs.declared.places.TheConstants.{MOST_PLACES}
 use Rattle.object_adapter.specs.Rising.{IsGap, IsSearched}
 use Rattle.object_adapter.specs.Places.{ArePlacesBy, IsAt, IsKnown}
-use Rattle.object_adapter.proofs.Rising.{IsOneOf, Below, Itself, Above, inserted, not_there, one_of}
+use Rattle.object_adapter.proofs.Rising.{Below, Itself, Above, inserted, not_there, one_of}
 
 some_same : {A : Type 0} (x y : A) → Some x ≡ Some y → x ≡ y
 some_same x y e = cc

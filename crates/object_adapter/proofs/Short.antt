@@ -1,5 +1,5 @@
 -- Replies keep the limit of messages.
-use Rattle.std.proofs.Common.{ℕ, ℤ, pos, zero, suc, ◌≡◌, ◌+◌, ◌≤◌, ◌<◌, ◌^◌, Bool, true, false, leb, List, [], ◌∷◌, ◌++◌, length, Ok, Err, refl, sym, ap, subst, ◌∙◌, arith, inl, inr, length-append}
+use Rattle.std.proofs.Common.{ℕ, ℤ, pos, zero, suc, ◌≡◌, ◌+◌, ◌≤◌, ◌<◌, ◌^◌, Bool, true, false, leb, List, [], ◌∷◌, ◌++◌, length, Ok, Err, refl, sym, ap, subst, arith, inl, inr, length-append}
 use Rattle.std.specs.Prelude.{Result, IfOk, codes, if◌then◌else◌, nat_lt}
 use Rattle.std.specs.Int.{w32, to_le_bytes}
 use Rattle.std.specs.Fmt.{decimal}
@@ -12,18 +12,17 @@ use Rattle.ice_prims.specs.declared.fault.Kind.TheVariants as kinds
 use Rattle.ice_prims.specs.Kinds.{kind_name}
 use Rattle.ice_prims.specs.Bytes.{signed_bytes, size_bytes, text_bytes}
 use Rattle.ice_prims.specs.Number.{SpellsSize, SpellsText}
-use Rattle.ice_encoding.specs.Parts.{text, both, int, SpellsTimes}
+use Rattle.ice_encoding.specs.Parts.{text, SpellsTimes}
 use Rattle.ice_encoding.specs.Identity as names
 use Rattle.ice_encoding.proofs.SpelledSizes.{size_long}
 use Rattle.ice_messages.specs.declared.message.Call.{Call}
 use Rattle.ice_messages.specs.declared.message.Answer.{Answer}
-use Rattle.ice_messages.specs.declared.message.Answer.TheVariants.{Done, Raised, Missing, Unknown}
+use Rattle.ice_messages.specs.declared.message.Answer.TheVariants.{Done, Raised}
 use Rattle.ice_messages.specs.declared.message.Message.TheVariants.{Request, Reply}
 use Rattle.ice_messages.specs.Calls as form
 use Rattle.ice_messages.specs.Messages.{header, magic, versions, message_bytes, SpellsMessage}
-use Rattle.object_adapter.specs.declared.refusal.Refusal.{Refusal}
-use Rattle.object_adapter.specs.declared.refusal.Refusal.TheVariants.{NoOperation, BadMode, BadArguments, TooLong}
-use Rattle.object_adapter.specs.Refusals.{missed, failed, fault_text, told}
+use Rattle.object_adapter.specs.declared.refusal.Refusal.TheVariants.{BadMode}
+use Rattle.object_adapter.specs.Refusals.{missed, failed, fault_text}
 use Rattle.object_adapter.specs.Replies.{IsReply, CanReply}
 use Rattle.object_adapter.specs.Results.{AreResults}
 use Rattle.object_adapter.proofs.Written.{encapsulations}

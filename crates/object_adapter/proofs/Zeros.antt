@@ -1,5 +1,5 @@
 -- The value of zeros as the only argument is of its type, and sound.
-use Rattle.std.proofs.Common.{ℕ, zero, suc, ◌≡◌, ◌<◌, ◌≤◌, Bool, true, false, cond, List, [], ◌∷◌, length, map, Option, None, Some, All, refl, sym, ap, subst, ◌∙◌, arith}
+use Rattle.std.proofs.Common.{ℕ, ◌≡◌, Bool, true, false, cond, List, [], ◌∷◌, map, Option, None, Some, All, refl, sym, ap, subst, ◌∙◌, arith}
 use Rattle.std.specs.Prelude.{slice_get}
 use Rattle.std.specs.List.{find, flat_map}
 use Rattle.std.proofs.lemmas.List.Elements.{All-append, All-nil, All-tail}
@@ -15,7 +15,6 @@ use Rattle.ice_types.specs.Rules.{IsSchema}
 use Rattle.ice_types.specs.Tables.{Tables}
 use Rattle.ice_encoding.specs.Tree.{none, tree}
 use Rattle.ice_encoding.specs.Typed.{EachOf, HasType}
-use Rattle.ice_graphs.specs.Graph.{Graph}
 use Rattle.ice_graphs.specs.Instances.{most_instances}
 use Rattle.ice_graphs.specs.Typed.{OfType, RefersIn}
 use Rattle.ice_values.specs.Shapes.{told_apart}
@@ -26,7 +25,7 @@ use Rattle.graph_arena.specs.View.{view}
 use Rattle.graph_arena.specs.declared.value.Value.{Value}
 use Rattle.graph_arena.specs.declared.instance.Instance.{Instance}
 use Rattle.class_slices.proofs.Sound.{typed-sound}
-use Rattle.object_adapter.specs.Deeds.{IsOne, IsPut}
+use Rattle.object_adapter.specs.Deeds.{IsOne}
 use Rattle.object_adapter.specs.FirstValue.{zeros}
 use Rattle.object_adapter.proofs.Sole.{one_required}
 

@@ -29,7 +29,7 @@ use Rattle.proxy_text.specs.Spelled.{meant, this, fresh, Value, TcpValue}
 use Rattle.proxy_text.proofs.PieceLaws.{Reading, ◌>>>◌, first, Lawful, one_at, viewed}
 use Rattle.proxy_text.proofs.PieceReading.{is_word, next_word, no_blame, seen_as, word_as, colon_token, colon_piece, at_token, at_piece, is_at, end_at, option_at, options_at, value_at, tcp_value_at, is_tcp, typed, versioned, blamed_by, blame_type, opaque_at, endpoint_by, endpoint_at, endpoints_at, adapter_at, location_at, proxy_at}
 use Rattle.proxy_text.proofs.PieceOptions as reading
-use Rattle.proxy_text.proofs.PieceOptions.{Anything, meant_word}
+use Rattle.proxy_text.proofs.PieceOptions.{Anything}
 use Rattle.proxy_text.proofs.PieceProxy.{value_lawful, tcp_value_lawful, endpoint_fewer, unrolled, sole_at, last, fourth, third, second, begin}
 use Rattle.proxy_text.proofs.PieceText.{pieces_short, end_place, Stands, behind_next, Alike, Agree, Same, alike_then, agree_then, agree_made, word_by}
 

@@ -26,7 +26,7 @@ use Rattle.proxy_text.specs.Misplaced.{Misplaced, Never, Lacks, StartsWord, Star
 use Rattle.proxy_text.proofs.PieceLaws.{Stop, Reading, ◌>>>◌, first, answered, Lawful, then_ok, then_err, ok_parts, err_same, One, one_at, one_took, one_split, one_refused, one_only, viewed}
 use Rattle.proxy_text.proofs.PieceReading.{is_word, is_at, next_word, next_at, no_blame, seen_as, word_as, colon_token, colon_piece, at_token, at_piece, end_at, option_at, options_at, value_at, tcp_value_at, is_tcp, typed, versioned, blame_type, opaque_at, endpoint_by, endpoint_at, endpoints_at, location_at, named_at, proxy_at}
 use Rattle.proxy_text.proofs.PieceOptions as reading
-use Rattle.proxy_text.proofs.PieceOptions.{Anything, NoWord, meant_word}
+use Rattle.proxy_text.proofs.PieceOptions.{Anything, meant_word}
 use Rattle.proxy_text.proofs.PieceProxy.{value_lawful, tcp_value_lawful, colon_fewer, endpoint_fewer, unrolled, endpoint_lawful, opaque_lawful, endpoints_before, endpoints_begin, endpoints_no_at, by_part, named_lawful, proxy_lawful, last, fourth, third, second, begin, made, behind, others, found_at, identity_lawful, transport_lawful, typed_lawful, versioned_lawful, t_lawful, e_lawful, x_lawful}
 use Rattle.proxy_text.proofs.PieceFaults.{with_piece, typed_is, whole_stands, fault_from}
 use Rattle.proxy_text.proofs.PieceBridge.{proxy_agree}

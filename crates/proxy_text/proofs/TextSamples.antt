@@ -1,14 +1,11 @@
 -- Where texts that are written out break, and what some stand for.
-use Rattle.std.proofs.Common.{ℕ, ◌≡◌, false, List, [], ◌∷◌, codes, None, Some, Ok, Err, refl}
+use Rattle.std.proofs.Common.{ℕ, ◌≡◌, false, List, [], ◌∷◌, codes, Err, refl}
 use Rattle.std.specs.Prelude.{pos}
 use Rattle.std.specs.Str.{is_utf8, chars}
 use lib.Utf8.{encode}
-use Rattle.ice_types.specs.declared.identity.Identity.{Identity}
 use Rattle.ice_types.specs.declared.proxy.Endpoint.TheVariants.{Tcp, Opaque}
-use Rattle.ice_types.specs.declared.proxy.Proxy.{Proxy}
 use Rattle.proxy_text.specs.Looking.{word_ahead, at_ahead, colon_at, end_at, place_at}
 use Rattle.proxy_text.specs.Grammar.{proxy_text}
-use Rattle.proxy_text.specs.IdentityText.{identity_text}
 use Rattle.proxy_text.specs.Spelled.{SpellsProxy, SpellsIdentity}
 use Rattle.proxy_text.specs.Breaks.{IdentityBreaks, ProxyBreaks}
 use Rattle.proxy_text.proofs.PieceFaults.{spelled_proxy, proxy_broken, spelled_identity, identity_broken}

@@ -6,7 +6,7 @@ use Rattle.std.specs.BTreeSet.{BTreeSet, contains_text}
 use Rattle.std.proofs.lemmas.Bool.{false≢true}
 use Rattle.std.proofs.lemmas.Option.{get_or_from_slice_get, slice_get_within, slice_get_read, slice_get_past}
 use Rattle.std.proofs.lemmas.List.{append-nil, reverse-append, map-append, drop_more, length-append}
-use Rattle.std.proofs.lemmas.List.Elements.{All-nil, All-push, All-cons, All-head, All-tail, All-same}
+use Rattle.std.proofs.lemmas.List.Elements.{All-nil, All-cons, All-head, All-tail}
 use Rattle.slice_syntax.specs.declared.tree.File.{File}
 use Rattle.slice_syntax.specs.Places.{AreRegular, Each}
 use Rattle.slice_meaning.specs.declared.limits.TheConstants.{MOST_FILES}

@@ -3,7 +3,7 @@ use Rattle.std.proofs.Common.{◌⊎◌, Bool, true, false, List, [], ◌∷◌,
 use Rattle.std.specs.Prelude.{IsTrue}
 use Rattle.slice_syntax.specs.declared.terminal.Terminal.{Terminal}
 use Rattle.slice_syntax.specs.Lexemes.{Lexeme, Lexemes, has, terminal_of}
-use Rattle.slice_syntax.specs.Grammar.{Grammar, nothing, token, made, both, or, series, Spells, Runs, one, optional, many, parted}
+use Rattle.slice_syntax.specs.Grammar.{Grammar, nothing, token, made, both, or, series, Spells, Runs, optional, parted}
 use Rattle.slice_syntax.specs.Grammar as grammar
 use Rattle.slice_syntax.specs.Places.{Each, Where}
 use Rattle.slice_syntax.proofs.Holding.{front_of, back_of}

@@ -6,7 +6,7 @@ use Rattle.slice_lexer.specs.declared.token.Token.{Token}
 use Rattle.slice_lexer.specs.Lexing.{Lexes, AreSpans}
 use Rattle.slice_lexer.proofs.Standing.{lexes_spans}
 use Rattle.slice_syntax.specs.Lexemes.{Lexemes, lexemes}
-use Rattle.slice_syntax.specs.Grammar.{Grammar, Spells, Runs, one, many, parted, both}
+use Rattle.slice_syntax.specs.Grammar.{Spells, Runs, one, both}
 use Rattle.slice_syntax.specs.Grammar as grammar
 use Rattle.slice_syntax.specs.Rules as rules
 use Rattle.slice_syntax.specs.Files.{Body, none, plain, nested, head, enters, exits, ReadsFile}

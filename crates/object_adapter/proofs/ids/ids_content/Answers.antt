@@ -1,4 +1,4 @@
-use Rattle.std.proofs.Common.{length, map, string_bytes, refl, sym, ◌∙◌, arith}
+use Rattle.std.proofs.Common.{map, string_bytes, refl, sym, ◌∙◌, arith}
 use Rattle.std.proofs.lemmas.List.{length-map}
 use Rattle.object_adapter.proofs.Listed.{all_put, ids_listed, too_long, too_many}
 use Rattle.object_adapter.proofs.ids.ids_content.Goals as goal

@@ -1,4 +1,4 @@
-use Rattle.std.proofs.Common.{◌<◌, length, refl, arith}
+use Rattle.std.proofs.Common.{arith}
 use Rattle.std.proofs.lemmas.Option.{slice_get_within}
 use Rattle.object_adapter.specs.Keys.{Key}
 use Rattle.object_adapter.proofs.Changed.{no_such_key}

@@ -1,4 +1,4 @@
-use Rattle.std.proofs.Common.{Bor, List, ℕ, refl, sym, ap, subst, ◌∙◌}
+use Rattle.std.proofs.Common.{Bor, List, ℕ, refl, sym, ap, ◌∙◌}
 use Rattle.ice_types.specs.declared.proxy.Proxy.{Proxy}
 use Rattle.ice_encoding.specs.Tree.{text, none, tree}
 use Rattle.locator_types.specs.Locator.{find_adapter, locator_tables}
