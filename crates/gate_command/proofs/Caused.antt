@@ -1,15 +1,18 @@
 -- How `gate` ended, by what its words and files decide and by what failed; and that each call went out once.
 use Rattle.std.proofs.Common.{◌≡◌, ◌⊎◌, ◌++◌, ℕ, Bool, true, false, List, [], ◌∷◌, Option, None, Some, sym, subst, ap, ◌∙◌, inl, inr}
 use Rattle.ice_encoding.specs.Parts.{Each}
-use Rattle.ice_client.specs.ClientDid.{ClientDid}
+use Rattle.ice_client.specs.Sending.{IsIdempotent}
+use Rattle.ice_client.specs.ClientDid.{Tried, ClientDid, ClientCut, is_uncached}
 use Rattle.ice_ports.specs.Failures.{one_more, count_after}
 use Rattle.ice_gateway.specs.Gate.{Gate}
 use Rattle.ice_gateway.specs.Runs.{NetSeen}
 use Rattle.ice_messages.specs.declared.message.Message.{Message}
-use Rattle.ice_gateway.specs.Handled.{Handled, Invocation, WasHandled, WasForwarded}
+use Rattle.ice_gateway.specs.declared.end.GateEnd.{GateEnd}
+use Rattle.ice_gateway.specs.Handled.{Handled, Invocation, WasHandled, WasForwarded, DueStarved, AreLeft}
+use Rattle.ice_gateway.specs.GateDid.{IsLeft}
 use Rattle.ice_gateway.specs.Forwarded.{forwarded}
 use Rattle.ice_gateway.specs.Sessions.{Session, AllDid}
-use Rattle.ice_gateway.specs.Laws.{ForwardsOnce}
+use Rattle.ice_gateway.specs.Laws.{ForwardsOnce, OnlyLastCounts}
 use Rattle.node_commands.specs.Outside.{Files, Outside, ShelfFailed, SinkFailed}
 use Rattle.node_commands.specs.Answers.{Answer, read_failed, no_memory}
 use Rattle.serve_command.specs.declared.serving.TheConstants.{MOST_MESSAGES}
@@ -18,7 +21,7 @@ use Rattle.serve_command.specs.Served.{WritesEnd, listening, served}
 use Rattle.gate_command.specs.Words.{GateWords}
 use Rattle.gate_command.specs.Decided.{Refuses, Sets}
 use Rattle.gate_command.specs.Gated.{Comes, refused, unread, starved, unheard, untold, ended}
-use Rattle.gate_command.specs.Laws.{EndsAsRefused, IsDone, EndsForCause, IsSentOnce, AreSentOnce, GatesOnce}
+use Rattle.gate_command.specs.Laws.{EndsAsRefused, IsDone, EndsForCause, IsSentOnce, IsLeftOnce, AreSentOnce, GatesOnce}
 use Rattle.gate_command.proofs.OneRefusal.{refused_once, refused_or_set}
 
 -- ---- words that are refused
@@ -76,7 +79,26 @@ module _ (once : ForwardsOnce) (gate : Gate) where
   sent_once due None was = tt
   sent_once None (Some i) was = absurd was
   sent_once (Some m) (Some i) (is, did, uncached) = λ never.
-      once i.message gate.retries i.tried i.outcome never (subst (λ (x : Message). ClientDid x gate.retries i.tried (Some i.outcome)) (sym is) did) uncached
+      once.done i.message gate.retries i.tried i.outcome never (subst (λ (x : Message). ClientDid x gate.retries i.tried (Some i.outcome)) (sym is) did) uncached
+
+  due_once : (n : Message) (cut : List (List Tried)) (tried : List Tried) → DueStarved gate (Some n) cut → cut ≡ tried ∷ [] → (IsIdempotent n → ⊥) → (tried ≡ []) ⊎ OnlyLastCounts n tried
+  due_once n cut tried (inl none) is never = absurd (let e : [] ≡ tried ∷ [] = sym none ∙ is in cc)
+  due_once n cut tried (inr (other, are, inl none, uncached)) is never = inl (let e : other ∷ [] ≡ tried ∷ [] = sym are ∙ is in let same : other ≡ tried = cc in sym same ∙ none)
+  due_once n cut tried (inr (other, are, inr did, uncached)) is never =
+      let e : other ∷ [] ≡ tried ∷ [] = sym are ∙ is in
+      let same : other ≡ tried = cc in
+      inr (once.cut_off n gate.retries tried never (subst (ClientCut n gate.retries) same did) (subst (Each is_uncached) same uncached))
+
+  left_once : (rest : List Message) (cut : List (List Tried)) → AreLeft gate rest cut → IsLeftOnce gate rest cut
+  left_once [] cut left = λ m n tried one due are never. absurd cc
+  left_once (x ∷ []) cut left = λ m n tried one due are never.
+      let same : x ≡ m = cc in
+      due_once n cut tried (subst (λ (d : Option Message). DueStarved gate d cut) (ap (λ (y : Message). forwarded gate y) same ∙ due) left) are never
+  left_once (x ∷ y ∷ ms) cut left = absurd left
+
+  cut_once : (end : Option GateEnd) (rest : List Message) (cut : List (List Tried)) → IsLeft gate end rest cut → IsLeftOnce gate rest cut
+  cut_once None rest cut left = left_once rest cut left
+  cut_once (Some end) rest cut left = λ m n tried one due are never. absurd (let e : [] ≡ m ∷ [] = sym left.0 ∙ one in cc)
 
 pub gates_once_by : ForwardsOnce → GatesOnce
 gates_once_by once c gate net later count failed lacked h = all h.heard.all.sessions h.heard.all.did
@@ -87,4 +109,4 @@ gates_once_by once c gate net later count failed lacked h = all h.heard.all.sess
 
     all : (ss : List Session) (did : AllDid gate MOST_MESSAGES ss) → AreSentOnce gate MOST_MESSAGES ss did
     all [] did = tt
-    all (s ∷ ss) did = (handled_once did.0.handled did.0.did, all ss did.1)
+    all (s ∷ ss) did = (handled_once did.0.handled did.0.did, cut_once once gate s.end did.0.rest did.0.cut did.0.is_left, all ss did.1)

@@ -7,6 +7,7 @@ use Rattle.ice_client.specs.ClientDid.{Tried}
 use Rattle.ice_client.specs.Rows.{IsReplied}
 use Rattle.ice_messages.specs.declared.message.Answer.TheVariants.{Done}
 use Rattle.ice_messages.specs.declared.message.Call.{Call}
+use Rattle.ice_messages.specs.declared.message.Message.{Message}
 use Rattle.ice_messages.specs.declared.message.Message.TheVariants.{Request, Reply}
 use Rattle.ice_ports.specs.declared.talk.Talk.{Talk}
 use Rattle.ice_ports.specs.Failures.{one_more}
@@ -14,9 +15,10 @@ use Rattle.ice_gateway.specs.declared.renewing.Renewed.TheVariants.{Written}
 use Rattle.ice_gateway.specs.Anew.{body_anew}
 use Rattle.ice_gateway.specs.Gate.{Gate, Operation, operation_of}
 use Rattle.ice_gateway.specs.Runs.{NetSeen}
+use Rattle.ice_gateway.specs.Forwarded.{forwarded}
 use Rattle.ice_gateway.specs.Handled.{Handled, Invocation, WasHandled}
 use Rattle.ice_gateway.specs.Sessions.{Session, AllDid}
-use Rattle.ice_gateway.specs.Laws.{IsDead}
+use Rattle.ice_gateway.specs.Laws.{OnlyLastCounts}
 use Rattle.node_commands.specs.Outside.{Files, Outside, ShelfFailed, SinkFailed}
 use Rattle.node_commands.specs.Answers.{Answer, done, read_failed, no_memory}
 use Rattle.serve_command.specs.declared.serving.TheConstants.{MOST_MESSAGES}
@@ -62,15 +64,19 @@ EndsForCause = (c : GateWords) (before after : Outside) (net later : NetSeen) (r
 -- of the attempts at a message that is not idempotent, no server may dispatch any but the last
 abbrev pub IsSentOnce : Option Invocation → Type 0
 IsSentOnce None = Unit {0}
-IsSentOnce (Some i) = (IsIdempotent i.message → ⊥)
-    → (o : Outgoing) × (before : List Tried) × (last : Tried) × IsOf o i.message × (i.tried ≡ before ++ last ∷ []) × Each (λ (x : Tried). IsDead o x.talk) before
+IsSentOnce (Some i) = (IsIdempotent i.message → ⊥) → OnlyLastCounts i.message i.tried
 
--- each message that was handled, on each connection
+-- nor of those at a message that was not handled, since memory ran out
+abbrev pub IsLeftOnce : Gate → List Message → List (List Tried) → Type 0
+IsLeftOnce gate rest cut = (m n : Message) (tried : List Tried) → rest ≡ m ∷ [] → forwarded gate m ≡ Some n → cut ≡ tried ∷ [] → (IsIdempotent n → ⊥)
+    → (tried ≡ []) ⊎ OnlyLastCounts n tried
+
+-- each message that was taken, on each connection
 abbrev pub AreSentOnce : (gate : Gate) (most : ℕ) (sessions : List Session) → AllDid gate most sessions → Type 0
 AreSentOnce gate most [] did = Unit {0}
-AreSentOnce gate most (s ∷ ss) did = Each (λ (h : Handled). IsSentOnce h.invocation) did.0.handled × AreSentOnce gate most ss did.1
+AreSentOnce gate most (s ∷ ss) did = Each (λ (h : Handled). IsSentOnce h.invocation) did.0.handled × IsLeftOnce gate did.0.rest did.0.cut × AreSentOnce gate most ss did.1
 
--- whatever is lost, closed and tried again, on whatever connection
+-- whatever is lost, closed and tried again, on whatever connection, and wherever memory runs out
 abbrev pub GatesOnce : Type 0
 GatesOnce = (c : GateWords) (gate : Gate) (net later : NetSeen) (count : ℕ) (failed starved : Bool) (h : Sessions c gate net later count failed starved)
     → AreSentOnce gate MOST_MESSAGES h.heard.all.sessions h.heard.all.did

@@ -17,8 +17,8 @@ pub fn gate_ends_for_cause()
     ensures { EndsForCause }
 {}
 
-/// Over whatever is lost, closed and tried again: of the attempts at a message that may not be dispatched twice, no
-/// server may dispatch any but the last. (Ice manual, "Automatic Retries".)
+/// Over whatever is lost, closed and tried again, and wherever memory runs out: of the attempts at a message that may
+/// not be dispatched twice, no server may dispatch any but the last. (Ice manual, "Automatic Retries".)
 pub fn gates_once()
     ensures { GatesOnce }
 {}

@@ -1,5 +1,5 @@
 -- One attempt after another.
-use Rattle.std.proofs.Common.{◌≡◌, ◌≢◌, ℕ, suc, ◌+◌, ◌-◌, ◌<◌, ◌≤◌, ◌%◌, Bool, true, false, ◌&&◌, inl, inr, List, [], ◌∷◌, ◌++◌, length, Option, None, Some, IsSome, refl, sym, ap, subst, ◌∙◌, arith, if◌then◌else◌}
+use Rattle.std.proofs.Common.{◌≡◌, ◌≢◌, ◌⊎◌, ℕ, suc, ◌+◌, ◌-◌, ◌<◌, ◌≤◌, ◌%◌, Bool, true, false, ◌&&◌, inl, inr, List, [], ◌∷◌, ◌++◌, length, Option, None, Some, IsSome, refl, sym, ap, subst, ◌∙◌, arith, if◌then◌else◌}
 use Rattle.std.specs.Prelude.{nat_lt, slice_get, option_map, is_some}
 use Rattle.std.proofs.lemmas.Bool.{ltb-true, ltb-false}
 use Rattle.std.proofs.lemmas.List.{length-append}
@@ -23,8 +23,8 @@ use Rattle.ice_client.specs.declared.outcome.Once.{Once}
 use Rattle.ice_client.specs.declared.outgoing.Outgoing.{Outgoing}
 use Rattle.ice_client.specs.Rows.{IsLoss}
 use Rattle.ice_client.specs.Attempted.{attempted, is_failure}
-use Rattle.ice_client.specs.Asking.{IsFor, IsOver, HasRow}
-use Rattle.ice_client.specs.ClientDid.{Tried, IsFollowed, Ended, attempted_all, failures_after, Made, is_uncached, attempts_of, had, goes_again, Delivers, IsPlaced}
+use Rattle.ice_client.specs.Asking.{IsFor, IsOver, HasRow, AreOrderly}
+use Rattle.ice_client.specs.ClientDid.{Tried, IsFollowed, Ended, attempted_all, failures_after, Made, is_uncached, attempts_of, had, goes_again, Delivers, IsPlaced, IsCutOff}
 
 -- ---- a proxy with an endpoint has one for each number
 
@@ -142,6 +142,21 @@ begun o retries i some is = rw is (record {
 -- an attempt
 abbrev pub newest : Attempt → Option Talk → Tried
 newest a talk = record { cached = false; talk = talk; attempt = a }
+
+-- memory cut it off
+pub cut_off : (o : Outgoing) (retries number : ℕ) (tried : List Tried) (i : Invoking) (a : Attempt) (talk : Option Talk) → IsUnderWay o retries number tried i → AreOrderly o talk
+    → ((tried ++ (newest a talk) ∷ [] ≡ []) ⊎ IsCutOff o retries (tried ++ (newest a talk) ∷ [])) × Each is_uncached (tried ++ (newest a talk) ∷ [])
+cut_off o retries number tried i a talk p orderly = (
+  inr (record {
+    before = tried;
+    last = newest a talk;
+    parts = refl;
+    followed = p.followed;
+    few = omega (arith, p.left);
+    orderly = orderly;
+  }),
+  each_more is_uncached tried (newest a talk) p.uncached refl,
+)
 
 -- and then
 module _ (o : Outgoing) (retries number : ℕ) (tried : List Tried) (i j : Invoking) (a : Attempt) (talk : Option Talk) (once : Once) (p : IsUnderWay o retries number tried i) (row : HasRow o false a once.outcome talk)

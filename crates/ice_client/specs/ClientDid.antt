@@ -1,6 +1,6 @@
 -- What a client did to have a message answered or sent: its attempts, each with its talk, and the outcome.
 -- (Ice manual, "Automatic Retries".)
-use Rattle.std.specs.Prelude.{ℕ, suc, ◌≡◌, ◌≤◌, ◌<◌, ◌+◌, ◌↔◌, Bool, true, false, List, [], ◌∷◌, ◌++◌, length, map, Option, None, Some, Result, Ok, Err}
+use Rattle.std.specs.Prelude.{ℕ, suc, ◌≡◌, ◌≤◌, ◌<◌, ◌+◌, ◌⊎◌, ◌↔◌, Bool, true, false, List, [], ◌∷◌, ◌++◌, length, map, Option, None, Some, Result, Ok, Err}
 use Rattle.ice_types.specs.declared.proxy.Endpoint.{Endpoint}
 use Rattle.ice_encoding.specs.declared.limits.TheConstants.{LARGEST}
 use Rattle.ice_encoding.specs.Parts.{Each}
@@ -23,7 +23,7 @@ use Rattle.ice_client.specs.declared.outcome.Outcome.TheVariants as outcomes
 use Rattle.ice_client.specs.declared.outgoing.Outgoing.{Outgoing}
 use Rattle.ice_client.specs.Attempted.{attempted, is_failure}
 use Rattle.ice_client.specs.Sending.{IsOf}
-use Rattle.ice_client.specs.Asking.{HasRow}
+use Rattle.ice_client.specs.Asking.{HasRow, AreOrderly}
 
 -- ---- attempts
 
@@ -54,6 +54,28 @@ pub record ClientDid (m : Message) (retries : ℕ) (tried : List Tried) (outcome
   pub outgoing : Outgoing
   pub is_of : IsOf outgoing m
   pub ended : Ended outgoing retries tried outcome
+
+-- ---- want of memory
+
+-- Memory ran out in the last attempt: each before it may be followed, and over it no more was sent than the message, behind
+-- a validate. How it ends is not told.
+pub record IsCutOff (o : Outgoing) (retries : ℕ) (tried : List Tried) : Type 0 where
+  pub before : List Tried
+  pub last : Tried
+  pub parts : tried ≡ before ++ last ∷ []
+  pub followed : Each (IsFollowed o) before
+  pub few : length before ≤ retries
+  pub orderly : AreOrderly o last.talk
+
+-- the attempts at a message of which memory cut off the last
+pub record ClientCut (m : Message) (retries : ℕ) (tried : List Tried) : Type 0 where
+  pub outgoing : Outgoing
+  pub is_of : IsOf outgoing m
+  pub cut : IsCutOff outgoing retries tried
+
+-- memory ran out before the first attempt at the message, or cut off the last
+abbrev pub ClientStarved : Message → ℕ → List Tried → Type 0
+ClientStarved m retries tried = (tried ≡ []) ⊎ ClientCut m retries tried
 
 -- ---- the net
 
@@ -106,13 +128,18 @@ pub record Delivers (o : Outgoing) (endpoints : List Endpoint) (retries : ℕ) (
   pub placed : IsPlaced endpoints tried r.outcome
   pub uncached : Each is_uncached tried
 
+-- so it was, or memory ran out
+abbrev pub Brings : {E : Type 0} → Outgoing → List Endpoint → ℕ → List Tried → Result Invoked E → Type 0
+Brings o endpoints retries tried (Ok r) = Delivers o endpoints retries tried r
+Brings o endpoints retries tried (Err e) = ((tried ≡ []) ⊎ IsCutOff o retries tried) × Each is_uncached tried
+
 -- The message was tried. One that is too long is refused with its length, and nothing is connected; want of memory may
--- come before, between and behind attempts.
+-- come before the first attempt, or cut off the last.
 abbrev pub Invokes : Message → List Endpoint → ℕ → List Tried → Result Invoked WriteFault → Type 0
 Invokes m endpoints retries tried (Ok r) =
     (r.attempts ≡ attempts_of tried) × ClientDid m retries tried (had r.outcome) × IsPlaced endpoints tried r.outcome × Each is_uncached tried × (length (message_bytes m) ≤ LARGEST)
 Invokes m endpoints retries tried (Err (TooLong n)) = (tried ≡ []) × (LARGEST < length (message_bytes m)) × (n ≡ told (length (message_bytes m)))
-Invokes m endpoints retries tried (Err Memory) = length (message_bytes m) ≤ LARGEST
+Invokes m endpoints retries tried (Err Memory) = ClientStarved m retries tried × Each is_uncached tried × (length (message_bytes m) ≤ LARGEST)
 
 -- the client connects next
 abbrev pub goes_again : ClientAction → Bool

@@ -4,7 +4,7 @@ ghost use Rattle.std.specs.Prelude.{◌≡◌, ◌<◌, pos, List, IfOk, length}
 ghost use Rattle.ice_messages.specs.declared.message.Message.TheVariants.{Request};
 ghost use Rattle.ice_messages.specs.Written.{IsWritable, IsWritableCall};
 ghost use Rattle.ice_client.specs.Sending.{IsOneway};
-ghost use Rattle.ice_client.specs.ClientDid.{Delivers, Invokes, Made, Rises, Tried, goes_again};
+ghost use Rattle.ice_client.specs.ClientDid.{Brings, Invokes, Made, Rises, Tried, goes_again};
 ghost use Rattle.ice_client.specs.declared.outcome.Outcome.TheVariants as outcomes;
 
 use crate::attempting::attempt_once;
@@ -79,7 +79,7 @@ fn deliver<N: Net>(
     requires { 0 < length outgoing.now.bytes }
     ensures told { (tried : List Tried)
         × Made proxy.now.endpoints tried (N.told net.old) (N.told net.new) (N.failures net.old) (N.failures net.new)
-        × IfOk result (λ r. Delivers outgoing.now proxy.now.endpoints retries tried r) }
+        × Brings outgoing.now proxy.now.endpoints retries tried result }
     ensures fails { IfOk result (λ r. r.outcome ≡ outcomes.NetFailed
         → Rises (N.failures net.old) (N.failures net.new)) }
     ensures kept { N.listen_failures net.new ≡ N.listen_failures net.old }

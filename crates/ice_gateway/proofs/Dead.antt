@@ -9,10 +9,12 @@ use Rattle.retry_core.specs.Retries.{may_follow}
 use Rattle.ice_messages.specs.declared.message.Answer.{Answer}
 use Rattle.ice_client.specs.declared.outcome.Outcome.{Outcome}
 use Rattle.ice_client.specs.declared.outgoing.Outgoing.{Outgoing}
+use Rattle.ice_messages.specs.declared.message.Message.{Message}
 use Rattle.ice_client.specs.Rows.{is_stale}
+use Rattle.ice_client.specs.Sending.{IsOf, IsIdempotent}
 use Rattle.ice_client.specs.Asking.{HasRow}
 use Rattle.ice_client.specs.ClientDid.{Tried, IsFollowed, is_uncached}
-use Rattle.ice_gateway.specs.Laws.{ForwardsOnce, IsDead}
+use Rattle.ice_gateway.specs.Laws.{ForwardsOnce, IsDead, OnlyLastCounts}
 
 -- at a place that came from no cache no answer is stale
 not_stale : (cached : Bool) (answer : Answer) → cached ≡ false → is_stale cached answer ≡ true → ⊥
@@ -42,17 +44,20 @@ front : {A : Type 0} (P : A → Type 0) (xs ys : List A) → Each P (xs ++ ys) �
 front P [] ys each = tt
 front P (x ∷ xs) ys each = (each.0, front P xs ys each.1)
 
-pub forwards_once : ForwardsOnce
-forwards_once m retries tried outcome twice did uncached =
-    let o = did.outgoing in
-    let before = did.ended.0 in
-    let last = did.ended.1 in
-    let fresh : o.idempotent ≡ false = not_true o.idempotent (λ is. twice (did.is_of.idempotent.0 is)) in
-    let all = front is_uncached before (last ∷ []) (subst (Each is_uncached) did.ended.2 uncached) in (
+only_last : (m : Message) (o : Outgoing) (tried before : List Tried) (last : Tried) → (IsIdempotent m → ⊥) → IsOf o m → tried ≡ before ++ last ∷ [] → Each (IsFollowed o) before → Each is_uncached tried → OnlyLastCounts m tried
+only_last m o tried before last twice is_of parts followed uncached =
+    let fresh : o.idempotent ≡ false = not_true o.idempotent (λ is. twice (is_of.idempotent.0 is)) in
+    let all = front is_uncached before (last ∷ []) (subst (Each is_uncached) parts uncached) in (
       o,
       before,
       last,
-      did.is_of,
-      did.ended.2,
-      each_dead o before fresh did.ended.3 (λ x free followed. row_dead o x.cached x.attempt followed.0.0 x.talk free followed.0.1 (subst (λ (b : Bool). may_follow b x.attempt ≡ true) fresh followed.1)) all,
+      is_of,
+      parts,
+      each_dead o before fresh followed (λ x free follows. row_dead o x.cached x.attempt follows.0.0 x.talk free follows.0.1 (subst (λ (b : Bool). may_follow b x.attempt ≡ true) fresh follows.1)) all,
     )
+
+pub forwards_once : ForwardsOnce
+forwards_once = record {
+  done = λ m retries tried outcome twice did uncached. only_last m did.outgoing tried did.ended.0 did.ended.1 twice did.is_of did.ended.2 did.ended.3 uncached;
+  cut_off = λ m retries tried twice did uncached. only_last m did.outgoing tried did.cut.before did.cut.last twice did.is_of did.cut.parts did.cut.followed uncached;
+}

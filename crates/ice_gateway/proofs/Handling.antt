@@ -19,7 +19,7 @@ use Rattle.ice_client.specs.ClientDid.{Tried}
 use Rattle.ice_gateway.specs.Gate.{Gate}
 use Rattle.ice_gateway.specs.Mapped.{Mapped, admitted}
 use Rattle.ice_gateway.specs.Forwarded.{forwarded, going, id_anew, request_anew}
-use Rattle.ice_gateway.specs.Handled.{Invocation, WasForwarded, WasAnswered, outcome_of, run_of, replies}
+use Rattle.ice_gateway.specs.Handled.{Invocation, WasForwarded, WasAnswered, DueStarved, outcome_of, run_of, replies}
 use Rattle.ice_gateway.specs.Said.{Says}
 use Rattle.ice_gateway.specs.Parts.{Handling, Leaves, Passed}
 
@@ -58,9 +58,9 @@ answered gate (negsuc n) c o answer ne mapped = (answer, refl, mapped)
 
 -- ---- a message that was handled, or cut off
 
-none_left : {E : Type 0} (r : Result Bool E) → Leaves [] [] r
-none_left (Ok went) = (refl, refl)
-none_left (Err e) = (omega arith, omega arith)
+none_left : {E : Type 0} (gate : Gate) (r : Result Bool E) → Leaves gate [] [] r
+none_left gate (Ok went) = (refl, refl)
+none_left gate (Err e) = refl
 
 pub one_handled : {E : Type 0} (gate : Gate) (m : Message) (runs : List (List Tried)) (i : Option Invocation) (said : List Message) (t : Talk) (r : Result Bool E) → runs ≡ run_of i → WasForwarded gate (forwarded gate m) i
     → WasAnswered gate m (outcome_of i) said → Says said t r → Handling gate m runs t r
@@ -71,21 +71,30 @@ one_handled gate m runs i said t r invoked was answer says = record {
   taken = refl;
   did = ((was, answer), tt);
   invoked = invoked ∙ (sym (append-nil (run_of i)) ∙ sym (append-nil (run_of i ++ [])));
-  left = none_left r;
+  left = none_left gate r;
   says = subst (λ (z : List Message). Says z t r) (sym (append-nil said)) says;
 }
 
-pub cut_off : {E : Type 0} (gate : Gate) (m : Message) (runs : List (List Tried)) (e : E) → length runs ≤ 1 → Handling {E = E} gate m runs silent (Err e)
-cut_off gate m runs e few = record {
+pub cut_off : {E : Type 0} (gate : Gate) (m : Message) (runs : List (List Tried)) (e : E) → DueStarved gate (forwarded gate m) runs → Handling {E = E} gate m runs silent (Err e)
+cut_off gate m runs e starved = record {
   handled = [];
   rest = m ∷ [];
   cut = runs;
   taken = refl;
   did = tt;
   invoked = refl;
-  left = (few, omega arith);
+  left = starved;
   says = (refl, refl);
 }
+
+pub oneway_cut_off : {E : Type 0} (gate : Gate) (id : ℤ) (c : Call) (runs : List (List Tried)) (e : E) → id ≡ pos 0 → DueStarved gate (request_anew gate (pos 0) (going (admitted gate c))) runs
+    → Handling {E = E} gate (Request id c) runs silent (Err e)
+oneway_cut_off {E} gate id c runs e is h = subst (λ (z : ℤ). Handling {E = E} gate (Request z c) runs silent (Err e)) (sym is) (cut_off {E = E} gate (Request (pos 0) c) runs e h)
+
+pub request_cut_off : {E : Type 0} (gate : Gate) (id : ℤ) (c : Call) (runs : List (List Tried)) (e : E) → id ≢ pos 0 → DueStarved gate (request_anew gate (pos 1) (going (admitted gate c))) runs
+    → Handling {E = E} gate (Request id c) runs silent (Err e)
+request_cut_off gate id c runs e ne h =
+    cut_off gate (Request id c) runs e (subst (λ (z : ℤ). DueStarved gate (request_anew gate z (going (admitted gate c))) runs) (sym (asked_anew id ne)) h)
 
 -- ---- a message for which no reply is asked
 

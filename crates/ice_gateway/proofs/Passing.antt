@@ -5,6 +5,7 @@ use Rattle.std.proofs.lemmas.Bool.{le-leb, lt-leb}
 use Rattle.std.proofs.lemmas.List.{drop_all, drop_more}
 use Rattle.ice_encoding.specs.declared.limits.TheConstants.{LARGEST}
 use Rattle.ice_proxy.specs.Usable.{tcp_at}
+use Rattle.ice_messages.specs.declared.fault.WriteFault.TheVariants.{Memory}
 use Rattle.ice_messages.specs.declared.message.Call.{Call}
 use Rattle.ice_messages.specs.declared.message.Answer.{Answer}
 use Rattle.ice_messages.specs.declared.message.Message.{Message}
@@ -23,9 +24,9 @@ use Rattle.ice_gateway.specs.Gate.{Gate, Operation, operation_of}
 use Rattle.ice_gateway.specs.Mapped.{Mapped, ByOperation, ByArguments, admitted, admitted_by}
 use Rattle.ice_gateway.specs.Forwarded.{placed, going, request_anew, with_call, calls_anew, batch_anew}
 use Rattle.ice_gateway.specs.Laws.{CanGo}
-use Rattle.ice_gateway.specs.Handled.{Invocation, WasForwarded}
+use Rattle.ice_gateway.specs.Handled.{Invocation, WasForwarded, WasStarved, DueStarved}
 use Rattle.ice_gateway.specs.Parts.{Answers, CameTo, Passed}
-use Rattle.ice_gateway.proofs.Outcomes.{was_tried}
+use Rattle.ice_gateway.proofs.Outcomes.{was_tried, starved_behind, starved_in, none_starved}
 
 -- ---- whether an endpoint can be used
 
@@ -46,6 +47,13 @@ was_sent gate m tried r some h =
     let was = was_tried gate m tried r some h in
     (Some i, refl, subst (λ (d : Option Message). WasForwarded gate d (Some i)) (sym (placed_some gate m some)) (refl, was.0, was.1))
 
+-- where memory ran out
+pub due_starved : (gate : Gate) (m : Message) (runs : List (List Tried)) → IsSome (tcp_at 0 gate.endpoints) → WasStarved gate m runs → DueStarved gate (placed gate m) runs
+due_starved gate m runs some h = subst (λ (d : Option Message). DueStarved gate d runs) (sym (placed_some gate m some)) h
+
+pub send_starved : (gate : Gate) (m : Message) (tried : List Tried) → IsSome (tcp_at 0 gate.endpoints) → Invokes m gate.endpoints gate.retries tried (Err Memory) → DueStarved gate (placed gate m) (tried ∷ [])
+send_starved gate m tried some h = due_starved gate m (tried ∷ []) some (starved_in gate m tried h)
+
 -- ---- the calls of a batch
 
 pub batch_stays : (gate : Gate) (cs : List Call) → (cs ≡ []) ⊎ (LARGEST < length (message_bytes (Batch cs))) → batch_anew gate cs ≡ None
@@ -61,14 +69,14 @@ batch_goes gate (c ∷ cs) some short = ap (λ (b : Bool). if b then placed gate
 
 pub not_forwarded : {E : Type 0} (gate : Gate) (due : Option Message) (Is : Option Outcome → Answer → Type 0) (r : Result Answer E) → due ≡ None → IfOk r (Is None) → Answers gate due Is [] r
 not_forwarded gate due Is (Ok answer) none is = (None, refl, subst (λ (d : Option Message). WasForwarded gate d None) (sym none) tt, is)
-not_forwarded gate due Is (Err e) none is = omega arith
+not_forwarded gate due Is (Err e) none is = none_starved gate due
 
 pub was_forwarded : {E : Type 0} (gate : Gate) (m : Message) (Is : Option Outcome → Answer → Type 0) (runs : List (List Tried)) (outcome : Outcome) (r : Result Answer E) → IsSome (tcp_at 0 gate.endpoints)
     → CameTo gate m runs outcome → IfOk r (Is (Some outcome)) → Answers gate (placed gate m) Is runs r
 was_forwarded gate m Is runs outcome (Ok answer) some h is =
     let i : Invocation = record { message = m; tried = h.0; outcome = outcome } in
     (Some i, h.1, subst (λ (d : Option Message). WasForwarded gate d (Some i)) (sym (placed_some gate m some)) (refl, h.2, h.3), is)
-was_forwarded gate m Is runs outcome (Err e) some h is = omega (arith, ap length h.1)
+was_forwarded gate m Is runs outcome (Err e) some h is = subst (λ (d : Option Message). DueStarved gate d runs) (sym (placed_some gate m some)) (starved_behind gate m runs h.0 outcome h.1 h.2 h.3)
 
 -- by what became of its call
 abbrev pub AnswersIn : {E : Type 0} → Gate → Operation → List (List Tried) → Result Answer E → Admitted → Type 0

@@ -56,10 +56,10 @@ abbrev pub stepped : {E : Type 0} → Result Bool E → Result (Option GateEnd) 
 stepped (Ok b) = Ok (went_on b)
 stepped (Err e) = Err e
 
-next_by : {E : Type 0} (r : Result Bool E) (m : Message) (t : Talk) (held : List ℕ) (rest : List Message) (cut : List (List Tried)) (said : List Message) → Leaves rest cut r → Says said t r → IsNext t held (m ∷ []) held rest cut said (stepped r)
-next_by (Ok true) m t held rest cut said none s = (refl, refl, none.0, none.1, s.1)
-next_by (Ok false) m t held rest cut said none s = (s.2, none.0, none.1, s.1, tt)
-next_by (Err e) m t held rest cut said none s = (none.0, none.1, s.1)
+next_by : {E : Type 0} (gate : Gate) (r : Result Bool E) (m : Message) (t : Talk) (held : List ℕ) (rest : List Message) (cut : List (List Tried)) (said : List Message) → Leaves gate rest cut r → Says said t r → IsNext gate t held (m ∷ []) held rest cut said (stepped r)
+next_by gate (Ok true) m t held rest cut said none s = (refl, refl, none.0, none.1, s.1)
+next_by gate (Ok false) m t held rest cut said none s = (s.2, none.0, none.1, s.1, tt)
+next_by gate (Err e) m t held rest cut said none s = (none, s.1)
 
 nothing_said : (end : GateEnd) (t : Talk) → end ≢ ends.Enough → t.taken ≡ [] → StepSaid end [] t.taken
 nothing_said ends.PeerEnded t ne none = (none, tt)
@@ -90,7 +90,7 @@ module _ (gate : Gate) where
     taken = h.taken;
     did = h.did;
     invoked = h.invoked;
-    how = next_by r m t held h.rest h.cut (replies h.handled) h.left h.says;
+    how = next_by gate r m t held h.rest h.cut (replies h.handled) h.left h.says;
   }
 
   -- a message of which nothing comes
@@ -126,19 +126,19 @@ module _ (gate : Gate) where
     taken = refl;
     did = tt;
     invoked = refl;
-    how = (omega arith, omega arith, none);
+    how = (refl, none);
   }
 
 -- behind the bytes of a message
-shown_behind : {E : Type 0} (got : List ℕ) (t : Talk) (held : List ℕ) (reads : List Message) (left : List ℕ) (rest : List Message) (cut : List (List Tried)) (said : List Message) (r : Result (Option GateEnd) E)
-    → IsNext t held reads left rest cut said r → IsNext (and_then (gives got) t) held reads left rest cut said r
-shown_behind got t held reads left rest cut said (Ok None) h = h
-shown_behind got t held reads left rest cut said (Ok (Some ends.PeerEnded)) h = h
-shown_behind got t held reads left rest cut said (Ok (Some ends.PeerClosed)) h = h
-shown_behind got t held reads left rest cut said (Ok (Some (ends.PeerBroke fault))) h = h
-shown_behind got t held reads left rest cut said (Ok (Some ends.LinkFailed)) h = h
-shown_behind got t held reads left rest cut said (Ok (Some ends.Enough)) h = h
-shown_behind got t held reads left rest cut said (Err e) h = h
+shown_behind : {E : Type 0} (gate : Gate) (got : List ℕ) (t : Talk) (held : List ℕ) (reads : List Message) (left : List ℕ) (rest : List Message) (cut : List (List Tried)) (said : List Message) (r : Result (Option GateEnd) E)
+    → IsNext gate t held reads left rest cut said r → IsNext gate (and_then (gives got) t) held reads left rest cut said r
+shown_behind gate got t held reads left rest cut said (Ok None) h = h
+shown_behind gate got t held reads left rest cut said (Ok (Some ends.PeerEnded)) h = h
+shown_behind gate got t held reads left rest cut said (Ok (Some ends.PeerClosed)) h = h
+shown_behind gate got t held reads left rest cut said (Ok (Some (ends.PeerBroke fault))) h = h
+shown_behind gate got t held reads left rest cut said (Ok (Some ends.LinkFailed)) h = h
+shown_behind gate got t held reads left rest cut said (Ok (Some ends.Enough)) h = h
+shown_behind gate got t held reads left rest cut said (Err e) h = h
 
 pub next_behind : {E : Type 0} (gate : Gate) (runs : List (List Tried)) (r : Result (Option GateEnd) E) (before got held : List ℕ) (t : Talk) → t.given ≡ []
     → Next gate runs t (before ++ got) held r → Next gate runs (and_then (gives got) t) (before ++ (got ++ t.given)) held r
@@ -154,7 +154,7 @@ next_behind gate runs r before got held t none n = record {
   taken = n.taken;
   did = n.did;
   invoked = n.invoked;
-  how = shown_behind got t held n.reads n.left n.rest n.cut (replies n.handled) r n.how;
+  how = shown_behind gate got t held n.reads n.left n.rest n.cut (replies n.handled) r n.how;
 }
 
 -- ---- the whole session
@@ -341,13 +341,13 @@ module _ (gate : Gate) where
       did = each_append gate p.handled n.handled p.did n.did;
       cut = n.cut;
       invoked = behind runs_of runs_append p.handled n.handled runs more n.cut p.invoked n.invoked;
-      is_left = (n.how.0, n.how.1);
-      unhandled = all_before p.handled n.handled n.reads n.rest t.taken s.taken n.taken n.few n.how.2 p.said;
+      is_left = n.how.0;
+      unhandled = all_before p.handled n.handled n.reads n.rest t.taken s.taken n.taken n.few n.how.1 p.said;
       closes = false;
       closes_by = refl;
       said = (
           let one = one_at_most n.reads n.rest n.handled n.taken n.few in
-          cut_behind p.handled n.handled t.taken s.taken one p.said (unsaid gate n.handled s.taken n.did one n.how.2)
+          cut_behind p.handled n.handled t.taken s.taken one p.said (unsaid gate n.handled s.taken n.did one n.how.1)
           );
     }
 
@@ -382,10 +382,10 @@ module _ (gate : Gate) where
     not_said E h = closed (Some ends.LinkFailed) true h.0 (or_right t.failed s.failed h.2) (λ f. p.long) (cut_close p.handled t.taken s.taken p.said h.1) (refl, refl)
 
     pub starved_last : (E : Type 0) (e : E) → Says {E = E} (Close ∷ []) s (Err e) → GateDid gate most (and_then t s) runs None
-    starved_last E e h = closed None false h.0 tt refl (cut_unsaid p.handled t.taken s.taken p.said h.1) (omega arith, omega arith)
+    starved_last E e h = closed None false h.0 tt refl (cut_unsaid p.handled t.taken s.taken p.said h.1) refl
 
   -- not even a validate was said
-  not_begun : (most : ℕ) (t : Talk) (end : Option GateEnd) → t.given ≡ [] → Shows t [] end → ClosesBy end false 0 most → IsLeft end [] [] → WasSaid end [] false t.taken → GateDid gate most t [] end
+  not_begun : (most : ℕ) (t : Talk) (end : Option GateEnd) → t.given ≡ [] → Shows t [] end → ClosesBy end false 0 most → IsLeft gate end [] [] → WasSaid end [] false t.taken → GateDid gate most t [] end
   not_begun most t end none shows by left said = record {
     reads = [];
     left = [];
@@ -411,7 +411,7 @@ module _ (gate : Gate) where
 
   pub starved_first : (E : Type 0) (e : E) (most : ℕ) (t : Talk) → Says {E = E} (Validate ∷ []) t (Err e) → GateDid gate most t [] None
   starved_first E e most t h =
-      not_begun most t None h.0 tt refl (omega arith, omega arith) (inl (refl, refl, subst (λ (z : List ℕ). IsBegun (Validate ∷ []) z) (sym h.1) (none_begun (Validate ∷ []) (omega arith))))
+      not_begun most t None h.0 tt refl refl (inl (refl, refl, subst (λ (z : List ℕ). IsBegun (Validate ∷ []) z) (sym h.1) (none_begun (Validate ∷ []) (omega arith))))
 
 pub ok_either : {A B : Type 0} (r : Result A B) (P : A → Type 0) → ((x : A) → P x) → IfOk r P
 ok_either (Ok x) P f = f x

@@ -10,7 +10,7 @@ use Rattle.ice_client.specs.ClientDid.{Tried}
 use Rattle.ice_gateway.specs.declared.end.GateEnd.{GateEnd}
 use Rattle.ice_gateway.specs.declared.end.GateEnd.TheVariants.{PeerEnded, PeerClosed, PeerBroke, LinkFailed, Enough}
 use Rattle.ice_gateway.specs.Gate.{Gate}
-use Rattle.ice_gateway.specs.Handled.{Handled, WasHandled, messages, runs_of, replies}
+use Rattle.ice_gateway.specs.Handled.{Handled, WasHandled, AreLeft, messages, runs_of, replies}
 use Rattle.ice_gateway.specs.Said.{IsSaid, IsBegun}
 
 -- the end, or None at want of memory
@@ -78,10 +78,10 @@ WasSaid (Some (PeerBroke fault)) handled closes taken = IsSaid (all_said handled
 WasSaid (Some LinkFailed) handled closes taken = IsCut handled closes taken
 WasSaid (Some Enough) handled closes taken = IsSaid (all_said handled closes) taken
 
--- only at want of memory the last message was not handled, of whose attempts nothing is told
-abbrev pub IsLeft : Option GateEnd → List Message → List (List Tried) → Type 0
-IsLeft None rest cut = (length cut ≤ length rest) × (length rest ≤ 1)
-IsLeft (Some end) rest cut = (rest ≡ []) × (cut ≡ [])
+-- only at want of memory the last message was not handled
+abbrev pub IsLeft : Gate → Option GateEnd → List Message → List (List Tried) → Type 0
+IsLeft gate None rest cut = AreLeft gate rest cut
+IsLeft gate (Some end) rest cut = (rest ≡ []) × (cut ≡ [])
 
 -- WHAT A GATEWAY DID on a connection over which this went: it was to take so many messages at most, and these are the
 -- attempts that it made at servers, message by message
@@ -101,7 +101,7 @@ pub record GateDid (gate : Gate) (most : ℕ) (t : Talk) (runs : List (List Trie
   -- by these attempts
   pub cut : List (List Tried)
   pub invoked : runs ≡ runs_of handled ++ cut
-  pub is_left : IsLeft end rest cut
+  pub is_left : IsLeft gate end rest cut
   -- where one is left, the replies before it were said
   pub unhandled : (rest ≡ []) ⊎ IsSaid (Validate ∷ replies handled) t.taken
   -- and this was said

@@ -1,12 +1,12 @@
 -- Messages that were handled: how each was forwarded, and what was answered.
-use Rattle.std.specs.Prelude.{ℤ, pos, negsuc, zero, suc, ◌≡◌, List, [], ◌∷◌, ◌++◌, Option, Some, None}
+use Rattle.std.specs.Prelude.{ℤ, pos, negsuc, zero, suc, ◌≡◌, ◌⊎◌, List, [], ◌∷◌, ◌++◌, Option, Some, None}
 use Rattle.ice_encoding.specs.Parts.{Each}
 use Rattle.ice_messages.specs.declared.message.Call.{Call}
 use Rattle.ice_messages.specs.declared.message.Answer.{Answer}
 use Rattle.ice_messages.specs.declared.message.Message.{Message}
 use Rattle.ice_messages.specs.declared.message.Message.TheVariants.{Request, Batch, Reply, Validate, Close}
 use Rattle.ice_client.specs.declared.outcome.Outcome.{Outcome}
-use Rattle.ice_client.specs.ClientDid.{Tried, ClientDid, is_uncached}
+use Rattle.ice_client.specs.ClientDid.{Tried, ClientDid, ClientStarved, is_uncached}
 use Rattle.ice_gateway.specs.Gate.{Gate}
 use Rattle.ice_gateway.specs.Mapped.{Mapped}
 use Rattle.ice_gateway.specs.Forwarded.{forwarded}
@@ -34,6 +34,15 @@ WasForwarded gate None (Some i) = ⊥
 WasForwarded gate (Some m) None = ⊥
 WasForwarded gate (Some m) (Some i) = WasInvoked gate m i
 
+-- memory ran out before the attempts at the message, in the last of them, or behind it: how that one ended is not told
+abbrev pub WasStarved : Gate → Message → List (List Tried) → Type 0
+WasStarved gate m runs = (runs ≡ []) ⊎ ((tried : List Tried) × (runs ≡ tried ∷ []) × ClientStarved m gate.retries tried × Each is_uncached tried)
+
+-- so it was of the message that is due; where none is due there was no attempt
+abbrev pub DueStarved : Gate → Option Message → List (List Tried) → Type 0
+DueStarved gate None runs = runs ≡ []
+DueStarved gate (Some m) runs = WasStarved gate m runs
+
 abbrev pub outcome_of : Option Invocation → Option Outcome
 outcome_of None = None
 outcome_of (Some i) = Some i.outcome
@@ -54,6 +63,12 @@ WasAnswered gate Close outcome replies = replies ≡ []
 
 abbrev pub WasHandled : Gate → Handled → Type 0
 WasHandled gate h = WasForwarded gate (forwarded gate h.message) h.invocation × WasAnswered gate h.message (outcome_of h.invocation) h.replies
+
+-- no message or one was not handled, since memory ran out: these are the attempts at it
+abbrev pub AreLeft : Gate → List Message → List (List Tried) → Type 0
+AreLeft gate [] runs = runs ≡ []
+AreLeft gate (m ∷ []) runs = DueStarved gate (forwarded gate m) runs
+AreLeft gate (m ∷ n ∷ ms) runs = ⊥
 
 -- ---- of messages that were handled, in order
 

@@ -11,7 +11,7 @@ use Rattle.ice_client.specs.ClientDid.{Tried, ClientDid, is_uncached}
 use Rattle.ice_gateway.specs.declared.end.GateEnd.{GateEnd}
 use Rattle.ice_gateway.specs.declared.end.GateEnd.TheVariants.{PeerEnded, PeerClosed, PeerBroke, LinkFailed, Enough}
 use Rattle.ice_gateway.specs.Gate.{Gate}
-use Rattle.ice_gateway.specs.Handled.{Handled, Invocation, WasHandled, WasForwarded, messages, outcome_of, run_of, runs_of, replies}
+use Rattle.ice_gateway.specs.Handled.{Handled, Invocation, WasHandled, WasForwarded, WasStarved, DueStarved, AreLeft, messages, outcome_of, run_of, runs_of, replies}
 use Rattle.ice_gateway.specs.Said.{IsSaid, IsBegun, Says}
 use Rattle.ice_gateway.specs.GateDid.{IsTaken, Shows}
 
@@ -41,29 +41,29 @@ went_on false = Some LinkFailed
 abbrev pub CameTo : Gate → Message → List (List Tried) → Outcome → Type 0
 CameTo gate m runs outcome = (tried : List Tried) × (runs ≡ tried ∷ []) × ClientDid m gate.retries tried (Some outcome) × Each is_uncached tried
 
--- so it was; want of memory may come before, in and behind its attempts
+-- so it was, or memory ran out
 abbrev pub Tries : {E : Type 0} → Gate → Message → List (List Tried) → Result Outcome E → Type 0
 Tries gate m runs (Ok outcome) = CameTo gate m runs outcome
-Tries gate m runs (Err e) = length runs ≤ 1
+Tries gate m runs (Err e) = WasStarved gate m runs
 
 -- the message that is due was tried, or none is due
 abbrev pub Passed : Gate → Option Message → List (List Tried) → Type 0
 Passed gate due runs = (i : Option Invocation) × (runs ≡ run_of i) × WasForwarded gate due i
 
--- so it was, unless memory ran out
+-- so it was, or memory ran out
 abbrev pub Passes : {X E : Type 0} → Gate → Option Message → List (List Tried) → Result X E → Type 0
 Passes gate due runs (Ok x) = Passed gate due runs
-Passes gate due runs (Err e) = length runs ≤ 1
+Passes gate due runs (Err e) = DueStarved gate due runs
 
 -- and this is the answer of a request of such a call
 abbrev pub Answers : {E : Type 0} → Gate → Option Message → (Option Outcome → Answer → Type 0) → List (List Tried) → Result Answer E → Type 0
 Answers gate due Is runs (Ok answer) = (i : Option Invocation) × (runs ≡ run_of i) × WasForwarded gate due i × Is (outcome_of i) answer
-Answers gate due Is runs (Err e) = length runs ≤ 1
+Answers gate due Is runs (Err e) = DueStarved gate due runs
 
 -- only at want of memory the message was not handled
-abbrev pub Leaves : {E : Type 0} → List Message → List (List Tried) → Result Bool E → Type 0
-Leaves rest cut (Ok went) = (rest ≡ []) × (cut ≡ [])
-Leaves rest cut (Err e) = (length cut ≤ length rest) × (length rest ≤ 1)
+abbrev pub Leaves : {E : Type 0} → Gate → List Message → List (List Tried) → Result Bool E → Type 0
+Leaves gate rest cut (Ok went) = (rest ≡ []) × (cut ≡ [])
+Leaves gate rest cut (Err e) = AreLeft gate rest cut
 
 -- the message was handled, and its reply said
 pub record Handling {E : Type 0} (gate : Gate) (m : Message) (runs : List (List Tried)) (t : Talk) (r : Result Bool E) : Type 0 where
@@ -73,7 +73,7 @@ pub record Handling {E : Type 0} (gate : Gate) (m : Message) (runs : List (List 
   pub taken : m ∷ [] ≡ messages handled ++ rest
   pub did : Each (WasHandled gate) handled
   pub invoked : runs ≡ runs_of handled ++ cut
-  pub left : Leaves rest cut r
+  pub left : Leaves gate rest cut r
   pub says : Says (replies handled) t r
 
 -- ---- what is left of a message
@@ -94,10 +94,10 @@ ComesBy (PeerBroke fault) reads = reads ≡ []
 ComesBy LinkFailed reads = Unit {0}
 ComesBy Enough reads = ⊥
 
-abbrev pub IsNext : {E : Type 0} → Talk → List ℕ → List Message → List ℕ → List Message → List (List Tried) → List Message → Result (Option GateEnd) E → Type 0
-IsNext t held reads left rest cut said (Ok None) = (length reads ≡ 1) × (left ≡ held) × (rest ≡ []) × (cut ≡ []) × IsSaid said t.taken
-IsNext t held reads left rest cut said (Ok (Some end)) = Shows t left (Some end) × (rest ≡ []) × (cut ≡ []) × StepSaid end said t.taken × ComesBy end reads
-IsNext t held reads left rest cut said (Err e) = (length cut ≤ length rest) × (length rest ≤ 1) × (t.taken ≡ [])
+abbrev pub IsNext : {E : Type 0} → Gate → Talk → List ℕ → List Message → List ℕ → List Message → List (List Tried) → List Message → Result (Option GateEnd) E → Type 0
+IsNext gate t held reads left rest cut said (Ok None) = (length reads ≡ 1) × (left ≡ held) × (rest ≡ []) × (cut ≡ []) × IsSaid said t.taken
+IsNext gate t held reads left rest cut said (Ok (Some end)) = Shows t left (Some end) × (rest ≡ []) × (cut ≡ []) × StepSaid end said t.taken × ComesBy end reads
+IsNext gate t held reads left rest cut said (Err e) = AreLeft gate rest cut × (t.taken ≡ [])
 
 -- of these bytes a message was taken and handled by these attempts, or the connection ends
 pub record Next {E : Type 0} (gate : Gate) (runs : List (List Tried)) (t : Talk) (bytes held : List ℕ) (r : Result (Option GateEnd) E) : Type 0 where
@@ -112,7 +112,7 @@ pub record Next {E : Type 0} (gate : Gate) (runs : List (List Tried)) (t : Talk)
   pub taken : reads ≡ messages handled ++ rest
   pub did : Each (WasHandled gate) handled
   pub invoked : runs ≡ runs_of handled ++ cut
-  pub how : IsNext t held reads left rest cut (replies handled) r
+  pub how : IsNext gate t held reads left rest cut (replies handled) r
 
 -- after validate so many messages were taken and handled, and these bytes are held
 pub record Part (gate : Gate) (runs : List (List Tried)) (t : Talk) (held : List ℕ) (count : ℕ) : Type 0 where

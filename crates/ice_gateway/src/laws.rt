@@ -2,8 +2,8 @@
 
 ghost use Rattle.ice_gateway.specs.Laws.{ForwardsOnce, SuccessesComeBack};
 
-/// Whatever was lost, closed and tried again: of the attempts at a message that may not be dispatched twice, no server
-/// may dispatch any but the last. (Ice manual, "Automatic Retries".)
+/// Whatever was lost, closed and tried again, and wherever memory ran out: of the attempts at a message that may not
+/// be dispatched twice, no server may dispatch any but the last. (Ice manual, "Automatic Retries".)
 pub fn forwards_once()
     ensures { ForwardsOnce }
 {}

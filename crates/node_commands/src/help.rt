@@ -129,4 +129,4 @@ KIND of an input is one of these:
 ";
 
 /// What `--version` writes.
-pub const VERSION: &str = "ice 0.1.0\n";
+pub const VERSION: &str = "ice 1.0.0\n";

@@ -1,10 +1,10 @@
-use Rattle.std.proofs.Common.{rules, ◌≡◌, ◌∷◌, ◌++◌, ◌∙◌, [], true, refl, sym, ap, subst}
+use Rattle.std.proofs.Common.{rules, ◌≡◌, ◌∷◌, ◌++◌, ◌∙◌, [], true, inl, refl, sym, ap, subst}
 use Rattle.std.proofs.lemmas.Result.{err_from_is_err_and}
 use Rattle.ice_proxy.specs.Usable.{tcp_at}
 use Rattle.retry_core.specs.declared.attempt.Attempt.TheVariants.{NotConnected}
 use Rattle.ice_client.specs.ClientDid.{goes_again, Ended, had}
 use Rattle.ice_client.proofs.Counting.{rises}
-use Rattle.ice_client.proofs.Delivering.{each_number, made_none, made_more, begun, newest, another, the_last, no_place, some_place, unplaced, placed}
+use Rattle.ice_client.proofs.Delivering.{each_number, made_none, made_more, begun, newest, another, the_last, cut_off, no_place, some_place, unplaced, placed}
 use Rattle.ice_client.proofs.invoking.deliver.Goals as goal
 
 pub returns-then-is_none-clause-told : goal.returns-then-is_none-clause-told
@@ -17,7 +17,7 @@ returns-then-is_none-clause-told g c = (
 pub returns-in_err-client-clause-told : goal.returns-in_err-client-clause-told
 returns-in_err-client-clause-told g c =
     let failed = err_from_is_err_and c.from_residual.result c.from_residual.ensures.1 in
-    rw failed.1 ([], made_none c.args.proxy.now.endpoints (g.N.Net.told c.args.net.now) (g.N.Net.failures c.args.net.now), tt)
+    rw failed.1 ([], made_none c.args.proxy.now.endpoints (g.N.Net.told c.args.net.now) (g.N.Net.failures c.args.net.now), (inl refl, tt))
 
 pub loop-client-init : goal.loop-client-init
 loop-client-init g c = record {
@@ -41,7 +41,7 @@ returns-in_err-once-clause-told g c =
       i.tried ++ t ∷ [],
       made_more c.args.proxy.now.endpoints c.loop-client.number i.tried t (g.N.Net.told c.args.net.now) (g.N.Net.told c.loop-client.net) (g.N.Net.told c.attempt_once.new.net) (g.N.Net.failures c.args.net.now) (g.N.Net.failures c.loop-client.net)
           (g.N.Net.failures c.attempt_once.new.net) i.under_way.counted i.made once.1 once.2,
-      tt,
+      cut_off c.args.outgoing.now c.args.retries c.loop-client.number i.tried c.loop-client.client NotConnected once.0 i.under_way once.3,
     )
 
 pub returns-then-not-goes_again-clause-told : goal.returns-then-not-goes_again-clause-told

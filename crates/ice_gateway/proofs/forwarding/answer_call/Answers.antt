@@ -7,7 +7,7 @@ use Rattle.ice_gateway.specs.Gate.{operation_seen, seen}
 use Rattle.ice_gateway.specs.Mapped.{ByOutcome}
 use Rattle.ice_gateway.specs.Forwarded.{placed}
 use Rattle.ice_gateway.specs.Runs.{net_seen}
-use Rattle.ice_gateway.proofs.Passing.{not_forwarded, placed_none, was_forwarded}
+use Rattle.ice_gateway.proofs.Passing.{due_starved, not_forwarded, placed_none, was_forwarded}
 use Rattle.ice_gateway.proofs.Runs.{ran_none}
 use Rattle.ice_gateway.proofs.forwarding.answer_call.Goals as goal
 
@@ -28,7 +28,9 @@ pub returns-in_err-outcome-clause-told : goal.returns-in_err-outcome-clause-told
 returns-in_err-outcome-clause-told g c =
     let failed = err_from_is_err_and c.from_residual.result c.from_residual.ensures.1 in
     let told = c.in_err-outcome.ensures.told in
-    rw failed.1 (told.0, told.1, told.2)
+    let gate = seen c.args.gateway.now in
+    let some = some_place _ c.tcp_of.result (tcp_at 0 gate.endpoints) c.if-is_none.ensures c.tcp_of.ensures in
+    rw failed.1 (told.0, told.1, due_starved gate (Request (pos 1) c.args.call.now) told.0 some told.2)
 
 pub returns-clause-told : goal.returns-clause-told
 returns-clause-told g c =

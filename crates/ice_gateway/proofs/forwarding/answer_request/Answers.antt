@@ -1,4 +1,4 @@
-use Rattle.std.proofs.Common.{rules, ℕ, List, [], refl, sym, ap, subst, ◌∙◌, arith}
+use Rattle.std.proofs.Common.{rules, ℕ, List, [], refl, sym, ap, subst, ◌∙◌}
 use Rattle.std.specs.Prelude.{None, Ok}
 use Rattle.std.proofs.lemmas.Result.{err_from_is_err_and}
 use Rattle.std.specs.declared.alloc.AllocError.{AllocError}
@@ -7,6 +7,7 @@ use Rattle.ice_gateway.specs.declared.admitting.Admitted.TheVariants.{Goes, Refu
 use Rattle.ice_gateway.specs.Gate.{operation_of, operation_seen, seen}
 use Rattle.ice_gateway.specs.Laws.{IsAdmitted}
 use Rattle.ice_gateway.specs.Runs.{net_seen}
+use Rattle.ice_gateway.proofs.Outcomes.{none_starved}
 use Rattle.ice_gateway.proofs.Passing.{each_reply, known_so, not_known}
 use Rattle.ice_gateway.proofs.Runs.{ran_none}
 use Rattle.ice_gateway.proofs.forwarding.answer_request.Goals as goal
@@ -24,7 +25,7 @@ pub returns-in_err-call-clause-told : goal.returns-in_err-call-clause-told
 returns-in_err-call-clause-told g c =
     let failed = err_from_is_err_and c.from_residual.result c.from_residual.ensures.1 in
     let net = net_seen (g.N.Net.told c.args.net.now) (g.N.Net.failures c.args.net.now) (g.N.Net.listen_failures c.args.net.now) in
-    rw failed.1 ([], ran_none c.args.gateway.now.upstream.now.endpoints net, omega arith)
+    rw failed.1 ([], ran_none c.args.gateway.now.upstream.now.endpoints net, none_starved (seen c.args.gateway.now) _)
 
 pub answer_call-requires : goal.answer_call-requires
 answer_call-requires g c = (search rules, (search rules, (search rules, subst IsAdmitted c.in-Goes.is c.in_ok-call.ensures.sendable)))

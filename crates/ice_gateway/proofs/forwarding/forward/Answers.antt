@@ -1,10 +1,10 @@
-use Rattle.std.proofs.Common.{◌∷◌, [], arith}
+use Rattle.std.proofs.Common.{◌∷◌, []}
 use Rattle.ice_proxy.specs.Usable.{tcp_at}
 use Rattle.ice_client.proofs.Delivering.{no_place, some_place}
 use Rattle.ice_gateway.specs.Gate.{seen}
 use Rattle.ice_gateway.specs.Forwarded.{placed}
 use Rattle.ice_gateway.specs.Runs.{net_seen}
-use Rattle.ice_gateway.proofs.Passing.{passed_by, placed_none, was_sent}
+use Rattle.ice_gateway.proofs.Passing.{passed_by, placed_none, send_starved, was_sent}
 use Rattle.ice_gateway.proofs.Runs.{ran_none, ran_one}
 use Rattle.ice_gateway.proofs.forwarding.forward.Goals.{in-Ok, in-Err-Memory}
 use Rattle.ice_gateway.proofs.forwarding.forward.Goals as goal
@@ -27,5 +27,5 @@ returns g c =
           rw w.result-is (record { told = (told.0 ∷ [], ran_one gate.endpoints told.0 old new told.1 w.in-Ok.ensures.kept, was_sent gate c.args.message.now told.0 w.in-Ok.field-0 some told.2) })
       | in-Err-Memory w ↦
           let told = w.in-Err-Memory.ensures.told in
-          rw w.result-is (record { told = (told.0 ∷ [], ran_one gate.endpoints told.0 old new told.1 w.in-Err-Memory.ensures.kept, omega arith) })
+          rw w.result-is (record { told = (told.0 ∷ [], ran_one gate.endpoints told.0 old new told.1 w.in-Err-Memory.ensures.kept, send_starved gate c.args.message.now told.0 some told.2) })
     ]

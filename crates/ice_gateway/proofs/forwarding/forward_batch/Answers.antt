@@ -11,6 +11,7 @@ use Rattle.ice_gateway.specs.Forwarded.{batch_anew}
 use Rattle.ice_gateway.specs.Parts.{Passed, Passes}
 use Rattle.ice_gateway.specs.Runs.{net_seen}
 use Rattle.ice_gateway.proofs.Fitting.{batch_long, batch_short}
+use Rattle.ice_gateway.proofs.Outcomes.{none_starved}
 use Rattle.ice_gateway.proofs.Passing.{batch_stays, batch_goes, each_writable, passed_by}
 use Rattle.ice_gateway.proofs.Runs.{ran_none}
 use Rattle.ice_gateway.proofs.forwarding.forward_batch.Goals as goal
@@ -19,7 +20,7 @@ pub returns-in_err-calls : goal.returns-in_err-calls
 returns-in_err-calls g c =
     let failed = err_from_is_err_and c.from_residual.result c.from_residual.ensures.1 in
     let net = net_seen (g.N.Net.told c.args.net.now) (g.N.Net.failures c.args.net.now) (g.N.Net.listen_failures c.args.net.now) in
-    rw failed.1 (record { told = ([], ran_none c.args.gateway.now.upstream.now.endpoints net, omega arith) })
+    rw failed.1 (record { told = ([], ran_none c.args.gateway.now.upstream.now.endpoints net, none_starved (seen c.args.gateway.now) _) })
 
 pub returns-then-is_empty : goal.returns-then-is_empty
 returns-then-is_empty g c =

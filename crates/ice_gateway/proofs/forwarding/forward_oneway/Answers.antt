@@ -1,4 +1,4 @@
-use Rattle.std.proofs.Common.{pos, [], sym, ap, subst, ◌∙◌, arith}
+use Rattle.std.proofs.Common.{pos, [], sym, ap, subst, ◌∙◌}
 use Rattle.std.specs.Prelude.{Option}
 use Rattle.std.proofs.lemmas.Result.{err_from_is_err_and}
 use Rattle.ice_messages.specs.declared.message.Call.{Call}
@@ -7,6 +7,7 @@ use Rattle.ice_gateway.specs.Forwarded.{going, request_anew}
 use Rattle.ice_gateway.specs.Mapped.{admitted}
 use Rattle.ice_gateway.specs.Parts.{Passes}
 use Rattle.ice_gateway.specs.Runs.{net_seen}
+use Rattle.ice_gateway.proofs.Outcomes.{none_starved}
 use Rattle.ice_gateway.proofs.Passing.{passed_by}
 use Rattle.ice_gateway.proofs.Runs.{ran_none}
 use Rattle.ice_gateway.proofs.forwarding.forward_oneway.Goals as goal
@@ -15,7 +16,7 @@ pub returns-in_err-call : goal.returns-in_err-call
 returns-in_err-call g c =
     let failed = err_from_is_err_and c.from_residual.result c.from_residual.ensures.1 in
     let net = net_seen (g.N.Net.told c.args.net.now) (g.N.Net.failures c.args.net.now) (g.N.Net.listen_failures c.args.net.now) in
-    rw failed.1 (record { told = ([], ran_none c.args.gateway.now.upstream.now.endpoints net, omega arith) })
+    rw failed.1 (record { told = ([], ran_none c.args.gateway.now.upstream.now.endpoints net, none_starved (seen c.args.gateway.now) _) })
 
 pub returns-in-Some : goal.returns-in-Some
 returns-in-Some g c =

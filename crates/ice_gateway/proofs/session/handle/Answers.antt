@@ -14,6 +14,7 @@ use Rattle.ice_gateway.specs.declared.end.GateEnd.{GateEnd}
 use Rattle.ice_gateway.specs.declared.end.GateEnd.TheVariants as ends
 use Rattle.ice_gateway.specs.Gate.{seen}
 use Rattle.ice_gateway.specs.Forwarded.{batch_anew, calls_anew}
+use Rattle.ice_gateway.specs.Handled.{DueStarved}
 use Rattle.ice_gateway.specs.Laws.{Comes}
 use Rattle.ice_gateway.specs.Parts.{Handling, Next, Passed}
 use Rattle.ice_gateway.specs.Runs.{net_seen}
@@ -88,7 +89,7 @@ returns-in_err-forward_batch-in-Batch-clause-did g c =
       told.1,
       refl,
       λ bytes held first is spelled. next_handled gate (Err e) told.0 (Batch c.in-Batch.calls) bytes held first silent is (subst (λ (z : Message). SpellsMessage first z) c.in-Batch.is spelled) (refl, λ e. cc)
-          (cut_off gate (Batch c.in-Batch.calls) told.0 e told.2),
+          (cut_off gate (Batch c.in-Batch.calls) told.0 e (subst (λ (z : List Call). DueStarved gate (batch_anew gate (calls_anew gate z)) told.0) c.as_slice.ensures told.2)),
     )
 
 pub returns-in_ok-forward_batch-in-Batch-clause-did : goal.returns-in_ok-forward_batch-in-Batch-clause-did

@@ -10,7 +10,7 @@ use Rattle.talking.proofs.Adding.{adds_nothing}
 use Rattle.ice_gateway.specs.Gate.{seen}
 use Rattle.ice_gateway.specs.Said.{Says}
 use Rattle.ice_gateway.proofs.Coming.{request_comes}
-use Rattle.ice_gateway.proofs.Handling.{id_zero, id_some, oneway_passed, cut_off, request_answered}
+use Rattle.ice_gateway.proofs.Handling.{id_zero, id_some, oneway_passed, oneway_cut_off, request_cut_off, request_answered}
 use Rattle.ice_gateway.proofs.session.handle_request.Goals as goal
 
 pub forward_oneway-requires-clause-comes : goal.forward_oneway-requires-clause-comes
@@ -28,7 +28,7 @@ returns-in_err-forward_oneway-clause-did g c =
       told.0,
       sym (adds_nothing (g.L.Link.talk c.args.link.now)),
       told.1,
-      cut_off (seen c.args.gateway.now) (Request c.args.id c.args.call.now) told.0 c.in_err-forward_oneway.field-0.0 told.2,
+      oneway_cut_off (seen c.args.gateway.now) c.args.id c.args.call.now told.0 c.in_err-forward_oneway.field-0.0 (id_zero c.args.id c.ranges.id c.if-id-eq0.true) told.2,
     )
 
 pub returns-then-id-eq0-clause-did : goal.returns-then-id-eq0-clause-did
@@ -50,7 +50,7 @@ returns-in_err-answer-clause-did g c =
       told.0,
       sym (adds_nothing (g.L.Link.talk c.args.link.now)),
       told.1,
-      cut_off (seen c.args.gateway.now) (Request c.args.id c.args.call.now) told.0 c.in_err-answer.field-0.0 told.2,
+      request_cut_off (seen c.args.gateway.now) c.args.id c.args.call.now told.0 c.in_err-answer.field-0.0 (id_some c.args.id c.if-id-eq0.false) told.2,
     )
 
 pub say-requires-clause-writable : goal.say-requires-clause-writable
