@@ -13,8 +13,8 @@ use Rattle.ice_messages.specs.declared.message.Message.TheVariants.{Request, Bat
 use Rattle.ice_messages.specs.Messages.{SpellsMessage}
 use Rattle.ice_messages.specs.Streams.{Stream}
 use Rattle.dispatch_pool.specs.declared.object.Object.{Object}
-use Rattle.dispatch_pool.specs.declared.end.End.{End}
-use Rattle.dispatch_pool.specs.declared.end.End.TheVariants as ends
+use Rattle.talking.specs.declared.end.End.{End}
+use Rattle.talking.specs.declared.end.End.TheVariants as ends
 use Rattle.dispatch_pool.specs.Rows.{RowGrew}
 use Rattle.dispatch_pool.specs.Handled.{Keys, Asked, Handled, answer_of, asked, asked_of, asking, replies, reply_of, turns_of, unasked}
 use Rattle.dispatch_pool.specs.Said.{bytes_of, IsSaid, IsBegun}

@@ -6,8 +6,8 @@ use Rattle.ice_messages.specs.declared.message.Message.{Message}
 use Rattle.ice_messages.specs.declared.message.Message.TheVariants.{Validate, Close}
 use Rattle.ice_messages.specs.Streams.{Stream, IsFront, next_at}
 use Rattle.ice_messages.specs.Ends.{server_fault}
-use Rattle.dispatch_pool.specs.declared.end.End.{End}
-use Rattle.dispatch_pool.specs.declared.end.End.TheVariants.{PeerEnded, PeerClosed, PeerBroke, LinkFailed, Enough}
+use Rattle.talking.specs.declared.end.End.{End}
+use Rattle.talking.specs.declared.end.End.TheVariants.{PeerEnded, PeerClosed, PeerBroke, LinkFailed, Enough}
 use Rattle.dispatch_pool.specs.Handled.{Keys, Asked, Handled, AreOutcomes, asked, asking, replies}
 use Rattle.dispatch_pool.specs.Said.{IsSaid, IsBegun}
 

@@ -12,7 +12,6 @@ ghost use Rattle.dispatch_pool.specs.Handled.{Handled, turns_of};
 ghost use Rattle.dispatch_pool.specs.ServerDid.{ServerDid, end_of};
 ghost use Rattle.dispatch_pool.specs.Parts.{Counts, Next, went_on, fails_next, is_link_failed};
 
-use crate::end::End;
 use crate::gate::Gate;
 use crate::handling::{Service, serve_batch, serve_request};
 use crate::lanes::{LanePasses, Lanes};
@@ -22,7 +21,7 @@ use ice_ports::Link;
 use retry_core::{Server, ServerEvent};
 use std::alloc::{AllocError, Global};
 use std::sync::Wait;
-use talking::{Heard, hear};
+use talking::{End, Heard, hear};
 
 /// How the connection ends where a reply could not be written.
 fn went_on(went: bool) -> Option<End>

@@ -8,7 +8,7 @@ use Rattle.ice_ports.specs.Talks.{silent, adds}
 use Rattle.ice_ports.specs.Failures.{count_after}
 use Rattle.ice_ports.specs.Nets.{ToldListener, told_after, accepted, is_over, IsNew, IsEmptyTray, behind, taken_behind, one_talk, gathers}
 use Rattle.ice_client.specs.ClientDid.{Tried}
-use Rattle.ice_gateway.specs.declared.end.GateEnd.{GateEnd}
+use Rattle.talking.specs.declared.end.End.{End}
 use Rattle.ice_gateway.specs.declared.serving.Turn.{Turn}
 use Rattle.ice_gateway.specs.declared.serving.Turn.TheVariants as turns
 use Rattle.ice_gateway.specs.Gate.{Gate}
@@ -111,7 +111,7 @@ fed_last : (xs : List Session) (s : Session) → AllFed xs → HasEnd s.end → 
 fed_last [] s a b = (b, tt)
 fed_last (x ∷ xs) s a b = (a.0, fed_last xs s a.1 b)
 
-ended : {E : Type 0} (r : Result GateEnd E) (b : Bool) → b ≡ is_err r → b ≡ false → HasEnd (end_of r)
+ended : {E : Type 0} (r : Result End E) (b : Bool) → b ≡ is_err r → b ≡ false → HasEnd (end_of r)
 ended (Ok end) b e f = tt
 ended (Err x) b e f = absurd cc
 
@@ -129,7 +129,7 @@ begins gate most first tray net empty = record {
 }
 
 -- one link more
-pub link_served : {E : Type 0} (L F : Type 0) (reads writes : L → ℕ) (talk_of : L → Option Talk) (answer : Option L) (link : L) (gate : Gate) (most : ℕ) (first : Option ToldListener) (r : Result GateEnd E) (now now' : Option ToldListener) (tray tray' : Option (List Talk))
+pub link_served : {E : Type 0} (L F : Type 0) (reads writes : L → ℕ) (talk_of : L → Option Talk) (answer : Option L) (link : L) (gate : Gate) (most : ℕ) (first : Option ToldListener) (r : Result End E) (now now' : Option ToldListener) (tray tray' : Option (List Talk))
     (o' : Option Talk) (t : Talk) (runs : List (List Tried)) (old net net' : NetSeen) (n : ℕ) (starved : Bool)
     → answer ≡ Some link → now' ≡ told_after (accepted {L = L} {E = F} (Ok answer)) now → IfSome answer (λ l. IsNew now (talk_of l) × (reads l ≡ 0) × (writes l ≡ 0)) → o' ≡ adds (talk_of link) t → tray' ≡ taken_behind (one_talk o') tray
     → Ran gate.endpoints runs net net' → GateDid gate most t runs (end_of r) → starved ≡ is_err r → n + 1 < 2 ^ 64

@@ -7,14 +7,14 @@ use Rattle.ice_messages.specs.declared.message.Message.TheVariants.{Validate, Cl
 use Rattle.ice_messages.specs.Streams.{Stream, IsFront, next_at}
 use Rattle.ice_messages.specs.Ends.{server_fault}
 use Rattle.ice_client.specs.ClientDid.{Tried}
-use Rattle.ice_gateway.specs.declared.end.GateEnd.{GateEnd}
-use Rattle.ice_gateway.specs.declared.end.GateEnd.TheVariants.{PeerEnded, PeerClosed, PeerBroke, LinkFailed, Enough}
+use Rattle.talking.specs.declared.end.End.{End}
+use Rattle.talking.specs.declared.end.End.TheVariants.{PeerEnded, PeerClosed, PeerBroke, LinkFailed, Enough}
 use Rattle.ice_gateway.specs.Gate.{Gate}
 use Rattle.ice_gateway.specs.Handled.{Handled, WasHandled, messages, runs_of, replies}
 use Rattle.ice_gateway.specs.Said.{IsSaid, IsBegun}
 
 -- the end, or None at want of memory
-abbrev pub end_of : {E : Type 0} → Result GateEnd E → Option GateEnd
+abbrev pub end_of : {E : Type 0} → Result End E → Option End
 end_of (Ok end) = Some end
 end_of (Err e) = None
 
@@ -23,7 +23,7 @@ abbrev pub Begins : List ℕ → Message → Type 0
 Begins bytes m = (rest : List ℕ) × Stream bytes (m ∷ []) rest
 
 -- the bytes behind the messages that were taken show this end
-abbrev pub Shows : Talk → List ℕ → Option GateEnd → Type 0
+abbrev pub Shows : Talk → List ℕ → Option End → Type 0
 Shows t left None = Unit {0}
 Shows t left (Some PeerEnded) = IsFront left × (t.ended ≡ true)
 Shows t left (Some PeerClosed) = Begins left Close
@@ -32,7 +32,7 @@ Shows t left (Some LinkFailed) = t.failed ≡ true
 Shows t left (Some Enough) = Unit {0}
 
 -- a close message is said exactly after the stated number of messages, and before that no other end is one of these
-abbrev pub ClosesBy : Option GateEnd → Bool → ℕ → ℕ → Type 0
+abbrev pub ClosesBy : Option End → Bool → ℕ → ℕ → Type 0
 ClosesBy None closes read most = closes ≡ false
 ClosesBy (Some PeerEnded) closes read most = (closes ≡ false) × (read < most)
 ClosesBy (Some PeerClosed) closes read most = (closes ≡ false) × (read < most)
@@ -70,7 +70,7 @@ abbrev pub all_said : List Handled → Bool → List Message
 all_said handled closes = Validate ∷ (replies handled ++ closing closes)
 
 -- only where the link failed, and at want of memory, the last of them may lack bytes
-abbrev pub WasSaid : Option GateEnd → List Handled → Bool → List ℕ → Type 0
+abbrev pub WasSaid : Option End → List Handled → Bool → List ℕ → Type 0
 WasSaid None handled closes taken = IsCut handled closes taken
 WasSaid (Some PeerEnded) handled closes taken = IsSaid (all_said handled closes) taken
 WasSaid (Some PeerClosed) handled closes taken = IsSaid (all_said handled closes) taken
@@ -79,13 +79,13 @@ WasSaid (Some LinkFailed) handled closes taken = IsCut handled closes taken
 WasSaid (Some Enough) handled closes taken = IsSaid (all_said handled closes) taken
 
 -- only at want of memory the last message was not handled, of whose attempts nothing is told
-abbrev pub IsLeft : Option GateEnd → List Message → List (List Tried) → Type 0
+abbrev pub IsLeft : Option End → List Message → List (List Tried) → Type 0
 IsLeft None rest cut = (length cut ≤ length rest) × (length rest ≤ 1)
 IsLeft (Some end) rest cut = (rest ≡ []) × (cut ≡ [])
 
 -- WHAT A GATEWAY DID on a connection over which this went: it was to take so many messages at most, and these are the
 -- attempts that it made at servers, message by message
-pub record GateDid (gate : Gate) (most : ℕ) (t : Talk) (runs : List (List Tried)) (end : Option GateEnd) : Type 0 where
+pub record GateDid (gate : Gate) (most : ℕ) (t : Talk) (runs : List (List Tried)) (end : Option End) : Type 0 where
   -- the messages that were taken, in order, and the bytes behind them
   pub reads : List Message
   pub left : List ℕ

@@ -3,7 +3,7 @@ use Rattle.std.specs.Prelude.{◌≡◌, ℕ, ◌<◌, ◌-◌, ◌^◌, Bool, t
 use Rattle.ice_ports.specs.declared.talk.Talk.{Talk}
 use Rattle.ice_ports.specs.Nets.{ToldListener}
 use Rattle.ice_client.specs.ClientDid.{Tried}
-use Rattle.ice_gateway.specs.declared.end.GateEnd.{GateEnd}
+use Rattle.talking.specs.declared.end.End.{End}
 use Rattle.ice_gateway.specs.declared.serving.Turn.{Turn}
 use Rattle.ice_gateway.specs.declared.serving.Turn.TheVariants.{Served, Starved, Over, Failed}
 use Rattle.ice_gateway.specs.Gate.{Gate}
@@ -15,7 +15,7 @@ use Rattle.ice_gateway.specs.GateDid.{GateDid}
 pub record Session : Type 0 where
   pub talk : Talk
   pub runs : List (List Tried)
-  pub end : Option GateEnd
+  pub end : Option End
 
 abbrev pub talks : List Session → List Talk
 talks [] = []
@@ -31,7 +31,7 @@ abbrev pub AllDid : Gate → ℕ → List Session → Type 0
 AllDid gate most [] = Unit {0}
 AllDid gate most (s ∷ ss) = GateDid gate most s.talk s.runs s.end × AllDid gate most ss
 
-abbrev pub HasEnd : Option GateEnd → Type 0
+abbrev pub HasEnd : Option End → Type 0
 HasEnd None = ⊥
 HasEnd (Some end) = Unit {0}
 

@@ -18,7 +18,6 @@
 
 mod admitting;
 mod copies;
-mod end;
 mod forwarding;
 mod gateway;
 mod laws;
@@ -29,7 +28,6 @@ mod saying;
 mod serving;
 mod session;
 
-pub use end::GateEnd;
 pub use gateway::Gateway;
 pub use laws::{forwards_once, successes_come_back};
 pub use serving::{Gated, gate_all};

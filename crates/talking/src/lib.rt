@@ -1,8 +1,10 @@
-//! What is said over a connection: the next message out of a link, and bytes into it.
+//! What is said over a connection: the next message out of a link, and bytes into it; and how a connection that is served ends.
 #![tactic(auto)]
 
+mod end;
 mod hearing;
 mod writing;
 
+pub use end::End;
 pub use hearing::{Heard, hear};
 pub use writing::write_bytes;

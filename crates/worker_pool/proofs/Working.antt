@@ -8,7 +8,7 @@ use Rattle.ice_ports.specs.Talks.{adds}
 use Rattle.ice_ports.specs.Nets.{ToldListener, taken_behind, one_talk, gathers, IsEmptyTray}
 use Rattle.dispatch_pool.specs.declared.lanes.Lanes.{Lanes}
 use Rattle.dispatch_pool.specs.declared.lanes.LanePasses.{LanePasses}
-use Rattle.dispatch_pool.specs.declared.end.End.{End}
+use Rattle.talking.specs.declared.end.End.{End}
 use Rattle.dispatch_pool.specs.Lanes.{AreOf, DidSplit, DidJoinAll}
 use Rattle.dispatch_pool.specs.Turns.{Grew}
 use Rattle.dispatch_pool.specs.Handled.{Handled, turns_of}

@@ -13,7 +13,7 @@ use Rattle.ice_messages.specs.declared.message.Answer.{Answer}
 use Rattle.dispatch_pool.specs.declared.object.Object.{Object}
 use Rattle.dispatch_pool.specs.declared.lanes.Lanes.{Lanes}
 use Rattle.dispatch_pool.specs.declared.lanes.LanePasses.{LanePasses}
-use Rattle.dispatch_pool.specs.declared.end.End.{End}
+use Rattle.talking.specs.declared.end.End.{End}
 use Rattle.dispatch_pool.specs.Abreast.{Beside}
 use Rattle.dispatch_pool.specs.Rows.{HasInOrder, at_place}
 use Rattle.dispatch_pool.specs.Lanes.{AreOf}

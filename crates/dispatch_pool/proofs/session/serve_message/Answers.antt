@@ -9,8 +9,8 @@ use Rattle.ice_messages.specs.declared.message.Message.{Message}
 use Rattle.ice_messages.specs.declared.message.Message.TheVariants.{Request, Batch, Validate}
 use Rattle.ice_messages.specs.Messages.{SpellsMessage}
 use Rattle.talking.proofs.Adding.{adds_nothing}
-use Rattle.dispatch_pool.specs.declared.end.End.{End}
-use Rattle.dispatch_pool.specs.declared.end.End.TheVariants as ends
+use Rattle.talking.specs.declared.end.End.{End}
+use Rattle.talking.specs.declared.end.End.TheVariants as ends
 use Rattle.dispatch_pool.specs.Handled.{unasked}
 use Rattle.dispatch_pool.specs.Parts.{Handling, Next}
 use Rattle.dispatch_pool.proofs.Bounds.{batch_few, request_fits}
