@@ -9,12 +9,13 @@ use Rattle.ice_ports.specs.Failures.{count_after}
 use Rattle.ice_ports.specs.Nets.{ToldListener, told_after, accepted, is_over, IsNew, IsEmptyTray, behind, taken_behind, one_talk, gathers}
 use Rattle.ice_client.specs.ClientDid.{Tried}
 use Rattle.talking.specs.declared.end.End.{End}
+use Rattle.talking.specs.Ends.{end_of, HasEnd}
 use Rattle.ice_gateway.specs.declared.serving.Turn.{Turn}
 use Rattle.ice_gateway.specs.declared.serving.Turn.TheVariants as turns
 use Rattle.ice_gateway.specs.Gate.{Gate}
 use Rattle.ice_gateway.specs.Runs.{NetSeen, Ran}
-use Rattle.ice_gateway.specs.GateDid.{GateDid, end_of}
-use Rattle.ice_gateway.specs.Sessions.{Session, talks, all_runs, AllDid, HasEnd, AllFed, TrayTells, DoorTells, NoneToCome, HasServed, AllServed, serves, starves, runs_out, fails}
+use Rattle.ice_gateway.specs.GateDid.{GateDid}
+use Rattle.ice_gateway.specs.Sessions.{Session, talks, all_runs, AllDid, AllFed, TrayTells, DoorTells, NoneToCome, HasServed, AllServed, serves, starves, runs_out, fails}
 use Rattle.ice_gateway.proofs.Runs.{ran_none, ran_then}
 
 abbrev door : ℕ → ℕ → List Talk → Option ToldListener

@@ -1,9 +1,10 @@
 -- Connections that were served, one after the other, and what is told of their links.
-use Rattle.std.specs.Prelude.{◌≡◌, ℕ, ◌<◌, ◌-◌, ◌^◌, Bool, true, false, List, [], ◌∷◌, ◌++◌, length, Option, Some, None}
+use Rattle.std.specs.Prelude.{◌≡◌, ℕ, ◌<◌, ◌-◌, ◌^◌, Bool, true, false, List, [], ◌∷◌, ◌++◌, length, Option, Some}
 use Rattle.ice_ports.specs.declared.talk.Talk.{Talk}
 use Rattle.ice_ports.specs.Nets.{ToldListener}
 use Rattle.ice_client.specs.ClientDid.{Tried}
 use Rattle.talking.specs.declared.end.End.{End}
+use Rattle.talking.specs.Ends.{HasEnd}
 use Rattle.ice_gateway.specs.declared.serving.Turn.{Turn}
 use Rattle.ice_gateway.specs.declared.serving.Turn.TheVariants.{Served, Starved, Over, Failed}
 use Rattle.ice_gateway.specs.Gate.{Gate}
@@ -30,10 +31,6 @@ all_runs (s ∷ ss) = s.runs ++ all_runs ss
 abbrev pub AllDid : Gate → ℕ → List Session → Type 0
 AllDid gate most [] = Unit {0}
 AllDid gate most (s ∷ ss) = GateDid gate most s.talk s.runs s.end × AllDid gate most ss
-
-abbrev pub HasEnd : Option End → Type 0
-HasEnd None = ⊥
-HasEnd (Some end) = Unit {0}
 
 -- no session's end is want of memory
 abbrev pub AllFed : List Session → Type 0

@@ -24,7 +24,6 @@ mod laws;
 mod mapping;
 mod refusing;
 mod renewing;
-mod saying;
 mod serving;
 mod session;
 

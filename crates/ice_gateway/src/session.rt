@@ -8,19 +8,19 @@ ghost use Rattle.ice_messages.specs.declared.message.Message.TheVariants.{Reques
 ghost use Rattle.ice_messages.specs.Messages.{SpellsMessage};
 ghost use Rattle.ice_client.specs.ClientDid.{Tried};
 ghost use Rattle.talking.specs.Hearing.{IsGoing};
+ghost use Rattle.talking.specs.Said.{Counts, fails_said};
+ghost use Rattle.talking.specs.Ends.{end_of, is_link_failed, fails_next, went_on};
 ghost use Rattle.ice_gateway.specs.Gate.{seen};
 ghost use Rattle.ice_gateway.specs.Runs.{Ran, net_seen};
-ghost use Rattle.ice_gateway.specs.Said.{Counts, fails_said};
-ghost use Rattle.ice_gateway.specs.GateDid.{GateDid, end_of};
-ghost use Rattle.ice_gateway.specs.Parts.{Handling, Next, fails_next, is_link_failed, went_on};
+ghost use Rattle.ice_gateway.specs.GateDid.{GateDid};
+ghost use Rattle.ice_gateway.specs.Parts.{Handling, Next};
 
 use crate::forwarding::{answer_request, forward_batch, forward_oneway};
 use crate::gateway::Gateway;
-use crate::saying::say;
 use ice_messages::{Call, Frames, Message, server_fault};
 use ice_ports::{Link, Net};
 use std::alloc::AllocError;
-use talking::{End, Heard, hear};
+use talking::{End, Heard, hear, say};
 
 /// How the connection ends where a reply could not be written.
 fn went_on(went: bool) -> Option<End>

@@ -1,2 +1,4 @@
 pub mod Adding
 pub mod Readers
+pub mod Said
+pub mod Ends

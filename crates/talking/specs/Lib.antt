@@ -1,2 +1,4 @@
 pub mod Hearing
 pub mod Writing
+pub mod Said
+pub mod Ends

@@ -1,5 +1,5 @@
 -- Sessions that were served, what they leave in the passes, and what is told of their links.
-use Rattle.std.specs.Prelude.{◌≡◌, ℕ, ◌<◌, ◌-◌, ◌^◌, Bool, false, List, [], ◌∷◌, ◌++◌, length, Option, Some, None, IfSome}
+use Rattle.std.specs.Prelude.{◌≡◌, ℕ, ◌<◌, ◌-◌, ◌^◌, Bool, false, List, [], ◌∷◌, ◌++◌, length, Option, Some, IfSome}
 use Rattle.turnstile.specs.declared.history.Entry.{Entry}
 use Rattle.turnstile.specs.declared.turned.Turned.{Ghosts}
 use Rattle.turnstile.specs.declared.passes.Pass.{Pass}
@@ -18,6 +18,7 @@ use Rattle.dispatch_pool.specs.Abreast.{Beside}
 use Rattle.dispatch_pool.specs.Rows.{HasInOrder, at_place}
 use Rattle.dispatch_pool.specs.Lanes.{AreOf}
 use Rattle.dispatch_pool.specs.Handled.{Keys, Handled, turns_of}
+use Rattle.talking.specs.Ends.{HasEnd}
 use Rattle.dispatch_pool.specs.ServerDid.{ServerDid}
 
 -- ---- sessions
@@ -36,10 +37,6 @@ talks (s ∷ ss) = s.talk ∷ talks ss
 abbrev pub AllDid : Keys → ℕ → List Session → Type 0
 AllDid keys most [] = Unit {0}
 AllDid keys most (s ∷ ss) = ServerDid keys most s.talk s.handled s.end × AllDid keys most ss
-
-abbrev pub HasEnd : Option End → Type 0
-HasEnd None = ⊥
-HasEnd (Some end) = Unit {0}
 
 -- no session's end is want of memory
 abbrev pub AllFed : List Session → Type 0

@@ -17,10 +17,10 @@ use Rattle.ice_gateway.specs.Forwarded.{batch_anew, calls_anew}
 use Rattle.ice_gateway.specs.Laws.{Comes}
 use Rattle.ice_gateway.specs.Parts.{Handling, Next, Passed}
 use Rattle.ice_gateway.specs.Runs.{net_seen}
+use Rattle.talking.proofs.Said.{quiet}
 use Rattle.ice_gateway.proofs.Coming.{batch_comes}
 use Rattle.ice_gateway.proofs.Handling.{cut_off, passed, request_fits}
 use Rattle.ice_gateway.proofs.Runs.{ran_none}
-use Rattle.ice_gateway.proofs.Spoken.{quiet}
 use Rattle.ice_gateway.proofs.Sessions.{next_handled, next_quiet, next_end}
 use Rattle.ice_gateway.proofs.session.handle.Goals as goal
 

@@ -8,10 +8,11 @@ use Rattle.ice_messages.specs.Framing.{Held, nothing_held}
 use Rattle.talking.specs.Hearing.{IsGoing}
 use Rattle.talking.proofs.Adding.{adds_then}
 use Rattle.talking.specs.declared.end.End.{End}
+use Rattle.talking.specs.Said.{Says, Counts, fails_said}
+use Rattle.talking.specs.Ends.{fails_next}
 use Rattle.ice_gateway.specs.Gate.{seen}
 use Rattle.ice_gateway.specs.Runs.{net_seen}
-use Rattle.ice_gateway.specs.Said.{Counts, Says, fails_said}
-use Rattle.ice_gateway.specs.Parts.{Next, Part, fails_next}
+use Rattle.ice_gateway.specs.Parts.{Next, Part}
 use Rattle.ice_gateway.proofs.Runs.{ran_none, ran_then}
 use Rattle.ice_gateway.proofs.Sessions.{part_begun, part_more, ended, starves, enough, not_said, starved_last, no_validate, starved_first}
 use Rattle.ice_gateway.proofs.session.handle_all.Goals as goal
