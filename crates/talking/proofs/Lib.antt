@@ -2,3 +2,4 @@ pub mod Adding
 pub mod Readers
 pub mod Said
 pub mod Ends
+pub mod Told
