@@ -18,13 +18,14 @@ use Rattle.retry_core.specs.declared.server.ServerState.{ServerState}
 use Rattle.retry_core.specs.declared.server.ServerState.TheVariants.{Reading, Dispatched}
 use Rattle.retry_core.specs.declared.server.ServerEvent.TheVariants as events
 use Rattle.retry_core.specs.Server.{server_row}
+use Rattle.talking.specs.Said.{Says}
 use Rattle.dispatch_pool.specs.declared.object.Object.{Object}
 use Rattle.dispatch_pool.specs.declared.lanes.Lanes.{Lanes}
 use Rattle.dispatch_pool.specs.declared.lanes.LanePasses.{LanePasses}
 use Rattle.dispatch_pool.specs.Rows.{Turn, RowGrew}
 use Rattle.dispatch_pool.specs.Turns.{Dispatched as DispatchedBy, ByFound}
 use Rattle.dispatch_pool.specs.Handled.{Keys, Outcome, had_turn, refused, Asked, Handled, AreOutcomes, answer_of, turn_of, turns_of, unasked, asking, reply_of, replies}
-use Rattle.dispatch_pool.specs.Parts.{Says, Called, Handling, LeavesNone}
+use Rattle.dispatch_pool.specs.Parts.{Called, Handling, LeavesNone}
 use Rattle.dispatch_pool.proofs.Turning.{row_still, row_then}
 
 -- ---- lists

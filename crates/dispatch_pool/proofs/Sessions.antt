@@ -1,9 +1,8 @@
 -- Messages that are taken one after the other, and how a session ends.
-use Rattle.std.proofs.Common.{◌≡◌, ◌≢◌, ℕ, suc, ◌+◌, ◌<◌, ◌≤◌, inl, inr, Bool, true, false, ◌||◌, List, [], ◌∷◌, ◌++◌, length, refl, sym, ap, ap₂, ◌∙◌, subst, arith, append_assoc, append-nil, length-append}
+use Rattle.std.proofs.Common.{◌≡◌, ◌≢◌, ℕ, suc, ◌+◌, ◌<◌, ◌≤◌, inl, inr, Bool, true, false, List, [], ◌∷◌, ◌++◌, length, refl, sym, ap, ap₂, ◌∙◌, subst, arith, append_assoc, append-nil, length-append}
 use Rattle.std.specs.Prelude.{ℤ, pos, Option, Some, None, Result, Ok, Err}
 use Rattle.turnstile.specs.declared.turned.Turned.{Ghosts}
 use Rattle.turnstile.specs.declared.passes.Pass.{Pass}
-use Rattle.ice_encoding.specs.Parts.{Each}
 use Rattle.ice_ports.specs.declared.talk.Talk.{Talk}
 use Rattle.ice_ports.specs.Talks.{and_then, gives, silent}
 use Rattle.ice_messages.specs.declared.message.Call.{Call}
@@ -12,24 +11,22 @@ use Rattle.ice_messages.specs.declared.message.Message.{Message}
 use Rattle.ice_messages.specs.declared.message.Message.TheVariants.{Request, Batch, Reply, Validate, Close}
 use Rattle.ice_messages.specs.Messages.{SpellsMessage}
 use Rattle.ice_messages.specs.Streams.{Stream}
+use Rattle.talking.specs.Said.{bytes_of, IsSaid, IsBegun, Says}
+use Rattle.talking.specs.Ends.{Shows, IsTaken, ClosesBy, StepSaid}
 use Rattle.dispatch_pool.specs.declared.object.Object.{Object}
-use Rattle.dispatch_pool.specs.declared.end.End.{End}
-use Rattle.dispatch_pool.specs.declared.end.End.TheVariants as ends
+use Rattle.talking.specs.declared.end.End.{End}
+use Rattle.talking.specs.declared.end.End.TheVariants as ends
 use Rattle.dispatch_pool.specs.Rows.{RowGrew}
 use Rattle.dispatch_pool.specs.Handled.{Keys, Asked, Handled, answer_of, asked, asked_of, asking, replies, reply_of, turns_of, unasked}
-use Rattle.dispatch_pool.specs.Said.{bytes_of, IsSaid, IsBegun}
-use Rattle.dispatch_pool.specs.ServerDid.{ServerDid, IsCut, IsTaken, Shows, WasSaid, ClosesBy, IsLeft, all_said}
-use Rattle.dispatch_pool.specs.Parts.{ComesBy, IsSingle, Says, Handling, Next, Part, IsNext, LeavesNone, StepSaid, went_on}
+use Rattle.dispatch_pool.specs.ServerDid.{ServerDid, IsCut, WasSaid, IsLeft, all_said}
+use Rattle.dispatch_pool.specs.Parts.{IsSingle, Handling, Next, Part, IsNext, LeavesNone}
+use Rattle.talking.proofs.Said.{said_then, none_begun, said_begun}
+use Rattle.talking.proofs.Ends.{stream_then, taken_append, stepped, nothing_said, nothing_taken, or_right, shows_later, not_closed}
 use Rattle.dispatch_pool.proofs.Turning.{row_still}
-use Rattle.dispatch_pool.proofs.Messages.{said_then, said_begun, none_begun, reply_few}
+use Rattle.dispatch_pool.proofs.Messages.{reply_few}
 use Rattle.dispatch_pool.proofs.Calls.{asking_append, replies_append, outcomes_append, grew_more}
 
 -- ---- lists
-
-pub stream_then : (ms ns : List Message) (bytes rest more left : List ℕ) → Stream bytes ms rest → Stream (rest ++ more) ns left → Stream (bytes ++ more) (ms ++ ns) left
-stream_then [] ns bytes rest more left h k = subst (λ (z : List ℕ). Stream (z ++ more) ns left) (sym h) k
-stream_then (m ∷ ms) ns bytes rest more left h k =
-    (h.0, h.1 ++ more, ap (λ (z : List ℕ). z ++ more) h.2 ∙ append_assoc h.0 h.1 more, h.3, stream_then ms ns h.1 rest more left h.4 k)
 
 asked_append : (xs ys : List Message) → asked (xs ++ ys) ≡ asked xs ++ asked ys
 asked_append [] ys = refl
@@ -37,29 +34,10 @@ asked_append (x ∷ xs) ys = ap (λ (z : List Asked). asked_of x ++ z) (asked_ap
 
 -- ---- one message
 
--- what a message whose calls were handled comes to
-abbrev pub stepped : {E : Type 0} → Result Bool E → Result (Option End) E
-stepped (Ok b) = Ok (went_on b)
-stepped (Err e) = Err e
-
 next_by : {E : Type 0} (r : Result Bool E) (m : Message) (t : Talk) (held : List ℕ) (rest : List Asked) (messages : List Message) → LeavesNone rest r → Says messages t r → IsNext t held (m ∷ []) held rest messages (stepped r)
 next_by (Ok true) m t held rest messages none s = (refl, refl, none, s.1)
 next_by (Ok false) m t held rest messages none s = (s.2, none, s.1, tt)
 next_by (Err e) m t held rest messages none s = s.1
-
-nothing_said : (end : End) (t : Talk) → end ≢ ends.Enough → t.taken ≡ [] → StepSaid end [] t.taken
-nothing_said ends.PeerEnded t ne none = (none, tt)
-nothing_said ends.PeerClosed t ne none = (none, tt)
-nothing_said (ends.PeerBroke fault) t ne none = (none, tt)
-nothing_said ends.LinkFailed t ne none = said_begun [] t.taken (none, tt)
-nothing_said ends.Enough t ne none = ne refl
-
-nothing_taken : (end : End) → end ≢ ends.Enough → ComesBy end []
-nothing_taken ends.PeerEnded ne = refl
-nothing_taken ends.PeerClosed ne = refl
-nothing_taken (ends.PeerBroke fault) ne = refl
-nothing_taken ends.LinkFailed ne = tt
-nothing_taken ends.Enough ne = ne refl
 
 asking_long : (hs : List Handled) → length (asking hs) ≡ length hs
 asking_long [] = refl
@@ -190,24 +168,6 @@ next_behind keys ps qs r before got held t none n = record {
 
 -- ---- the whole session
 
-or_right : (a b : Bool) → b ≡ true → (a || b) ≡ true
-or_right true b e = refl
-or_right false b e = e
-
-shows_later : (a s : Talk) (left : List ℕ) (e : End) → Shows s left (Some e) → Shows (and_then a s) left (Some e)
-shows_later a s left ends.PeerEnded h = (h.0, or_right a.ended s.ended h.1)
-shows_later a s left ends.PeerClosed h = h
-shows_later a s left (ends.PeerBroke fault) h = h
-shows_later a s left ends.LinkFailed h = or_right a.failed s.failed h
-shows_later a s left ends.Enough h = h
-
-not_closed : (e : End) (reads : List Message) (before total most : ℕ) → ComesBy e reads → before < most → total ≡ before + length reads → ClosesBy (Some e) false total most
-not_closed ends.PeerEnded reads before total most by lt is = let none = ap (λ (z : List Message). length z) by in (refl, omega arith)
-not_closed ends.PeerClosed reads before total most by lt is = let none = ap (λ (z : List Message). length z) by in (refl, omega arith)
-not_closed (ends.PeerBroke fault) reads before total most by lt is = let none = ap (λ (z : List Message). length z) by in (refl, omega arith)
-not_closed ends.LinkFailed reads before total most by lt is = λ f. absurd cc
-not_closed ends.Enough reads before total most by lt is = absurd by
-
 -- validate and replies, one part and another
 said_more : (xs ys : List Handled) → (Validate ∷ replies xs) ++ replies ys ≡ Validate ∷ replies (xs ++ ys)
 said_more xs ys = ap (λ (z : List Message). Validate ∷ z) (sym (replies_append xs ys))
@@ -300,10 +260,6 @@ was_then ends.PeerClosed xs ys x y one h k = said_both xs ys x y h k
 was_then (ends.PeerBroke fault) xs ys x y one h k = said_both xs ys x y h k
 was_then ends.LinkFailed xs ys x y one h k = cut_behind xs ys x y one h k
 was_then ends.Enough xs ys x y one h k = absurd k
-
-taken_append : (ms ns : List Message) → Each IsTaken ms → Each IsTaken ns → Each IsTaken (ms ++ ns)
-taken_append [] ns a b = b
-taken_append (m ∷ ms) ns a b = (a.0, taken_append ms ns a.1 b)
 
 module _ {g : Ghosts Object Call Answer} (keys : Keys) where
   pub part_begun : (E : Type 0) (ps : List (Pass Object Call Answer g)) (t : Talk) → Says {E = E} (Validate ∷ []) t (Ok true) → Part keys ps ps t [] 0

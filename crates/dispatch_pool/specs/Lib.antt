@@ -5,6 +5,5 @@ pub mod Lanes
 pub mod Turns
 pub mod Ends
 pub mod Handled
-pub mod Said
 pub mod ServerDid
 pub mod Parts

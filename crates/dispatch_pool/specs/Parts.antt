@@ -1,63 +1,22 @@
--- The parts of a session: a message that is said, the calls of a message, a message that is taken.
-use Rattle.std.specs.Prelude.{ℕ, ◌≡◌, ◌≤◌, ◌⊎◌, Bool, true, false, List, [], ◌∷◌, ◌++◌, length, Option, Some, None, Result, Ok, Err}
+-- The parts of a session: the calls of a message, a message that is taken.
+use Rattle.std.specs.Prelude.{ℕ, ◌≡◌, ◌≤◌, ◌⊎◌, Bool, true, List, [], ◌∷◌, ◌++◌, length, Option, Some, None, Result, Ok, Err}
 use Rattle.turnstile.specs.declared.turned.Turned.{Ghosts}
 use Rattle.turnstile.specs.declared.passes.Pass.{Pass}
 use Rattle.ice_encoding.specs.Parts.{Each}
 use Rattle.ice_ports.specs.declared.talk.Talk.{Talk}
-use Rattle.ice_ports.specs.Failures.{one_more}
 use Rattle.ice_messages.specs.declared.message.Call.{Call}
 use Rattle.ice_messages.specs.declared.message.Answer.{Answer}
 use Rattle.ice_messages.specs.declared.message.Message.{Message}
 use Rattle.ice_messages.specs.declared.message.Message.TheVariants.{Validate}
 use Rattle.ice_messages.specs.Streams.{Stream}
+use Rattle.talking.specs.Said.{IsSaid, Says}
+use Rattle.talking.specs.Ends.{Shows, IsTaken, StepSaid, ComesBy}
 use Rattle.dispatch_pool.specs.declared.object.Object.{Object}
-use Rattle.dispatch_pool.specs.declared.end.End.{End}
-use Rattle.dispatch_pool.specs.declared.end.End.TheVariants.{LinkFailed, PeerEnded, PeerClosed, PeerBroke, Enough}
+use Rattle.talking.specs.declared.end.End.{End}
 use Rattle.dispatch_pool.specs.Rows.{RowGrew}
 use Rattle.dispatch_pool.specs.Handled.{Keys, Outcome, Asked, Handled, IsOutcome, AreOutcomes, answer_of, turn_of, turns_of, asked, asking, replies}
-use Rattle.dispatch_pool.specs.Said.{IsSaid, IsBegun}
-use Rattle.dispatch_pool.specs.ServerDid.{IsTaken, Shows}
-
--- ---- counts of failures
-
--- in a call that failed or not, one read or one write failed, or none
-abbrev pub Counts : Bool → (ℕ × ℕ) → (ℕ × ℕ) → Type 0
-Counts false old new = new ≡ old
-Counts true old new = (new ≡ (one_more old.0, old.1)) ⊎ (new ≡ (old.0, one_more old.1))
-
--- the answer is that the link failed
-abbrev pub is_link_failed : {E : Type 0} → Result End E → Bool
-is_link_failed (Ok PeerEnded) = false
-is_link_failed (Ok PeerClosed) = false
-is_link_failed (Ok (PeerBroke fault)) = false
-is_link_failed (Ok LinkFailed) = true
-is_link_failed (Ok Enough) = false
-is_link_failed (Err e) = false
-
--- the same where the connection may go on
-abbrev pub fails_next : {E : Type 0} → Result (Option End) E → Bool
-fails_next {E = E} (Ok (Some end)) = is_link_failed {E = E} (Ok end)
-fails_next (Ok None) = false
-fails_next (Err e) = false
-
--- the same where a message was to be said
-abbrev pub fails_said : {E : Type 0} → Result Bool E → Bool
-fails_said (Ok true) = false
-fails_said (Ok false) = true
-fails_said (Err e) = false
-
--- where a reply could not be written the connection ends
-abbrev pub went_on : Bool → Option End
-went_on true = None
-went_on false = Some LinkFailed
 
 -- ---- what is left of a message's calls and replies
-
--- these messages were said; or a write failed in the midst of the last one; or memory lacked, and nothing was said
-abbrev pub Says : {E : Type 0} → List Message → Talk → Result Bool E → Type 0
-Says messages t (Ok true) = (t.given ≡ []) × IsSaid messages t.taken
-Says messages t (Ok false) = (t.given ≡ []) × IsBegun messages t.taken × (t.failed ≡ true)
-Says messages t (Err e) = (t.given ≡ []) × (t.taken ≡ [])
 
 -- after a call that says nothing
 abbrev pub said_by : {X E : Type 0} → Result X E → Result Bool E
@@ -68,22 +27,6 @@ said_by (Err e) = Err e
 abbrev pub LeavesNone : {E : Type 0} → List Asked → Result Bool E → Type 0
 LeavesNone rest (Ok went) = rest ≡ []
 LeavesNone rest (Err e) = Unit {0}
-
--- only where the link failed a reply may lack bytes
-abbrev pub StepSaid : End → List Message → List ℕ → Type 0
-StepSaid PeerEnded messages taken = IsSaid messages taken
-StepSaid PeerClosed messages taken = IsSaid messages taken
-StepSaid (PeerBroke fault) messages taken = IsSaid messages taken
-StepSaid LinkFailed messages taken = IsBegun messages taken
-StepSaid Enough messages taken = ⊥
-
--- only where the link failed a message was taken before the end
-abbrev pub ComesBy : End → List Message → Type 0
-ComesBy PeerEnded reads = reads ≡ []
-ComesBy PeerClosed reads = reads ≡ []
-ComesBy (PeerBroke fault) reads = reads ≡ []
-ComesBy LinkFailed reads = Unit {0}
-ComesBy Enough reads = ⊥
 
 -- one call that asks for a reply, or such as ask for none
 abbrev pub IsSingle : List Handled → Type 0

@@ -1,50 +1,15 @@
 -- What a server did on one connection.
-use Rattle.std.specs.Prelude.{ℕ, ◌≡◌, ◌≢◌, ◌<◌, ◌≤◌, ◌⊎◌, Bool, true, false, List, [], ◌∷◌, ◌++◌, length, Option, Some, None, Result, Ok, Err}
+use Rattle.std.specs.Prelude.{ℕ, ◌≡◌, ◌≤◌, ◌⊎◌, Bool, false, List, [], ◌∷◌, ◌++◌, length, Option, Some, None}
 use Rattle.ice_encoding.specs.Parts.{Each}
 use Rattle.ice_ports.specs.declared.talk.Talk.{Talk}
 use Rattle.ice_messages.specs.declared.message.Message.{Message}
-use Rattle.ice_messages.specs.declared.message.Message.TheVariants.{Validate, Close}
-use Rattle.ice_messages.specs.Streams.{Stream, IsFront, next_at}
-use Rattle.ice_messages.specs.Ends.{server_fault}
-use Rattle.dispatch_pool.specs.declared.end.End.{End}
-use Rattle.dispatch_pool.specs.declared.end.End.TheVariants.{PeerEnded, PeerClosed, PeerBroke, LinkFailed, Enough}
+use Rattle.ice_messages.specs.declared.message.Message.TheVariants.{Validate}
+use Rattle.ice_messages.specs.Streams.{Stream}
+use Rattle.talking.specs.declared.end.End.{End}
+use Rattle.talking.specs.declared.end.End.TheVariants.{PeerEnded, PeerClosed, PeerBroke, LinkFailed, Enough}
+use Rattle.talking.specs.Said.{IsSaid, IsBegun}
+use Rattle.talking.specs.Ends.{Shows, IsTaken, closing, ClosesBy}
 use Rattle.dispatch_pool.specs.Handled.{Keys, Asked, Handled, AreOutcomes, asked, asking, replies}
-use Rattle.dispatch_pool.specs.Said.{IsSaid, IsBegun}
-
--- the end, or None at want of memory
-abbrev pub end_of : {E : Type 0} → Result End E → Option End
-end_of (Ok end) = Some end
-end_of (Err e) = None
-
--- this message begins the bytes
-abbrev pub Begins : List ℕ → Message → Type 0
-Begins bytes m = (rest : List ℕ) × Stream bytes (m ∷ []) rest
-
--- the bytes behind the messages that were taken show this end
-abbrev pub Shows : Talk → List ℕ → Option End → Type 0
-Shows t left None = Unit {0}
-Shows t left (Some PeerEnded) = IsFront left × (t.ended ≡ true)
-Shows t left (Some PeerClosed) = Begins left Close
-Shows t left (Some (PeerBroke fault)) = (next_at left ≡ Err fault) ⊎ ((m : Message) × Begins left m × (server_fault m ≡ Some fault))
-Shows t left (Some LinkFailed) = t.failed ≡ true
-Shows t left (Some Enough) = Unit {0}
-
--- a close message is said exactly after the stated number of messages, and before that no other end is one of these
-abbrev pub ClosesBy : Option End → Bool → ℕ → ℕ → Type 0
-ClosesBy None closes read most = closes ≡ false
-ClosesBy (Some PeerEnded) closes read most = (closes ≡ false) × (read < most)
-ClosesBy (Some PeerClosed) closes read most = (closes ≡ false) × (read < most)
-ClosesBy (Some (PeerBroke fault)) closes read most = (closes ≡ false) × (read < most)
-ClosesBy (Some LinkFailed) closes read most = closes ≡ true → read ≡ most
-ClosesBy (Some Enough) closes read most = (closes ≡ true) × (read ≡ most)
-
-abbrev pub closing : Bool → List Message
-closing true = Close ∷ []
-closing false = []
-
--- a connection goes on behind it: no client sends any other message but a close
-abbrev pub IsTaken : Message → Type 0
-IsTaken m = (server_fault m ≡ None) × (m ≢ Close)
 
 -- The replies of all calls but the last that was handled were said. That of the last may lack bytes, or the close message
 -- behind it.

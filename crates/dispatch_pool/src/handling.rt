@@ -6,9 +6,10 @@ ghost use Rattle.ice_ports.specs.declared.talk.Talk.{Talk};
 ghost use Rattle.ice_messages.specs.declared.message.Message.TheVariants.{Request};
 ghost use Rattle.ice_messages.specs.Messages.{SpellsMessage};
 ghost use Rattle.retry_core.specs.declared.server.ServerState.TheVariants as states;
+ghost use Rattle.talking.specs.Said.{Counts, fails_said};
 ghost use Rattle.dispatch_pool.specs.Lanes.{AreOf};
 ghost use Rattle.dispatch_pool.specs.Handled.{unasked};
-ghost use Rattle.dispatch_pool.specs.Parts.{Counts, Handling, fails_said, said_by};
+ghost use Rattle.dispatch_pool.specs.Parts.{Handling, said_by};
 
 use crate::dispatching::dispatch;
 use crate::gate::Gate;

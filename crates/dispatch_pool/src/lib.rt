@@ -25,7 +25,6 @@
 #![tactic(auto)]
 
 mod dispatching;
-mod end;
 mod gate;
 mod handling;
 mod lanes;
@@ -34,7 +33,7 @@ mod saying;
 mod session;
 
 pub use dispatching::dispatch;
-pub use end::End;
 pub use gate::{Gate, OpenGate};
 pub use lanes::{LanePasses, Lanes, Unclosed, cross_threads};
 pub use session::serve_connection;
+pub use talking::End;

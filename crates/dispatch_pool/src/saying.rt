@@ -1,37 +1,18 @@
 //! What a server says on a connection.
 
-ghost use Rattle.std.specs.Prelude.{◌≡◌, [], ◌∷◌, IfOk};
+ghost use Rattle.std.specs.Prelude.{◌≡◌};
 ghost use Rattle.ice_ports.specs.Talks.{adds};
 ghost use Rattle.ice_ports.specs.declared.talk.Talk.{Talk};
 ghost use Rattle.ice_messages.specs.declared.message.Message.TheVariants.{Reply};
-ghost use Rattle.ice_messages.specs.Messages.{SpellsMessage, message_bytes};
-ghost use Rattle.ice_messages.specs.Written.{IsAnswer, IsWritable};
+ghost use Rattle.ice_messages.specs.Written.{IsAnswer};
 ghost use Rattle.object_adapter.specs.Replies.{KeepsLimit};
+ghost use Rattle.talking.specs.Said.{Says, Counts, fails_said};
 ghost use Rattle.dispatch_pool.specs.Handled.{reply_of};
-ghost use Rattle.dispatch_pool.specs.Parts.{Counts, Says, fails_said};
 
-use ice_messages::{Answer, Message, WriteFault, write_message};
+use ice_messages::{Answer, Message};
 use ice_ports::Link;
-use ice_types::Bytes;
 use std::alloc::{AllocError, Global};
-use talking::write_bytes;
-
-/// Writes a message. False where a write failed.
-pub(crate) fn say<L: Link>(
-    alloc: Global,
-    link: &mut L,
-    message: &Message,
-) -> Result<bool, AllocError>
-    requires writable { IsWritable message.now }
-    requires short { KeepsLimit message.now }
-    ensures did { (t : Talk) × (L.talk link.new ≡ adds (L.talk link.old) t) × Says (message.now ∷ []) t result }
-    ensures counts { Counts (fails_said result) (L.Source.failures link.old, L.Sink.failures link.old)
-        (L.Source.failures link.new, L.Sink.failures link.new) }
-{
-    let bytes = bytes_of(alloc, message)?;
-    let piece = bytes.as_slice();
-    Ok(write_bytes(link, piece) == piece.len())
-}
+use talking::say;
 
 /// Writes the reply to a request with this id, where one is asked for. False where a write failed.
 pub(crate) fn reply<L: Link>(
@@ -50,18 +31,4 @@ pub(crate) fn reply<L: Link>(
         return Ok(true);
     }
     say(alloc, link, &Message::Reply { id, answer })
-}
-
-/// The bytes of a message that is no longer than one may be.
-fn bytes_of(alloc: Global, message: &Message) -> Result<Bytes, AllocError>
-    requires writable { IsWritable message.now }
-    requires short { KeepsLimit message.now }
-    ensures { IfOk result
-        (λ bytes. (bytes ≡ message_bytes message.now) × SpellsMessage bytes message.now) }
-{
-    match write_message(alloc, message) {
-        Ok(bytes) => Ok(bytes),
-        Err(WriteFault::Memory) => Err(AllocError),
-        Err(WriteFault::TooLong(_)) => unreachable!(),
-    }
 }

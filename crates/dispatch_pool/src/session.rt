@@ -6,23 +6,23 @@ ghost use Rattle.ice_ports.specs.declared.talk.Talk.{Talk};
 ghost use Rattle.ice_messages.specs.Messages.{SpellsMessage};
 ghost use Rattle.retry_core.specs.declared.server.ServerState.TheVariants as states;
 ghost use Rattle.talking.specs.Hearing.{IsGoing};
+ghost use Rattle.talking.specs.Said.{Counts};
+ghost use Rattle.talking.specs.Ends.{end_of, is_link_failed, fails_next, went_on};
 ghost use Rattle.dispatch_pool.specs.Lanes.{AreOf};
 ghost use Rattle.dispatch_pool.specs.Turns.{Grew};
 ghost use Rattle.dispatch_pool.specs.Handled.{Handled, turns_of};
-ghost use Rattle.dispatch_pool.specs.ServerDid.{ServerDid, end_of};
-ghost use Rattle.dispatch_pool.specs.Parts.{Counts, Next, went_on, fails_next, is_link_failed};
+ghost use Rattle.dispatch_pool.specs.ServerDid.{ServerDid};
+ghost use Rattle.dispatch_pool.specs.Parts.{Next};
 
-use crate::end::End;
 use crate::gate::Gate;
 use crate::handling::{Service, serve_batch, serve_request};
 use crate::lanes::{LanePasses, Lanes};
-use crate::saying::say;
 use ice_messages::{Frames, Message, server_fault};
 use ice_ports::Link;
 use retry_core::{Server, ServerEvent};
 use std::alloc::{AllocError, Global};
 use std::sync::Wait;
-use talking::{Heard, hear};
+use talking::{End, Heard, hear, say};
 
 /// How the connection ends where a reply could not be written.
 fn went_on(went: bool) -> Option<End>

@@ -7,7 +7,7 @@ use Rattle.ice_ports.specs.Failures.{one_more, count_after}
 use Rattle.ice_gateway.specs.Gate.{Gate}
 use Rattle.ice_gateway.specs.Runs.{NetSeen}
 use Rattle.ice_messages.specs.declared.message.Message.{Message}
-use Rattle.ice_gateway.specs.declared.end.GateEnd.{GateEnd}
+use Rattle.talking.specs.declared.end.End as connections
 use Rattle.ice_gateway.specs.Handled.{Handled, Invocation, WasHandled, WasForwarded, DueStarved, AreLeft}
 use Rattle.ice_gateway.specs.GateDid.{IsLeft}
 use Rattle.ice_gateway.specs.Forwarded.{forwarded}
@@ -96,7 +96,7 @@ module _ (once : ForwardsOnce) (gate : Gate) where
       due_once n cut tried (subst (λ (d : Option Message). DueStarved gate d cut) (ap (λ (y : Message). forwarded gate y) same ∙ due) left) are never
   left_once (x ∷ y ∷ ms) cut left = absurd left
 
-  cut_once : (end : Option GateEnd) (rest : List Message) (cut : List (List Tried)) → IsLeft gate end rest cut → IsLeftOnce gate rest cut
+  cut_once : (end : Option connections.End) (rest : List Message) (cut : List (List Tried)) → IsLeft gate end rest cut → IsLeftOnce gate rest cut
   cut_once None rest cut left = left_once rest cut left
   cut_once (Some end) rest cut left = λ m n tried one due are never. absurd (let e : [] ≡ m ∷ [] = sym left.0 ∙ one in cc)
 

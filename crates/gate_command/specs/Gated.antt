@@ -6,13 +6,14 @@ use Rattle.ice_ports.specs.Writing.{AppendsPrefix}
 use Rattle.ice_ports.specs.Nets.{ToldListener, IsNewListener, told_after, asked_to_listen, came_back, gathered_of}
 use Rattle.ice_gateway.specs.Gate.{Gate}
 use Rattle.ice_gateway.specs.Runs.{NetSeen}
-use Rattle.ice_gateway.specs.Sessions.{AllServed, NoneToCome}
+use Rattle.ice_gateway.specs.Sessions.{AllServed}
 use Rattle.node_commands.specs.Outside.{Outside, NoneFailed, ShelfFailed, SinkFailed}
 use Rattle.node_commands.specs.Answers.{Answer, read_failed, write_failed, no_memory}
 use Rattle.node_commands.specs.Effects.{GetsText}
 use Rattle.serve_command.specs.declared.serving.TheConstants.{MOST_MESSAGES}
 use Rattle.serve_command.specs.Ends.{End, answered, network_failed, end_status, end_line}
 use Rattle.serve_command.specs.Served.{WritesEnd, listening, served}
+use Rattle.talking.specs.Told.{NoneToCome}
 use Rattle.gate_command.specs.Words.{GateWords}
 use Rattle.gate_command.specs.Decided.{Refuses, Sets}
 

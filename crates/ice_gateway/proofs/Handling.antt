@@ -16,11 +16,11 @@ use Rattle.ice_messages.specs.declared.message.Message.TheVariants.{Request, Rep
 use Rattle.ice_messages.specs.Messages.{SpellsMessage}
 use Rattle.ice_client.specs.declared.outcome.Outcome.{Outcome}
 use Rattle.ice_client.specs.ClientDid.{Tried}
+use Rattle.talking.specs.Said.{Says}
 use Rattle.ice_gateway.specs.Gate.{Gate}
 use Rattle.ice_gateway.specs.Mapped.{Mapped, admitted}
 use Rattle.ice_gateway.specs.Forwarded.{forwarded, going, id_anew, request_anew}
 use Rattle.ice_gateway.specs.Handled.{Invocation, WasForwarded, WasAnswered, DueStarved, outcome_of, run_of, replies}
-use Rattle.ice_gateway.specs.Said.{Says}
 use Rattle.ice_gateway.specs.Parts.{Handling, Leaves, Passed}
 
 -- ---- ids

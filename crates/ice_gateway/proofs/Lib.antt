@@ -8,7 +8,6 @@ pub mod Back
 pub mod Runs
 pub mod Passing
 pub mod Fitting
-pub mod Spoken
 pub mod Handling
 pub mod Sessions
 pub mod Told

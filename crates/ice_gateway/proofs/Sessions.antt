@@ -1,5 +1,5 @@
 -- Messages that are taken one after the other, and how a session ends.
-use Rattle.std.proofs.Common.{◌≡◌, ◌≢◌, ℕ, suc, ◌+◌, ◌<◌, ◌≤◌, inl, inr, Bool, true, false, ◌||◌, List, [], ◌∷◌, ◌++◌, length, refl, sym, ap, ap₂, ◌∙◌, subst, arith, append_assoc, append-nil, length-append}
+use Rattle.std.proofs.Common.{◌≡◌, ◌≢◌, ℕ, suc, ◌+◌, ◌<◌, ◌≤◌, inl, inr, Bool, true, false, List, [], ◌∷◌, ◌++◌, length, refl, sym, ap, ap₂, ◌∙◌, subst, arith, append_assoc, append-nil, length-append}
 use Rattle.std.specs.Prelude.{ℤ, pos, negsuc, zero, ◌⊎◌, Option, Some, None, Result, Ok, Err, IfOk}
 use Rattle.ice_encoding.specs.Parts.{Each}
 use Rattle.ice_ports.specs.declared.talk.Talk.{Talk}
@@ -11,22 +11,19 @@ use Rattle.ice_messages.specs.Messages.{SpellsMessage}
 use Rattle.ice_messages.specs.Streams.{Stream}
 use Rattle.ice_client.specs.declared.outcome.Outcome.{Outcome}
 use Rattle.ice_client.specs.ClientDid.{Tried}
-use Rattle.ice_gateway.specs.declared.end.GateEnd.{GateEnd}
-use Rattle.ice_gateway.specs.declared.end.GateEnd.TheVariants as ends
+use Rattle.talking.specs.declared.end.End.{End}
+use Rattle.talking.specs.declared.end.End.TheVariants as ends
+use Rattle.talking.specs.Said.{IsSaid, IsBegun, Says}
+use Rattle.talking.specs.Ends.{Shows, IsTaken, ClosesBy, StepSaid}
 use Rattle.ice_gateway.specs.Gate.{Gate}
 use Rattle.ice_gateway.specs.Handled.{Handled, WasHandled, WasAnswered, outcome_of, messages, runs_of, run_of, replies}
-use Rattle.ice_gateway.specs.Said.{IsSaid, IsBegun, Says}
-use Rattle.ice_gateway.specs.GateDid.{GateDid, IsCut, IsTaken, Shows, WasSaid, ClosesBy, IsLeft, all_said}
-use Rattle.ice_gateway.specs.Parts.{ComesBy, Handling, Next, Part, IsNext, Leaves, StepSaid, went_on}
-use Rattle.ice_gateway.proofs.Spoken.{said_then, said_begun, none_begun}
+use Rattle.ice_gateway.specs.GateDid.{GateDid, IsCut, WasSaid, IsLeft, all_said}
+use Rattle.ice_gateway.specs.Parts.{Handling, Next, Part, IsNext, Leaves}
+use Rattle.talking.proofs.Said.{said_then, none_begun, said_begun}
+use Rattle.talking.proofs.Ends.{stream_then, taken_append, stepped, nothing_said, nothing_taken, or_right, shows_later, not_closed}
 use Rattle.ice_gateway.proofs.Handling.{one_handled}
 
 -- ---- lists
-
-stream_then : (ms ns : List Message) (bytes rest more left : List ℕ) → Stream bytes ms rest → Stream (rest ++ more) ns left → Stream (bytes ++ more) (ms ++ ns) left
-stream_then [] ns bytes rest more left h k = subst (λ (z : List ℕ). Stream (z ++ more) ns left) (sym h) k
-stream_then (m ∷ ms) ns bytes rest more left h k =
-    (h.0, h.1 ++ more, ap (λ (z : List ℕ). z ++ more) h.2 ∙ append_assoc h.0 h.1 more, h.3, stream_then ms ns h.1 rest more left h.4 k)
 
 messages_append : (xs ys : List Handled) → messages (xs ++ ys) ≡ messages xs ++ messages ys
 messages_append [] ys = refl
@@ -51,29 +48,10 @@ behind {A} f append xs ys a b rest one two =
 
 -- ---- one message
 
--- what a message that was handled comes to
-abbrev pub stepped : {E : Type 0} → Result Bool E → Result (Option GateEnd) E
-stepped (Ok b) = Ok (went_on b)
-stepped (Err e) = Err e
-
 next_by : {E : Type 0} (gate : Gate) (r : Result Bool E) (m : Message) (t : Talk) (held : List ℕ) (rest : List Message) (cut : List (List Tried)) (said : List Message) → Leaves gate rest cut r → Says said t r → IsNext gate t held (m ∷ []) held rest cut said (stepped r)
 next_by gate (Ok true) m t held rest cut said none s = (refl, refl, none.0, none.1, s.1)
 next_by gate (Ok false) m t held rest cut said none s = (s.2, none.0, none.1, s.1, tt)
 next_by gate (Err e) m t held rest cut said none s = (none, s.1)
-
-nothing_said : (end : GateEnd) (t : Talk) → end ≢ ends.Enough → t.taken ≡ [] → StepSaid end [] t.taken
-nothing_said ends.PeerEnded t ne none = (none, tt)
-nothing_said ends.PeerClosed t ne none = (none, tt)
-nothing_said (ends.PeerBroke fault) t ne none = (none, tt)
-nothing_said ends.LinkFailed t ne none = said_begun [] t.taken (none, tt)
-nothing_said ends.Enough t ne none = ne refl
-
-nothing_taken : (end : GateEnd) → end ≢ ends.Enough → ComesBy end []
-nothing_taken ends.PeerEnded ne = refl
-nothing_taken ends.PeerClosed ne = refl
-nothing_taken (ends.PeerBroke fault) ne = refl
-nothing_taken ends.LinkFailed ne = tt
-nothing_taken ends.Enough ne = ne refl
 
 module _ (gate : Gate) where
   pub next_handled : {E : Type 0} (r : Result Bool E) (runs : List (List Tried)) (m : Message) (bytes held first : List ℕ) (t : Talk) → bytes ≡ first ++ held → SpellsMessage first m
@@ -97,7 +75,7 @@ module _ (gate : Gate) where
   pub next_quiet : {E : Type 0} (bytes held first : List ℕ) → bytes ≡ first ++ held → SpellsMessage first Validate → Next {E = E} gate [] silent bytes held (Ok None)
   next_quiet {E = E} bytes held first is spelled = next_handled {E = E} (Ok true) [] Validate bytes held first silent is spelled (refl, λ e. cc) (one_handled gate Validate [] None [] silent (Ok true) refl tt refl (refl, (refl, tt)))
 
-  pub next_end : {E : Type 0} (t : Talk) (bytes held : List ℕ) (end : GateEnd) → t.taken ≡ [] → Shows t bytes (Some end) → end ≢ ends.Enough → Next {E = E} gate [] t bytes held (Ok (Some end))
+  pub next_end : {E : Type 0} (t : Talk) (bytes held : List ℕ) (end : End) → t.taken ≡ [] → Shows t bytes (Some end) → end ≢ ends.Enough → Next {E = E} gate [] t bytes held (Ok (Some end))
   next_end t bytes held end none shows ne = record {
     reads = [];
     left = bytes;
@@ -130,7 +108,7 @@ module _ (gate : Gate) where
   }
 
 -- behind the bytes of a message
-shown_behind : {E : Type 0} (gate : Gate) (got : List ℕ) (t : Talk) (held : List ℕ) (reads : List Message) (left : List ℕ) (rest : List Message) (cut : List (List Tried)) (said : List Message) (r : Result (Option GateEnd) E)
+shown_behind : {E : Type 0} (gate : Gate) (got : List ℕ) (t : Talk) (held : List ℕ) (reads : List Message) (left : List ℕ) (rest : List Message) (cut : List (List Tried)) (said : List Message) (r : Result (Option End) E)
     → IsNext gate t held reads left rest cut said r → IsNext gate (and_then (gives got) t) held reads left rest cut said r
 shown_behind gate got t held reads left rest cut said (Ok None) h = h
 shown_behind gate got t held reads left rest cut said (Ok (Some ends.PeerEnded)) h = h
@@ -140,7 +118,7 @@ shown_behind gate got t held reads left rest cut said (Ok (Some ends.LinkFailed)
 shown_behind gate got t held reads left rest cut said (Ok (Some ends.Enough)) h = h
 shown_behind gate got t held reads left rest cut said (Err e) h = h
 
-pub next_behind : {E : Type 0} (gate : Gate) (runs : List (List Tried)) (r : Result (Option GateEnd) E) (before got held : List ℕ) (t : Talk) → t.given ≡ []
+pub next_behind : {E : Type 0} (gate : Gate) (runs : List (List Tried)) (r : Result (Option End) E) (before got held : List ℕ) (t : Talk) → t.given ≡ []
     → Next gate runs t (before ++ got) held r → Next gate runs (and_then (gives got) t) (before ++ (got ++ t.given)) held r
 next_behind gate runs r before got held t none n = record {
   reads = n.reads;
@@ -158,24 +136,6 @@ next_behind gate runs r before got held t none n = record {
 }
 
 -- ---- the whole session
-
-or_right : (a b : Bool) → b ≡ true → (a || b) ≡ true
-or_right true b e = refl
-or_right false b e = e
-
-shows_later : (a s : Talk) (left : List ℕ) (e : GateEnd) → Shows s left (Some e) → Shows (and_then a s) left (Some e)
-shows_later a s left ends.PeerEnded h = (h.0, or_right a.ended s.ended h.1)
-shows_later a s left ends.PeerClosed h = h
-shows_later a s left (ends.PeerBroke fault) h = h
-shows_later a s left ends.LinkFailed h = or_right a.failed s.failed h
-shows_later a s left ends.Enough h = h
-
-not_closed : (e : GateEnd) (reads : List Message) (before total most : ℕ) → ComesBy e reads → before < most → total ≡ before + length reads → ClosesBy (Some e) false total most
-not_closed ends.PeerEnded reads before total most by lt is = let none = ap (λ (z : List Message). length z) by in (refl, omega arith)
-not_closed ends.PeerClosed reads before total most by lt is = let none = ap (λ (z : List Message). length z) by in (refl, omega arith)
-not_closed (ends.PeerBroke fault) reads before total most by lt is = let none = ap (λ (z : List Message). length z) by in (refl, omega arith)
-not_closed ends.LinkFailed reads before total most by lt is = λ f. absurd cc
-not_closed ends.Enough reads before total most by lt is = absurd by
 
 -- validate and replies, one part and another
 said_more : (xs ys : List Handled) → (Validate ∷ replies xs) ++ replies ys ≡ Validate ∷ replies (xs ++ ys)
@@ -275,16 +235,12 @@ cut_close hs x y h k = inr (record {
   begun = k;
 })
 
-was_then : (e : GateEnd) (xs ys : List Handled) (x y : List ℕ) → length ys ≤ 1 → IsSaid (Validate ∷ replies xs) x → StepSaid e (replies ys) y → WasSaid (Some e) (xs ++ ys) false (x ++ y)
+was_then : (e : End) (xs ys : List Handled) (x y : List ℕ) → length ys ≤ 1 → IsSaid (Validate ∷ replies xs) x → StepSaid e (replies ys) y → WasSaid (Some e) (xs ++ ys) false (x ++ y)
 was_then ends.PeerEnded xs ys x y one h k = said_both xs ys x y h k
 was_then ends.PeerClosed xs ys x y one h k = said_both xs ys x y h k
 was_then (ends.PeerBroke fault) xs ys x y one h k = said_both xs ys x y h k
 was_then ends.LinkFailed xs ys x y one h k = cut_behind xs ys x y one h k
 was_then ends.Enough xs ys x y one h k = absurd k
-
-taken_append : (ms ns : List Message) → Each IsTaken ms → Each IsTaken ns → Each IsTaken (ms ++ ns)
-taken_append [] ns a b = b
-taken_append (m ∷ ms) ns a b = (a.0, taken_append ms ns a.1 b)
 
 module _ (gate : Gate) where
   pub part_begun : (E : Type 0) (t : Talk) → Says {E = E} (Validate ∷ []) t (Ok true) → Part gate [] t [] 0
@@ -306,7 +262,7 @@ module _ (gate : Gate) where
 
   -- the last message, or what came in its place
   module _ (most i : ℕ) (runs more : List (List Tried)) (t s : Talk) (held now : List ℕ) (p : Part gate runs t held i) where
-    pub ended : (E : Type 0) (e : GateEnd) → i < most → Next {E = E} gate more s (held ++ s.given) now (Ok (Some e)) → GateDid gate most (and_then t s) (runs ++ more) (Some e)
+    pub ended : (E : Type 0) (e : End) → i < most → Next {E = E} gate more s (held ++ s.given) now (Ok (Some e)) → GateDid gate most (and_then t s) (runs ++ more) (Some e)
     ended E e lt n = record {
       reads = p.reads ++ n.reads;
       left = n.left;
@@ -353,7 +309,7 @@ module _ (gate : Gate) where
 
   -- after the stated number of messages
   module _ (most : ℕ) (runs : List (List Tried)) (t s : Talk) (held : List ℕ) (p : Part gate runs t held most) where
-    closed : (end : Option GateEnd) (closes : Bool) → s.given ≡ [] → Shows (and_then t s) held end → ClosesBy end closes (length p.reads) most → WasSaid end p.handled closes (t.taken ++ s.taken) → IsLeft end [] []
+    closed : (end : Option End) (closes : Bool) → s.given ≡ [] → Shows (and_then t s) held end → ClosesBy end closes (length p.reads) most → WasSaid end p.handled closes (t.taken ++ s.taken) → IsLeft end [] []
         → GateDid gate most (and_then t s) runs end
     closed end closes none shows by said left = record {
       reads = p.reads;
@@ -385,7 +341,7 @@ module _ (gate : Gate) where
     starved_last E e h = closed None false h.0 tt refl (cut_unsaid p.handled t.taken s.taken p.said h.1) refl
 
   -- not even a validate was said
-  not_begun : (most : ℕ) (t : Talk) (end : Option GateEnd) → t.given ≡ [] → Shows t [] end → ClosesBy end false 0 most → IsLeft gate end [] [] → WasSaid end [] false t.taken → GateDid gate most t [] end
+  not_begun : (most : ℕ) (t : Talk) (end : Option End) → t.given ≡ [] → Shows t [] end → ClosesBy end false 0 most → IsLeft gate end [] [] → WasSaid end [] false t.taken → GateDid gate most t [] end
   not_begun most t end none shows by left said = record {
     reads = [];
     left = [];

@@ -1,58 +1,24 @@
--- What listeners and trays tell while links are given, taken back and gathered, and connections that are served, one more.
-use Rattle.std.proofs.Common.{◌≡◌, ℕ, ◌+◌, ◌-◌, ◌<◌, ◌≤◌, ◌^◌, ◌⊎◌, inl, inr, if◌then◌else◌, Bool, true, false, List, [], ◌∷◌, ◌++◌, length, refl, sym, ap, ap₂, ◌∙◌, subst, arith, append_assoc, append-nil, length-append}
-use Rattle.std.specs.Prelude.{◌↔◌, Option, Some, None, IfSome, Result, Ok, Err, is_err}
-use Rattle.std.proofs.lemmas.Bool.{lt-ltb}
-use Rattle.std.proofs.Math.Nat.{min-eq_left}
+-- What becomes of accepts, and connections that are served, one more.
+use Rattle.std.proofs.Common.{◌≡◌, ℕ, ◌+◌, ◌-◌, ◌<◌, ◌≤◌, ◌^◌, ◌⊎◌, inl, inr, Bool, true, false, List, [], ◌∷◌, ◌++◌, refl, sym, ap, ◌∙◌, subst, arith, append_assoc, append-nil, length-append}
+use Rattle.std.specs.Prelude.{Option, Some, None, IfSome, Result, Ok, Err, is_err}
 use Rattle.ice_ports.specs.declared.talk.Talk.{Talk}
-use Rattle.ice_ports.specs.Talks.{silent, adds}
+use Rattle.ice_ports.specs.Talks.{adds}
 use Rattle.ice_ports.specs.Failures.{count_after}
-use Rattle.ice_ports.specs.Nets.{ToldListener, told_after, accepted, is_over, IsNew, IsEmptyTray, behind, taken_behind, one_talk, gathers}
+use Rattle.ice_ports.specs.Nets.{ToldListener, told_after, accepted, is_over, IsNew, IsEmptyTray, taken_behind, one_talk, gathers}
 use Rattle.ice_client.specs.ClientDid.{Tried}
-use Rattle.ice_gateway.specs.declared.end.GateEnd.{GateEnd}
+use Rattle.talking.specs.declared.end.End.{End}
+use Rattle.talking.specs.Ends.{end_of, HasEnd}
+use Rattle.talking.specs.Told.{TrayTells}
 use Rattle.ice_gateway.specs.declared.serving.Turn.{Turn}
 use Rattle.ice_gateway.specs.declared.serving.Turn.TheVariants as turns
 use Rattle.ice_gateway.specs.Gate.{Gate}
 use Rattle.ice_gateway.specs.Runs.{NetSeen, Ran}
-use Rattle.ice_gateway.specs.GateDid.{GateDid, end_of}
-use Rattle.ice_gateway.specs.Sessions.{Session, talks, all_runs, AllDid, HasEnd, AllFed, TrayTells, DoorTells, NoneToCome, HasServed, AllServed, serves, starves, runs_out, fails}
+use Rattle.ice_gateway.specs.GateDid.{GateDid}
+use Rattle.ice_gateway.specs.Sessions.{Session, talks, all_runs, AllDid, AllFed, HasServed, AllServed, serves, starves, runs_out, fails}
+use Rattle.talking.proofs.Told.{door_new, door_gave, link_new, tray_new, tray_took, door_gathers}
 use Rattle.ice_gateway.proofs.Runs.{ran_none, ran_then}
 
-abbrev door : ℕ → ℕ → List Talk → Option ToldListener
-door given to_come gathered = Some (record { given = given; to_come = to_come; gathered = gathered })
-
-abbrev to_come_or : Option ToldListener → ℕ
-to_come_or None = 0
-to_come_or (Some d) = d.to_come
-
--- a list with room takes the talks
-has_room : (us ts : List Talk) → length (us ++ ts) < 2 ^ 63 → behind us ts ≡ us ++ ts
-has_room us ts short = ap (λ (b : Bool). if b then us ++ ts else us) (lt-ltb (length us + length ts) (2 ^ 63) (let h = length-append us ts in omega arith))
-
-shorter : (us ts : List Talk) → length (us ++ ts) < 2 ^ 63 → length us < 2 ^ 63
-shorter us ts short = let h = length-append us ts in omega arith
-
-longer : (us ts : List Talk) → length (us ++ ts) < 2 ^ 63 → length ts < 2 ^ 63
-longer us ts short = let h = length-append us ts in omega arith
-
 -- ---- the listener
-
-door_new : (first : Option ToldListener) → DoorTells first 0 first []
-door_new first = λ f e g k short. e ∙ (ap₂ (λ (a : ℕ) (b : List Talk). door a f.to_come b) g k ∙ ap (λ (n : ℕ). door 0 n []) (omega arith))
-
-door_gave : (L E : Type 0) (answer : Option L) (link : L) → answer ≡ Some link → (first : Option ToldListener) (n : ℕ) (now now' : Option ToldListener) → now' ≡ told_after (accepted {L = L} {E = E} (Ok answer)) now → n + 1 < 2 ^ 64
-    → DoorTells first n now [] → DoorTells first (n + 1) now' []
-door_gave L E answer link gives first n now now' is few h = λ f e g k short.
-    is ∙ (ap₂ (λ (o : Option L) (z : Option ToldListener). told_after (accepted {L = L} {E = E} (Ok o)) z) gives (h f e g k short)
-    ∙ ap₂ (λ (a b : ℕ). door a b []) (min-eq_left (omega arith)) (omega arith))
-
-pub none_comes : {L : Type 0} (answer : Option L) (now : Option ToldListener) → answer ≡ None → IfSome now (λ known. answer ≡ None ↔ known.to_come ≡ 0) → NoneToCome now
-none_comes answer None is h = λ d e. absurd cc
-none_comes answer (Some d) is h = λ c e. ap to_come_or (sym e) ∙ h.0 is
-
--- what is told of a new link
-new_link : (L : Type 0) (reads writes : L → ℕ) (talk_of : L → Option Talk) (answer : Option L) (link : L) → answer ≡ Some link → (now : Option ToldListener)
-    → IfSome answer (λ l. IsNew now (talk_of l) × (reads l ≡ 0) × (writes l ≡ 0)) → IsNew now (talk_of link)
-new_link L reads writes talk_of answer link gives now new = (subst (λ (o : Option L). IfSome o (λ l. IsNew now (talk_of l) × (reads l ≡ 0) × (writes l ≡ 0))) gives new).0
 
 -- an accept that gives none changes nothing
 pub unchanged : (L E : Type 0) (answer : Option L) → answer ≡ None → (now now' : Option ToldListener) → now' ≡ told_after (accepted {L = L} {E = E} (Ok answer)) now → now' ≡ now
@@ -69,29 +35,6 @@ nones_some L E answer link before now over some is ends = is ∙ (ap (λ (o : Op
 
 pub nones_none : (L E : Type 0) (answer : Option L) (before now : ℕ) → answer ≡ None → now ≡ count_after before (is_over {L = L} {E = E} (Ok answer)) → now ≡ count_after before true
 nones_none L E answer before now none is = is ∙ ap (λ (o : Option L). count_after before (is_over {L = L} {E = E} (Ok o))) none
-
--- ---- trays
-
-tray_new : (first : Option ToldListener) (n : ℕ) (now : Option ToldListener) (tray : Option (List Talk)) → DoorTells first n now [] → IsEmptyTray now tray → TrayTells first tray []
-tray_new first n now tray h new = λ f e g k short. subst (λ (z : Option ToldListener). IsEmptyTray z tray) (h f e g k (omega arith)) new
-
-tray_took : (first : Option ToldListener) (n : ℕ) (now : Option ToldListener) (tray tray' : Option (List Talk)) (o o' : Option Talk) (t : Talk) (ts : List Talk) → tray' ≡ taken_behind (one_talk o') tray → o' ≡ adds o t
-    → DoorTells first n now [] → IsNew now o → TrayTells first tray ts → TrayTells first tray' (ts ++ t ∷ [])
-tray_took first n now tray tray' o o' t ts into is before new h = λ f e g k short.
-    let silent_is : o ≡ Some silent = subst (λ (z : Option ToldListener). IsNew z o) (before f e g k (omega arith)) new in
-    into ∙ (ap₂ (λ (a : Option Talk) (b : Option (List Talk)). taken_behind (one_talk a) b) (is ∙ ap (λ (z : Option Talk). adds z t) silent_is) (h f e g k (shorter ts (t ∷ []) short))
-    ∙ ap (λ (z : List Talk). Some z) (has_room ts (t ∷ []) short))
-
-door_gathers : (first : Option ToldListener) (n : ℕ) (now now' : Option ToldListener) (tray : Option (List Talk)) (ts us : List Talk) → now' ≡ gathers tray now → DoorTells first n now ts → TrayTells first tray us
-    → DoorTells first n now' (ts ++ us)
-door_gathers first n now now' tray ts us is h w = λ f e g k short.
-    is ∙ (ap₂ gathers (w f e g k (longer ts us short)) (h f e g k (shorter ts us short))
-    ∙ ap (λ (z : List Talk). door n (f.to_come - n) z) (has_room ts us short))
-
-pub none_gathered : (now now' : Option ToldListener) (tray : Option (List Talk)) → now' ≡ gathers tray now → NoneToCome now → NoneToCome now'
-none_gathered None now' tray is h = λ d e. absurd cc
-none_gathered (Some d) now' None is h = λ c e. absurd cc
-none_gathered (Some d) now' (Some ts) is h = λ c e. ap to_come_or (sym e ∙ is) ∙ h d refl
 
 -- ---- lists of sessions
 
@@ -111,7 +54,7 @@ fed_last : (xs : List Session) (s : Session) → AllFed xs → HasEnd s.end → 
 fed_last [] s a b = (b, tt)
 fed_last (x ∷ xs) s a b = (a.0, fed_last xs s a.1 b)
 
-ended : {E : Type 0} (r : Result GateEnd E) (b : Bool) → b ≡ is_err r → b ≡ false → HasEnd (end_of r)
+ended : {E : Type 0} (r : Result End E) (b : Bool) → b ≡ is_err r → b ≡ false → HasEnd (end_of r)
 ended (Ok end) b e f = tt
 ended (Err x) b e f = absurd cc
 
@@ -129,7 +72,7 @@ begins gate most first tray net empty = record {
 }
 
 -- one link more
-pub link_served : {E : Type 0} (L F : Type 0) (reads writes : L → ℕ) (talk_of : L → Option Talk) (answer : Option L) (link : L) (gate : Gate) (most : ℕ) (first : Option ToldListener) (r : Result GateEnd E) (now now' : Option ToldListener) (tray tray' : Option (List Talk))
+pub link_served : {E : Type 0} (L F : Type 0) (reads writes : L → ℕ) (talk_of : L → Option Talk) (answer : Option L) (link : L) (gate : Gate) (most : ℕ) (first : Option ToldListener) (r : Result End E) (now now' : Option ToldListener) (tray tray' : Option (List Talk))
     (o' : Option Talk) (t : Talk) (runs : List (List Tried)) (old net net' : NetSeen) (n : ℕ) (starved : Bool)
     → answer ≡ Some link → now' ≡ told_after (accepted {L = L} {E = F} (Ok answer)) now → IfSome answer (λ l. IsNew now (talk_of l) × (reads l ≡ 0) × (writes l ≡ 0)) → o' ≡ adds (talk_of link) t → tray' ≡ taken_behind (one_talk o') tray
     → Ran gate.endpoints runs net net' → GateDid gate most t runs (end_of r) → starved ≡ is_err r → n + 1 < 2 ^ 64
@@ -141,7 +84,7 @@ link_served L F reads writes talk_of answer link gate most first r now now' tray
       ran = subst (λ (z : List (List Tried)). Ran gate.endpoints z old net') (sym (runs_last h.sessions s)) (ran_then gate.endpoints (all_runs h.sessions) runs old net net' h.ran ran);
       gave = door_gave L F answer link gives first n now now' is few h.gave;
       tells = subst (TrayTells first tray') (sym (talks_append h.sessions (s ∷ [])))
-          (tray_took first n now tray tray' (talk_of link) o' t (talks h.sessions) into said h.gave (new_link L reads writes talk_of answer link gives now new) h.tells);
+          (tray_took first tray tray' (talk_of link) o' t (talks h.sessions) into said (link_new L reads writes talk_of answer link gives first n now h.gave new) h.tells);
       count = let c = h.count in let l = length-append h.sessions (s ∷ []) in omega arith;
       fed = λ f. fed_last h.sessions s (h.fed refl) (ended r starved failing f);
     }

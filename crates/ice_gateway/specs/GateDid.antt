@@ -1,52 +1,17 @@
 -- What a gateway did on one connection.
-use Rattle.std.specs.Prelude.{ℕ, ◌≡◌, ◌≢◌, ◌<◌, ◌≤◌, ◌⊎◌, Bool, true, false, List, [], ◌∷◌, ◌++◌, length, Option, Some, None, Result, Ok, Err}
+use Rattle.std.specs.Prelude.{ℕ, ◌≡◌, ◌≤◌, ◌⊎◌, Bool, false, List, [], ◌∷◌, ◌++◌, length, Option, Some, None}
 use Rattle.ice_encoding.specs.Parts.{Each}
 use Rattle.ice_ports.specs.declared.talk.Talk.{Talk}
 use Rattle.ice_messages.specs.declared.message.Message.{Message}
-use Rattle.ice_messages.specs.declared.message.Message.TheVariants.{Validate, Close}
-use Rattle.ice_messages.specs.Streams.{Stream, IsFront, next_at}
-use Rattle.ice_messages.specs.Ends.{server_fault}
+use Rattle.ice_messages.specs.declared.message.Message.TheVariants.{Validate}
+use Rattle.ice_messages.specs.Streams.{Stream}
 use Rattle.ice_client.specs.ClientDid.{Tried}
-use Rattle.ice_gateway.specs.declared.end.GateEnd.{GateEnd}
-use Rattle.ice_gateway.specs.declared.end.GateEnd.TheVariants.{PeerEnded, PeerClosed, PeerBroke, LinkFailed, Enough}
+use Rattle.talking.specs.declared.end.End.{End}
+use Rattle.talking.specs.declared.end.End.TheVariants.{PeerEnded, PeerClosed, PeerBroke, LinkFailed, Enough}
+use Rattle.talking.specs.Said.{IsSaid, IsBegun}
+use Rattle.talking.specs.Ends.{Shows, IsTaken, closing, ClosesBy}
 use Rattle.ice_gateway.specs.Gate.{Gate}
 use Rattle.ice_gateway.specs.Handled.{Handled, WasHandled, AreLeft, messages, runs_of, replies}
-use Rattle.ice_gateway.specs.Said.{IsSaid, IsBegun}
-
--- the end, or None at want of memory
-abbrev pub end_of : {E : Type 0} → Result GateEnd E → Option GateEnd
-end_of (Ok end) = Some end
-end_of (Err e) = None
-
--- this message begins the bytes
-abbrev pub Begins : List ℕ → Message → Type 0
-Begins bytes m = (rest : List ℕ) × Stream bytes (m ∷ []) rest
-
--- the bytes behind the messages that were taken show this end
-abbrev pub Shows : Talk → List ℕ → Option GateEnd → Type 0
-Shows t left None = Unit {0}
-Shows t left (Some PeerEnded) = IsFront left × (t.ended ≡ true)
-Shows t left (Some PeerClosed) = Begins left Close
-Shows t left (Some (PeerBroke fault)) = (next_at left ≡ Err fault) ⊎ ((m : Message) × Begins left m × (server_fault m ≡ Some fault))
-Shows t left (Some LinkFailed) = t.failed ≡ true
-Shows t left (Some Enough) = Unit {0}
-
--- a close message is said exactly after the stated number of messages, and before that no other end is one of these
-abbrev pub ClosesBy : Option GateEnd → Bool → ℕ → ℕ → Type 0
-ClosesBy None closes read most = closes ≡ false
-ClosesBy (Some PeerEnded) closes read most = (closes ≡ false) × (read < most)
-ClosesBy (Some PeerClosed) closes read most = (closes ≡ false) × (read < most)
-ClosesBy (Some (PeerBroke fault)) closes read most = (closes ≡ false) × (read < most)
-ClosesBy (Some LinkFailed) closes read most = closes ≡ true → read ≡ most
-ClosesBy (Some Enough) closes read most = (closes ≡ true) × (read ≡ most)
-
-abbrev pub closing : Bool → List Message
-closing true = Close ∷ []
-closing false = []
-
--- a connection goes on behind it: no client sends any other message but a close
-abbrev pub IsTaken : Message → Type 0
-IsTaken m = (server_fault m ≡ None) × (m ≢ Close)
 
 -- The replies of all messages but the last that was handled were said. That of the last may lack bytes, or the close message
 -- behind it.
@@ -70,7 +35,7 @@ abbrev pub all_said : List Handled → Bool → List Message
 all_said handled closes = Validate ∷ (replies handled ++ closing closes)
 
 -- only where the link failed, and at want of memory, the last of them may lack bytes
-abbrev pub WasSaid : Option GateEnd → List Handled → Bool → List ℕ → Type 0
+abbrev pub WasSaid : Option End → List Handled → Bool → List ℕ → Type 0
 WasSaid None handled closes taken = IsCut handled closes taken
 WasSaid (Some PeerEnded) handled closes taken = IsSaid (all_said handled closes) taken
 WasSaid (Some PeerClosed) handled closes taken = IsSaid (all_said handled closes) taken
@@ -79,13 +44,13 @@ WasSaid (Some LinkFailed) handled closes taken = IsCut handled closes taken
 WasSaid (Some Enough) handled closes taken = IsSaid (all_said handled closes) taken
 
 -- only at want of memory the last message was not handled
-abbrev pub IsLeft : Gate → Option GateEnd → List Message → List (List Tried) → Type 0
+abbrev pub IsLeft : Gate → Option End → List Message → List (List Tried) → Type 0
 IsLeft gate None rest cut = AreLeft gate rest cut
 IsLeft gate (Some end) rest cut = (rest ≡ []) × (cut ≡ [])
 
 -- WHAT A GATEWAY DID on a connection over which this went: it was to take so many messages at most, and these are the
 -- attempts that it made at servers, message by message
-pub record GateDid (gate : Gate) (most : ℕ) (t : Talk) (runs : List (List Tried)) (end : Option GateEnd) : Type 0 where
+pub record GateDid (gate : Gate) (most : ℕ) (t : Talk) (runs : List (List Tried)) (end : Option End) : Type 0 where
   -- the messages that were taken, in order, and the bytes behind them
   pub reads : List Message
   pub left : List ℕ

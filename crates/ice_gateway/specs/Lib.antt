@@ -4,7 +4,6 @@ pub mod Mapped
 pub mod Forwarded
 pub mod Runs
 pub mod Handled
-pub mod Said
 pub mod GateDid
 pub mod Parts
 pub mod Sessions

@@ -1,5 +1,5 @@
 -- The parts of a session: the answer of a request, a message that is taken.
-use Rattle.std.specs.Prelude.{ℕ, ◌≡◌, ◌≤◌, Bool, true, false, List, [], ◌∷◌, ◌++◌, length, Option, Some, None, Result, Ok, Err}
+use Rattle.std.specs.Prelude.{ℕ, ◌≡◌, ◌≤◌, Bool, List, [], ◌∷◌, ◌++◌, length, Option, Some, None, Result, Ok, Err}
 use Rattle.ice_encoding.specs.Parts.{Each}
 use Rattle.ice_ports.specs.declared.talk.Talk.{Talk}
 use Rattle.ice_messages.specs.declared.message.Answer.{Answer}
@@ -8,32 +8,11 @@ use Rattle.ice_messages.specs.declared.message.Message.TheVariants.{Validate}
 use Rattle.ice_messages.specs.Streams.{Stream}
 use Rattle.ice_client.specs.declared.outcome.Outcome.{Outcome}
 use Rattle.ice_client.specs.ClientDid.{Tried, ClientDid, is_uncached}
-use Rattle.ice_gateway.specs.declared.end.GateEnd.{GateEnd}
-use Rattle.ice_gateway.specs.declared.end.GateEnd.TheVariants.{PeerEnded, PeerClosed, PeerBroke, LinkFailed, Enough}
+use Rattle.talking.specs.declared.end.End.{End}
+use Rattle.talking.specs.Said.{IsSaid, Says}
+use Rattle.talking.specs.Ends.{Shows, IsTaken, StepSaid, ComesBy}
 use Rattle.ice_gateway.specs.Gate.{Gate}
 use Rattle.ice_gateway.specs.Handled.{Handled, Invocation, WasHandled, WasForwarded, WasStarved, DueStarved, AreLeft, messages, outcome_of, run_of, runs_of, replies}
-use Rattle.ice_gateway.specs.Said.{IsSaid, IsBegun, Says}
-use Rattle.ice_gateway.specs.GateDid.{IsTaken, Shows}
-
--- the answer is that the link failed
-abbrev pub is_link_failed : {E : Type 0} → Result GateEnd E → Bool
-is_link_failed (Ok PeerEnded) = false
-is_link_failed (Ok PeerClosed) = false
-is_link_failed (Ok (PeerBroke fault)) = false
-is_link_failed (Ok LinkFailed) = true
-is_link_failed (Ok Enough) = false
-is_link_failed (Err e) = false
-
--- the same where the connection may go on
-abbrev pub fails_next : {E : Type 0} → Result (Option GateEnd) E → Bool
-fails_next {E = E} (Ok (Some end)) = is_link_failed {E = E} (Ok end)
-fails_next (Ok None) = false
-fails_next (Err e) = false
-
--- where a reply could not be written the connection ends
-abbrev pub went_on : Bool → Option GateEnd
-went_on true = None
-went_on false = Some LinkFailed
 
 -- ---- one message
 
@@ -78,29 +57,13 @@ pub record Handling {E : Type 0} (gate : Gate) (m : Message) (runs : List (List 
 
 -- ---- what is left of a message
 
--- only where the link failed a reply may lack bytes
-abbrev pub StepSaid : GateEnd → List Message → List ℕ → Type 0
-StepSaid PeerEnded said taken = IsSaid said taken
-StepSaid PeerClosed said taken = IsSaid said taken
-StepSaid (PeerBroke fault) said taken = IsSaid said taken
-StepSaid LinkFailed said taken = IsBegun said taken
-StepSaid Enough said taken = ⊥
-
--- only where the link failed a message was taken before the end
-abbrev pub ComesBy : GateEnd → List Message → Type 0
-ComesBy PeerEnded reads = reads ≡ []
-ComesBy PeerClosed reads = reads ≡ []
-ComesBy (PeerBroke fault) reads = reads ≡ []
-ComesBy LinkFailed reads = Unit {0}
-ComesBy Enough reads = ⊥
-
-abbrev pub IsNext : {E : Type 0} → Gate → Talk → List ℕ → List Message → List ℕ → List Message → List (List Tried) → List Message → Result (Option GateEnd) E → Type 0
+abbrev pub IsNext : {E : Type 0} → Gate → Talk → List ℕ → List Message → List ℕ → List Message → List (List Tried) → List Message → Result (Option End) E → Type 0
 IsNext gate t held reads left rest cut said (Ok None) = (length reads ≡ 1) × (left ≡ held) × (rest ≡ []) × (cut ≡ []) × IsSaid said t.taken
 IsNext gate t held reads left rest cut said (Ok (Some end)) = Shows t left (Some end) × (rest ≡ []) × (cut ≡ []) × StepSaid end said t.taken × ComesBy end reads
 IsNext gate t held reads left rest cut said (Err e) = AreLeft gate rest cut × (t.taken ≡ [])
 
 -- of these bytes a message was taken and handled by these attempts, or the connection ends
-pub record Next {E : Type 0} (gate : Gate) (runs : List (List Tried)) (t : Talk) (bytes held : List ℕ) (r : Result (Option GateEnd) E) : Type 0 where
+pub record Next {E : Type 0} (gate : Gate) (runs : List (List Tried)) (t : Talk) (bytes held : List ℕ) (r : Result (Option End) E) : Type 0 where
   pub reads : List Message
   pub left : List ℕ
   pub handled : List Handled

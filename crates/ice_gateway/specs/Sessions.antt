@@ -1,9 +1,11 @@
 -- Connections that were served, one after the other, and what is told of their links.
-use Rattle.std.specs.Prelude.{◌≡◌, ℕ, ◌<◌, ◌-◌, ◌^◌, Bool, true, false, List, [], ◌∷◌, ◌++◌, length, Option, Some, None}
+use Rattle.std.specs.Prelude.{◌≡◌, ℕ, Bool, true, false, List, [], ◌∷◌, ◌++◌, length, Option}
 use Rattle.ice_ports.specs.declared.talk.Talk.{Talk}
 use Rattle.ice_ports.specs.Nets.{ToldListener}
 use Rattle.ice_client.specs.ClientDid.{Tried}
-use Rattle.ice_gateway.specs.declared.end.GateEnd.{GateEnd}
+use Rattle.talking.specs.declared.end.End.{End}
+use Rattle.talking.specs.Ends.{HasEnd}
+use Rattle.talking.specs.Told.{TrayTells, DoorTells}
 use Rattle.ice_gateway.specs.declared.serving.Turn.{Turn}
 use Rattle.ice_gateway.specs.declared.serving.Turn.TheVariants.{Served, Starved, Over, Failed}
 use Rattle.ice_gateway.specs.Gate.{Gate}
@@ -15,7 +17,7 @@ use Rattle.ice_gateway.specs.GateDid.{GateDid}
 pub record Session : Type 0 where
   pub talk : Talk
   pub runs : List (List Tried)
-  pub end : Option GateEnd
+  pub end : Option End
 
 abbrev pub talks : List Session → List Talk
 talks [] = []
@@ -31,32 +33,10 @@ abbrev pub AllDid : Gate → ℕ → List Session → Type 0
 AllDid gate most [] = Unit {0}
 AllDid gate most (s ∷ ss) = GateDid gate most s.talk s.runs s.end × AllDid gate most ss
 
-abbrev pub HasEnd : Option GateEnd → Type 0
-HasEnd None = ⊥
-HasEnd (Some end) = Unit {0}
-
 -- no session's end is want of memory
 abbrev pub AllFed : List Session → Type 0
 AllFed [] = Unit {0}
 AllFed (s ∷ ss) = HasEnd s.end × AllFed ss
-
--- ---- what is told
-
--- of a listener that told, when serving began, that it had given no link
-abbrev pub IfFresh : Option ToldListener → (ToldListener → Type 0) → Type 0
-IfFresh first Then = (f : ToldListener) → first ≡ Some f → (f.given ≡ 0) → (f.gathered ≡ []) → Then f
-
--- a tray tells these talks; a list has less than 2 ^ 63 of them
-abbrev pub TrayTells : Option ToldListener → Option (List Talk) → List Talk → Type 0
-TrayTells first tray ts = IfFresh first (λ f. length ts < 2 ^ 63 → tray ≡ Some ts)
-
--- the listener tells that it gave so many links, and that links with these talks were taken back
-abbrev pub DoorTells : Option ToldListener → ℕ → Option ToldListener → List Talk → Type 0
-DoorTells first given now ts = IfFresh first (λ f. length ts < 2 ^ 63 → now ≡ Some (record { given = given; to_come = f.to_come - given; gathered = ts }))
-
--- no link is still to come, as far as the listener tells that
-abbrev pub NoneToCome : Option ToldListener → Type 0
-NoneToCome told = (now : ToldListener) → told ≡ Some now → now.to_come ≡ 0
 
 -- ---- all of them
 

@@ -18,18 +18,15 @@
 
 mod admitting;
 mod copies;
-mod end;
 mod forwarding;
 mod gateway;
 mod laws;
 mod mapping;
 mod refusing;
 mod renewing;
-mod saying;
 mod serving;
 mod session;
 
-pub use end::GateEnd;
 pub use gateway::Gateway;
 pub use laws::{forwards_once, successes_come_back};
 pub use serving::{Gated, gate_all};

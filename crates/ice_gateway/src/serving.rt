@@ -4,9 +4,10 @@ ghost use Rattle.std.specs.Prelude.{◌≡◌, ◌⊎◌, ◌^◌, ℕ, ◌+◌,
 ghost use Rattle.ice_types.specs.Object.{object_tables};
 ghost use Rattle.ice_ports.specs.Failures.{count_after};
 ghost use Rattle.ice_ports.specs.Nets.{ToldListener, gathers};
+ghost use Rattle.talking.specs.Told.{NoneToCome};
 ghost use Rattle.ice_gateway.specs.Gate.{seen};
 ghost use Rattle.ice_gateway.specs.Runs.{NetSeen, net_seen};
-ghost use Rattle.ice_gateway.specs.Sessions.{AllServed, HasServed, NoneToCome};
+ghost use Rattle.ice_gateway.specs.Sessions.{AllServed, HasServed};
 ghost use Rattle.ice_gateway.specs.Sessions.{fails, runs_out, serves, starves};
 
 use crate::gateway::Gateway;

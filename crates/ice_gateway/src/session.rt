@@ -8,30 +8,25 @@ ghost use Rattle.ice_messages.specs.declared.message.Message.TheVariants.{Reques
 ghost use Rattle.ice_messages.specs.Messages.{SpellsMessage};
 ghost use Rattle.ice_client.specs.ClientDid.{Tried};
 ghost use Rattle.talking.specs.Hearing.{IsGoing};
+ghost use Rattle.talking.specs.Said.{Counts, fails_said};
+ghost use Rattle.talking.specs.Ends.{end_of, is_link_failed, fails_next, went_on};
 ghost use Rattle.ice_gateway.specs.Gate.{seen};
 ghost use Rattle.ice_gateway.specs.Runs.{Ran, net_seen};
-ghost use Rattle.ice_gateway.specs.Said.{Counts, fails_said};
-ghost use Rattle.ice_gateway.specs.GateDid.{GateDid, end_of};
-ghost use Rattle.ice_gateway.specs.Parts.{Handling, Next, fails_next, is_link_failed, went_on};
+ghost use Rattle.ice_gateway.specs.GateDid.{GateDid};
+ghost use Rattle.ice_gateway.specs.Parts.{Handling, Next};
 
-use crate::end::GateEnd;
 use crate::forwarding::{answer_request, forward_batch, forward_oneway};
 use crate::gateway::Gateway;
-use crate::saying::say;
 use ice_messages::{Call, Frames, Message, server_fault};
 use ice_ports::{Link, Net};
 use std::alloc::AllocError;
-use talking::{Heard, hear};
+use talking::{End, Heard, hear, say};
 
 /// How the connection ends where a reply could not be written.
-fn went_on(went: bool) -> Option<GateEnd>
+fn went_on(went: bool) -> Option<End>
     ensures { result ≡ went_on went }
 {
-    if went {
-        None
-    } else {
-        Some(GateEnd::LinkFailed)
-    }
+    if went { None } else { Some(End::LinkFailed) }
 }
 
 /// Forwards a request, and writes its answer where one is asked for. False where a write failed.
@@ -66,7 +61,7 @@ fn handle<N: Net, L: Link>(
     net: &mut N,
     link: &mut L,
     message: &Message,
-) -> Result<Option<GateEnd>, AllocError>
+) -> Result<Option<End>, AllocError>
     requires object { gateway.now.object.now ≡ object_tables }
     requires spelled { (first : List ℕ) × SpellsMessage first message.now }
     ensures did { (t : Talk) × (runs : List (List Tried)) × (L.talk link.new ≡ adds (L.talk link.old) t)
@@ -80,7 +75,7 @@ fn handle<N: Net, L: Link>(
         (L.Source.failures link.new, L.Sink.failures link.new) }
 {
     if let Some(fault) = server_fault(message) {
-        return Ok(Some(GateEnd::PeerBroke(fault)));
+        return Ok(Some(End::PeerBroke(fault)));
     }
     match message {
         Message::Request { id, call } => {
@@ -92,7 +87,7 @@ fn handle<N: Net, L: Link>(
             Ok(None)
         }
         Message::Validate => Ok(None),
-        Message::Close => Ok(Some(GateEnd::PeerClosed)),
+        Message::Close => Ok(Some(End::PeerClosed)),
         Message::Reply { .. } => unreachable!(),
     }
 }
@@ -103,7 +98,7 @@ fn handle_next<N: Net, L: Link>(
     net: &mut N,
     link: &mut L,
     frames: &mut Frames,
-) -> Result<Option<GateEnd>, AllocError>
+) -> Result<Option<End>, AllocError>
     requires object { gateway.now.object.now ≡ object_tables }
     requires going { IsGoing frames.old }
     ensures did { (t : Talk) × (runs : List (List Tried)) × (L.talk link.new ≡ adds (L.talk link.old) t)
@@ -117,9 +112,9 @@ fn handle_next<N: Net, L: Link>(
 {
     match hear(link, frames)? {
         Heard::Message(message) => handle(gateway, net, link, &message),
-        Heard::Broken(fault) => Ok(Some(GateEnd::PeerBroke(fault))),
-        Heard::Ended => Ok(Some(GateEnd::PeerEnded)),
-        Heard::Failed => Ok(Some(GateEnd::LinkFailed)),
+        Heard::Broken(fault) => Ok(Some(End::PeerBroke(fault))),
+        Heard::Ended => Ok(Some(End::PeerEnded)),
+        Heard::Failed => Ok(Some(End::LinkFailed)),
     }
 }
 
@@ -129,7 +124,7 @@ fn handle_all<N: Net, L: Link>(
     net: &mut N,
     link: &mut L,
     messages: u64,
-) -> Result<GateEnd, AllocError>
+) -> Result<End, AllocError>
     requires { gateway.now.object.now ≡ object_tables }
     ensures did { (t : Talk) × (runs : List (List Tried)) × (L.talk link.new ≡ adds (L.talk link.old) t)
         × Ran gateway.now.upstream.now.endpoints runs
@@ -140,7 +135,7 @@ fn handle_all<N: Net, L: Link>(
         (L.Source.failures link.new, L.Sink.failures link.new) }
 {
     if !say(gateway.alloc, link, &Message::Validate)? {
-        return Ok(GateEnd::LinkFailed);
+        return Ok(End::LinkFailed);
     }
     let mut frames = Frames::new(gateway.alloc);
     for taken in 0..messages {
@@ -149,9 +144,9 @@ fn handle_all<N: Net, L: Link>(
         }
     }
     if say(gateway.alloc, link, &Message::Close)? {
-        Ok(GateEnd::Enough)
+        Ok(End::Enough)
     } else {
-        Ok(GateEnd::LinkFailed)
+        Ok(End::LinkFailed)
     }
 }
 
@@ -164,7 +159,7 @@ pub fn gate_connection<N: Net, L: Link>(
     net: &mut N,
     link: &mut L,
     messages: u64,
-) -> Result<GateEnd, AllocError>
+) -> Result<End, AllocError>
     requires { gateway.now.object.now ≡ object_tables }
     ensures did { (t : Talk) × (runs : List (List Tried)) × (L.talk link.new ≡ adds (L.talk link.old) t)
         × Ran gateway.now.upstream.now.endpoints runs

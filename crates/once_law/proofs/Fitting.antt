@@ -16,9 +16,9 @@ use Rattle.ice_client.specs.Rows.{Begins}
 use Rattle.ice_client.specs.Sending.{IsOf}
 use Rattle.ice_client.specs.ClientDid.{Tried}
 use Rattle.object_adapter.specs.Laws.{IsDispatched}
-use Rattle.dispatch_pool.specs.declared.end.End.TheVariants.{PeerEnded, Enough}
+use Rattle.talking.specs.declared.end.End.TheVariants.{PeerEnded, Enough}
 use Rattle.dispatch_pool.specs.Handled.{had_turn, Handled}
-use Rattle.dispatch_pool.specs.Said.{bytes_of}
+use Rattle.talking.specs.Said.{bytes_of}
 use Rattle.once_law.specs.Ends.{Session, IsSession, Delivery}
 use Rattle.once_law.specs.Shown.{is_repeatable}
 use Rattle.once_law.specs.Laws.{IsExample, EndsCanFit}

@@ -5,11 +5,12 @@ use Rattle.ice_messages.specs.declared.message.Message.TheVariants.{Validate}
 use Rattle.ice_messages.specs.Messages.{message_bytes, SpellsMessage}
 use Rattle.ice_messages.specs.Streams.{Stream}
 use Rattle.ice_messages.proofs.Streams.{messages_apart, message_long}
-use Rattle.dispatch_pool.specs.declared.end.End.{End}
-use Rattle.dispatch_pool.specs.declared.end.End.TheVariants.{LinkFailed, PeerEnded, PeerClosed, PeerBroke, Enough}
-use Rattle.dispatch_pool.specs.Said.{bytes_of, AreSpelled, IsSaid, IsBegun}
+use Rattle.talking.specs.declared.end.End.{End}
+use Rattle.talking.specs.declared.end.End.TheVariants.{LinkFailed, PeerEnded, PeerClosed, PeerBroke, Enough}
 use Rattle.dispatch_pool.specs.Handled.{Handled, answer_of, replies, reply_of}
-use Rattle.dispatch_pool.specs.ServerDid.{IsCut, WasSaid, all_said, closing}
+use Rattle.dispatch_pool.specs.ServerDid.{IsCut, WasSaid, all_said}
+use Rattle.talking.specs.Said.{bytes_of, AreSpelled, IsSaid, IsBegun}
+use Rattle.talking.specs.Ends.{closing}
 use Rattle.once_law.specs.Ends.{IsPrefix}
 
 -- ---- first bytes

@@ -4,7 +4,7 @@ use Rattle.ice_ports.specs.declared.talk.Talk.{Talk}
 use Rattle.ice_messages.specs.declared.message.Call.{Call}
 use Rattle.ice_messages.specs.declared.message.Message.TheVariants.{Request, Validate}
 use Rattle.ice_messages.specs.Messages.{SpellsMessage}
-use Rattle.dispatch_pool.specs.declared.end.End.{End}
+use Rattle.talking.specs.declared.end.End.{End}
 use Rattle.dispatch_pool.specs.Handled.{Keys, Handled}
 use Rattle.dispatch_pool.specs.ServerDid.{ServerDid}
 

@@ -10,7 +10,7 @@ use Rattle.retry_core.specs.declared.attempt.Attempt.{Attempt}
 use Rattle.ice_client.specs.declared.outcome.Outcome.{Outcome}
 use Rattle.ice_client.specs.Sending.{IsOneway}
 use Rattle.ice_client.specs.ClientDid.{ClientDid, Tried}
-use Rattle.dispatch_pool.specs.declared.end.End.{End}
+use Rattle.talking.specs.declared.end.End.{End}
 use Rattle.dispatch_pool.specs.Handled.{Keys, Handled}
 use Rattle.dispatch_pool.specs.ServerDid.{ServerDid}
 

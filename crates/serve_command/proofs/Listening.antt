@@ -6,7 +6,8 @@ use Rattle.ice_ports.specs.Nets.{ToldNet, ToldListener, came_back, gathered_of}
 use Rattle.dispatch_pool.specs.declared.lanes.Lanes.{Lanes}
 use Rattle.dispatch_pool.specs.declared.lanes.LanePasses.{LanePasses}
 use Rattle.dispatch_pool.specs.Lanes.{AreWhole}
-use Rattle.worker_pool.specs.Sessions.{AllServed, NoneToCome}
+use Rattle.worker_pool.specs.Sessions.{AllServed}
+use Rattle.talking.specs.Told.{NoneToCome}
 use Rattle.serve_command.specs.declared.serving.TheConstants.{MOST_MESSAGES}
 use Rattle.serve_command.specs.Words.{Serve}
 use Rattle.serve_command.specs.Served.{network, Heard}

@@ -10,12 +10,13 @@ use Rattle.object_adapter.specs.Objects.{Objects}
 use Rattle.dispatch_pool.specs.declared.lanes.Lanes.{Lanes}
 use Rattle.dispatch_pool.specs.declared.lanes.LanePasses.{LanePasses}
 use Rattle.dispatch_pool.specs.Lanes.{Opens, AreNew, AreWhole}
-use Rattle.worker_pool.specs.Sessions.{AllServed, NoneToCome}
+use Rattle.worker_pool.specs.Sessions.{AllServed}
 use Rattle.node_commands.specs.Words.{Word}
 use Rattle.node_commands.specs.Outside.{Outside, Files, NoneFailed, ShelfFailed, SinkFailed}
 use Rattle.node_commands.specs.Answers.{Answer, done, no_such_name, text_refused, read_failed, write_failed, no_memory}
 use Rattle.node_commands.specs.Decided.{IsSchema, WithSchema}
 use Rattle.node_commands.specs.Effects.{GetsText}
+use Rattle.talking.specs.Told.{NoneToCome}
 use Rattle.serve_command.specs.declared.serving.TheConstants.{MOST_MESSAGES}
 use Rattle.serve_command.specs.Words.{Serve}
 use Rattle.serve_command.specs.Adapters.{IsAdapter, First, Never, LacksInterface, Breaks}

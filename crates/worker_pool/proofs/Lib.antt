@@ -1,4 +1,3 @@
-pub mod Told
 pub mod Shares
 mod Rows
 pub mod Working

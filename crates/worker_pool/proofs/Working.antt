@@ -8,18 +8,20 @@ use Rattle.ice_ports.specs.Talks.{adds}
 use Rattle.ice_ports.specs.Nets.{ToldListener, taken_behind, one_talk, gathers, IsEmptyTray}
 use Rattle.dispatch_pool.specs.declared.lanes.Lanes.{Lanes}
 use Rattle.dispatch_pool.specs.declared.lanes.LanePasses.{LanePasses}
-use Rattle.dispatch_pool.specs.declared.end.End.{End}
+use Rattle.talking.specs.declared.end.End.{End}
 use Rattle.dispatch_pool.specs.Lanes.{AreOf, DidSplit, DidJoinAll}
 use Rattle.dispatch_pool.specs.Turns.{Grew}
 use Rattle.dispatch_pool.specs.Handled.{Handled, turns_of}
-use Rattle.dispatch_pool.specs.ServerDid.{ServerDid, end_of}
+use Rattle.dispatch_pool.specs.ServerDid.{ServerDid}
 use Rattle.dispatch_pool.proofs.Sets.{every_more}
 use Rattle.ice_ports.specs.Failures.{count_after}
+use Rattle.talking.specs.Ends.{end_of, HasEnd}
+use Rattle.talking.specs.Told.{LinkTells, TrayTells, DoorTells}
 use Rattle.worker_pool.specs.declared.ending.Ending.{Ending}
 use Rattle.worker_pool.specs.declared.ending.Ending.TheVariants.{Open, Reached, NoMore, Failed}
 use Rattle.worker_pool.specs.Endings.{has_failed, has_run_out}
-use Rattle.worker_pool.specs.Sessions.{Session, talks, HasEnd, Side, callers, split_off, LinkTells, TrayTells, DoorTells, ServedWith, HasServed, AllServed}
-use Rattle.worker_pool.proofs.Told.{tray_new, tray_took, door_gathers}
+use Rattle.worker_pool.specs.Sessions.{Session, talks, Side, callers, split_off, ServedWith, HasServed, AllServed}
+use Rattle.talking.proofs.Told.{tray_new, tray_took, door_gathers}
 use Rattle.worker_pool.proofs.Rows.{talks_append, did_append, fed_append, serves, splits, joins}
 
 pub or_false : (a b : Bool) → (a || b) ≡ false → (a ≡ false) × (b ≡ false)

@@ -1,5 +1,5 @@
 -- Sessions that were served, what they leave in the passes, and what is told of their links.
-use Rattle.std.specs.Prelude.{◌≡◌, ℕ, ◌<◌, ◌-◌, ◌^◌, Bool, false, List, [], ◌∷◌, ◌++◌, length, Option, Some, None, IfSome}
+use Rattle.std.specs.Prelude.{◌≡◌, ℕ, Bool, false, List, [], ◌∷◌, ◌++◌, length, Option, IfSome}
 use Rattle.turnstile.specs.declared.history.Entry.{Entry}
 use Rattle.turnstile.specs.declared.turned.Turned.{Ghosts}
 use Rattle.turnstile.specs.declared.passes.Pass.{Pass}
@@ -7,18 +7,19 @@ use Rattle.turnstile.specs.History.{tickets}
 use Rattle.turnstile.specs.Passes.{seen, own}
 use Rattle.ice_ports.specs.declared.talk.Talk.{Talk}
 use Rattle.ice_ports.specs.Nets.{ToldListener}
-use Rattle.ice_ports.specs.Talks.{silent}
 use Rattle.ice_messages.specs.declared.message.Call.{Call}
 use Rattle.ice_messages.specs.declared.message.Answer.{Answer}
 use Rattle.dispatch_pool.specs.declared.object.Object.{Object}
 use Rattle.dispatch_pool.specs.declared.lanes.Lanes.{Lanes}
 use Rattle.dispatch_pool.specs.declared.lanes.LanePasses.{LanePasses}
-use Rattle.dispatch_pool.specs.declared.end.End.{End}
+use Rattle.talking.specs.declared.end.End.{End}
 use Rattle.dispatch_pool.specs.Abreast.{Beside}
 use Rattle.dispatch_pool.specs.Rows.{HasInOrder, at_place}
 use Rattle.dispatch_pool.specs.Lanes.{AreOf}
 use Rattle.dispatch_pool.specs.Handled.{Keys, Handled, turns_of}
+use Rattle.talking.specs.Ends.{HasEnd}
 use Rattle.dispatch_pool.specs.ServerDid.{ServerDid}
+use Rattle.talking.specs.Told.{TrayTells, DoorTells}
 
 -- ---- sessions
 
@@ -36,10 +37,6 @@ talks (s ∷ ss) = s.talk ∷ talks ss
 abbrev pub AllDid : Keys → ℕ → List Session → Type 0
 AllDid keys most [] = Unit {0}
 AllDid keys most (s ∷ ss) = ServerDid keys most s.talk s.handled s.end × AllDid keys most ss
-
-abbrev pub HasEnd : Option End → Type 0
-HasEnd None = ⊥
-HasEnd (Some end) = Unit {0}
 
 -- no session's end is want of memory
 abbrev pub AllFed : List Session → Type 0
@@ -86,28 +83,6 @@ module _ {g : Ghosts Object Call Answer} where
 -- the passes come from these, where they are known
 abbrev pub ServedWith : Side → Option LanePasses → LanePasses → List Session → Type 0
 ServedWith side from now ss = IfSome from (λ old. RowServed side old.passes.items now.passes.items ss)
-
--- ---- what is told
-
--- of a listener that told, when serving began, that it had given no link
-abbrev pub IfFresh : Option ToldListener → (ToldListener → Type 0) → Type 0
-IfFresh first Then = (f : ToldListener) → first ≡ Some f → (f.given ≡ 0) → (f.gathered ≡ []) → Then f
-
--- nothing was said over the link yet
-abbrev pub LinkTells : Option ToldListener → Option Talk → Type 0
-LinkTells first talk = IfFresh first (λ f. talk ≡ Some silent)
-
--- a tray tells these talks; a list has less than 2 ^ 63 of them
-abbrev pub TrayTells : Option ToldListener → Option (List Talk) → List Talk → Type 0
-TrayTells first tray ts = IfFresh first (λ f. length ts < 2 ^ 63 → tray ≡ Some ts)
-
--- the listener tells that it gave so many links, and that links with these talks were taken back
-abbrev pub DoorTells : Option ToldListener → ℕ → Option ToldListener → List Talk → Type 0
-DoorTells first given now ts = IfFresh first (λ f. length ts < 2 ^ 63 → now ≡ Some (record { given = given; to_come = f.to_come - given; gathered = ts }))
-
--- no link is still to come, as far as the listener tells that
-abbrev pub NoneToCome : Option ToldListener → Type 0
-NoneToCome told = (now : ToldListener) → told ≡ Some now → now.to_come ≡ 0
 
 -- ---- a thread that serves, and all of them
 

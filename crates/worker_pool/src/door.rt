@@ -3,8 +3,8 @@
 ghost use Rattle.std.specs.Prelude.{◌≡◌, ◌≢◌, ℕ, ◌+◌, ◌<◌, ◌≤◌, ◌^◌, [], Some, IfSome, IfNone};
 ghost use Rattle.ice_ports.specs.Failures.{count_after};
 ghost use Rattle.ice_ports.specs.Nets.{IsNew};
+ghost use Rattle.talking.specs.Told.{LinkTells, DoorTells, NoneToCome};
 ghost use Rattle.worker_pool.specs.Endings.{has_failed, has_run_out};
-ghost use Rattle.worker_pool.specs.Sessions.{DoorTells, NoneToCome, LinkTells};
 ghost use Rattle.worker_pool.specs.declared.ending.Ending.TheVariants as endings;
 
 use crate::ending::Ending;

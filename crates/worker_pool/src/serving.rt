@@ -3,8 +3,9 @@
 ghost use Rattle.std.specs.Prelude.{◌≡◌, ◌⊎◌, ℕ, ◌+◌, ◌<◌, ◌≤◌, [], Some, false, true, length, slice_index_or};
 ghost use Rattle.ice_ports.specs.Failures.{count_after};
 ghost use Rattle.dispatch_pool.specs.Lanes.{AreOf, AreWhole};
+ghost use Rattle.talking.specs.Told.{DoorTells, NoneToCome};
 ghost use Rattle.worker_pool.specs.Endings.{has_failed, has_run_out};
-ghost use Rattle.worker_pool.specs.Sessions.{callers, split_off, ServedWith, DoorTells, NoneToCome, HasServed};
+ghost use Rattle.worker_pool.specs.Sessions.{callers, split_off, ServedWith, HasServed};
 ghost use Rattle.worker_pool.specs.Sessions.{AllServed};
 ghost use Rattle.worker_pool.specs.Shares.{SameShares, all_parts, parts_at};
 ghost use Rattle.worker_pool.specs.declared.ending.Ending.TheVariants as endings;

@@ -22,8 +22,9 @@ pub(crate) struct Worker<D: Listener, L: Ledger> {
 
 impl<D: Listener, L: Ledger> Worker<D, L> {
     ghost use Rattle.dispatch_pool.specs.Lanes.{AreOf};
+    ghost use Rattle.talking.specs.Told.{LinkTells};
     ghost use Rattle.worker_pool.specs.Shares.{SameShares};
-    ghost use Rattle.worker_pool.specs.Sessions.{Side, callers, split_off, LinkTells, HasServed};
+    ghost use Rattle.worker_pool.specs.Sessions.{Side, callers, split_off, HasServed};
     ghost use Rattle.worker_pool.specs.declared.ending.Ending.TheVariants as endings;
 
     /// Serves one link, and takes it back.

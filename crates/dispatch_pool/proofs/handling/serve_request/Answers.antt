@@ -7,8 +7,8 @@ use Rattle.ice_ports.specs.Talks.{silent}
 use Rattle.ice_messages.specs.declared.message.Message.TheVariants.{Reply}
 use Rattle.object_adapter.specs.Replies.{KeepsLimit}
 use Rattle.talking.proofs.Adding.{adds_nothing}
+use Rattle.talking.specs.Said.{Says}
 use Rattle.dispatch_pool.specs.Handled.{reply_of}
-use Rattle.dispatch_pool.specs.Parts.{Says}
 use Rattle.dispatch_pool.proofs.Calls.{called, called_replies, request_done, not_called}
 use Rattle.dispatch_pool.proofs.handling.serve_request.Goals as goal
 

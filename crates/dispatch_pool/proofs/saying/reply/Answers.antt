@@ -4,7 +4,7 @@ use Rattle.std.proofs.Math.Facts.{to_z-of_z}
 use Rattle.ice_messages.specs.declared.message.Message.TheVariants.{Reply}
 use Rattle.ice_messages.proofs.Writable.{answer_writable}
 use Rattle.object_adapter.specs.Replies.{KeepsLimit}
-use Rattle.dispatch_pool.specs.Parts.{Says}
+use Rattle.talking.specs.Said.{Says}
 use Rattle.dispatch_pool.proofs.Bounds.{id_zero, id_some}
 use Rattle.std.specs.declared.alloc.AllocError.{AllocError}
 use Rattle.ice_ports.specs.Talks.{silent}

@@ -7,8 +7,10 @@ use Rattle.ice_messages.specs.declared.message.Message.TheVariants.{Validate, Cl
 use Rattle.ice_messages.specs.Framing.{Held, nothing_held}
 use Rattle.talking.specs.Hearing.{IsGoing}
 use Rattle.talking.proofs.Adding.{adds_then}
-use Rattle.dispatch_pool.specs.declared.end.End.{End}
-use Rattle.dispatch_pool.specs.Parts.{Counts, Says, Next, Part, fails_said, fails_next}
+use Rattle.talking.specs.declared.end.End.{End}
+use Rattle.talking.specs.Said.{Says, Counts, fails_said}
+use Rattle.talking.specs.Ends.{fails_next}
+use Rattle.dispatch_pool.specs.Parts.{Next, Part}
 use Rattle.dispatch_pool.proofs.Sessions.{part_begun, part_more, ended, starves, enough, not_said, starved_last, no_validate, starved_first}
 use Rattle.dispatch_pool.proofs.session.serve.Goals as goal
 

@@ -3,8 +3,9 @@ use Rattle.ice_ports.specs.declared.talk.Talk.{Talk}
 use Rattle.ice_ports.specs.Talks.{adds}
 use Rattle.retry_core.specs.declared.server.ServerState.TheVariants.{Reading}
 use Rattle.talking.specs.Hearing.{IsGoing}
+use Rattle.talking.specs.Said.{Counts}
 use Rattle.dispatch_pool.specs.Lanes.{AreOf}
-use Rattle.dispatch_pool.specs.Parts.{Counts, Part}
+use Rattle.dispatch_pool.specs.Parts.{Part}
 use Rattle.dispatch_pool.proofs.session.serve.Given as goal
 
 abbrev pub invariant-loop-taken : goal.invariant-loop-taken

@@ -9,12 +9,12 @@ use Rattle.ice_messages.specs.declared.message.Message.{Message}
 use Rattle.ice_messages.specs.declared.message.Message.TheVariants.{Request, Batch, Validate}
 use Rattle.ice_messages.specs.Messages.{SpellsMessage}
 use Rattle.talking.proofs.Adding.{adds_nothing}
-use Rattle.dispatch_pool.specs.declared.end.End.{End}
-use Rattle.dispatch_pool.specs.declared.end.End.TheVariants as ends
+use Rattle.talking.specs.declared.end.End.{End}
+use Rattle.talking.specs.declared.end.End.TheVariants as ends
 use Rattle.dispatch_pool.specs.Handled.{unasked}
 use Rattle.dispatch_pool.specs.Parts.{Handling, Next}
+use Rattle.talking.proofs.Said.{quiet}
 use Rattle.dispatch_pool.proofs.Bounds.{batch_few, request_fits}
-use Rattle.dispatch_pool.proofs.Messages.{quiet}
 use Rattle.dispatch_pool.proofs.Sessions.{next_handled, next_quiet, next_end}
 use Rattle.dispatch_pool.proofs.session.serve_message.Goals as goal
 

@@ -7,7 +7,7 @@ use Rattle.talking.specs.declared.hearing.Heard.{Heard}
 use Rattle.talking.specs.declared.hearing.Heard.TheVariants as heards
 use Rattle.talking.specs.Hearing.{Hears, heard_part}
 use Rattle.talking.proofs.Adding.{adds_then}
-use Rattle.dispatch_pool.specs.declared.end.End.TheVariants as ends
+use Rattle.talking.specs.declared.end.End.TheVariants as ends
 use Rattle.dispatch_pool.proofs.Results.{ok_either}
 use Rattle.dispatch_pool.proofs.Sessions.{next_behind, next_end, next_starved}
 use Rattle.dispatch_pool.proofs.session.serve_next.Goals as goal

@@ -1,13 +1,15 @@
 use Rattle.std.proofs.Common.{◌≡◌, ◌∙◌, inl, ℕ, ◌+◌, Bool, false, true, refl, sym, ap, subst, arith, rules}
 use denote.Enum.Bare.{differs_false, differs_true}
 use Rattle.ice_ports.specs.Failures.{count_after}
+use Rattle.talking.specs.Told.{NoneToCome}
 use Rattle.ice_gateway.specs.contracts.serving.Turn.{the_type}
 use Rattle.ice_gateway.specs.declared.serving.Turn.{Turn}
 use Rattle.ice_gateway.specs.declared.serving.Turn.TheVariants as turns
 use Rattle.ice_gateway.specs.Gate.{seen}
 use Rattle.ice_gateway.specs.Runs.{net_seen}
-use Rattle.ice_gateway.specs.Sessions.{AllServed, HasServed, NoneToCome, fails, runs_out, serves, starves}
-use Rattle.ice_gateway.proofs.Told.{begins, ended_by, gathered, none_gathered, one_at_most}
+use Rattle.ice_gateway.specs.Sessions.{AllServed, HasServed, fails, runs_out, serves, starves}
+use Rattle.talking.proofs.Told.{none_gathered}
+use Rattle.ice_gateway.proofs.Told.{begins, ended_by, gathered, one_at_most}
 use Rattle.ice_gateway.proofs.serving.gate_all.Goals as goal
 
 pub loop-accepted-init : goal.loop-accepted-init

@@ -2,10 +2,12 @@ use Rattle.std.proofs.Common.{◌∙◌, ℕ, ◌+◌, Bool, sym, ap, subst}
 use Rattle.std.specs.Prelude.{Option}
 use Rattle.ice_ports.specs.Failures.{count_after}
 use Rattle.ice_ports.specs.Nets.{ToldListener}
+use Rattle.talking.specs.Told.{NoneToCome}
 use Rattle.ice_gateway.specs.Gate.{seen}
 use Rattle.ice_gateway.specs.Runs.{net_seen}
-use Rattle.ice_gateway.specs.Sessions.{HasServed, NoneToCome, starves}
-use Rattle.ice_gateway.proofs.Told.{failed_same, link_served, none_comes, none_served, nones_none, nones_some, unchanged}
+use Rattle.ice_gateway.specs.Sessions.{HasServed, starves}
+use Rattle.talking.proofs.Told.{none_comes}
+use Rattle.ice_gateway.proofs.Told.{failed_same, link_served, none_served, nones_none, nones_some, unchanged}
 use Rattle.ice_gateway.proofs.serving.serve_next.Goals as goal
 
 pub returns-in-Ok-Some-clause-did : goal.returns-in-Ok-Some-clause-did

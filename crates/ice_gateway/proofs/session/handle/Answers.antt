@@ -10,18 +10,18 @@ use Rattle.ice_messages.specs.declared.message.Message.{Message}
 use Rattle.ice_messages.specs.declared.message.Message.TheVariants.{Request, Batch}
 use Rattle.ice_messages.specs.Messages.{SpellsMessage}
 use Rattle.talking.proofs.Adding.{adds_nothing}
-use Rattle.ice_gateway.specs.declared.end.GateEnd.{GateEnd}
-use Rattle.ice_gateway.specs.declared.end.GateEnd.TheVariants as ends
+use Rattle.talking.specs.declared.end.End.{End}
+use Rattle.talking.specs.declared.end.End.TheVariants as ends
 use Rattle.ice_gateway.specs.Gate.{seen}
 use Rattle.ice_gateway.specs.Forwarded.{batch_anew, calls_anew}
 use Rattle.ice_gateway.specs.Handled.{DueStarved}
 use Rattle.ice_gateway.specs.Laws.{Comes}
 use Rattle.ice_gateway.specs.Parts.{Handling, Next, Passed}
 use Rattle.ice_gateway.specs.Runs.{net_seen}
+use Rattle.talking.proofs.Said.{quiet}
 use Rattle.ice_gateway.proofs.Coming.{batch_comes}
 use Rattle.ice_gateway.proofs.Handling.{cut_off, passed, request_fits}
 use Rattle.ice_gateway.proofs.Runs.{ran_none}
-use Rattle.ice_gateway.proofs.Spoken.{quiet}
 use Rattle.ice_gateway.proofs.Sessions.{next_handled, next_quiet, next_end}
 use Rattle.ice_gateway.proofs.session.handle.Goals as goal
 
@@ -68,7 +68,7 @@ returns-in_ok-went-in-Request-clause-did g c =
       d.2,
       d.3,
       quiet {E = AllocError} _ d.0 (Ok c.in_ok-went-in-Request.went) d.4.says,
-      λ bytes held first is spelled. subst (λ (z : Option GateEnd). Next {E = AllocError} gate d.1 d.0 bytes held (Ok z)) (sym c.went_on.ensures)
+      λ bytes held first is spelled. subst (λ (z : Option End). Next {E = AllocError} gate d.1 d.0 bytes held (Ok z)) (sym c.went_on.ensures)
           (next_handled gate (Ok c.in_ok-went-in-Request.went) d.1 m bytes held first d.0 is (subst (λ (z : Message). SpellsMessage first z) c.in-Request.is spelled) (refl, λ e. cc)
           (subst (λ (z : ℤ). Handling {E = AllocError} gate (Request z c.in-Request.call) d.1 d.0 (Ok c.in_ok-went-in-Request.went)) (to_z-of_z fits) d.4)),
     )

@@ -7,11 +7,12 @@ use Rattle.ice_messages.specs.declared.message.Message.TheVariants.{Validate, Cl
 use Rattle.ice_messages.specs.Framing.{Held, nothing_held}
 use Rattle.talking.specs.Hearing.{IsGoing}
 use Rattle.talking.proofs.Adding.{adds_then}
-use Rattle.ice_gateway.specs.declared.end.GateEnd.{GateEnd}
+use Rattle.talking.specs.declared.end.End.{End}
+use Rattle.talking.specs.Said.{Says, Counts, fails_said}
+use Rattle.talking.specs.Ends.{fails_next}
 use Rattle.ice_gateway.specs.Gate.{seen}
 use Rattle.ice_gateway.specs.Runs.{net_seen}
-use Rattle.ice_gateway.specs.Said.{Counts, Says, fails_said}
-use Rattle.ice_gateway.specs.Parts.{Next, Part, fails_next}
+use Rattle.ice_gateway.specs.Parts.{Next, Part}
 use Rattle.ice_gateway.proofs.Runs.{ran_none, ran_then}
 use Rattle.ice_gateway.proofs.Sessions.{part_begun, part_more, ended, starves, enough, not_said, starved_last, no_validate, starved_first}
 use Rattle.ice_gateway.proofs.session.handle_all.Goals as goal
@@ -57,7 +58,7 @@ loop-taken-preserved g c =
     let later = net_seen (g.N.Net.told c.loop-taken.net) (g.N.Net.failures c.loop-taken.net) (g.N.Net.listen_failures c.loop-taken.net) in
     let now = net_seen (g.N.Net.told c.handle_next.new.net) (g.N.Net.failures c.handle_next.new.net) (g.N.Net.listen_failures c.handle_next.new.net) in
     let none = c.in_default.is in
-    let next = subst (λ (z : Option GateEnd). Next {E = AllocError} gate d.1 d.0 (c.loop-taken.frames.bytes ++ d.0.given) c.handle_next.new.frames.bytes (Ok z)) none d.4 in
+    let next = subst (λ (z : Option End). Next {E = AllocError} gate d.1 d.0 (c.loop-taken.frames.bytes ++ d.0.given) c.handle_next.new.frames.bytes (Ok z)) none d.4 in
     record {
       going = c.in_ok-end.ensures.going none;
       did = (
@@ -67,7 +68,7 @@ loop-taken-preserved g c =
         ran_then gate.endpoints i.did.1 d.1 start later now i.did.3 d.3,
         part_more gate AllocError i.did.1 d.1 i.did.0 d.0 c.loop-taken.frames.bytes c.handle_next.new.frames.bytes c.loop-taken.taken i.did.4 next,
       );
-      counts = subst (λ (z : Option GateEnd). Counts (fails_next {E = AllocError} (Ok z)) mid new) none c.in_ok-end.ensures.counts ∙ i.counts;
+      counts = subst (λ (z : Option End). Counts (fails_next {E = AllocError} (Ok z)) mid new) none c.in_ok-end.ensures.counts ∙ i.counts;
     }
 
 pub returns-in_err-end-clause-did : goal.returns-in_err-end-clause-did
@@ -93,7 +94,7 @@ returns-in-Some-clause-did g c =
     let start = net_seen (g.N.Net.told c.args.net.now) (g.N.Net.failures c.args.net.now) (g.N.Net.listen_failures c.args.net.now) in
     let later = net_seen (g.N.Net.told c.loop-taken.net) (g.N.Net.failures c.loop-taken.net) (g.N.Net.listen_failures c.loop-taken.net) in
     let now = net_seen (g.N.Net.told c.handle_next.new.net) (g.N.Net.failures c.handle_next.new.net) (g.N.Net.listen_failures c.handle_next.new.net) in
-    let next = subst (λ (z : Option GateEnd). Next {E = AllocError} gate d.1 d.0 (c.loop-taken.frames.bytes ++ d.0.given) c.handle_next.new.frames.bytes (Ok z)) c.in-Some.is d.4 in (
+    let next = subst (λ (z : Option End). Next {E = AllocError} gate d.1 d.0 (c.loop-taken.frames.bytes ++ d.0.given) c.handle_next.new.frames.bytes (Ok z)) c.in-Some.is d.4 in (
       and_then i.did.0 d.0,
       i.did.1 ++ d.1,
       adds_then (g.L.Link.talk c.args.link.now) (g.L.Link.talk c.loop-taken.link) (g.L.Link.talk c.handle_next.new.link) i.did.0 d.0 i.did.2 d.2,

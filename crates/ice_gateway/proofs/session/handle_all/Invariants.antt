@@ -3,9 +3,9 @@ use Rattle.ice_ports.specs.declared.talk.Talk.{Talk}
 use Rattle.ice_ports.specs.Talks.{adds}
 use Rattle.ice_client.specs.ClientDid.{Tried}
 use Rattle.talking.specs.Hearing.{IsGoing}
+use Rattle.talking.specs.Said.{Counts}
 use Rattle.ice_gateway.specs.Gate.{seen}
 use Rattle.ice_gateway.specs.Runs.{Ran, net_seen}
-use Rattle.ice_gateway.specs.Said.{Counts}
 use Rattle.ice_gateway.specs.Parts.{Part}
 use Rattle.ice_gateway.proofs.session.handle_all.Given as goal
 

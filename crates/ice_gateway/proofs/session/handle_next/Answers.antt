@@ -7,7 +7,7 @@ use Rattle.talking.specs.declared.hearing.Heard.{Heard}
 use Rattle.talking.specs.declared.hearing.Heard.TheVariants as heards
 use Rattle.talking.specs.Hearing.{Hears, heard_part}
 use Rattle.talking.proofs.Adding.{adds_then}
-use Rattle.ice_gateway.specs.declared.end.GateEnd.TheVariants as ends
+use Rattle.talking.specs.declared.end.End.TheVariants as ends
 use Rattle.ice_gateway.specs.Gate.{seen}
 use Rattle.ice_gateway.specs.Runs.{net_seen}
 use Rattle.ice_gateway.proofs.Runs.{ran_none}

@@ -7,8 +7,8 @@ use Rattle.ice_messages.specs.declared.message.Message.TheVariants.{Request, Rep
 use Rattle.ice_messages.proofs.Writable.{answer_writable}
 use Rattle.object_adapter.specs.Replies.{KeepsLimit}
 use Rattle.talking.proofs.Adding.{adds_nothing}
+use Rattle.talking.specs.Said.{Says}
 use Rattle.ice_gateway.specs.Gate.{seen}
-use Rattle.ice_gateway.specs.Said.{Says}
 use Rattle.ice_gateway.proofs.Coming.{request_comes}
 use Rattle.ice_gateway.proofs.Handling.{id_zero, id_some, oneway_passed, oneway_cut_off, request_cut_off, request_answered}
 use Rattle.ice_gateway.proofs.session.handle_request.Goals as goal

@@ -1,6 +1,6 @@
 use Rattle.std.proofs.Common.{◌∙◌, subst, ℕ}
 use Rattle.worker_pool.specs.Sessions.{AllServed}
-use Rattle.worker_pool.proofs.Told.{none_gathered}
+use Rattle.talking.proofs.Told.{none_gathered}
 use Rattle.worker_pool.proofs.Working.{caller_done}
 use Rattle.worker_pool.proofs.serving.finish.Goals as goal
 

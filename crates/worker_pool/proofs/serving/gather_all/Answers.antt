@@ -1,8 +1,8 @@
 use Rattle.std.proofs.Common.{◌≡◌, ◌∙◌, refl, sym, subst, ap, arith, ℕ, [], ◌∷◌, length, length-append}
 use Rattle.std.specs.Prelude.{◌||◌}
 use Rattle.worker_pool.specs.Sessions.{split_off, HasServed, AllServed}
+use Rattle.talking.proofs.Told.{none_gathered}
 use Rattle.worker_pool.proofs.Shares.{all_push, join_shares}
-use Rattle.worker_pool.proofs.Told.{none_gathered}
 use Rattle.worker_pool.proofs.Working.{or_false, pop_front, pop_last, worker_done}
 use Rattle.worker_pool.proofs.serving.gather_all.Goals as goal
 

@@ -1,8 +1,9 @@
 use Rattle.std.proofs.Common.{◌≡◌, false, ℕ, ◌+◌, ◌<◌, length, vec_len}
 use Rattle.std.specs.Prelude.{slice_index_or}
 use Rattle.dispatch_pool.specs.Lanes.{AreOf}
+use Rattle.talking.specs.Told.{NoneToCome}
 use Rattle.worker_pool.specs.Shares.{parts_at, all_parts}
-use Rattle.worker_pool.specs.Sessions.{split_off, HasServed, AllServed, NoneToCome}
+use Rattle.worker_pool.specs.Sessions.{split_off, HasServed, AllServed}
 use Rattle.worker_pool.proofs.serving.gather_all.Given as goal
 
 abbrev pub invariant-loop-worker : goal.invariant-loop-worker

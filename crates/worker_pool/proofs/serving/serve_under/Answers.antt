@@ -1,11 +1,12 @@
 use Rattle.std.proofs.Common.{◌≡◌, ◌∙◌, ℕ, ◌<◌, [], sym, ap, subst, arith, get_or, length}
 use Rattle.std.specs.Prelude.{Some}
 use Rattle.ice_ports.specs.Failures.{count_after}
+use Rattle.talking.specs.Told.{DoorTells}
 use Rattle.worker_pool.specs.Endings.{has_run_out}
-use Rattle.worker_pool.specs.Sessions.{callers, split_off, ServedWith, DoorTells, HasServed, AllServed}
+use Rattle.worker_pool.specs.Sessions.{callers, split_off, ServedWith, HasServed, AllServed}
 use Rattle.worker_pool.specs.Shares.{all_parts}
+use Rattle.talking.proofs.Told.{door_new}
 use Rattle.worker_pool.proofs.Shares.{all_same}
-use Rattle.worker_pool.proofs.Told.{door_new}
 use Rattle.worker_pool.proofs.Rows.{begins}
 use Rattle.worker_pool.proofs.Working.{written_back, caller_begins, ended_by}
 use Rattle.worker_pool.proofs.serving.serve_under.Goals as goal

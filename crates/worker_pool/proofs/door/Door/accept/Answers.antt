@@ -1,5 +1,5 @@
 use Rattle.std.proofs.Common.{ℕ, arith}
-use Rattle.worker_pool.proofs.Told.{door_gave, link_new}
+use Rattle.talking.proofs.Told.{door_gave, link_new}
 use Rattle.worker_pool.proofs.door.Door.accept.Goals as goal
 
 pub invariant_of-self-in-Ok-Some-clause-tells : goal.invariant_of-self-in-Ok-Some-clause-tells

@@ -1,6 +1,6 @@
 use Rattle.std.proofs.Common.{[], sym, subst, arith}
-use Rattle.worker_pool.specs.Sessions.{DoorTells}
-use Rattle.worker_pool.proofs.Told.{door_new}
+use Rattle.talking.specs.Told.{DoorTells}
+use Rattle.talking.proofs.Told.{door_new}
 use Rattle.worker_pool.proofs.door.Door.new.Goals as goal
 
 pub invariant_of-result : goal.invariant_of-result

@@ -6,7 +6,7 @@ use Rattle.std.proofs.Math.Nat.{min-eq_left}
 use Rattle.ice_ports.specs.declared.talk.Talk.{Talk}
 use Rattle.ice_ports.specs.Talks.{adds}
 use Rattle.ice_ports.specs.Nets.{ToldListener, told_after, accepted, IsNew, IsEmptyTray, behind, taken_behind, one_talk, gathers}
-use Rattle.worker_pool.specs.Sessions.{LinkTells, TrayTells, DoorTells, NoneToCome}
+use Rattle.talking.specs.Told.{LinkTells, TrayTells, DoorTells, NoneToCome}
 
 abbrev door : ℕ → ℕ → List Talk → Option ToldListener
 door given to_come gathered = Some (record { given = given; to_come = to_come; gathered = gathered })

@@ -5,8 +5,8 @@ use Rattle.ice_ports.specs.Talks.{silent}
 use Rattle.ice_messages.specs.Messages.{SpellsMessage}
 use Rattle.talking.specs.Writing.{writes_part}
 use Rattle.talking.proofs.Adding.{adds_nothing}
-use Rattle.dispatch_pool.proofs.Messages.{said_by_write}
-use Rattle.dispatch_pool.proofs.saying.say.Goals as goal
+use Rattle.talking.proofs.Said.{said_by_write}
+use Rattle.talking.proofs.saying.say.Goals as goal
 
 pub returns-in_err-bytes-clause-did : goal.returns-in_err-bytes-clause-did
 returns-in_err-bytes-clause-did g c =

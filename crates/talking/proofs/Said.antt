@@ -6,7 +6,7 @@ use Rattle.ice_ports.specs.declared.talk.Talk.{Talk}
 use Rattle.ice_messages.specs.declared.message.Message.{Message}
 use Rattle.ice_messages.specs.Messages.{message_bytes, SpellsMessage}
 use Rattle.talking.specs.Writing.{writes_part}
-use Rattle.ice_gateway.specs.Said.{bytes_of, AreSpelled, IsSaid, IsBegun, Says}
+use Rattle.talking.specs.Said.{bytes_of, AreSpelled, IsSaid, IsBegun, Says}
 
 -- ---- all, and all but the end of the last
 
