@@ -11,7 +11,7 @@ use Rattle.call_world.specs.Reached.{IsLogged}
 use Rattle.once_law.specs.Placed.{after, connection_of, connections, after_all}
 use Rattle.once_law.specs.Ends.{Session, Attempted, Delivery, talk_of, talks, IsMet, HasOtherEnd, IsDelivery}
 use Rattle.once_law.specs.Shown.{CallWorld, calls_of, turn_at, ShowsTalk, ShowsAttempt, ShowsAttempts, ShowsDelivery, ShowsFrom}
-use Rattle.once_law.specs.Laws.{HasTurn, DispatchesAreTurns, TurnsAreDispatches}
+use Rattle.once_law.specs.Laws.{HasTurn, first_connection, DispatchesAreTurns, TurnsAreDispatches}
 use Rattle.once_law.proofs.Lists.{none_some, none_at, first_is, get_mapped}
 
 pub got : {A B : Type 0} (f : A → B) (xs : List A) (n : ℕ) (x : A) → slice_get xs n ≡ Some x → slice_get (map f xs) n ≡ Some (f x)
@@ -71,42 +71,50 @@ module _ (w : CallWorld) (i : ℕ) (message : Message) (bytes : List ℕ) where
     by (Some t) f g = (t, subst (λ (x : ℕ). ShowsTalk (w.connections x) i message bytes t b.session) (first_is c d f) g)
   connection_at c (b ∷ others) (suc n) d e h = connection_at (after c b.tried.talk) others n d e h.1
 
-  -- an attempt that this connection is of
-  pub record IsOn (k : ℕ) (others : List Attempted) : Type 0 where
+  -- an attempt that this connection is of, where theirs are numbered from c on
+  pub record IsOn (c k : ℕ) (others : List Attempted) : Type 0 where
     pub number : ℕ
     pub attempt : Attempted
     pub at : slice_get others number ≡ Some attempt
+    pub numbered : slice_get (connections c (map talk_of others)) number ≡ Some (Some k)
     pub talk : Talk
     pub shown : ShowsTalk (w.connections k) i message bytes talk attempt.session
 
-  later : (k : ℕ) (b : Attempted) (others : List Attempted) → IsOn k others → IsOn k (b ∷ others)
-  later k b others o = record { number = suc o.number; attempt = o.attempt; at = o.at; talk = o.talk; shown = o.shown }
+  later : (c k : ℕ) (b : Attempted) (others : List Attempted) → IsOn (after c b.tried.talk) k others → IsOn c k (b ∷ others)
+  later c k b others o = record { number = suc o.number; attempt = o.attempt; at = o.at; numbered = o.numbered; talk = o.talk; shown = o.shown }
 
-  pub on_attempt : (c k : ℕ) (others : List Attempted) → c ≤ k → k < after_all c (map talk_of others) → ShowsAttempts w i message bytes c others → IsOn k others
+  pub on_attempt : (c k : ℕ) (others : List Attempted) → c ≤ k → k < after_all c (map talk_of others) → ShowsAttempts w i message bytes c others → IsOn c k others
   on_attempt c k [] low high h = absurd (omega arith)
-  on_attempt c k (b ∷ others) low high h = by b.tried.talk (λ d l m s. on_attempt d k others l m s) high h.0 h.1 where
-    by : (talk : Option Talk) → ((d : ℕ) → d ≤ k → k < after_all d (map talk_of others) → ShowsAttempts w i message bytes d others → IsOn k others)
-        → k < after_all (after c talk) (map talk_of others) → ShowsAttempt w i message bytes c talk b.session → ShowsAttempts w i message bytes (after c talk) others → IsOn k (b ∷ others)
-    by None again m one rest = later k b others (again c low m rest)
-    by (Some t) again m one rest = elim (lt_or c k) [
-      | inl less ↦ later k b others (again (suc c) (omega arith) m rest)
+  on_attempt c k (b ∷ others) low high h = by b.tried.talk refl (λ d l m s. on_attempt d k others l m s) high h.0 h.1 where
+    by : (talk : Option Talk) → b.tried.talk ≡ talk → ((d : ℕ) → d ≤ k → k < after_all d (map talk_of others) → ShowsAttempts w i message bytes d others → IsOn d k others)
+        → k < after_all (after c talk) (map talk_of others) → ShowsAttempt w i message bytes c talk b.session → ShowsAttempts w i message bytes (after c talk) others → IsOn c k (b ∷ others)
+    by None is again m one rest = later c k b others (subst (λ (x : Option Talk). IsOn (after c x) k others) (sym is) (again c low m rest))
+    by (Some t) is again m one rest = elim (lt_or c k) [
+      | inl less ↦ later c k b others (subst (λ (x : Option Talk). IsOn (after c x) k others) (sym is) (again (suc c) (omega arith) m rest))
       | inr more ↦
           let same : c ≡ k = omega arith in
-          record { number = 0; attempt = b; at = refl; talk = t; shown = subst (λ (x : ℕ). ShowsTalk (w.connections x) i message bytes t b.session) same one }
+          record {
+            number = 0;
+            attempt = b;
+            at = refl;
+            numbered = ap (λ (x : Option Talk). Some (connection_of c x)) is ∙ ap (λ (x : ℕ). Some (Some x)) same;
+            talk = t;
+            shown = subst (λ (x : ℕ). ShowsTalk (w.connections x) i message bytes t b.session) same one;
+          }
     ]
 
 -- ---- all messages
 
 -- a connection that was used is that of an attempt of one of them
-record IsUsed (w : CallWorld) (k : ℕ) (ds : List Delivery) : Type 0 where
+record IsUsed (w : CallWorld) (c k : ℕ) (ds : List Delivery) : Type 0 where
   number : ℕ
   delivery : Delivery
   at : slice_get ds number ≡ Some delivery
   first : ℕ
   bytes : List ℕ
-  on : IsOn w first delivery.message bytes k delivery.attempts
+  on : IsOn w first delivery.message bytes (first_connection c ds number) k delivery.attempts
 
-used : (w : CallWorld) (i c k : ℕ) (ds : List Delivery) → c ≤ k → ¬ (w.connections k ≡ fresh) → ShowsFrom w i c ds → IsUsed w k ds
+used : (w : CallWorld) (i c k : ℕ) (ds : List Delivery) → c ≤ k → ¬ (w.connections k ≡ fresh) → ShowsFrom w i c ds → IsUsed w c k ds
 used w i c k [] low some h = absurd (some (h.1 k low))
 used w i c k (d ∷ ds) low some h = elim (lt_or k (after_all c (talks d))) [
   | inl here ↦ record {
@@ -141,16 +149,17 @@ dispatches_are_turns w ds h logged index x at =
       u.on.number,
       u.delivery,
       u.at,
+      u.on.numbered,
       turn_in u.delivery u.on.number x.seat u.on.attempt (w.connections x.connection) u.first u.bytes u.on.talk x.reply u.on.at u.on.shown had,
     )
 
 -- the place of one of the messages in the world
 shown_at : (w : CallWorld) (i c : ℕ) (ds : List Delivery) (number : ℕ) (d : Delivery) → slice_get ds number ≡ Some d → ShowsFrom w i c ds → Each IsDelivery ds
-    → (first connection : ℕ) × ShowsDelivery w first connection d × IsDelivery d
+    → (first connection : ℕ) × (connection ≡ first_connection c ds number) × ShowsDelivery w first connection d × IsDelivery d
 shown_at w i c [] number d at h fit = absurd (none_at number d at)
 shown_at w i c (b ∷ ds) zero d at h fit =
     let same : b ≡ d = first_is b d at in
-    (i, c, subst (λ (x : Delivery). ShowsDelivery w i c x) same h.0, subst IsDelivery same fit.0)
+    (i, c, refl, subst (λ (x : Delivery). ShowsDelivery w i c x) same h.0, subst IsDelivery same fit.0)
 shown_at w i c (b ∷ ds) (suc number) d at h fit = shown_at w (i + length (calls_of b.message)) (after_all c (talks b)) ds number d at h.1 fit.1
 
 pub had_turn : (w : CallWorld) (message : Message) (i : ℕ) (bytes : List ℕ) (k seat : ℕ) (talk : Talk) (s : Session) (call : Handled) (answer : Answer)
@@ -163,7 +172,7 @@ had_turn w message i bytes k seat talk s call answer shown at turn =
 pub turns_are_dispatches : (w : CallWorld) (ds : List Delivery) → Each IsDelivery ds → ShowsFrom w 0 0 ds → IsLogged w → TurnsAreDispatches w ds
 turns_are_dispatches w ds fit h logged number n d seat answer at t =
     let s = shown_at w 0 0 ds number d at h fit in
-    let x = attempt_at w s.0 d.message s.2.bytes s.1 d.attempts n t.attempt t.session t.at t.served s.3.ends s.2.attempts in
+    let x = attempt_at w s.0 d.message s.3.bytes s.1 d.attempts n t.attempt t.session t.at t.served s.4.ends s.3.attempts in
     let log = logged.known x.connection seat answer
-    (had_turn w d.message s.0 s.2.bytes x.connection seat x.talk t.session t.call answer x.shown t.handled t.turn) in
-    (log.0, record { connection = x.connection; seat = seat; reply = answer }, log.1, refl, refl)
+    (had_turn w d.message s.0 s.3.bytes x.connection seat x.talk t.session t.call answer x.shown t.handled t.turn) in
+    (log.0, record { connection = x.connection; seat = seat; reply = answer }, log.1, refl, refl, subst (λ (c : ℕ). slice_get (connections c (talks d)) n ≡ Some (Some x.connection)) s.2 x.numbered)

@@ -61,16 +61,20 @@ module _ (sessions : List Session) (other : Matching) where
       attempt_back d (suc k) tried n a h ∙ ap (λ (j : ℕ). session_at sessions (other d j)) e
 
   session_back : (d : ℕ) (clients : List Client) (number n : ℕ) (x : Delivery) (a : Attempted) → slice_get (joined_from sessions other d clients) number ≡ Some x
-      → slice_get x.attempts n ≡ Some a → (o : Option ℕ) × (a.session ≡ session_at sessions o)
+      → slice_get x.attempts n ≡ Some a → a.session ≡ session_at sessions (other (d + number) n)
   session_back d [] number n x a h g = absurd (none_at number x h)
   session_back d (c ∷ clients) zero n x a h g =
       let same = first_is (record { message = c.message; retries = c.retries; attempts = attempts_from sessions other d 0 c.tried; outcome = c.outcome }) x h in
-      (other d (0 + n), attempt_back d 0 c.tried n a (ap (λ (y : Delivery). slice_get y.attempts n) same ∙ g))
-  session_back d (c ∷ clients) (suc number) n x a h g = session_back (suc d) clients number n x a h g
+      let e : d ≡ d + 0 = omega arith in
+      attempt_back d 0 c.tried n a (ap (λ (y : Delivery). slice_get y.attempts n) same ∙ g)
+          ∙ (ap (λ (j : ℕ). session_at sessions (other d j)) (zero-add n) ∙ ap (λ (j : ℕ). session_at sessions (other j n)) e)
+  session_back d (c ∷ clients) (suc number) n x a h g =
+      let e : suc d + number ≡ d + suc number = omega arith in
+      session_back (suc d) clients number n x a h g ∙ ap (λ (j : ℕ). session_at sessions (other j n)) e
 
-  numbered : (o : Option ℕ) (x : Session) → session_at sessions o ≡ Some x → (s : ℕ) × (slice_get sessions s ≡ Some x)
+  numbered : (o : Option ℕ) (x : Session) → session_at sessions o ≡ Some x → (s : ℕ) × (o ≡ Some s) × (slice_get sessions s ≡ Some x)
   numbered None x e = absurd (none_some e)
-  numbered (Some s) x e = (s, e)
+  numbered (Some s) x e = (s, refl, e)
 
   attempt_in : (d k : ℕ) (tried : List Tried) (n : ℕ) (t : Tried) → slice_get tried n ≡ Some t
       → slice_get (attempts_from sessions other d k tried) n ≡ Some (record { tried = t; session = session_at sessions (other d (k + n)) })
@@ -102,14 +106,18 @@ module _ (sessions : List Session) (other : Matching) where
       (m.0, m.1, m.2 ∙ ap (λ (j : ℕ). Some (record { tried = t; session = session_at sessions (other j n) })) e)
 
 sessions_dispatched : (clients : List Client) (sessions : List Session) (other : Matching) → AreMatched clients sessions other → (w : CallWorld)
-    → IsWorldOf w (joined clients sessions other) → SessionsDispatched w sessions
+    → IsWorldOf w (joined clients sessions other) → SessionsDispatched w clients sessions other
 sessions_dispatched clients sessions other m w k = record {
   entries = λ index x at.
       let t = k.dispatches index x at in
-      let turn = t.4 in
+      let turn = t.5 in
       let back = session_back sessions other 0 clients t.0 t.1 t.2 turn.attempt t.3 turn.at in
-      let s = numbered sessions other back.0 turn.session (sym back.1 ∙ turn.served) in
-      (s.0, record { session = turn.session; at = s.1; call = turn.call; handled = turn.handled; turn = turn.turn });
+      let s = numbered sessions other (other (0 + t.0) t.1) turn.session (sym back ∙ turn.served) in
+      let met : other t.0 t.1 ≡ Some s.0 = ap (λ (j : ℕ). other j t.1) (sym (zero-add t.0)) ∙ s.1 in (
+        s.0,
+        record { number = t.0; n = t.1; delivery = t.2; at = t.3; met = met; numbered = t.4 },
+        record { session = turn.session; at = s.2; call = turn.call; handled = turn.handled; turn = turn.turn },
+      );
   dispatched = λ s seat answer e.
       let b = m.belongs s e.session e.at in
       let t = b.2 in
@@ -117,7 +125,7 @@ sessions_dispatched clients sessions other m w k = record {
       let x = client_in sessions other 0 clients b.0 b.1 c.0 t c.1 c.2 in
       let served : session_at sessions (other (0 + b.0) b.1) ≡ Some e.session =
       ap (λ (j : ℕ). session_at sessions (other j b.1)) (zero-add b.0) ∙ (ap (session_at sessions) b.4 ∙ e.at) in
-      k.turns b.0 b.1 x.0 seat answer x.1 (record {
+      let y = k.turns b.0 b.1 x.0 seat answer x.1 (record {
         attempt = record { tried = t; session = session_at sessions (other (0 + b.0) b.1) };
         at = x.2;
         session = e.session;
@@ -125,7 +133,8 @@ sessions_dispatched clients sessions other m w k = record {
         call = e.call;
         handled = e.handled;
         turn = e.turn;
-      });
+      }) in
+      (y.0, y.1, y.2, y.3, y.4, record { number = b.0; n = b.1; delivery = x.0; at = x.1; met = b.4; numbered = y.5 });
 }
 
 pub matched_world : MatchedEndsAreOneWorld

@@ -1,5 +1,5 @@
 -- The law that joins both ends. (Ice manual, "At-Most-Once Semantics".)
-use Rattle.std.specs.Prelude.{ℕ, pos, ◌≡◌, Bool, true, false, List, [], ◌∷◌, map, Some, slice_get}
+use Rattle.std.specs.Prelude.{ℕ, pos, zero, suc, ◌≡◌, Bool, true, false, List, [], ◌∷◌, map, Some, slice_get}
 use Rattle.ice_encoding.specs.Parts.{Each}
 use Rattle.ice_messages.specs.declared.message.Call.{Call}
 use Rattle.ice_messages.specs.declared.message.Answer.{Answer}
@@ -17,7 +17,8 @@ use Rattle.call_world.specs.World.{Dispatch, Dispatched}
 use Rattle.call_world.specs.Step.{IsReached}
 use Rattle.call_world.specs.Laws.{AtMostOnce, OwnReplies}
 use Rattle.call_world.specs.Reached.{IsLogged}
-use Rattle.once_law.specs.Ends.{Session, Attempted, attempt_of, is_served, Delivery, IsDelivery}
+use Rattle.once_law.specs.Placed.{connections, after_all}
+use Rattle.once_law.specs.Ends.{Session, Attempted, attempt_of, is_served, Delivery, talks, IsDelivery}
 use Rattle.once_law.specs.Matched.{Client, Matching, AreMatched, joined}
 use Rattle.once_law.specs.Shown.{CallWorld, calls_of, turn_at, Shows}
 
@@ -31,17 +32,28 @@ pub record HasTurn (d : Delivery) (n seat : ℕ) (answer : Answer) : Type 0 wher
   pub handled : slice_get session.handled seat ≡ Some call
   pub turn : turn_at call ≡ Dispatched answer
 
--- each dispatch of the world is a turn of a session, of the call in its seat, and recorded the answer of that turn
+-- the first connection of the attempts at message number `number`, where those at the first message begin with c
+abbrev pub first_connection : ℕ → List Delivery → ℕ → ℕ
+first_connection c [] number = c
+first_connection c (d ∷ ds) zero = c
+first_connection c (d ∷ ds) (suc number) = first_connection (after_all c (talks d)) ds number
+
+-- attempt number n at message number `number`, which is d, has this connection
+abbrev pub IsConnection : List Delivery → ℕ → Delivery → ℕ → ℕ → Type 0
+IsConnection deliveries number d n connection = slice_get (connections (first_connection 0 deliveries number) (talks d)) n ≡ Some (Some connection)
+
+-- each dispatch of the world is a turn of the session at the other end of its connection, of the call in its seat, and
+-- recorded the answer of that turn
 abbrev pub DispatchesAreTurns : CallWorld → List Delivery → Type 0
 DispatchesAreTurns w deliveries =
     (index : ℕ) (x : Dispatch Answer) → slice_get w.dispatches index ≡ Some x
-    → (number n : ℕ) × (d : Delivery) × (slice_get deliveries number ≡ Some d) × HasTurn d n x.seat x.reply
+    → (number n : ℕ) × (d : Delivery) × (slice_get deliveries number ≡ Some d) × IsConnection deliveries number d n x.connection × HasTurn d n x.seat x.reply
 
 -- and each turn of a session is a dispatch
 abbrev pub TurnsAreDispatches : CallWorld → List Delivery → Type 0
 TurnsAreDispatches w deliveries =
     (number n : ℕ) (d : Delivery) (seat : ℕ) (answer : Answer) → slice_get deliveries number ≡ Some d → HasTurn d n seat answer
-    → (index : ℕ) × (x : Dispatch Answer) × (slice_get w.dispatches index ≡ Some x) × (x.seat ≡ seat) × (x.reply ≡ answer)
+    → (index : ℕ) × (x : Dispatch Answer) × (slice_get w.dispatches index ≡ Some x) × (x.seat ≡ seat) × (x.reply ≡ answer) × IsConnection deliveries number d n x.connection
 
 -- a world of calls, reached with objects that may answer anything, that shows these ends, with what is so of it
 pub record IsWorldOf (w : CallWorld) (deliveries : List Delivery) : Type 0 where
@@ -64,14 +76,24 @@ pub record HasEntry (sessions : List Session) (s seat : ℕ) (answer : Answer) :
   pub handled : slice_get session.handled seat ≡ Some call
   pub turn : turn_at call ≡ Dispatched answer
 
--- each dispatch records the answer of an entry of its session, and each entry of a session is dispatched
-pub record SessionsDispatched (w : CallWorld) (sessions : List Session) : Type 0 where
+-- session number s is at the other end of this connection
+pub record IsSessionOf (clients : List Client) (sessions : List Session) (other : Matching) (s connection : ℕ) : Type 0 where
+  pub number : ℕ
+  pub n : ℕ
+  pub delivery : Delivery
+  pub at : slice_get (joined clients sessions other) number ≡ Some delivery
+  pub met : other number n ≡ Some s
+  pub numbered : IsConnection (joined clients sessions other) number delivery n connection
+
+-- each dispatch records the answer of an entry of the session at the other end of its connection, and each entry of a session
+-- is dispatched there
+pub record SessionsDispatched (w : CallWorld) (clients : List Client) (sessions : List Session) (other : Matching) : Type 0 where
   pub entries :
       (index : ℕ) (x : Dispatch Answer) → slice_get w.dispatches index ≡ Some x
-      → (s : ℕ) × HasEntry sessions s x.seat x.reply
+      → (s : ℕ) × IsSessionOf clients sessions other s x.connection × HasEntry sessions s x.seat x.reply
   pub dispatched :
       (s seat : ℕ) (answer : Answer) → HasEntry sessions s seat answer
-      → (index : ℕ) × (x : Dispatch Answer) × (slice_get w.dispatches index ≡ Some x) × (x.seat ≡ seat) × (x.reply ≡ answer)
+      → (index : ℕ) × (x : Dispatch Answer) × (slice_get w.dispatches index ≡ Some x) × (x.seat ≡ seat) × (x.reply ≡ answer) × IsSessionOf clients sessions other s x.connection
 
 -- Whatever clients and servers say of messages, where both ends of each connection fit together: it is what one world of
 -- calls shows.
@@ -82,7 +104,7 @@ EndsAreOneWorld = (deliveries : List Delivery) → Each IsDelivery deliveries �
 abbrev pub MatchedEndsAreOneWorld : Type 0
 MatchedEndsAreOneWorld =
     (clients : List Client) (sessions : List Session) (other : Matching) → AreMatched clients sessions other
-    → (w : CallWorld) × IsWorldOf w (joined clients sessions other) × SessionsDispatched w sessions
+    → (w : CallWorld) × IsWorldOf w (joined clients sessions other) × SessionsDispatched w clients sessions other
 
 -- ---- the same in the words of the ends alone
 
