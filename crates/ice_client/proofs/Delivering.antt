@@ -1,5 +1,5 @@
 -- One attempt after another.
-use Rattle.std.proofs.Common.{◌≡◌, ◌≢◌, ◌⊎◌, ℕ, suc, ◌+◌, ◌-◌, ◌<◌, ◌≤◌, ◌%◌, Bool, true, false, ◌&&◌, inl, inr, List, [], ◌∷◌, ◌++◌, length, Option, None, Some, IsSome, refl, sym, ap, subst, ◌∙◌, arith, if◌then◌else◌}
+use Rattle.std.proofs.Common.{◌≡◌, ◌≢◌, ◌⊎◌, ℕ, suc, ◌+◌, ◌-◌, ◌<◌, ◌≤◌, ◌%◌, Bool, true, false, ◌&&◌, inl, inr, List, [], ◌∷◌, ◌++◌, length, Option, None, Some, IsSome, Err, refl, sym, ap, subst, ◌∙◌, arith, if◌then◌else◌}
 use Rattle.std.specs.Prelude.{nat_lt, slice_get, option_map, is_some}
 use Rattle.std.proofs.lemmas.Bool.{ltb-true, ltb-false}
 use Rattle.std.proofs.lemmas.List.{length-append}
@@ -21,10 +21,15 @@ use Rattle.ice_client.specs.declared.outcome.Outcome.{Outcome}
 use Rattle.ice_client.specs.declared.outcome.Outcome.TheVariants as outcomes
 use Rattle.ice_client.specs.declared.outcome.Once.{Once}
 use Rattle.ice_client.specs.declared.outgoing.Outgoing.{Outgoing}
+use Rattle.ice_encoding.specs.declared.limits.TheConstants.{LARGEST}
+use Rattle.ice_messages.specs.declared.fault.WriteFault.TheVariants.{Memory}
+use Rattle.ice_messages.specs.declared.message.Message.{Message}
+use Rattle.ice_messages.specs.Messages.{message_bytes}
+use Rattle.ice_client.specs.Sending.{IsOf}
 use Rattle.ice_client.specs.Rows.{IsLoss}
 use Rattle.ice_client.specs.Attempted.{attempted, is_failure}
 use Rattle.ice_client.specs.Asking.{IsFor, IsOver, HasRow, AreOrderly}
-use Rattle.ice_client.specs.ClientDid.{Tried, IsFollowed, Ended, attempted_all, failures_after, Made, is_uncached, attempts_of, had, goes_again, Delivers, IsPlaced, IsCutOff}
+use Rattle.ice_client.specs.ClientDid.{Tried, IsFollowed, Ended, attempted_all, failures_after, Made, is_uncached, attempts_of, had, goes_again, Delivers, IsPlaced, IsCutOff, Brings, Invokes}
 
 -- ---- a proxy with an endpoint has one for each number
 
@@ -157,6 +162,12 @@ cut_off o retries number tried i a talk p orderly = (
   }),
   each_more is_uncached tried (newest a talk) p.uncached refl,
 )
+
+-- of a message, whose bytes were made
+pub starves : {E : Type 0} (m : Message) (o : Outgoing) (endpoints : List Endpoint) (retries : ℕ) (tried : List Tried) (e : E) → IsOf o m → length (message_bytes m) ≤ LARGEST
+    → Brings {E = E} o endpoints retries tried (Err e) → Invokes m endpoints retries tried (Err Memory)
+starves m o endpoints retries tried e is few (inl none, uncached) = (inl none, uncached, few)
+starves m o endpoints retries tried e is few (inr cut, uncached) = (inr (record { outgoing = o; is_of = is; cut = cut }), uncached, few)
 
 -- and then
 module _ (o : Outgoing) (retries number : ℕ) (tried : List Tried) (i j : Invoking) (a : Attempt) (talk : Option Talk) (once : Once) (p : IsUnderWay o retries number tried i) (row : HasRow o false a once.outcome talk)
