@@ -8,7 +8,6 @@ use Rattle.object_adapter.specs.declared.servant.Servant.TheVariants.{Store, Ech
 use Rattle.object_adapter.specs.declared.refusal.Refusal.{Refusal}
 use Rattle.object_adapter.specs.declared.refusal.Refusal.TheVariants.{NoOperation, BadMode, BadArguments, TooLong}
 use Rattle.object_adapter.specs.Refusals.{told}
-use Rattle.object_adapter.specs.Locators.{proxy_results}
 use Rattle.object_adapter.specs.Servants.{Does}
 use Rattle.object_adapter.specs.Laws.{status_of, IsDispatched, ObjectsAreThere}
 
@@ -28,8 +27,8 @@ refused call TooLong = (λ e. cc, λ e. cc)
 does : (old : Servant) (call : Call) (answer : Answer) (new : Servant) → Does old call answer new → IsDispatched answer
 does (Store s) call answer new (results, after, is, then, same, acts) = done answer results is
 does (Echo e) call answer new (results, is, same, acts) = done answer results is
-does (Locator l) call answer new (same, (sought, g, name, comes, inl (p, found, is))) = done answer (proxy_results p) is
-does (Locator l) call answer new (same, (sought, g, name, comes, inr (none, is))) = other answer 1 (ap status_of is) (λ e. cc) (λ e. cc)
+does (Locator l) call answer new (same, (sought, g, name, comes, inl (p, found, (results, enclosed, is)))) = done answer results is
+does (Locator l) call answer new (same, (sought, g, name, comes, inr (none, (is, short)))) = other answer 1 (ap status_of is) (λ e. cc) (λ e. cc)
 
 pub dispatched : ObjectsAreThere
 dispatched old call answer new (inl (inl (own, results, name, acts, is, same))) = done answer results is
