@@ -3,13 +3,14 @@ use Rattle.std.proofs.Common.{◌≡◌, ◌≢◌, ℕ, List, ap, sym, inl, inr
 use Rattle.ice_messages.specs.declared.message.Call.{Call}
 use Rattle.ice_messages.specs.declared.message.Answer.{Answer}
 use Rattle.ice_messages.specs.declared.message.Answer.TheVariants.{Done}
+use Rattle.ice_messages.specs.Calls.{status_of}
 use Rattle.object_adapter.specs.declared.servant.Servant.{Servant}
 use Rattle.object_adapter.specs.declared.servant.Servant.TheVariants.{Store, Echo, Locator}
 use Rattle.object_adapter.specs.declared.refusal.Refusal.{Refusal}
 use Rattle.object_adapter.specs.declared.refusal.Refusal.TheVariants.{NoOperation, BadMode, BadArguments, TooLong}
 use Rattle.object_adapter.specs.Refusals.{told}
 use Rattle.object_adapter.specs.Servants.{Does}
-use Rattle.object_adapter.specs.Laws.{status_of, IsDispatched, ObjectsAreThere}
+use Rattle.object_adapter.specs.Laws.{IsDispatched, ObjectsAreThere}
 
 -- a status that is neither
 other : (answer : Answer) (n : ℕ) → status_of answer ≡ n → n ≢ 2 → n ≢ 3 → IsDispatched answer
