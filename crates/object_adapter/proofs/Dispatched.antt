@@ -3,14 +3,14 @@ use Rattle.std.proofs.Common.{◌≡◌, ◌≢◌, ℕ, List, ap, sym, inl, inr
 use Rattle.ice_messages.specs.declared.message.Call.{Call}
 use Rattle.ice_messages.specs.declared.message.Answer.{Answer}
 use Rattle.ice_messages.specs.declared.message.Answer.TheVariants.{Done}
+use Rattle.ice_messages.specs.Calls.{status_of}
 use Rattle.object_adapter.specs.declared.servant.Servant.{Servant}
 use Rattle.object_adapter.specs.declared.servant.Servant.TheVariants.{Store, Echo, Locator}
 use Rattle.object_adapter.specs.declared.refusal.Refusal.{Refusal}
 use Rattle.object_adapter.specs.declared.refusal.Refusal.TheVariants.{NoOperation, BadMode, BadArguments, TooLong}
 use Rattle.object_adapter.specs.Refusals.{told}
-use Rattle.object_adapter.specs.Locators.{proxy_results}
 use Rattle.object_adapter.specs.Servants.{Does}
-use Rattle.object_adapter.specs.Laws.{status_of, IsDispatched, ObjectsAreThere}
+use Rattle.object_adapter.specs.Laws.{IsDispatched, ObjectsAreThere}
 
 -- a status that is neither
 other : (answer : Answer) (n : ℕ) → status_of answer ≡ n → n ≢ 2 → n ≢ 3 → IsDispatched answer
@@ -28,8 +28,8 @@ refused call TooLong = (λ e. cc, λ e. cc)
 does : (old : Servant) (call : Call) (answer : Answer) (new : Servant) → Does old call answer new → IsDispatched answer
 does (Store s) call answer new (results, after, is, then, same, acts) = done answer results is
 does (Echo e) call answer new (results, is, same, acts) = done answer results is
-does (Locator l) call answer new (same, (sought, g, name, comes, inl (p, found, is))) = done answer (proxy_results p) is
-does (Locator l) call answer new (same, (sought, g, name, comes, inr (none, is))) = other answer 1 (ap status_of is) (λ e. cc) (λ e. cc)
+does (Locator l) call answer new (same, (sought, g, name, comes, inl (p, found, (results, enclosed, is)))) = done answer results is
+does (Locator l) call answer new (same, (sought, g, name, comes, inr (none, (is, short)))) = other answer 1 (ap status_of is) (λ e. cc) (λ e. cc)
 
 pub dispatched : ObjectsAreThere
 dispatched old call answer new (inl (inl (own, results, name, acts, is, same))) = done answer results is

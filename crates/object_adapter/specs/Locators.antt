@@ -1,11 +1,10 @@
 -- What a locator answers to a call: where an object or an adapter is, or the exception that says that nothing was found. (Ice manual, "Locators".)
-use Rattle.std.specs.Prelude.{ℕ, ◌≡◌, ◌<◌, ◌⊎◌, true, List, [], ◌∷◌, length, Some}
+use Rattle.std.specs.Prelude.{ℕ, ◌≡◌, ◌<◌, ◌≤◌, ◌⊎◌, true, List, [], ◌∷◌, length, Some}
 use Rattle.ice_types.specs.declared.kind.TypeRef.{TypeRef}
 use Rattle.ice_types.specs.declared.kind.TypeRef.TheVariants as kinds
 use Rattle.ice_types.specs.declared.declarations.Shape.{Shape}
 use Rattle.ice_types.specs.declared.identity.Identity.{Identity}
 use Rattle.ice_types.specs.declared.proxy.Proxy.{Proxy}
-use Rattle.ice_encoding.specs.Opening.{encapsulated_bytes}
 use Rattle.ice_encoding.specs.Proxy as form
 use Rattle.ice_encoding.specs.Tree.{text, struct, none, tree}
 use Rattle.ice_graphs.specs.Canonical.{sliced}
@@ -22,7 +21,7 @@ use Rattle.object_adapter.specs.declared.refusal.Refusal.TheVariants.{NoOperatio
 use Rattle.object_adapter.specs.declared.refusal.TheConstants.{LONGEST}
 use Rattle.object_adapter.specs.declared.seeking.Sought.{Sought}
 use Rattle.object_adapter.specs.declared.seeking.Sought.TheVariants.{Object, Adapter}
-use Rattle.object_adapter.specs.Admitting.{Comes, Stops, IsRefusedLength}
+use Rattle.object_adapter.specs.Admitting.{Comes, Stops, IsEnclosed, IsRefusedLength}
 use Rattle.object_adapter.specs.Places.{Known, IsAt}
 
 -- ---- its operations
@@ -52,9 +51,9 @@ IsSought p Adapter g proxy = (id : List ℕ) × (g.roots.required ≡ tree (text
 
 -- ---- its answers
 
--- the results with a proxy
-abbrev pub proxy_results : Proxy → List ℕ
-proxy_results p = encapsulated_bytes (form.proxy.put (Some p))
+-- the results with a proxy, where they are not longer than results may be
+abbrev pub GivesProxy : Proxy → Answer → Type 0
+GivesProxy proxy answer = (results : List ℕ) × IsEnclosed (form.proxy.put (Some proxy)) results × (answer ≡ Done results)
 
 -- the place of the exception in the tables
 abbrev pub exception_of : Sought → ℕ
@@ -69,10 +68,14 @@ not_found sought = record { slices = known (exception_of sought) (with_optional 
 abbrev pub not_found_bytes : Sought → List ℕ
 not_found_bytes sought = exception_bytes locator_tables sliced (not_found sought)
 
+-- the answer with it, where it is not longer than results may be
+abbrev pub GivesNotFound : Sought → Answer → Type 0
+GivesNotFound sought answer = (answer ≡ Raised (not_found_bytes sought)) × (length (not_found_bytes sought) ≤ LONGEST)
+
 -- the proxy of what is sought, or that exception where its place is not known
 abbrev pub Gives : Known → Sought → Graph → Answer → Type 0
-Gives p sought g answer = ((proxy : Proxy) × IsSought p sought g proxy × (answer ≡ Done (proxy_results proxy)))
-    ⊎ (((proxy : Proxy) → IsSought p sought g proxy → ⊥) × (answer ≡ Raised (not_found_bytes sought)))
+Gives p sought g answer = ((proxy : Proxy) × IsSought p sought g proxy × GivesProxy proxy answer)
+    ⊎ (((proxy : Proxy) → IsSought p sought g proxy → ⊥) × GivesNotFound sought answer)
 
 -- it is refused: the answer would be longer than it may be
 abbrev pub Overflows : Known → Sought → Graph → Refusal → Type 0

@@ -6,14 +6,13 @@ ghost use Rattle.ice_types.specs.declared.kind.TypeRef.TheVariants as kinds;
 ghost use Rattle.ice_encoding.specs.Proxy as form;
 ghost use Rattle.ice_encoding.specs.Proxy.{HasProxySizes};
 ghost use Rattle.object_adapter.specs.Replies.{IsReply};
-ghost use Rattle.ice_messages.specs.declared.message.Answer.TheVariants as answers;
 ghost use Rattle.class_slices.specs.Seen.{view_user_exception};
 ghost use Rattle.locator_types.specs.Locator.{locator_tables};
 ghost use Rattle.object_adapter.specs.declared.refusal.Refusal.TheVariants as refusals;
 ghost use Rattle.object_adapter.specs.Admitting.{IsRefusedLength};
 ghost use Rattle.object_adapter.specs.Refusals.{Outcome};
 ghost use Rattle.object_adapter.specs.Locators as spec;
-ghost use Rattle.object_adapter.specs.Locators.{IsNamed, not_found_bytes, proxy_results};
+ghost use Rattle.object_adapter.specs.Locators.{GivesNotFound, GivesProxy, IsNamed, not_found_bytes};
 
 use crate::enclosing::enclose;
 use crate::refusal::{LONGEST, Refusal, Unanswered};
@@ -74,8 +73,7 @@ fn id_type(sought: Sought) -> TypeRef
 /// The answer with a proxy, where it is not longer than answers may be.
 pub(crate) fn proxy_answer(alloc: Global, proxy: &Proxy) -> Result<Answer, Unanswered>
     requires { HasProxySizes (Some proxy.now) }
-    ensures answers { Outcome (λ answer. answer ≡ answers.Done (proxy_results proxy.now))
-        (IsRefusedLength (form.proxy.put (Some proxy.now))) result }
+    ensures answers { Outcome (GivesProxy proxy.now) (IsRefusedLength (form.proxy.put (Some proxy.now))) result }
     ensures writable { IfOk result IsReply }
 {
     let mut content = Vec::new(alloc);
@@ -91,7 +89,7 @@ pub(crate) fn not_found_answer(
     sought: Sought,
 ) -> Result<Answer, Unanswered>
     requires { schema.now ≡ locator_tables }
-    ensures raises { Outcome (λ answer. answer ≡ answers.Raised (not_found_bytes sought))
+    ensures raises { Outcome (GivesNotFound sought)
         (λ refusal. (refusal ≡ refusals.TooLong) × (LONGEST < length (not_found_bytes sought))) result }
     ensures writable { IfOk result IsReply }
 {

@@ -18,7 +18,7 @@ use Rattle.ice_client.specs.declared.outgoing.Outgoing.{Outgoing}
 use Rattle.ice_client.specs.Rows.{Begins, AreValidates, Reads, Meets, is_no_object, IsLoss, Row, IsOrderly}
 use Rattle.ice_client.specs.Sending.{asks_reply, IsIdempotent, IsOf}
 use Rattle.ice_client.specs.Asking.{HasRow}
-use Rattle.object_adapter.specs.Laws.{status_of}
+use Rattle.ice_messages.specs.Calls.{status_of}
 use Rattle.dispatch_pool.specs.Handled.{Handled, answer_of, replies, reply_of}
 use Rattle.dispatch_pool.specs.ServerDid as servers
 use Rattle.call_world.specs.World as world

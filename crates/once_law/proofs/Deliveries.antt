@@ -9,7 +9,7 @@ use Rattle.ice_client.specs.declared.outcome.Outcome.{Outcome}
 use Rattle.ice_client.specs.declared.outgoing.Outgoing.{Outgoing}
 use Rattle.ice_client.specs.Sending.{asks_reply, IsOf}
 use Rattle.ice_client.specs.ClientDid.{Tried, Comes, IsFollowed, Ended}
-use Rattle.object_adapter.specs.Laws.{status_of}
+use Rattle.ice_messages.specs.Calls.{status_of}
 use Rattle.call_world.specs.Service.{free_rules}
 use Rattle.call_world.specs.World as world
 use Rattle.call_world.proofs.Runs.{at_most_once_lem, own_replies_lem, logged_lem}

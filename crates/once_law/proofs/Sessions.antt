@@ -7,7 +7,7 @@ use Rattle.ice_messages.specs.declared.message.Message.{Message}
 use Rattle.ice_messages.specs.declared.message.Message.TheVariants.{Request, Batch, Reply, Validate, Close}
 use Rattle.ice_messages.specs.Messages.{SpellsMessage}
 use Rattle.ice_client.specs.Sending.{asks_reply, IsOneway}
-use Rattle.object_adapter.specs.Laws.{status_of}
+use Rattle.ice_messages.specs.Calls.{status_of}
 use Rattle.dispatch_pool.specs.Handled.{Keys, Outcome, had_turn, refused, Asked, Handled, answer_of, IsOutcome, AreOutcomes, unasked, asked_of, asked, asking, replies, reply_of}
 use Rattle.call_world.specs.World as world
 use Rattle.once_law.specs.Placed.{closing}

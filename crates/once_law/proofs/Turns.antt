@@ -8,7 +8,7 @@ use Rattle.ice_messages.specs.declared.message.Answer.{Answer}
 use Rattle.ice_client.specs.declared.outcome.Outcome.{Outcome}
 use Rattle.ice_client.specs.declared.outcome.Outcome.TheVariants as outcomes
 use Rattle.ice_client.specs.Sending.{asks_reply}
-use Rattle.object_adapter.specs.Laws.{status_of}
+use Rattle.ice_messages.specs.Calls.{status_of}
 use Rattle.call_world.specs.Service.{free_rules}
 use Rattle.call_world.specs.World.{Seat, Dispatched, Place, Dispatch, Invocation}
 use Rattle.call_world.specs.World as worlds

@@ -10,7 +10,8 @@ use Rattle.retry_core.specs.declared.attempt.Attempt.{Attempt}
 use Rattle.retry_core.specs.declared.attempt.Attempt.TheVariants.{NotWhole, Closed, Replied, Sent}
 use Rattle.ice_client.specs.declared.outcome.Outcome.{Outcome}
 use Rattle.ice_client.specs.declared.outcome.Outcome.TheVariants as outcomes
-use Rattle.object_adapter.specs.Laws.{status_of, IsDispatched}
+use Rattle.ice_messages.specs.Calls.{status_of}
+use Rattle.object_adapter.specs.Laws.{IsDispatched}
 use Rattle.dispatch_pool.specs.Handled.{Handled}
 use Rattle.call_world.specs.Service.{free_rules}
 use Rattle.call_world.specs.World.{Dispatch, Dispatched}
