@@ -192,8 +192,8 @@ class Maker:
 class Serve:
     """`ice serve` in a process of its own."""
 
-    def __init__(self, program, words, folder, changed):
-        limits = lambda: resource.setrlimit(resource.RLIMIT_CPU, (SECONDS, SECONDS))
+    def __init__(self, program, words, folder, changed, seconds=SECONDS):
+        limits = lambda: resource.setrlimit(resource.RLIMIT_CPU, (seconds, seconds))
         pipes = {"stdin": subprocess.DEVNULL, "stdout": subprocess.PIPE, "stderr": subprocess.PIPE}
         self.process = subprocess.Popen([program, *words], cwd=folder, env={**os.environ, **changed}, preexec_fn=limits, **pipes)
         is_there = select.select([self.process.stdout], [], [], 2 * SECONDS)[0]

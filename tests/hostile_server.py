@@ -1,5 +1,6 @@
 """Plays a server to `ice call`, and the same to tests/independent/calling.py: what a connection gives, takes and how it ends, as a
-script has it. Where the system decides what a client sees (a reset that overtakes the request), each way that may be is played.
+script has it. Where the system decides what a client sees (a reset that overtakes the request or what was given), each way that may be
+is played.
 """
 import collections
 import contextlib
@@ -18,6 +19,8 @@ from program import answer_of
 from server_scripts import Maker
 
 MOST_WAYS = 64
+# A message that is not longer goes out by one write and comes whole: the least that Linux has room for.
+MOST_AT_ONCE = 4096
 PASSED_OVER = "passed over"
 # What a trial is counted as: the first word of why a call ended, else its status.
 REASON = re.compile(rb"ice: (?:call ended: )?([a-z]+)")
@@ -110,7 +113,14 @@ class Choices:
 
 
 class Played:
-    """A client's end of a connection."""
+    """A client's end of a connection.
+
+    The system turns the end of a server into a reset where the server resets, and where it closes and some of the request is unread, or
+    comes later. A server that waits for the request, or a part of it, does so behind that part; one that does not may reset at any time,
+    and has a close turned into a reset only by the request. What was given and has not gone out by then is thrown away: the client gets a
+    beginning of it, and a failed read. Where all of it has gone out, the client may see the close before the reset, if the request, or the
+    rest of a long one, comes behind the close. A long request may meet the reset in a write, and then the server has not all of it. None
+    of this may come where a server ends its side alone, or has read all before it closes."""
 
     def __init__(self, script, choose):
         self.script, self.choose, self.handed = script, choose, b""
@@ -122,12 +132,24 @@ class Played:
     def __exit__(self, *_):
         pass
 
+    def may_reset(self):
+        """Says whether the connection may be reset by now."""
+        script = self.script
+        if script.ends == "closes":
+            return bool(self.handed) and not (script.waits and script.part == 1)
+        return script.ends == "unaccepted" or script.ends == "dies" and (bool(self.handed) or not script.waits)
+
+    def is_reset(self):
+        """Says whether what the client sees behind all that was given is a reset."""
+        is_chosen = self.script.ends == "closes" and (not self.script.waits or len(self.handed) > MOST_AT_ONCE)
+        return self.may_reset() and (not is_chosen or bool(self.choose()))
+
     def recv(self, count):
-        if self.left:
+        # A reset behind the header of a message comes to the same as one before it.
+        if self.left and not (count == messages.HEADER and self.may_reset() and self.choose()):
             piece, self.left = self.left[:count], self.left[count:]
             return piece
-        is_unread = bool(self.handed) and (self.script.part < 1 if self.script.waits else self.choose())
-        if self.script.ends in ("dies", "unaccepted") or self.script.ends == "closes" and is_unread:
+        if self.left or self.is_reset():
             raise ConnectionResetError(errno.ECONNRESET, "reset")
         return b""
 
@@ -135,6 +157,9 @@ class Played:
         if not self.script.waits and self.script.ends == "dies" and self.choose():
             raise BrokenPipeError(errno.EPIPE, "broken pipe")
         self.handed = message
+        if len(message) > MOST_AT_ONCE and self.may_reset() and self.choose():
+            self.handed = message[:-1]
+            raise BrokenPipeError(errno.EPIPE, "broken pipe")
         self.left += self.script.after if self.script.waits else b""
 
 

@@ -43,6 +43,18 @@ def commands_of(program):
     return {it.split()[0] for it in told.splitlines() if it[:2] == "  " and it[2:3].islower()}
 
 
+def has_sanitizer(program):
+    """Says whether a program has the address sanitizer, which holds memory of its own."""
+    with open(program, "rb") as file:
+        return b"__asan_init" in file.read()
+
+
+def memory_of(process, what="VmRSS"):
+    """Returns the KiB of memory that a process holds, or the most that it has held (VmHWM)."""
+    with open(f"/proc/{process.pid}/status", encoding="ascii") as file:
+        return next(int(line.split()[1]) for line in file if line.startswith(f"{what}:"))
+
+
 def changed_last():
     """Returns the time of the last change of a source of the crates."""
     times = [os.path.getmtime(f"{TOP}/crates.txt")]
