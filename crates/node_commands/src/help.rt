@@ -68,7 +68,7 @@ but messages, call, serve and gate have told what came before.
 KIND of a Slice file is one of these:
 
   NoFile        no file has the included name, or that of FILE
-  TooManyFiles  an included file is one more than 100
+  TooManyFiles  an included file is one more than 99
   TooLong       the text has more than 1,000,000 bytes
   BadByte       no token of Slice begins with this byte
   OpenString    a string does not end on its line

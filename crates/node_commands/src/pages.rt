@@ -126,7 +126,7 @@ Reads FILE and all that it includes, and writes how many types (sequences, dicti
 enums), classes, exceptions and interfaces they define, as
     ok: 2 types, 5 classes, 0 exceptions, 1 interfaces
 
-FILE has at most 1,000,000 bytes and includes at most 100 files, which are paths from the folder that ice
+FILE has at most 1,000,000 bytes and includes at most 99 files, which are paths from the folder that ice
 runs in. What is wrong is told with file, place and kind; ice --help has each kind. Nothing is read from
 standard input.
 ";
@@ -190,7 +190,9 @@ What ends a call without success is told as ice: call ended: REASON, with one of
   ended                      the server's stream ended before a reply
   broke at PLACE: KIND       what the server sent is no message, not the one that may come, or no
                              results of OPERATION: the place counts in the message, or in the
-                             encapsulation of the results
+                             encapsulation of the results. The kind is one of an input, or it is
+                             NotValidated (the first message is neither a validate nor a close),
+                             Unexpected (no server sends it) or UnknownId (of another request)
 
 The earlier step decides: the words, FILE and what it includes, INTERFACE, OPERATION, PROXY, the input,
 and then the net and the output by turns. ice --help has each status and its line.
@@ -323,9 +325,9 @@ The earlier step decides: the words, CLIENT, SERVER, the output. Nothing is read
 pub const COMPAT: &str = "\
 usage: ice compat OLD NEW TYPE
 
-Reads two Slice files with all that they include, and writes yes where what was spelled of TYPE under
-OLD can be read under NEW; or what stands in the way, with status 1. It is told of TYPE first, and else
-of the first class in OLD that fails, of all those that a value of TYPE may lead to, with their bases:
+Reads two Slice files with all that they include, and tests whether what was spelled of TYPE under OLD
+can be read under NEW: it writes yes, or the first test that failed, with status 1. TYPE is tested first,
+and then the classes of OLD that a value of TYPE may lead to, with their bases, as they stand there:
 
     no $value              TYPE, or the type of an element or a member in it, is another one in NEW:
                            a struct has more or fewer members, an enum lacks a number, a class is
@@ -338,9 +340,10 @@ of the first class in OLD that fails, of all those that a value of TYPE may lead
                            that is not optional, or else the optional one of the least tag
 
 Types count, and no names but the type ids of classes. A class may get a compact id, and optional
-members may come and go. Where the answer is yes, the bytes of a value of TYPE under OLD, with no slice
-and no tag that OLD lacks, are the bytes of the same value under NEW, but for the optional members
-whose tags NEW lacks; in compact format instances in such a member are left out of this.
+members may come and go. Where the answer is yes, the bytes of a value of TYPE under OLD that holds these
+classes alone, and no tag that OLD lacks, are the bytes of the same value under NEW, but for the optional
+members whose tags NEW lacks. In compact format that is not said where such a member is a proxy, or a
+sequence, a dictionary or a struct with parts of no fixed size.
 
 The earlier step decides: the words, OLD, NEW, TYPE in OLD, TYPE in NEW, the output. Nothing is read from
 standard input.
