@@ -83,8 +83,12 @@ module _ (once : ForwardsOnce) (gate : Gate) where
 
   due_once : (n : Message) (cut : List (List Tried)) (tried : List Tried) → DueStarved gate (Some n) cut → cut ≡ tried ∷ [] → (IsIdempotent n → ⊥) → (tried ≡ []) ⊎ OnlyLastCounts n tried
   due_once n cut tried (inl none) is never = absurd (let e : [] ≡ tried ∷ [] = sym none ∙ is in cc)
-  due_once n cut tried (inr (other, are, inl none, uncached)) is never = inl (let e : other ∷ [] ≡ tried ∷ [] = sym are ∙ is in let same : other ≡ tried = cc in sym same ∙ none)
-  due_once n cut tried (inr (other, are, inr did, uncached)) is never =
+  due_once n cut tried (inr (other, are, uncached, inl (inl none))) is never = inl (let e : other ∷ [] ≡ tried ∷ [] = sym are ∙ is in let same : other ≡ tried = cc in sym same ∙ none)
+  due_once n cut tried (inr (other, are, uncached, inr (outcome, did))) is never =
+      let e : other ∷ [] ≡ tried ∷ [] = sym are ∙ is in
+      let same : other ≡ tried = cc in
+      inr (once.done n gate.retries tried outcome never (subst (λ (z : List Tried). ClientDid n gate.retries z (Some outcome)) same did) (subst (Each is_uncached) same uncached))
+  due_once n cut tried (inr (other, are, uncached, inl (inr did))) is never =
       let e : other ∷ [] ≡ tried ∷ [] = sym are ∙ is in
       let same : other ≡ tried = cc in
       inr (once.cut_off n gate.retries tried never (subst (ClientCut n gate.retries) same did) (subst (Each is_uncached) same uncached))

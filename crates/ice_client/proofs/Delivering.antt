@@ -28,7 +28,7 @@ use Rattle.ice_messages.specs.Messages.{message_bytes}
 use Rattle.ice_client.specs.Sending.{IsOf}
 use Rattle.ice_client.specs.Rows.{IsLoss}
 use Rattle.ice_client.specs.Attempted.{attempted, is_failure}
-use Rattle.ice_client.specs.Asking.{IsFor, IsOver, HasRow, AreOrderly}
+use Rattle.ice_client.specs.Asking.{IsFor, IsOver, HasRow, CutsOff}
 use Rattle.ice_client.specs.ClientDid.{Tried, IsFollowed, Ended, attempted_all, failures_after, Made, is_uncached, attempts_of, had, goes_again, Delivers, IsPlaced, IsCutOff, Brings, Invokes}
 
 -- ---- a proxy with an endpoint has one for each number
@@ -144,30 +144,35 @@ begun o retries i some is = rw is (record {
   counted = refl;
 })
 
+none_some : {A : Type 0} (p : Option A) → IsSome p → p ≡ None → ⊥
+none_some None some e = absurd (let z : false ≡ true = some in cc)
+none_some (Some x) some e = cc
+
 -- an attempt
 abbrev pub newest : Attempt → Option Talk → Tried
 newest a talk = record { cached = false; talk = talk; attempt = a }
 
 -- memory cut it off
-pub cut_off : (o : Outgoing) (retries number : ℕ) (tried : List Tried) (i : Invoking) (a : Attempt) (talk : Option Talk) → IsUnderWay o retries number tried i → AreOrderly o talk
-    → ((tried ++ (newest a talk) ∷ [] ≡ []) ⊎ IsCutOff o retries (tried ++ (newest a talk) ∷ [])) × Each is_uncached (tried ++ (newest a talk) ∷ [])
-cut_off o retries number tried i a talk p orderly = (
+pub cut_off : (o : Outgoing) (endpoints : List Endpoint) (retries number : ℕ) (tried : List Tried) (i : Invoking) (a : Attempt) (talk : Option Talk) → IsSome (tcp_at 0 endpoints) → IsUnderWay o retries number tried i → CutsOff o talk
+    → ((tried ++ (newest a talk) ∷ [] ≡ []) ⊎ IsCutOff o retries (tried ++ (newest a talk) ∷ [])) × Each is_uncached (tried ++ (newest a talk) ∷ []) × (tcp_at 0 endpoints ≡ None → tried ++ (newest a talk) ∷ [] ≡ [])
+cut_off o endpoints retries number tried i a talk some p cut = (
   inr (record {
     before = tried;
     last = newest a talk;
     parts = refl;
     followed = p.followed;
     few = omega (arith, p.left);
-    orderly = orderly;
+    cut = cut;
   }),
   each_more is_uncached tried (newest a talk) p.uncached refl,
+  λ e. absurd (none_some (tcp_at 0 endpoints) some e),
 )
 
 -- of a message, whose bytes were made
 pub starves : {E : Type 0} (m : Message) (o : Outgoing) (endpoints : List Endpoint) (retries : ℕ) (tried : List Tried) (e : E) → IsOf o m → length (message_bytes m) ≤ LARGEST
     → Brings {E = E} o endpoints retries tried (Err e) → Invokes m endpoints retries tried (Err Memory)
-starves m o endpoints retries tried e is few (inl none, uncached) = (inl none, uncached, few)
-starves m o endpoints retries tried e is few (inr cut, uncached) = (inr (record { outgoing = o; is_of = is; cut = cut }), uncached, few)
+starves m o endpoints retries tried e is few (inl none, uncached, placed) = (inl none, uncached, placed, few)
+starves m o endpoints retries tried e is few (inr cut, uncached, placed) = (inr (record { outgoing = o; is_of = is; cut = cut }), uncached, placed, few)
 
 -- and then
 module _ (o : Outgoing) (retries number : ℕ) (tried : List Tried) (i j : Invoking) (a : Attempt) (talk : Option Talk) (once : Once) (p : IsUnderWay o retries number tried i) (row : HasRow o false a once.outcome talk)
@@ -241,10 +246,6 @@ unplaced o endpoints retries attempts none place = record {
   placed = record { exactly = (λ e. place, λ e. refl); none = λ e. refl };
   uncached = tt;
 }
-
-none_some : {A : Type 0} (p : Option A) → IsSome p → p ≡ None → ⊥
-none_some None some e = absurd (let z : false ≡ true = some in cc)
-none_some (Some x) some e = cc
 
 pub placed : (endpoints : List Endpoint) (tried : List Tried) (outcome : Outcome) → IsSome (tcp_at 0 endpoints) → outcome ≢ outcomes.NoEndpoint → IsPlaced endpoints tried outcome
 placed endpoints tried outcome some other = record {

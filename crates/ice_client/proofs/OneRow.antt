@@ -172,8 +172,8 @@ IsSent o t = (t.taken ≡ o.bytes) × (o.replies ≡ false) × Begins t.given Va
 Sort : Outgoing → Bool → Talk → Attempt → Type 0
 Sort o cached t a = ((a ≡ tries.NotWhole) × Cut o t) ⊎ (((a ≡ tries.Sent) × IsSent o t) ⊎ Stopped o cached t a)
 
-begun : {given : List ℕ} → IsGreeted given ⊎ StreamEnds given None → Begins given Validate ⊎ StreamEnds given None
-begun (inl h) = inl h.0
+begun : {given : List ℕ} {P : Type 0} → (IsGreeted given × P) ⊎ StreamEnds given None → Begins given Validate ⊎ StreamEnds given None
+begun (inl h) = inl h.0.0
 begun (inr h) = inr h
 
 sort : (o : Outgoing) (cached : Bool) (t : Talk) (a : Attempt) (outcome : Outcome) → Row o cached a outcome t → Sort o cached t a

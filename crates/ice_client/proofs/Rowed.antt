@@ -30,7 +30,7 @@ use Rattle.ice_client.specs.declared.outcome.Once.{Once}
 use Rattle.ice_client.specs.declared.outgoing.Outgoing.{Outgoing}
 use Rattle.ice_client.specs.Rows.{Begins, Row, IsOrderly, IsGreeted}
 use Rattle.ice_client.specs.Steps.{EndsBy, Awaits}
-use Rattle.ice_client.specs.Asking.{IsFor, Ends, IsOver, Converses, Asks}
+use Rattle.ice_client.specs.Asking.{IsFor, Ends, IsOver, Converses, Asks, RunsOut}
 use Rattle.talking.specs.Writing.{writes_part}
 use Rattle.talking.proofs.Adding.{or_twice}
 
@@ -125,12 +125,16 @@ orderly_behind o s t held rest none greeted parts = ((rest, parts ∙ ap (λ (z 
 pub unsent : (o : Outgoing) (t : Talk) → t.taken ≡ [] → IsOrderly o t
 unsent o t none = ((o.bytes, rw none refl), inl none)
 
+-- memory ran out before the message
+pub ran_early : (o : Outgoing) (t : Talk) → t ≡ gives t.given → RunsOut o t
+ran_early o t is = (ap (λ (z : Talk). z.ended) is, ap (λ (z : Talk). z.failed) is, inl (ap (λ (z : Talk). z.taken) is))
+
 -- the message was cut
 pub cut_ends : (o : Outgoing) (cached : Bool) (given : List ℕ) (n : ℕ) → n < length o.bytes → IsGreeted given
     → EndsBy o cached (states.Sending (0 + n)) (record { event = events.Lost; outcome = outcomes.NetFailed }) (and_then (gives given) (writes_part o.bytes n))
 cut_ends o cached given n less greeted =
     let short : length (take n o.bytes) < length o.bytes = omega (arith, less, length-take-le n o.bytes (omega (arith, less))) in
-    (tries.NotWhole, refl, (short, inl (subst IsGreeted (sym (append-nil given)) greeted), inl (refl, lt-ltb n (length o.bytes) less)))
+    (tries.NotWhole, refl, (short, inl (subst IsGreeted (sym (append-nil given)) greeted, refl), inl (refl, lt-ltb n (length o.bytes) less)))
 
 -- it was taken whole, and asks for no reply
 pub sent_row : (o : Outgoing) (cached : Bool) (given : List ℕ) (n : ℕ) → n ≡ length o.bytes → o.replies ≡ false → IsGreeted given
@@ -226,6 +230,11 @@ module _ (E : Type 0) (o : Outgoing) (cached : Bool) (old : Held) (n : ℕ) (i j
       let on = moved_for i j o states.AwaitingReply there made in
       may_come j o states.AwaitingReply end.event on.0 on.1 (h.1 o.replies (length o.bytes))
 
-  pub asks_starved : (e : E) (k : Invoking) (t : Talk) → n ≡ length o.bytes → t.taken ≡ [] → Asks {E = E} o cached old (and_then (writes_part o.bytes n) t) i k (Err e)
-  asks_starved e k t same none s silent greeted once_read =
-      subst (λ (z : Talk). IsOrderly o (and_then z (and_then (writes_part o.bytes n) t))) (sym silent) (orderly_whole s.given t same none greeted)
+  pub asks_starved : (e : E) (k : Invoking) (t : Talk) → n ≡ length o.bytes → o.replies ≡ true → t ≡ gives t.given → Asks {E = E} o cached old (and_then (writes_part o.bytes n) t) i k (Err e)
+  asks_starved e k t same asks is s silent greeted once_read =
+      subst (λ (z : Talk). RunsOut o (and_then z (and_then (writes_part o.bytes n) t))) (sym silent)
+      (subst (λ (z : Talk). RunsOut o (and_then (gives s.given) (and_then (writes_part o.bytes n) z))) (sym is) (
+        refl,
+        ap (λ (b : Bool). b || false) (le-ltb n (length o.bytes) (omega (arith, same))),
+        inr (append-nil (take n o.bytes) ∙ take_all n o.bytes (omega (arith, same)), asks, begun s.given old.bytes t.given greeted),
+      ))

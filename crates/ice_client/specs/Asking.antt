@@ -1,5 +1,5 @@
 -- What an attempt came to.
-use Rattle.std.specs.Prelude.{◌≡◌, ◌<◌, Bool, [], ◌∷◌, length, Option, None, Some, Result, Ok, Err}
+use Rattle.std.specs.Prelude.{◌≡◌, ◌<◌, ◌⊎◌, Bool, true, false, [], ◌∷◌, length, Option, None, Some, Result, Ok, Err}
 use Rattle.ice_ports.specs.declared.talk.Talk.{Talk}
 use Rattle.ice_ports.specs.Talks.{and_then, gives}
 use Rattle.ice_messages.specs.declared.message.Message.TheVariants.{Validate}
@@ -14,7 +14,7 @@ use Rattle.ice_client.specs.declared.outcome.Outcome.TheVariants.{NetFailed}
 use Rattle.ice_client.specs.declared.outcome.End.{End}
 use Rattle.ice_client.specs.declared.outcome.Once.{Once}
 use Rattle.ice_client.specs.declared.outgoing.Outgoing.{Outgoing}
-use Rattle.ice_client.specs.Rows.{Row, IsOrderly, IsGreeted}
+use Rattle.ice_client.specs.Rows.{Begins, Row, IsOrderly, IsGreeted}
 
 -- the client was made for this message, which has bytes
 pub record IsFor (i : Invoking) (o : Outgoing) : Type 0 where
@@ -37,20 +37,25 @@ abbrev pub HasRow : Outgoing → Bool → Attempt → Outcome → Option Talk �
 HasRow o cached a outcome None = (a ≡ NotConnected) × (outcome ≡ NetFailed)
 HasRow o cached a outcome (Some t) = Row o cached a outcome t × IsOrderly o t
 
--- no more was sent than the message, and that behind a validate
-abbrev pub AreOrderly : Outgoing → Option Talk → Type 0
-AreOrderly o None = Unit {0}
-AreOrderly o (Some t) = IsOrderly o t
+-- memory ran out over this talk, in which nothing failed and nothing ended: nothing of the message was taken, or all of it,
+-- behind a validate, where its reply is awaited
+abbrev pub RunsOut : Outgoing → Talk → Type 0
+RunsOut o t = (t.ended ≡ false) × (t.failed ≡ false) × ((t.taken ≡ []) ⊎ ((t.taken ≡ o.bytes) × (o.replies ≡ true) × Begins t.given Validate))
+
+-- it never does before a connection was had
+abbrev pub CutsOff : Outgoing → Option Talk → Type 0
+CutsOff o None = ⊥
+CutsOff o (Some t) = RunsOut o t
 
 -- an attempt was made, and is over; want of memory cuts it off
 abbrev pub Attempts : {E : Type 0} → Outgoing → Bool → Option Talk → Invoking → Invoking → Result Once E → Type 0
 Attempts o cached talk old new (Ok once) = (a : Attempt) × HasRow o cached a once.outcome talk × IsOver old new a once
-Attempts o cached talk old new (Err e) = AreOrderly o talk
+Attempts o cached talk old new (Err e) = CutsOff o talk
 
 -- the same of one that is connected
 abbrev pub Converses : {E : Type 0} → Outgoing → Bool → Talk → Invoking → Invoking → Result Once E → Type 0
 Converses o cached t old new (Ok once) = (a : Attempt) × Row o cached a once.outcome t × IsOrderly o t × IsOver old new a once
-Converses o cached t old new (Err e) = IsOrderly o t
+Converses o cached t old new (Err e) = RunsOut o t
 
 -- the same behind a validate
 abbrev pub Asks : {E : Type 0} → Outgoing → Bool → Held → Talk → Invoking → Invoking → Result Once E → Type 0

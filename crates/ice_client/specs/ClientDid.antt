@@ -23,7 +23,7 @@ use Rattle.ice_client.specs.declared.outcome.Outcome.TheVariants as outcomes
 use Rattle.ice_client.specs.declared.outgoing.Outgoing.{Outgoing}
 use Rattle.ice_client.specs.Attempted.{attempted, is_failure}
 use Rattle.ice_client.specs.Sending.{IsOf}
-use Rattle.ice_client.specs.Asking.{HasRow, AreOrderly}
+use Rattle.ice_client.specs.Asking.{HasRow, CutsOff}
 
 -- ---- attempts
 
@@ -57,15 +57,14 @@ pub record ClientDid (m : Message) (retries : ℕ) (tried : List Tried) (outcome
 
 -- ---- want of memory
 
--- Memory ran out in the last attempt: each before it may be followed, and over it no more was sent than the message, behind
--- a validate. How it ends is not told.
+-- Memory ran out in the last attempt, and each before it may be followed.
 pub record IsCutOff (o : Outgoing) (retries : ℕ) (tried : List Tried) : Type 0 where
   pub before : List Tried
   pub last : Tried
   pub parts : tried ≡ before ++ last ∷ []
   pub followed : Each (IsFollowed o) before
   pub few : length before ≤ retries
-  pub orderly : AreOrderly o last.talk
+  pub cut : CutsOff o last.talk
 
 -- the attempts at a message of which memory cut off the last
 pub record ClientCut (m : Message) (retries : ℕ) (tried : List Tried) : Type 0 where
@@ -131,7 +130,7 @@ pub record Delivers (o : Outgoing) (endpoints : List Endpoint) (retries : ℕ) (
 -- so it was, or memory ran out
 abbrev pub Brings : {E : Type 0} → Outgoing → List Endpoint → ℕ → List Tried → Result Invoked E → Type 0
 Brings o endpoints retries tried (Ok r) = Delivers o endpoints retries tried r
-Brings o endpoints retries tried (Err e) = ((tried ≡ []) ⊎ IsCutOff o retries tried) × Each is_uncached tried
+Brings o endpoints retries tried (Err e) = ((tried ≡ []) ⊎ IsCutOff o retries tried) × Each is_uncached tried × (tcp_at 0 endpoints ≡ None → tried ≡ [])
 
 -- The message was tried. One that is too long is refused with its length, and nothing is connected; want of memory may
 -- come before the first attempt, or cut off the last.
@@ -139,7 +138,8 @@ abbrev pub Invokes : Message → List Endpoint → ℕ → List Tried → Result
 Invokes m endpoints retries tried (Ok r) =
     (r.attempts ≡ attempts_of tried) × ClientDid m retries tried (had r.outcome) × IsPlaced endpoints tried r.outcome × Each is_uncached tried × (length (message_bytes m) ≤ LARGEST)
 Invokes m endpoints retries tried (Err (TooLong n)) = (tried ≡ []) × (LARGEST < length (message_bytes m)) × (n ≡ told (length (message_bytes m)))
-Invokes m endpoints retries tried (Err Memory) = ClientStarved m retries tried × Each is_uncached tried × (length (message_bytes m) ≤ LARGEST)
+Invokes m endpoints retries tried (Err Memory) =
+    ClientStarved m retries tried × Each is_uncached tried × (tcp_at 0 endpoints ≡ None → tried ≡ []) × (length (message_bytes m) ≤ LARGEST)
 
 -- the client connects next
 abbrev pub goes_again : ClientAction → Bool

@@ -77,7 +77,7 @@ Breaks o t fault = ((ms : List Message) × (rest : List ℕ) × Reads o t ms res
 -- an attempt that connected, to a place that came from a cache or not, what it came to, and its talk
 abbrev pub Row : Outgoing → Bool → Attempt → Outcome → Talk → Type 0
 Row o cached tries.NotConnected outcome t = ⊥
-Row o cached tries.NotWhole outcome t = (length t.taken < length o.bytes) × (IsGreeted t.given ⊎ StreamEnds t.given None) × IsLoss outcome t
+Row o cached tries.NotWhole outcome t = (length t.taken < length o.bytes) × ((IsGreeted t.given × (t.ended ≡ false)) ⊎ StreamEnds t.given None) × IsLoss outcome t
 Row o cached tries.Sent outcome t = (t.taken ≡ o.bytes) × (o.replies ≡ false) × IsGreeted t.given × (t.ended ≡ false) × (t.failed ≡ false) × (outcome ≡ outcomes.Sent)
 Row o cached tries.Lost outcome t = (ms : List Message) × (rest : List ℕ) × Reads o t (Validate ∷ ms) rest × StreamEnds rest None × IsLoss outcome t
 Row o cached tries.Closed outcome t = (ms : List Message) × Meets o t ms Close None × (outcome ≡ outcomes.Closed)

@@ -60,7 +60,7 @@ EndsBy o cached state end t = (a : Attempt) × (client_row o.replies (length o.b
 abbrev pub Greets : {E : Type 0} → Bool → Held → Talk → Result (Option End) E → Type 0
 Greets cached new t (Ok None) = (t ≡ gives t.given) × Stream t.given (Validate ∷ []) new.bytes × IsGoing new × IsGreeted t.given
 Greets cached new t (Ok (Some end)) = (t.taken ≡ []) × ((o : Outgoing) → 0 < length o.bytes → EndsBy o cached AwaitingValidate end t)
-Greets cached new t (Err e) = t.taken ≡ []
+Greets cached new t (Err e) = t ≡ gives t.given
 
 -- the reply, behind a talk in which the message was taken whole
 abbrev pub Awaits : {E : Type 0} → Bool → Held → Talk → Result End E → Type 0
@@ -68,4 +68,4 @@ Awaits cached old t (Ok end) = (t.taken ≡ [])
     × ((replies : Bool) (size : ℕ) → IsSome (client_row replies size AwaitingReply end.event))
     × ((o : Outgoing) (s : Talk) → s.taken ≡ o.bytes → o.replies ≡ true → s.ended ≡ false → s.failed ≡ false → Stream s.given (Validate ∷ []) old.bytes
     → EndsBy o cached AwaitingReply end (and_then s t))
-Awaits cached old t (Err e) = t.taken ≡ []
+Awaits cached old t (Err e) = t ≡ gives t.given

@@ -1,6 +1,5 @@
 -- What a message that was tried can come to.
-use Rattle.std.proofs.Common.{◌≡◌, ℕ, ◌≤◌, ◌+◌, Bool, true, false, List, [], ◌∷◌, length, Option, None, Some, IsSome, Ok, Err, refl, sym, ap, subst, ◌∙◌, inl, inr, arith}
-use Rattle.std.proofs.lemmas.List.{length-append}
+use Rattle.std.proofs.Common.{◌≡◌, ℕ, Bool, true, false, List, [], ◌∷◌, Option, None, Some, IsSome, Ok, Err, refl, sym, subst, ◌∙◌, inl, inr}
 use Rattle.ice_encoding.specs.Parts.{Each}
 use Rattle.ice_ports.specs.declared.talk.Talk.{Talk}
 use Rattle.ice_proxy.specs.Usable.{tcp_at}
@@ -14,9 +13,9 @@ use Rattle.ice_client.specs.declared.outcome.Outcome.TheVariants as outcomes
 use Rattle.ice_client.specs.declared.outcome.Invoked.{Invoked}
 use Rattle.ice_client.specs.declared.outgoing.Outgoing.{Outgoing}
 use Rattle.ice_client.specs.Rows.{IsLoss, IsReplied}
-use Rattle.ice_client.specs.Asking.{HasRow, AreOrderly}
+use Rattle.ice_client.specs.Asking.{HasRow}
 use Rattle.ice_client.specs.Sending.{asks_reply}
-use Rattle.ice_client.specs.ClientDid.{Tried, ClientDid, ClientCut, Invokes, had, is_uncached}
+use Rattle.ice_client.specs.ClientDid.{Tried, ClientDid, Invokes, had, is_uncached}
 use Rattle.ice_gateway.specs.Gate.{Gate}
 use Rattle.ice_gateway.specs.Handled.{WasStarved, DueStarved}
 use Rattle.ice_gateway.specs.Laws.{CameBack, CanCome}
@@ -66,35 +65,11 @@ was_tried gate m tried r some (attempts, did, placed, uncached, short) =
 
 -- ---- where memory ran out
 
-row_orderly : (o : Outgoing) (cached : Bool) (a : Attempt) (outcome : Outcome) (talk : Option Talk) → HasRow o cached a outcome talk → AreOrderly o talk
-row_orderly o cached a outcome None h = tt
-row_orderly o cached a outcome (Some t) h = h.1
-
--- how the last attempt ended is passed over
-cut_of : (m : Message) (retries : ℕ) (tried : List Tried) (outcome : Outcome) → ClientDid m retries tried (Some outcome) → ClientCut m retries tried
-cut_of m retries tried outcome did =
-    let before = did.ended.0 in
-    let last = did.ended.1 in
-    let long = ap length did.ended.2 ∙ length-append before (last ∷ []) in
-    let few : length tried ≤ retries + 1 = did.ended.5 in
-    record {
-      outgoing = did.outgoing;
-      is_of = did.is_of;
-      cut = record {
-        before = before;
-        last = last;
-        parts = did.ended.2;
-        followed = did.ended.3;
-        few = omega (arith, long, few);
-        orderly = row_orderly did.outgoing last.cached last.attempt outcome last.talk did.ended.4;
-      };
-    }
-
 pub starved_behind : (gate : Gate) (m : Message) (runs : List (List Tried)) (tried : List Tried) (outcome : Outcome) → runs ≡ tried ∷ [] → ClientDid m gate.retries tried (Some outcome) → Each is_uncached tried → WasStarved gate m runs
-starved_behind gate m runs tried outcome is did uncached = inr (tried, is, inr (cut_of m gate.retries tried outcome did), uncached)
+starved_behind gate m runs tried outcome is did uncached = inr (tried, is, uncached, inr (outcome, did))
 
 pub starved_in : (gate : Gate) (m : Message) (tried : List Tried) → Invokes m gate.endpoints gate.retries tried (Err Memory) → WasStarved gate m (tried ∷ [])
-starved_in gate m tried h = inr (tried, refl, h.0, h.1)
+starved_in gate m tried h = inr (tried, refl, h.1, inl h.0)
 
 pub none_starved : (gate : Gate) (due : Option Message) → DueStarved gate due []
 none_starved gate None = refl

@@ -34,9 +34,10 @@ WasForwarded gate None (Some i) = ⊥
 WasForwarded gate (Some m) None = ⊥
 WasForwarded gate (Some m) (Some i) = WasInvoked gate m i
 
--- memory ran out before the attempts at the message, in the last of them, or behind it: how that one ended is not told
+-- memory ran out before the attempts at the message, in the last of them, or behind them
 abbrev pub WasStarved : Gate → Message → List (List Tried) → Type 0
-WasStarved gate m runs = (runs ≡ []) ⊎ ((tried : List Tried) × (runs ≡ tried ∷ []) × ClientStarved m gate.retries tried × Each is_uncached tried)
+WasStarved gate m runs = (runs ≡ [])
+    ⊎ ((tried : List Tried) × (runs ≡ tried ∷ []) × Each is_uncached tried × (ClientStarved m gate.retries tried ⊎ ((outcome : Outcome) × ClientDid m gate.retries tried (Some outcome))))
 
 -- so it was of the message that is due; where none is due there was no attempt
 abbrev pub DueStarved : Gate → Option Message → List (List Tried) → Type 0

@@ -52,7 +52,7 @@ returns-in_err-end g c =
         adds_then (g.L.Link.talk c.args.link.now) (g.L.Link.talk c.write_bytes-taken.new.link) (g.L.Link.talk c.await_reply.new.link) (writes_part o.bytes n) more.0 wrote more.1,
         count_both (g.L.Source.failures c.await_reply.new.link) (g.L.Sink.failures c.await_reply.new.link) (nat_lt n (length o.bytes)) more.0.failed
             (more.2 ∙ ap (λ (k : ℕ). count_after k more.0.failed) (c.write_bytes-taken.ensures.reads ∙ c.requires.reads)) (c.in_err-end.ensures.writes ∙ writes),
-        asks_starved AllocError o c.args.cached c.args.frames.now n c.args.client.now c.step-action.new.self c.requires.made c.requires.state c.step-action.ensures.state failed.0 c.step-action.new.self more.0 same more.3,
+        asks_starved AllocError o c.args.cached c.args.frames.now n c.args.client.now c.step-action.new.self c.requires.made c.requires.state c.step-action.ensures.state failed.0 c.step-action.new.self more.0 same c.if-not-outgoing.false more.3,
       );
     })
 

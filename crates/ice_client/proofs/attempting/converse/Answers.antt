@@ -8,7 +8,7 @@ use Rattle.retry_core.specs.declared.client_table.ClientState.TheVariants as sta
 use Rattle.ice_client.specs.declared.outcome.End.{End}
 use Rattle.ice_client.specs.Steps.{Greets}
 use Rattle.talking.proofs.Adding.{adds_then}
-use Rattle.ice_client.proofs.Rowed.{count_reads, greeted_state, unsent}
+use Rattle.ice_client.proofs.Rowed.{count_reads, greeted_state, ran_early}
 use Rattle.ice_client.proofs.Conversing.{greeted_comes, greeted_over, converses_moved}
 use Rattle.ice_client.proofs.attempting.converse.Goals as goal
 
@@ -21,7 +21,7 @@ returns-in_err-end g c =
         t.0,
         t.1,
         count_reads (g.L.Source.failures c.greet.new.link) (g.L.Sink.failures c.greet.new.link) t.0.failed (t.2 ∙ ap (λ (k : ℕ). count_after k t.0.failed) c.requires.reads) (c.in_err-end.ensures.writes ∙ c.requires.writes),
-        unsent c.args.outgoing.now t.0 t.3,
+        ran_early c.args.outgoing.now t.0 t.3,
       );
     })
 

@@ -17,7 +17,7 @@ returns-then-is_none-clause-told g c = (
 pub returns-in_err-client-clause-told : goal.returns-in_err-client-clause-told
 returns-in_err-client-clause-told g c =
     let failed = err_from_is_err_and c.from_residual.result c.from_residual.ensures.1 in
-    rw failed.1 ([], made_none c.args.proxy.now.endpoints (g.N.Net.told c.args.net.now) (g.N.Net.failures c.args.net.now), (inl refl, tt))
+    rw failed.1 ([], made_none c.args.proxy.now.endpoints (g.N.Net.told c.args.net.now) (g.N.Net.failures c.args.net.now), (inl refl, tt, λ e. refl))
 
 pub loop-client-init : goal.loop-client-init
 loop-client-init g c = record {
@@ -41,7 +41,8 @@ returns-in_err-once-clause-told g c =
       i.tried ++ t ∷ [],
       made_more c.args.proxy.now.endpoints c.loop-client.number i.tried t (g.N.Net.told c.args.net.now) (g.N.Net.told c.loop-client.net) (g.N.Net.told c.attempt_once.new.net) (g.N.Net.failures c.args.net.now) (g.N.Net.failures c.loop-client.net)
           (g.N.Net.failures c.attempt_once.new.net) i.under_way.counted i.made once.1 once.2,
-      cut_off c.args.outgoing.now c.args.retries c.loop-client.number i.tried c.loop-client.client NotConnected once.0 i.under_way once.3,
+      cut_off c.args.outgoing.now c.args.proxy.now.endpoints c.args.retries c.loop-client.number i.tried c.loop-client.client NotConnected once.0
+          (some_place _ c.tcp_of.result (tcp_at 0 c.args.proxy.now.endpoints) c.if-is_none.ensures c.tcp_of.ensures) i.under_way once.3,
     )
 
 pub returns-then-not-goes_again-clause-told : goal.returns-then-not-goes_again-clause-told
