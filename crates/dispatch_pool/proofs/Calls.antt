@@ -95,7 +95,7 @@ module _ {g : Ghosts Object Call Answer} (keys : Keys) (ps qs : List (Pass Objec
     left = tt;
     outcomes = tt;
     grew = w;
-    says = (refl, refl);
+    says = (refl, refl, (refl, refl));
   }
 
 -- ---- a batch
@@ -139,7 +139,7 @@ module _ {g : Ghosts Object Call Answer} (keys : Keys) where
     left = ap unasked none;
     outcomes = b.outcomes;
     grew = b.grew;
-    says = subst (λ (z : List Message). Says {E = E} z silent (Ok true)) (sym b.quiet) (refl, (refl, tt));
+    says = subst (λ (z : List Message). Says {E = E} z silent (Ok true)) (sym b.quiet) (refl, (refl, tt), (refl, refl));
   }
 
   pub batch_starved : (E : Type 0) (e : E) (ps qs rs : List (Pass Object Call Answer g)) (calls left : List Call) → BatchDid keys ps qs calls left → RowGrew qs rs [] → Handling keys ps rs {E = E} (unasked calls) silent (Err e)
@@ -151,7 +151,7 @@ module _ {g : Ghosts Object Call Answer} (keys : Keys) where
     outcomes = b.outcomes;
     grew = grew_rest ps qs rs b.hs b.grew w;
     says = subst (λ (z : List Message). Says {E = E} z silent (Err e)) (sym b.quiet)
-        (refl, refl);
+        (refl, refl, (refl, refl));
   }
 
 same_state : (x y : ServerAction × ServerState) → Some x ≡ Some y → x.1 ≡ y.1

@@ -23,7 +23,7 @@ one_reply (pos (suc n)) answer ne = refl
 one_reply (negsuc n) answer ne = refl
 
 pub unasked_says : (E : Type 0) (id : ℤ) (answer : Answer) → id ≡ pos 0 → Says {E = E} (reply_of id answer) silent (Ok true)
-unasked_says E id answer is = subst (λ (z : List Message). Says {E = E} z silent (Ok true)) (sym (no_reply id answer is)) (refl, (refl, tt))
+unasked_says E id answer is = subst (λ (z : List Message). Says {E = E} z silent (Ok true)) (sym (no_reply id answer is)) (refl, (refl, tt), (refl, refl))
 
 pub reply_says : (E : Type 0) (id : ℤ) (answer : Answer) (t : Talk) (r : Result Bool E) → id ≢ pos 0 → Says (Reply id answer ∷ []) t r → Says (reply_of id answer) t r
 reply_says E id answer t r ne h = subst (λ (z : List Message). Says z t r) (sym (one_reply id answer ne)) h

@@ -11,7 +11,7 @@ use Rattle.ice_messages.specs.declared.message.Message.{Message}
 use Rattle.ice_messages.specs.declared.message.Message.TheVariants.{Request, Batch, Reply, Validate, Close}
 use Rattle.ice_messages.specs.Messages.{SpellsMessage}
 use Rattle.ice_messages.specs.Streams.{Stream}
-use Rattle.talking.specs.Said.{bytes_of, IsSaid, IsBegun, Says}
+use Rattle.talking.specs.Said.{bytes_of, IsSaid, IsBegun, IsFine, Says}
 use Rattle.talking.specs.Ends.{Shows, IsTaken, ClosesBy, StepSaid}
 use Rattle.dispatch_pool.specs.declared.object.Object.{Object}
 use Rattle.talking.specs.declared.end.End.{End}
@@ -21,7 +21,7 @@ use Rattle.dispatch_pool.specs.Handled.{Keys, Asked, Handled, answer_of, asked, 
 use Rattle.dispatch_pool.specs.ServerDid.{ServerDid, IsCut, WasSaid, IsLeft, all_said}
 use Rattle.dispatch_pool.specs.Parts.{IsSingle, Handling, Next, Part, IsNext, LeavesNone}
 use Rattle.talking.proofs.Said.{said_then, none_begun, said_begun}
-use Rattle.talking.proofs.Ends.{stream_then, taken_append, stepped, nothing_said, nothing_taken, or_right, shows_later, not_closed}
+use Rattle.talking.proofs.Ends.{stream_then, taken_append, stepped, nothing_said, nothing_taken, or_right, both_fine, shows_later, not_closed}
 use Rattle.dispatch_pool.proofs.Turning.{row_still}
 use Rattle.dispatch_pool.proofs.Messages.{reply_few}
 use Rattle.dispatch_pool.proofs.Calls.{asking_append, replies_append, outcomes_append, grew_more}
@@ -35,9 +35,9 @@ asked_append (x ∷ xs) ys = ap (λ (z : List Asked). asked_of x ++ z) (asked_ap
 -- ---- one message
 
 next_by : {E : Type 0} (r : Result Bool E) (m : Message) (t : Talk) (held : List ℕ) (rest : List Asked) (messages : List Message) → LeavesNone rest r → Says messages t r → IsNext t held (m ∷ []) held rest messages (stepped r)
-next_by (Ok true) m t held rest messages none s = (refl, refl, none, s.1)
+next_by (Ok true) m t held rest messages none s = (refl, refl, none, s.1, s.2)
 next_by (Ok false) m t held rest messages none s = (s.2, none, s.1, tt)
-next_by (Err e) m t held rest messages none s = s.1
+next_by (Err e) m t held rest messages none s = (s.1, s.2)
 
 asking_long : (hs : List Handled) → length (asking hs) ≡ length hs
 asking_long [] = refl
@@ -103,7 +103,7 @@ module _ {g : Ghosts Object Call Answer} (keys : Keys) where
     calls = append-nil (asked_of m) ∙ none;
     outcomes = tt;
     grew = row_still ps;
-    how = (refl, refl, refl, (refl, tt));
+    how = (refl, refl, refl, (refl, tt), (refl, refl));
   }
 
   pub next_end : {E : Type 0} (ps : List (Pass Object Call Answer g)) (t : Talk) (bytes held : List ℕ) (end : End) → t.taken ≡ [] → Shows t bytes (Some end) → end ≢ ends.Enough → Next keys ps ps {E = E} t bytes held (Ok (Some end))
@@ -122,8 +122,8 @@ module _ {g : Ghosts Object Call Answer} (keys : Keys) where
     how = (shows, refl, nothing_said end t ne none, nothing_taken end ne);
   }
 
-  pub next_starved : {E : Type 0} (e : E) (ps : List (Pass Object Call Answer g)) (t : Talk) (bytes held : List ℕ) → t.taken ≡ [] → Next keys ps ps {E = E} t bytes held (Err e)
-  next_starved e ps t bytes held none = record {
+  pub next_starved : {E : Type 0} (e : E) (ps : List (Pass Object Call Answer g)) (t : Talk) (bytes held : List ℕ) → t.taken ≡ [] → IsFine t → Next keys ps ps {E = E} t bytes held (Err e)
+  next_starved e ps t bytes held none fine = record {
     reads = [];
     left = bytes;
     handled = [];
@@ -135,7 +135,7 @@ module _ {g : Ghosts Object Call Answer} (keys : Keys) where
     calls = refl;
     outcomes = tt;
     grew = row_still ps;
-    how = none;
+    how = (none, fine);
   }
 
 -- behind the bytes of a message
@@ -263,7 +263,7 @@ was_then ends.Enough xs ys x y one h k = absurd k
 
 module _ {g : Ghosts Object Call Answer} (keys : Keys) where
   pub part_begun : (E : Type 0) (ps : List (Pass Object Call Answer g)) (t : Talk) → Says {E = E} (Validate ∷ []) t (Ok true) → Part keys ps ps t [] 0
-  part_begun E ps t h = record { reads = []; handled = []; stream = h.0; long = refl; going = tt; calls = refl; outcomes = tt; grew = row_still ps; said = h.1 }
+  part_begun E ps t h = record { reads = []; handled = []; stream = h.0; long = refl; going = tt; calls = refl; outcomes = tt; grew = row_still ps; said = h.1; fine = h.2 }
 
   pub part_more : (E : Type 0) (ps qs rs : List (Pass Object Call Answer g)) (t s : Talk) (held now : List ℕ) (i : ℕ) → Part keys ps qs t held i → Next keys qs rs {E = E} s (held ++ s.given) now (Ok None)
       → Part keys ps rs (and_then t s) now (i + 1)
@@ -277,6 +277,7 @@ module _ {g : Ghosts Object Call Answer} (keys : Keys) where
     outcomes = outcomes_append keys p.handled n.handled p.outcomes n.outcomes;
     grew = grew_more ps qs rs p.handled n.handled p.grew n.grew;
     said = subst (λ (z : List Message). IsSaid z (t.taken ++ s.taken)) (said_more p.handled n.handled) (said_then (Validate ∷ replies p.handled) (replies n.handled) t.taken s.taken p.said n.how.3);
+    fine = both_fine t s p.fine n.how.4;
   }
 
   -- the last message, or what came in its place
@@ -312,14 +313,14 @@ module _ {g : Ghosts Object Call Answer} (keys : Keys) where
         stream = stream_then p.reads n.reads t.given held s.given n.left p.stream n.stream;
         few = let l = length-append p.reads n.reads in let a = p.long in let b = n.few in omega arith;
         going = taken_append p.reads n.reads p.going n.going;
-        shows = tt;
+        shows = both_fine t s p.fine n.how.1;
         rest = n.rest;
         calls = asked_append p.reads n.reads ∙ (ap₂ (λ (a b : List Asked). a ++ b) p.calls n.calls ∙ (sym (append_assoc (asking p.handled) (asking n.handled) n.rest) ∙ ap (λ (z : List Asked). z ++ n.rest) (sym (asking_append p.handled n.handled))));
         is_left = tt;
         outcomes = outcomes_append keys p.handled n.handled p.outcomes n.outcomes;
         closes = false;
         closes_by = refl;
-        said = cut_behind p.handled n.handled t.taken s.taken n.single p.said (unsaid n.handled s.taken n.single n.how);
+        said = cut_behind p.handled n.handled t.taken s.taken n.single p.said (unsaid n.handled s.taken n.single n.how.0);
       },
     )
 
@@ -354,7 +355,7 @@ module _ {g : Ghosts Object Call Answer} (keys : Keys) where
     not_said E h = closed (Some ends.LinkFailed) true h.0 (or_right t.failed s.failed h.2) (λ f. p.long) (cut_close p.handled t.taken s.taken p.said h.1) refl
 
     pub starved_last : (E : Type 0) (e : E) → Says {E = E} (Close ∷ []) s (Err e) → (hs : List Handled) × RowGrew ps qs (turns_of hs) × ServerDid keys most (and_then t s) hs None
-    starved_last E e h = closed None false h.0 tt refl (cut_unsaid p.handled t.taken s.taken p.said h.1) tt
+    starved_last E e h = closed None false h.0 (both_fine t s p.fine h.2) refl (cut_unsaid p.handled t.taken s.taken p.said h.1) tt
 
   -- not even a validate was said
   not_begun : (most : ℕ) (ps : List (Pass Object Call Answer g)) (t : Talk) (end : Option End) → t.given ≡ [] → Shows t [] end → ClosesBy end false 0 most → IsLeft end [] → WasSaid end [] false t.taken
@@ -370,4 +371,4 @@ module _ {g : Ghosts Object Call Answer} (keys : Keys) where
 
   pub starved_first : (E : Type 0) (e : E) (most : ℕ) (ps : List (Pass Object Call Answer g)) (t : Talk) → Says {E = E} (Validate ∷ []) t (Err e) → (hs : List Handled) × RowGrew ps ps (turns_of hs) × ServerDid keys most t hs None
   starved_first E e most ps t h =
-      not_begun most ps t None h.0 tt refl tt (inl (refl, refl, subst (λ (z : List ℕ). IsBegun (Validate ∷ []) z) (sym h.1) (none_begun (Validate ∷ []) (omega arith))))
+      not_begun most ps t None h.0 h.2 refl tt (inl (refl, refl, subst (λ (z : List ℕ). IsBegun (Validate ∷ []) z) (sym h.1) (none_begun (Validate ∷ []) (omega arith))))

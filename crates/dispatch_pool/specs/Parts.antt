@@ -9,7 +9,7 @@ use Rattle.ice_messages.specs.declared.message.Answer.{Answer}
 use Rattle.ice_messages.specs.declared.message.Message.{Message}
 use Rattle.ice_messages.specs.declared.message.Message.TheVariants.{Validate}
 use Rattle.ice_messages.specs.Streams.{Stream}
-use Rattle.talking.specs.Said.{IsSaid, Says}
+use Rattle.talking.specs.Said.{IsSaid, Says, IsFine}
 use Rattle.talking.specs.Ends.{Shows, IsTaken, StepSaid, ComesBy}
 use Rattle.dispatch_pool.specs.declared.object.Object.{Object}
 use Rattle.talking.specs.declared.end.End.{End}
@@ -33,9 +33,9 @@ abbrev pub IsSingle : List Handled → Type 0
 IsSingle handled = (length handled ≤ 1) ⊎ (replies handled ≡ [])
 
 abbrev pub IsNext : {E : Type 0} → Talk → List ℕ → List Message → List ℕ → List Asked → List Message → Result (Option End) E → Type 0
-IsNext t held reads left rest messages (Ok None) = (length reads ≡ 1) × (left ≡ held) × (rest ≡ []) × IsSaid messages t.taken
+IsNext t held reads left rest messages (Ok None) = (length reads ≡ 1) × (left ≡ held) × (rest ≡ []) × IsSaid messages t.taken × IsFine t
 IsNext t held reads left rest messages (Ok (Some end)) = Shows t left (Some end) × (rest ≡ []) × StepSaid end messages t.taken × ComesBy end reads
-IsNext t held reads left rest messages (Err e) = t.taken ≡ []
+IsNext t held reads left rest messages (Err e) = (t.taken ≡ []) × IsFine t
 
 module _ {g : Ghosts Object Call Answer} (keys : Keys) (ps qs : List (Pass Object Call Answer g)) where
   -- a call had a turn, or a refusal without one
@@ -63,6 +63,7 @@ module _ {g : Ghosts Object Call Answer} (keys : Keys) (ps qs : List (Pass Objec
     pub outcomes : AreOutcomes keys handled
     pub grew : RowGrew ps qs (turns_of handled)
     pub said : IsSaid (Validate ∷ replies handled) t.taken
+    pub fine : IsFine t
 
   -- of these bytes a message was taken and its calls handled, or the connection ends
   pub record Next {E : Type 0} (t : Talk) (bytes held : List ℕ) (r : Result (Option End) E) : Type 0 where

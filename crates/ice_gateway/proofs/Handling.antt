@@ -84,7 +84,7 @@ cut_off gate m runs e starved = record {
   did = tt;
   invoked = refl;
   left = starved;
-  says = (refl, refl);
+  says = (refl, refl, (refl, refl));
 }
 
 pub oneway_cut_off : {E : Type 0} (gate : Gate) (id : ℤ) (c : Call) (runs : List (List Tried)) (e : E) → id ≡ pos 0 → DueStarved gate (request_anew gate (pos 0) (going (admitted gate c))) runs
@@ -101,7 +101,7 @@ request_cut_off gate id c runs e ne h =
 pub passed : {E : Type 0} (gate : Gate) (m : Message) (due : Option Message) (runs : List (List Tried)) → forwarded gate m ≡ due → ((o : Option Outcome) → WasAnswered gate m o []) → Passed gate due runs
     → Handling {E = E} gate m runs silent (Ok true)
 passed {E} gate m due runs is unasked h =
-    one_handled {E = E} gate m runs h.0 [] silent (Ok true) h.1 (subst (λ (d : Option Message). WasForwarded gate d h.0) (sym is) h.2) (unasked (outcome_of h.0)) (refl, (refl, tt))
+    one_handled {E = E} gate m runs h.0 [] silent (Ok true) h.1 (subst (λ (d : Option Message). WasForwarded gate d h.0) (sym is) h.2) (unasked (outcome_of h.0)) (refl, (refl, tt), (refl, refl))
 
 -- a request with id 0
 pub oneway_passed : {E : Type 0} (gate : Gate) (id : ℤ) (c : Call) (runs : List (List Tried)) → id ≡ pos 0 → Passed gate (request_anew gate (pos 0) (going (admitted gate c))) runs

@@ -13,14 +13,14 @@ use Rattle.ice_client.specs.declared.outcome.Outcome.{Outcome}
 use Rattle.ice_client.specs.ClientDid.{Tried}
 use Rattle.talking.specs.declared.end.End.{End}
 use Rattle.talking.specs.declared.end.End.TheVariants as ends
-use Rattle.talking.specs.Said.{IsSaid, IsBegun, Says}
+use Rattle.talking.specs.Said.{IsSaid, IsBegun, IsFine, Says}
 use Rattle.talking.specs.Ends.{Shows, IsTaken, ClosesBy, StepSaid}
 use Rattle.ice_gateway.specs.Gate.{Gate}
 use Rattle.ice_gateway.specs.Handled.{Handled, WasHandled, WasAnswered, outcome_of, messages, runs_of, run_of, replies}
 use Rattle.ice_gateway.specs.GateDid.{GateDid, IsCut, WasSaid, IsLeft, all_said}
 use Rattle.ice_gateway.specs.Parts.{Handling, Next, Part, IsNext, Leaves}
 use Rattle.talking.proofs.Said.{said_then, none_begun, said_begun}
-use Rattle.talking.proofs.Ends.{stream_then, taken_append, stepped, nothing_said, nothing_taken, or_right, shows_later, not_closed}
+use Rattle.talking.proofs.Ends.{stream_then, taken_append, stepped, nothing_said, nothing_taken, or_right, both_fine, shows_later, not_closed}
 use Rattle.ice_gateway.proofs.Handling.{one_handled}
 
 -- ---- lists
@@ -49,9 +49,9 @@ behind {A} f append xs ys a b rest one two =
 -- ---- one message
 
 next_by : {E : Type 0} (gate : Gate) (r : Result Bool E) (m : Message) (t : Talk) (held : List ℕ) (rest : List Message) (cut : List (List Tried)) (said : List Message) → Leaves gate rest cut r → Says said t r → IsNext gate t held (m ∷ []) held rest cut said (stepped r)
-next_by gate (Ok true) m t held rest cut said none s = (refl, refl, none.0, none.1, s.1)
+next_by gate (Ok true) m t held rest cut said none s = (refl, refl, none.0, none.1, s.1, s.2)
 next_by gate (Ok false) m t held rest cut said none s = (s.2, none.0, none.1, s.1, tt)
-next_by gate (Err e) m t held rest cut said none s = (none, s.1)
+next_by gate (Err e) m t held rest cut said none s = (none, s.1, s.2)
 
 module _ (gate : Gate) where
   pub next_handled : {E : Type 0} (r : Result Bool E) (runs : List (List Tried)) (m : Message) (bytes held first : List ℕ) (t : Talk) → bytes ≡ first ++ held → SpellsMessage first m
@@ -73,7 +73,7 @@ module _ (gate : Gate) where
 
   -- a message of which nothing comes
   pub next_quiet : {E : Type 0} (bytes held first : List ℕ) → bytes ≡ first ++ held → SpellsMessage first Validate → Next {E = E} gate [] silent bytes held (Ok None)
-  next_quiet {E = E} bytes held first is spelled = next_handled {E = E} (Ok true) [] Validate bytes held first silent is spelled (refl, λ e. cc) (one_handled gate Validate [] None [] silent (Ok true) refl tt refl (refl, (refl, tt)))
+  next_quiet {E = E} bytes held first is spelled = next_handled {E = E} (Ok true) [] Validate bytes held first silent is spelled (refl, λ e. cc) (one_handled gate Validate [] None [] silent (Ok true) refl tt refl (refl, (refl, tt), (refl, refl)))
 
   pub next_end : {E : Type 0} (t : Talk) (bytes held : List ℕ) (end : End) → t.taken ≡ [] → Shows t bytes (Some end) → end ≢ ends.Enough → Next {E = E} gate [] t bytes held (Ok (Some end))
   next_end t bytes held end none shows ne = record {
@@ -91,8 +91,8 @@ module _ (gate : Gate) where
     how = (shows, refl, refl, nothing_said end t ne none, nothing_taken end ne);
   }
 
-  pub next_starved : {E : Type 0} (e : E) (t : Talk) (bytes held : List ℕ) → t.taken ≡ [] → Next {E = E} gate [] t bytes held (Err e)
-  next_starved e t bytes held none = record {
+  pub next_starved : {E : Type 0} (e : E) (t : Talk) (bytes held : List ℕ) → t.taken ≡ [] → IsFine t → Next {E = E} gate [] t bytes held (Err e)
+  next_starved e t bytes held none fine = record {
     reads = [];
     left = bytes;
     handled = [];
@@ -104,7 +104,7 @@ module _ (gate : Gate) where
     taken = refl;
     did = tt;
     invoked = refl;
-    how = (refl, none);
+    how = (refl, none, fine);
   }
 
 -- behind the bytes of a message
@@ -244,7 +244,7 @@ was_then ends.Enough xs ys x y one h k = absurd k
 
 module _ (gate : Gate) where
   pub part_begun : (E : Type 0) (t : Talk) → Says {E = E} (Validate ∷ []) t (Ok true) → Part gate [] t [] 0
-  part_begun E t h = record { reads = []; handled = []; stream = h.0; long = refl; going = tt; taken = refl; did = tt; invoked = refl; said = h.1 }
+  part_begun E t h = record { reads = []; handled = []; stream = h.0; long = refl; going = tt; taken = refl; did = tt; invoked = refl; said = h.1; fine = h.2 }
 
   pub part_more : (E : Type 0) (runs more : List (List Tried)) (t s : Talk) (held now : List ℕ) (i : ℕ) → Part gate runs t held i → Next {E = E} gate more s (held ++ s.given) now (Ok None)
       → Part gate (runs ++ more) (and_then t s) now (i + 1)
@@ -258,6 +258,7 @@ module _ (gate : Gate) where
     did = each_append gate p.handled n.handled p.did n.did;
     invoked = behind runs_of runs_append p.handled n.handled runs more [] p.invoked (n.invoked ∙ ap (λ (z : List (List Tried)). runs_of n.handled ++ z) n.how.3) ∙ append-nil (runs_of (p.handled ++ n.handled));
     said = subst (λ (z : List Message). IsSaid z (t.taken ++ s.taken)) (said_more p.handled n.handled) (said_then (Validate ∷ replies p.handled) (replies n.handled) t.taken s.taken p.said n.how.4);
+    fine = both_fine t s p.fine n.how.5;
   }
 
   -- the last message, or what came in its place
@@ -290,7 +291,7 @@ module _ (gate : Gate) where
       stream = stream_then p.reads n.reads t.given held s.given n.left p.stream n.stream;
       few = let l = length-append p.reads n.reads in let a = p.long in let b = n.few in omega arith;
       going = taken_append p.reads n.reads p.going n.going;
-      shows = tt;
+      shows = both_fine t s p.fine n.how.2;
       handled = p.handled ++ n.handled;
       rest = n.rest;
       taken = behind messages messages_append p.handled n.handled p.reads n.reads n.rest p.taken n.taken;
@@ -338,7 +339,7 @@ module _ (gate : Gate) where
     not_said E h = closed (Some ends.LinkFailed) true h.0 (or_right t.failed s.failed h.2) (λ f. p.long) (cut_close p.handled t.taken s.taken p.said h.1) (refl, refl)
 
     pub starved_last : (E : Type 0) (e : E) → Says {E = E} (Close ∷ []) s (Err e) → GateDid gate most (and_then t s) runs None
-    starved_last E e h = closed None false h.0 tt refl (cut_unsaid p.handled t.taken s.taken p.said h.1) refl
+    starved_last E e h = closed None false h.0 (both_fine t s p.fine h.2) refl (cut_unsaid p.handled t.taken s.taken p.said h.1) refl
 
   -- not even a validate was said
   not_begun : (most : ℕ) (t : Talk) (end : Option End) → t.given ≡ [] → Shows t [] end → ClosesBy end false 0 most → IsLeft gate end [] [] → WasSaid end [] false t.taken → GateDid gate most t [] end
@@ -367,7 +368,7 @@ module _ (gate : Gate) where
 
   pub starved_first : (E : Type 0) (e : E) (most : ℕ) (t : Talk) → Says {E = E} (Validate ∷ []) t (Err e) → GateDid gate most t [] None
   starved_first E e most t h =
-      not_begun most t None h.0 tt refl refl (inl (refl, refl, subst (λ (z : List ℕ). IsBegun (Validate ∷ []) z) (sym h.1) (none_begun (Validate ∷ []) (omega arith))))
+      not_begun most t None h.0 h.2 refl refl (inl (refl, refl, subst (λ (z : List ℕ). IsBegun (Validate ∷ []) z) (sym h.1) (none_begun (Validate ∷ []) (omega arith))))
 
 pub ok_either : {A B : Type 0} (r : Result A B) (P : A → Type 0) → ((x : A) → P x) → IfOk r P
 ok_either (Ok x) P f = f x

@@ -9,7 +9,7 @@ use Rattle.ice_messages.specs.Streams.{Stream}
 use Rattle.ice_client.specs.declared.outcome.Outcome.{Outcome}
 use Rattle.ice_client.specs.ClientDid.{Tried, ClientDid, is_uncached}
 use Rattle.talking.specs.declared.end.End.{End}
-use Rattle.talking.specs.Said.{IsSaid, Says}
+use Rattle.talking.specs.Said.{IsSaid, IsFine, Says}
 use Rattle.talking.specs.Ends.{Shows, IsTaken, StepSaid, ComesBy}
 use Rattle.ice_gateway.specs.Gate.{Gate}
 use Rattle.ice_gateway.specs.Handled.{Handled, Invocation, WasHandled, WasForwarded, WasStarved, DueStarved, AreLeft, messages, outcome_of, run_of, runs_of, replies}
@@ -58,9 +58,9 @@ pub record Handling {E : Type 0} (gate : Gate) (m : Message) (runs : List (List 
 -- ---- what is left of a message
 
 abbrev pub IsNext : {E : Type 0} → Gate → Talk → List ℕ → List Message → List ℕ → List Message → List (List Tried) → List Message → Result (Option End) E → Type 0
-IsNext gate t held reads left rest cut said (Ok None) = (length reads ≡ 1) × (left ≡ held) × (rest ≡ []) × (cut ≡ []) × IsSaid said t.taken
+IsNext gate t held reads left rest cut said (Ok None) = (length reads ≡ 1) × (left ≡ held) × (rest ≡ []) × (cut ≡ []) × IsSaid said t.taken × IsFine t
 IsNext gate t held reads left rest cut said (Ok (Some end)) = Shows t left (Some end) × (rest ≡ []) × (cut ≡ []) × StepSaid end said t.taken × ComesBy end reads
-IsNext gate t held reads left rest cut said (Err e) = AreLeft gate rest cut × (t.taken ≡ [])
+IsNext gate t held reads left rest cut said (Err e) = AreLeft gate rest cut × (t.taken ≡ []) × IsFine t
 
 -- of these bytes a message was taken and handled by these attempts, or the connection ends
 pub record Next {E : Type 0} (gate : Gate) (runs : List (List Tried)) (t : Talk) (bytes held : List ℕ) (r : Result (Option End) E) : Type 0 where
@@ -88,3 +88,4 @@ pub record Part (gate : Gate) (runs : List (List Tried)) (t : Talk) (held : List
   pub did : Each (WasHandled gate) handled
   pub invoked : runs ≡ runs_of handled
   pub said : IsSaid (Validate ∷ replies handled) t.taken
+  pub fine : IsFine t

@@ -9,6 +9,7 @@ use Rattle.ice_messages.specs.Streams.{Stream}
 use Rattle.talking.specs.declared.end.End.{End}
 use Rattle.talking.specs.declared.end.End.TheVariants as ends
 use Rattle.talking.specs.Ends.{went_on, IsTaken, Shows, ClosesBy, StepSaid, ComesBy}
+use Rattle.talking.specs.Said.{IsFine}
 use Rattle.talking.proofs.Said.{said_begun}
 
 -- ---- messages that were read
@@ -48,6 +49,13 @@ nothing_taken ends.Enough ne = ne refl
 pub or_right : (a b : Bool) → b ≡ true → (a || b) ≡ true
 or_right true b e = refl
 or_right false b e = e
+
+or_none : (a b : Bool) → a ≡ false → b ≡ false → (a || b) ≡ false
+or_none true b e f = absurd cc
+or_none false b e f = f
+
+pub both_fine : (a s : Talk) → IsFine a → IsFine s → IsFine (and_then a s)
+both_fine a s h k = (or_none a.ended s.ended h.0 k.0, or_none a.failed s.failed h.1 k.1)
 
 pub shows_later : (a s : Talk) (left : List ℕ) (e : End) → Shows s left (Some e) → Shows (and_then a s) left (Some e)
 shows_later a s left ends.PeerEnded h = (h.0, or_right a.ended s.ended h.1)

@@ -1,6 +1,6 @@
 -- Messages that are said, one behind the other.
 use Rattle.std.proofs.Common.{◌≡◌, ℕ, ◌<◌, ◌≤◌, ◌==◌, inl, inr, Bool, true, false, List, [], ◌∷◌, ◌++◌, length, take, drop, refl, sym, ap, ap₂, ◌∙◌, subst, arith, append_assoc, append-nil, take_all, take-append-drop}
-use Rattle.std.proofs.lemmas.Bool.{lt-ltb, eqb-true, eqb-false}
+use Rattle.std.proofs.lemmas.Bool.{lt-ltb, le-ltb, eqb-true, eqb-false}
 use Rattle.std.specs.Prelude.{Result, Ok, Err}
 use Rattle.ice_ports.specs.declared.talk.Talk.{Talk}
 use Rattle.ice_messages.specs.declared.message.Message.{Message}
@@ -44,7 +44,7 @@ said_begun ms x h = record {
 pub said_by_write : (E : Type 0) (m : Message) (bytes : List ℕ) (n : ℕ) (b : Bool) → bytes ≡ message_bytes m → SpellsMessage bytes m → n ≤ length bytes → (n == length bytes) ≡ b → Says {E = E} (m ∷ []) (writes_part bytes n) (Ok b)
 said_by_write E m bytes n true is spelled most same =
     let all : n ≡ length bytes = eqb-true n (length bytes) same in
-    (refl, (take_all n bytes (omega (arith, all)) ∙ (is ∙ sym (append-nil (message_bytes m))), (subst (λ (z : List ℕ). SpellsMessage z m) is spelled, tt)))
+    (refl, (take_all n bytes (omega (arith, all)) ∙ (is ∙ sym (append-nil (message_bytes m))), (subst (λ (z : List ℕ). SpellsMessage z m) is spelled, tt)), (refl, le-ltb n (length bytes) (omega (arith, all))))
 said_by_write E m bytes n false is spelled most same =
     let less : n < length bytes = omega (arith, most, eqb-false n (length bytes) same) in (
       refl,

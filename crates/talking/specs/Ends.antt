@@ -7,7 +7,7 @@ use Rattle.ice_messages.specs.Streams.{Stream, IsFront, next_at}
 use Rattle.ice_messages.specs.Ends.{server_fault}
 use Rattle.talking.specs.declared.end.End.{End}
 use Rattle.talking.specs.declared.end.End.TheVariants.{PeerEnded, PeerClosed, PeerBroke, LinkFailed, Enough}
-use Rattle.talking.specs.Said.{IsSaid, IsBegun}
+use Rattle.talking.specs.Said.{IsSaid, IsBegun, IsFine}
 
 -- the end, or None at want of memory
 abbrev pub end_of : {E : Type 0} → Result End E → Option End
@@ -44,9 +44,9 @@ went_on false = Some LinkFailed
 abbrev pub Begins : List ℕ → Message → Type 0
 Begins bytes m = (rest : List ℕ) × Stream bytes (m ∷ []) rest
 
--- the bytes behind the messages that were taken show this end
+-- the bytes behind the messages that were taken show this end; none, at want of memory, comes only where nothing ended or failed
 abbrev pub Shows : Talk → List ℕ → Option End → Type 0
-Shows t left None = Unit {0}
+Shows t left None = IsFine t
 Shows t left (Some PeerEnded) = IsFront left × (t.ended ≡ true)
 Shows t left (Some PeerClosed) = Begins left Close
 Shows t left (Some (PeerBroke fault)) = (next_at left ≡ Err fault) ⊎ ((m : Message) × Begins left m × (server_fault m ≡ Some fault))

@@ -33,11 +33,15 @@ pub record IsBegun (messages : List Message) (taken : List ℕ) : Type 0 where
   pub last_is : bytes_of last ≡ begun ++ lacks
   pub last_spelled : (begun ≡ []) ⊎ AreSpelled last
 
+-- neither an end nor a failure came
+abbrev pub IsFine : Talk → Type 0
+IsFine t = (t.ended ≡ false) × (t.failed ≡ false)
+
 -- these messages were said; or a write failed in the midst of the last one; or memory lacked, and nothing was said
 abbrev pub Says : {E : Type 0} → List Message → Talk → Result Bool E → Type 0
-Says messages t (Ok true) = (t.given ≡ []) × IsSaid messages t.taken
+Says messages t (Ok true) = (t.given ≡ []) × IsSaid messages t.taken × IsFine t
 Says messages t (Ok false) = (t.given ≡ []) × IsBegun messages t.taken × (t.failed ≡ true)
-Says messages t (Err e) = (t.given ≡ []) × (t.taken ≡ [])
+Says messages t (Err e) = (t.given ≡ []) × (t.taken ≡ []) × IsFine t
 
 -- in a call that failed or not, one read or one write failed, or none
 abbrev pub Counts : Bool → (ℕ × ℕ) → (ℕ × ℕ) → Type 0

@@ -16,7 +16,7 @@ pub returns-in_err-message-clause-did : goal.returns-in_err-message-clause-did
 returns-in_err-message-clause-did g c =
     let failed = err_from_is_err_and c.from_residual.result c.from_residual.ensures.1 in
     let e = c.in_err-message.field-0.0 in let d = c.in_err-message.ensures.heard in
-    rw failed.1 (heard_part {E = AllocError} d.0 (Err e), d.1, next_starved c.args.service.now.lanes.now.keys _ c.args.passes.now.passes.items (heard_part {E = AllocError} d.0 (Err e)) _ _ refl)
+    rw failed.1 (heard_part {E = AllocError} d.0 (Err e), d.1, next_starved c.args.service.now.lanes.now.keys _ c.args.passes.now.passes.items (heard_part {E = AllocError} d.0 (Err e)) _ _ refl (refl, refl))
 
 pub serve_message-requires-clause-spelled : goal.serve_message-requires-clause-spelled
 serve_message-requires-clause-spelled g c = λ κs lives.

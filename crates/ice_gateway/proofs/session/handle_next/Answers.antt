@@ -19,7 +19,7 @@ returns-in_err-message-clause-did g c =
     let failed = err_from_is_err_and c.from_residual.result c.from_residual.ensures.1 in
     let e = c.in_err-message.field-0.0 in let d = c.in_err-message.ensures.heard in
     let net = net_seen (g.N.Net.told c.args.net.now) (g.N.Net.failures c.args.net.now) (g.N.Net.listen_failures c.args.net.now) in
-    rw failed.1 (heard_part {E = AllocError} d.0 (Err e), [], d.1, ran_none c.args.gateway.now.upstream.now.endpoints net, next_starved (seen c.args.gateway.now) _ (heard_part {E = AllocError} d.0 (Err e)) _ _ refl)
+    rw failed.1 (heard_part {E = AllocError} d.0 (Err e), [], d.1, ran_none c.args.gateway.now.upstream.now.endpoints net, next_starved (seen c.args.gateway.now) _ (heard_part {E = AllocError} d.0 (Err e)) _ _ refl (refl, refl))
 
 pub handle-requires-clause-spelled : goal.handle-requires-clause-spelled
 handle-requires-clause-spelled g c κs lives =

@@ -11,7 +11,7 @@ use Rattle.talking.proofs.saying.say.Goals as goal
 pub returns-in_err-bytes-clause-did : goal.returns-in_err-bytes-clause-did
 returns-in_err-bytes-clause-did g c =
     let failed = err_from_is_err_and c.from_residual.result c.from_residual.ensures.1 in
-    rw failed.1 (silent, sym (adds_nothing (g.L.Link.talk c.args.link.now)), (refl, refl))
+    rw failed.1 (silent, sym (adds_nothing (g.L.Link.talk c.args.link.now)), (refl, refl, (refl, refl)))
 
 pub returns-clause-did : goal.returns-clause-did
 returns-clause-did g c =
