@@ -1,9 +1,11 @@
 -- A capture has one verdict.
-use Rattle.std.proofs.Common.{◌≡◌, ℕ, ℤ, pos, suc, ◌+◌, ◌<◌, List, [], ◌∷◌, length, Option, None, Some, refl, ap, sym, ◌∙◌, subst, arith, Bool, true, false}
+use Rattle.std.proofs.Common.{◌≡◌, ℕ, ℤ, pos, zero, suc, ◌+◌, ◌<◌, ◌≤◌, ◌⊎◌, inl, inr, List, [], ◌∷◌, length, Option, None, Some, refl, ap, sym, ◌∙◌, subst, arith, Bool, true, false}
 use Rattle.std.specs.Prelude.{slice_get, get_or}
 use Rattle.std.proofs.lemmas.Option.{slice_get-get_or}
 use Rattle.call_world.specs.World.{World, Seat}
+use Rattle.call_world.specs.Counts.{count}
 use Rattle.ice_prims.specs.declared.fault.Fault.{Fault}
+use Rattle.ice_prims.specs.declared.fault.Kind.TheVariants.{NotValidated}
 use Rattle.ice_messages.specs.declared.message.Call.{Call}
 use Rattle.ice_messages.specs.declared.message.Answer.{Answer}
 use Rattle.ice_messages.specs.declared.message.Message.{Message}
@@ -17,6 +19,7 @@ use Rattle.ice_audit.specs.declared.verdict.Line.{Line}
 use Rattle.ice_audit.specs.declared.verdict.Side.{Side}
 use Rattle.ice_audit.specs.declared.verdict.Side.TheVariants.{Client, Server}
 use Rattle.ice_audit.specs.declared.verdict.Why.{Why}
+use Rattle.ice_audit.specs.declared.verdict.Why.TheVariants.{Bytes}
 use Rattle.ice_audit.specs.declared.verdict.Verdict.{Verdict}
 use Rattle.ice_audit.specs.declared.verdict.Verdict.TheVariants.{Yes, No}
 use Rattle.ice_audit.specs.Pieces.{Piece, IsRead}
@@ -24,7 +27,7 @@ use Rattle.ice_audit.specs.Captured.{is_asked, asked_in, seat_ids, ids_by, batch
 use Rattle.ice_audit.specs.Traces.{flags}
 use Rattle.ice_audit.specs.Stops.{client_stop, server_stop}
 use Rattle.ice_audit.specs.Captures.{Trace, TellsIn, RequestTells, BatchTells, SomeTell, OneTells, LinesTell}
-use Rattle.ice_audit.specs.Verdicts.{Stops, client_long, server_long, client_wrong, server_wrong, no_validate, IsTold, Judges}
+use Rattle.ice_audit.specs.Verdicts.{AreShort, Stops, client_long, server_long, client_wrong, server_wrong, no_validate, IsTold, Judges}
 use Rattle.ice_audit.proofs.Said.{ids_twoways}
 use Rattle.ice_audit.proofs.Bytes.{read_one}
 

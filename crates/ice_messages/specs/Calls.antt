@@ -4,7 +4,7 @@ use Rattle.std.specs.Int.{w32}
 use Rattle.ice_types.specs.declared.identity.Identity.{Identity}
 use Rattle.ice_prims.specs.declared.fault.Fault.{Fault}
 use Rattle.ice_prims.specs.declared.fault.Kind.TheVariants.{BadMode, BadStatus}
-use Rattle.ice_prims.specs.Rest.{Rest, bytes_at}
+use Rattle.ice_prims.specs.Rest.{Rest, ◌>>=◌, bytes_at}
 use Rattle.ice_prims.specs.Number.{signed_at, SpellsSigned}
 use Rattle.ice_encoding.specs.declared.limits.TheConstants.{LARGEST, SMALLEST}
 use Rattle.ice_encoding.specs.Parts.{Part, byte, text, both, made, tested, chosen}

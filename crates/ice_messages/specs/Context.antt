@@ -9,7 +9,7 @@ use Rattle.std.specs.BTreeMap.{insert_entry}
 use Rattle.std.specs.Map.{lookup, keys_of}
 use Rattle.ice_prims.specs.declared.fault.Fault.{Fault}
 use Rattle.ice_prims.specs.declared.fault.Kind.TheVariants.{EqualKey}
-use Rattle.ice_prims.specs.Rest.{Rest, fault}
+use Rattle.ice_prims.specs.Rest.{Rest, fault, ◌>>=◌}
 use Rattle.ice_prims.specs.Number.{text_at, SpellsText}
 use Rattle.ice_encoding.specs.Parts.{Part, Each, size, text, both, chosen}
 

@@ -2,7 +2,7 @@
 use Rattle.std.specs.Prelude.{ℕ, ℤ, pos, negsuc, zero, suc, ◌≡◌, ◌≤◌, ◌+◌, ◌-◌, Bool, true, false, List, [], ◌∷◌, ◌++◌, length, Result, Ok, nat_le}
 use Rattle.ice_prims.specs.declared.fault.Fault.{Fault}
 use Rattle.ice_prims.specs.declared.fault.Kind.TheVariants.{BadSize, BadMagic, BadVersion, BadMessage, Compressed, BadStatus}
-use Rattle.ice_prims.specs.Rest.{Rest, bound_at}
+use Rattle.ice_prims.specs.Rest.{Rest, ◌>>=◌, bound_at}
 use Rattle.ice_encoding.specs.declared.limits.TheConstants.{LARGEST}
 use Rattle.ice_encoding.specs.Parts.{Part, byte, int, exactly, nothing, both, made, tested, chosen, times}
 use Rattle.ice_encoding.specs.Bounds.{claimed, filled}

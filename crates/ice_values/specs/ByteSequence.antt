@@ -7,7 +7,7 @@ use Rattle.ice_prims.specs.declared.fault.Fault.{Fault}
 use Rattle.ice_prims.specs.declared.fault.Kind.TheVariants.{Short}
 use Rattle.ice_prims.specs.Bytes.{size_bytes}
 use Rattle.ice_prims.specs.Number.{size_at}
-use Rattle.ice_prims.specs.Rest.{Rest, fault, after}
+use Rattle.ice_prims.specs.Rest.{Rest, fault, ◌>>=◌, after}
 use Rattle.ice_encoding.specs.Tree.{Tree, sequence}
 use Rattle.graph_arena.specs.View.{byte_trees}
 

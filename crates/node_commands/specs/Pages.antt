@@ -1,5 +1,5 @@
 -- The pages of help.
-use Rattle.std.specs.Prelude.{ℕ, List}
+use Rattle.std.specs.Prelude.{ℕ, List, [], ◌∷◌, codes}
 use Rattle.node_commands.specs.declared.words.Page.{Page}
 use Rattle.node_commands.specs.declared.words.Page.TheVariants as pages
 use Rattle.node_commands.specs.declared.help.TheConstants.{HELP}

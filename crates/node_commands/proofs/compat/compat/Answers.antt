@@ -1,4 +1,4 @@
-use Rattle.std.proofs.Common.{[]}
+use Rattle.std.proofs.Common.{[], refl}
 use Rattle.std.proofs.lemmas.Result.{err_from_is_err_and}
 use Rattle.node_commands.specs.Outcomes.{answer_of}
 use Rattle.node_commands.proofs.TwoFiles.{no_old}
