@@ -51,11 +51,9 @@ fn pair_of(rt: &(impl AllocGlobal + Abort), pair: Pair, count: u32) -> Result<Me
     ensures { IfOk result (λ members. ContentFits count (view_content members)) }
 {
     let alloc = rt.alloc();
-    let mut required = List::new(alloc);
-    required.push(within(rt, pair.0, count))?;
-    required.push(within(rt, pair.1, count))?;
+    let both = [within(rt, pair.0, count), within(rt, pair.1, count)];
     Ok(Members {
-        required,
+        required: List::from_vec(Vec::from_array(alloc, both)?),
         optional: List::new(alloc),
     })
 }
@@ -66,10 +64,10 @@ fn put(
     at: u32,
     pair: Pair,
 ) -> Result<(), AllocError> {
-    let members = pair_of(rt, pair, graph.len())?;
-    let mut slices = List::new(rt.alloc());
-    slices.push(Slice::Known { class: 0, members })?;
     assert!(rt; at < graph.len());
+    let members = pair_of(rt, pair, graph.len())?;
+    let slices = [Slice::Known { class: 0, members }];
+    let slices = List::from_vec(Vec::from_array(rt.alloc(), slices)?);
     graph.fill(at, Instance { slices });
     Ok(())
 }
@@ -87,21 +85,28 @@ fn reserve(
     Ok(())
 }
 
-fn see_visits(
+/// Whether the instances are visited in this order.
+fn visits(graph: &Graph, order: &[u32]) -> Result<bool, AllocError> {
+    Ok(graph.first_visit()?.as_slice() == order)
+}
+
+fn are_visited(
     rt: &(impl AllocGlobal + Abort),
     roots: Pair,
     instances: &[Pair],
     order: &[u32],
-) -> Result<(), Fail> {
+) -> Result<bool, AllocError> {
     let graph = graph_of(rt, roots, instances)?;
-    assert_eq!(rt; graph.first_visit()?.as_slice(), order);
-    Ok(())
+    visits(&graph, order)
 }
 
 #[test]
 fn first_visits(rt: HostRuntime) -> Result<(), Fail> {
-    for (roots, instances, order) in VISITS {
-        see_visits(&rt, *roots, instances, order)?;
+    for (at, (roots, instances, order)) in VISITS.iter().enumerate() {
+        assert!(rt;
+            are_visited(&rt, *roots, instances, order)?,
+            "in graph {at}"
+        );
     }
     Ok(())
 }
@@ -178,8 +183,8 @@ fn named_by_first_visits(rt: HostRuntime) -> Result<(), Fail> {
 
 const IN_THE_RING: u32 = 100_000;
 
-/// Each instance names the next, and the last one the first; the roots name the one at 7.
-fn make_ring(rt: &(impl AllocGlobal + Abort), graph: &mut Graph) -> Result<(), AllocError> {
+/// Makes each instance name the next, and the last one the first; the roots name the one at 7.
+fn close_ring(rt: &(impl AllocGlobal + Abort), graph: &mut Graph) -> Result<(), AllocError> {
     reserve(rt, graph, IN_THE_RING)?;
     for at in 0..IN_THE_RING {
         put(rt, graph, at, (Some((at + 1) % IN_THE_RING), None))?;
@@ -189,8 +194,16 @@ fn make_ring(rt: &(impl AllocGlobal + Abort), graph: &mut Graph) -> Result<(), A
     Ok(())
 }
 
+fn ring(rt: &(impl AllocGlobal + Abort)) -> Result<Graph, AllocError> {
+    let mut graph = Graph::new(rt.alloc());
+    close_ring(rt, &mut graph)?;
+    Ok(graph)
+}
+
 /// How many instances are visited, the first of them and the last.
-fn ends_of(graph: &Graph) -> Result<(usize, Option<u32>, Option<u32>), AllocError> {
+type Ends = (usize, Option<u32>, Option<u32>);
+
+fn ends_of(graph: &Graph) -> Result<Ends, AllocError> {
     let places = graph.first_visit()?;
     let last = places.len().saturating_sub(1);
     Ok((
@@ -200,29 +213,51 @@ fn ends_of(graph: &Graph) -> Result<(usize, Option<u32>, Option<u32>), AllocErro
     ))
 }
 
-/// The same of the graph, and once its instances are numbered by first visits.
-fn ends_anew(graph: Graph) -> Result<(usize, Option<u32>, Option<u32>), AllocError> {
-    let graph = graph.renumbered()?;
+/// The same of the ring.
+fn ends_of_ring(rt: &(impl AllocGlobal + Abort)) -> Result<Ends, AllocError> {
+    let graph = ring(rt)?;
+    ends_of(&graph)
+}
+
+/// The same once its instances are numbered by first visits.
+fn ends_anew(rt: &(impl AllocGlobal + Abort)) -> Result<Ends, AllocError> {
+    let graph = ring(rt)?.renumbered()?;
     ends_of(&graph)
 }
 
 #[test]
 fn a_long_ring(rt: HostRuntime) -> Result<(), Fail> {
-    let mut graph = Graph::new(rt.alloc());
-    make_ring(&rt, &mut graph)?;
-    assert_eq!(rt; ends_of(&graph)?, (100_000, Some(7), Some(6)));
-    assert_eq!(rt; ends_anew(graph)?, (100_000, Some(0), Some(99_999)));
+    assert!(rt; ends_of_ring(&rt)? == (100_000, Some(7), Some(6)));
+    assert!(rt; ends_anew(&rt)? == (100_000, Some(0), Some(99_999)));
     Ok(())
+}
+
+/// How the members of a pair are written.
+fn written_pair(
+    rt: &(impl AllocGlobal + Abort),
+    pair: Pair,
+    count: u32,
+) -> Result<String, AllocError> {
+    let members = pair_of(rt, pair, count)?;
+    format!(in rt.alloc(); "{members:?}")
+}
+
+/// The same, once its names are places of a table.
+fn written_by_table(
+    rt: &(impl AllocGlobal + Abort),
+    pair: Pair,
+    table: &[u32],
+) -> Result<String, AllocError> {
+    let mut members = pair_of(rt, pair, 2)?;
+    resolve_members(&mut members, table);
+    format!(in rt.alloc(); "{members:?}")
 }
 
 #[test]
 fn places_of_a_table(rt: HostRuntime) -> Result<(), Fail> {
-    let mut names = pair_of(&rt, (Some(1), None), 2)?;
-    resolve_members(&mut names, &[7, 9]);
-    let want = pair_of(&rt, (Some(9), None), 10)?;
     assert_eq!(rt;
-        format!(in rt.alloc(); "{names:?}")?,
-        format!(in rt.alloc(); "{want:?}")?
+        written_by_table(&rt, (Some(1), None), &[7, 9])?,
+        written_pair(&rt, (Some(9), None), 10)?
     );
     Ok(())
 }

@@ -2,8 +2,8 @@ use ice_types::{Identity, Name};
 use proxy_text::{
     TextFault, escape_identity, parse_identity, print_identity, print_word, quote, text_of,
 };
+use std::alloc::{AllocError, Global};
 use std::process::Abort;
-use std::test::Fail;
 
 /// Texts with the category and the name of the identity that they stand for.
 const IDENTITIES: &[(&str, &str, &str)] = &[
@@ -64,8 +64,10 @@ const PRINTED: &[(&str, &str, &str)] = &[
     ("", "\"'\\", "\"\\\"\\'\\\\\""),
 ];
 
-/// Words with the text that they stand for, and how that is printed as a word and in quotes.
-const TEXTS: &[(&str, &str, &str, &str)] = &[
+/// A word with the text that it stands for, and how that is printed as a word and in quotes.
+type Row = (&'static str, &'static str, &'static str, &'static str);
+
+const TEXTS: &[Row] = &[
     ("", "", "\"\"", "\"\""),
     ("a\\/b/c", "a/b/c", "a/b/c", "\"a/b/c\""),
     ("\"-1\"", "-1", "\"-1\"", "\"-1\""),
@@ -75,12 +77,13 @@ const TEXTS: &[(&str, &str, &str, &str)] = &[
 /// Words that stand for no text.
 const NO_TEXTS: &[&str] = &["\\x", "a\"", "\"", "\"a\"b\"", "\\303"];
 
-fn named(rt: &(impl AllocGlobal + Abort), category: &str, name: &str) -> Result<Identity, Fail> {
-    let (Ok(category), Ok(name)) = (Name::of(rt.alloc(), category), Name::of(rt.alloc(), name))
-    else {
-        return Err(Fail::from("no such answer"));
-    };
-    Ok(Identity { name, category })
+/// The identity of a category and a name.
+fn named(alloc: Global, category: &str, name: &str) -> Result<Identity, AllocError> {
+    let category = Name::of(alloc, category)?;
+    Ok(Identity {
+        name: Name::of(alloc, name)?,
+        category,
+    })
 }
 
 /// What a text of a few bytes stands for.
@@ -89,89 +92,91 @@ fn parsed(rt: &(impl AllocGlobal + Abort), text: &str) -> Result<Identity, TextF
     parse_identity(rt.alloc(), text)
 }
 
-fn see_identity(
-    rt: &(impl AllocGlobal + Abort),
-    text: &str,
-    category: &str,
-    name: &str,
-) -> Result<(), Fail> {
-    let Ok(found) = parsed(rt, text) else {
-        return Err(Fail::from("no such answer"));
-    };
-    assert_eq!(rt; found.category.as_str(), category);
-    assert_eq!(rt; found.name.as_str(), name);
-    Ok(())
+fn is_of(identity: &Identity, category: &str, name: &str) -> bool {
+    identity.category.as_str() == category && identity.name.as_str() == name
 }
 
-fn see_refused(rt: &(impl AllocGlobal + Abort), text: &str, place: u32) -> Result<(), Fail> {
-    let Err(fault) = parsed(rt, text) else {
-        return Err(Fail::from("no such answer"));
-    };
-    assert_eq!(rt; fault, TextFault::Broken { place });
-    Ok(())
+fn is_parsed(rt: &(impl AllocGlobal + Abort), text: &str, category: &str, name: &str) -> bool {
+    match parsed(rt, text) {
+        Ok(found) => is_of(&found, category, name),
+        Err(_) => false,
+    }
 }
 
-fn see_printed(
-    rt: &(impl AllocGlobal + Abort),
-    category: &str,
-    name: &str,
-    printed: &str,
-) -> Result<(), Fail> {
-    let identity = named(rt, category, name)?;
-    let Ok(text) = print_identity(rt.alloc(), &identity) else {
-        return Err(Fail::from("no such answer"));
-    };
-    assert_eq!(rt; text.as_str(), printed);
-    Ok(())
-}
-
-fn see_text(
-    rt: &(impl AllocGlobal + Abort),
-    word: &str,
-    text: &str,
-    printed: &str,
-    quoted: &str,
-) -> Result<(), Fail> {
-    let Ok(Some(found)) = text_of(rt.alloc(), word.as_bytes()) else {
-        return Err(Fail::from("no such answer"));
-    };
-    assert_eq!(rt; found.as_str(), text);
-    let mut line = String::new(rt.alloc());
-    assert_eq!(rt; print_word(&mut line, text), Ok(()));
-    assert_eq!(rt; line.as_str(), printed);
-    let Ok(in_quotes) = quote(rt.alloc(), text) else {
-        return Err(Fail::from("no such answer"));
-    };
-    assert_eq!(rt; in_quotes.as_str(), quoted);
-    Ok(())
+fn is_refused(rt: &(impl AllocGlobal + Abort), text: &str, place: u32) -> bool {
+    match parsed(rt, text) {
+        Ok(_) => false,
+        Err(fault) => fault == TextFault::Broken { place },
+    }
 }
 
 #[test]
-fn identities_by_their_texts(rt: HostRuntime) -> Result<(), Fail> {
-    for (text, category, name) in IDENTITIES {
-        see_identity(&rt, text, category, name)?;
+fn identities_by_their_texts(rt: HostRuntime) {
+    for (at, (text, category, name)) in IDENTITIES.iter().enumerate() {
+        assert!(rt; is_parsed(&rt, text, category, name), "in row {at}");
     }
-    for (text, place) in REFUSED {
-        see_refused(&rt, text, *place)?;
+    for (at, (text, place)) in REFUSED.iter().enumerate() {
+        assert!(rt; is_refused(&rt, text, *place), "in fault {at}");
     }
-    for (category, name, printed) in PRINTED {
-        see_printed(&rt, category, name, printed)?;
+}
+
+/// How an identity is printed.
+fn printed_of(alloc: Global, category: &str, name: &str) -> Result<Name, AllocError> {
+    let identity = named(alloc, category, name)?;
+    print_identity(alloc, &identity)
+}
+
+/// How an identity is escaped.
+fn escaped_of(alloc: Global, category: &str, name: &str) -> Result<Name, AllocError> {
+    let identity = named(alloc, category, name)?;
+    escape_identity(alloc, &identity)
+}
+
+/// Whether it is this text.
+fn is_text(found: &Result<Name, AllocError>, text: &str) -> bool {
+    match found {
+        Ok(found) => found.as_str() == text,
+        Err(_) => false,
     }
-    let identity = named(&rt, "a b", "c/d")?;
-    let Ok(escaped) = escape_identity(rt.alloc(), &identity) else {
-        return Err(Fail::from("no such answer"));
-    };
-    assert_eq!(rt; escaped.as_str(), "a b/c\\/d");
-    Ok(())
 }
 
 #[test]
-fn texts_by_their_words(rt: HostRuntime) -> Result<(), Fail> {
-    for (word, text, printed, quoted) in TEXTS {
-        see_text(&rt, word, text, printed, quoted)?;
+fn identities_as_they_are_printed(rt: HostRuntime) {
+    let alloc = rt.alloc();
+    for (at, (category, name, printed)) in PRINTED.iter().enumerate() {
+        let is_printed = is_text(&printed_of(alloc, category, name), printed);
+        assert!(rt; is_printed, "in row {at}");
+    }
+    assert!(rt; is_text(&escaped_of(alloc, "a b", "c/d"), "a b/c\\/d"));
+}
+
+/// Whether the word stands for the text.
+fn stands_for(alloc: Global, word: &str, text: &str) -> bool {
+    match text_of(alloc, word.as_bytes()) {
+        Ok(Some(found)) => found.as_str() == text,
+        _ => false,
+    }
+}
+
+/// Whether the text is printed so as a word.
+fn is_printed_as(alloc: Global, text: &str, printed: &str) -> bool {
+    let mut line = String::new(alloc);
+    print_word(&mut line, text).is_ok() && line.as_str() == printed
+}
+
+/// Whether a word with its text comes so.
+fn comes(alloc: Global, row: &Row) -> bool {
+    let (word, text, printed, quoted) = row;
+    let printed = stands_for(alloc, word, text) && is_printed_as(alloc, text, printed);
+    printed && is_text(&quote(alloc, text), quoted)
+}
+
+#[test]
+fn texts_by_their_words(rt: HostRuntime) {
+    for (at, row) in TEXTS.iter().enumerate() {
+        assert!(rt; comes(rt.alloc(), row), "in row {at}");
     }
     for word in NO_TEXTS {
         assert!(rt; matches!(text_of(rt.alloc(), word.as_bytes()), Ok(None)));
     }
-    Ok(())
 }
