@@ -1,7 +1,7 @@
 use graph_arena::{Value, is_sorted, sort_pairs};
-use ice_types::{Bytes, Endpoint, Identity, List, Name};
+use ice_types::{Bytes, List, Name};
+use proxy_text::parse_text;
 use std::alloc::{AllocError, Global};
-use std::process::Abort;
 use std::test::Fail;
 
 /// A key, as a table can hold it.
@@ -18,13 +18,20 @@ enum Key {
     /// A sequence of bytes, as `Value::Seq`.
     Items(&'static [u8]),
     Enum(u32),
-    /// A proxy of this name, or null.
+    /// The proxy of this text, or null.
     Proxy(Option<&'static str>),
     /// A struct of a text and a number.
     Both(&'static str, i32),
 }
 
 use Key::{Bool, Both, Byte, Enum, Int, Items, Long, Packed, Proxy, Short, Text};
+
+/// Proxies of two names, with an endpoint of each sort.
+const PROXY_A: &str = "a -f f -t -p 1.0 -e 1.1\
+    :tcp -h host -p 10000 -t infinite:opaque -t 3 -e 1.0 -x 0708";
+
+const PROXY_B: &str = "b -f f -t -p 1.0 -e 1.1\
+    :tcp -h host -p 10000 -t infinite:opaque -t 3 -e 1.0 -x 0708";
 
 /// Keys as they stand, and in rising order, or none where two are equal.
 const ORDERS: &[(&[Key], Option<&[Key]>)] = &[
@@ -66,8 +73,8 @@ const ORDERS: &[(&[Key], Option<&[Key]>)] = &[
     ),
     (&[Enum(300), Enum(1)], Some(&[Enum(1), Enum(300)])),
     (
-        &[Proxy(Some("b")), Proxy(Some("a")), Proxy(None)],
-        Some(&[Proxy(None), Proxy(Some("a")), Proxy(Some("b"))]),
+        &[Proxy(Some(PROXY_B)), Proxy(Some(PROXY_A)), Proxy(None)],
+        Some(&[Proxy(None), Proxy(Some(PROXY_A)), Proxy(Some(PROXY_B))]),
     ),
     (
         &[Both("ab", 1), Both("a", 2), Both("a", -1)],
@@ -77,7 +84,7 @@ const ORDERS: &[(&[Key], Option<&[Key]>)] = &[
     (&[Both("a", 1), Both("b", 1), Both("a", 1)], None),
     (&[Packed(&[7, 8]), Items(&[7, 8])], None),
     (&[Enum(0), Enum(1), Enum(0)], None),
-    (&[Proxy(Some("a")), Proxy(Some("a"))], None),
+    (&[Proxy(Some(PROXY_A)), Proxy(Some(PROXY_A))], None),
 ];
 
 fn value_of(alloc: Global, key: Key) -> Result<Value, AllocError> {
@@ -92,65 +99,41 @@ fn value_of(alloc: Global, key: Key) -> Result<Value, AllocError> {
         Items(bytes) => items_of(alloc, bytes),
         Enum(n) => Ok(Value::Enum(n)),
         Proxy(None) => Ok(Value::Proxy(None)),
-        Proxy(Some(name)) => Ok(Value::Proxy(Some(Box::new(alloc, proxy_of(alloc, name)?)?))),
+        Proxy(Some(text)) => proxy_of(alloc, text),
         Both(text, n) => both(alloc, text, n),
     }
 }
 
 /// A struct of the two.
 fn both(alloc: Global, text: &str, n: i32) -> Result<Value, AllocError> {
-    let text = Name::of(alloc, text)?;
-    let mut members = List::new(alloc);
-    members.push(Value::Text(text))?;
-    members.push(Value::Int(n))?;
-    Ok(Value::Members(members))
+    let members = [Value::Text(Name::of(alloc, text)?), Value::Int(n)];
+    Ok(Value::Members(List::from_vec(Vec::from_array(alloc, members)?)))
+}
+
+/// Puts in the bytes as so many items.
+fn put_items(items: &mut List<Value>, bytes: &[u8]) -> Result<(), AllocError> {
+    for byte in bytes {
+        items.push(Value::Byte(*byte))?;
+    }
+    Ok(())
 }
 
 /// The bytes as so many items.
 fn items_of(alloc: Global, bytes: &[u8]) -> Result<Value, AllocError> {
     let mut items = List::new(alloc);
-    for byte in bytes {
-        items.push(Value::Byte(*byte))?;
-    }
+    put_items(&mut items, bytes)?;
     Ok(Value::Seq(items))
 }
 
-/// An endpoint of each sort.
-fn endpoints_of(alloc: Global) -> Result<List<Endpoint>, AllocError> {
-    let host = Name::of(alloc, "host")?;
-    let bytes = Bytes::from_vec(Vec::from_slice(alloc, &[7, 8])?);
-    let mut endpoints = List::new(alloc);
-    endpoints.push(Endpoint::Tcp {
-        host,
-        port: 10000,
-        timeout: -1,
-        compress: false,
-    })?;
-    endpoints.push(Endpoint::Opaque {
-        kind: 3,
-        major: 1,
-        minor: 0,
-        bytes,
-    })?;
-    Ok(endpoints)
-}
-
-/// A proxy of this name, with an endpoint of each sort.
-fn proxy_of(alloc: Global, name: &str) -> Result<ice_types::Proxy, AllocError> {
-    let name = Name::of(alloc, name)?;
-    let category = Name::of(alloc, "")?;
-    let facet = Name::of(alloc, "f")?;
-    let adapter = Name::of(alloc, "")?;
-    Ok(ice_types::Proxy {
-        identity: Identity { name, category },
-        facet,
-        mode: 0,
-        secure: false,
-        protocol: (1, 0),
-        encoding: (1, 1),
-        endpoints: endpoints_of(alloc)?,
-        adapter,
-    })
+/// The proxy of a short text.
+fn proxy_of(alloc: Global, text: &str) -> Result<Value, AllocError> {
+    if text.len() > 1000 {
+        return Err(AllocError);
+    }
+    match parse_text(alloc, text) {
+        Ok(proxy) => Ok(Value::Proxy(Some(Box::new(alloc, proxy)?))),
+        Err(_) => Err(AllocError),
+    }
 }
 
 /// A key with itself as its value.
@@ -180,16 +163,13 @@ fn pairs_of(alloc: Global, keys: &[Key]) -> Result<Value, AllocError> {
 
 /// The value as that of a dictionary's one key.
 fn in_pairs(alloc: Global, value: Value) -> Result<Value, AllocError> {
-    let mut pairs = List::new(alloc);
-    pairs.push((Value::Byte(0), value))?;
-    Ok(Value::Pairs(pairs))
+    let pairs = Vec::from_array(alloc, [(Value::Byte(0), value)])?;
+    Ok(Value::Pairs(List::from_vec(pairs)))
 }
 
 /// The values as a list's.
 fn listed(alloc: Global, value: Value) -> Result<List<Value>, AllocError> {
-    let mut values = List::new(alloc);
-    values.push(value)?;
-    Ok(values)
+    Ok(List::from_vec(Vec::from_array(alloc, [value])?))
 }
 
 /// The dictionary inside a dictionary's value inside a struct inside a sequence.
@@ -211,31 +191,34 @@ fn written_of(alloc: Global, keys: &[Key]) -> Result<String, AllocError> {
 }
 
 /// Whether it is sorted, and what sorting answers and leaves.
-fn sorted(alloc: Global, keys: &[Key]) -> Result<(bool, bool, String), AllocError> {
-    let mut value = nested(alloc, keys)?;
-    let before = is_sorted(&value);
-    let sorted = sort_pairs(alloc, &mut value)?;
-    Ok((before, sorted, written(alloc, &value)?))
+fn sorted(alloc: Global, value: &mut Value) -> Result<(bool, bool, String), AllocError> {
+    let before = is_sorted(value);
+    let sorted = sort_pairs(alloc, value)?;
+    Ok((before, sorted, written(alloc, value)?))
 }
 
-/// The value sorted, or as it was where two keys are equal.
-fn see_sorted(
-    rt: &(impl AllocGlobal + Abort),
+/// The same of the dictionary of these keys.
+fn sorted_of(alloc: Global, keys: &[Key]) -> Result<(bool, bool, String), AllocError> {
+    let mut value = nested(alloc, keys)?;
+    sorted(alloc, &mut value)
+}
+
+/// Whether the value is sorted so, or is as it was where two keys are equal.
+fn is_put_in_order(
+    alloc: Global,
     keys: &[Key],
     rising: Option<&[Key]>,
-) -> Result<(), Fail> {
-    let want = written_of(rt.alloc(), rising.unwrap_or(keys))?;
-    let (before, sorted, found) = sorted(rt.alloc(), keys)?;
-    assert_eq!(rt; before, keys.is_empty());
-    assert_eq!(rt; sorted, rising.is_some());
-    assert_eq!(rt; found, want);
-    Ok(())
+) -> Result<bool, AllocError> {
+    let wanted = written_of(alloc, rising.unwrap_or(keys))?;
+    let (before, sorted, found) = sorted_of(alloc, keys)?;
+    let answers = (before == keys.is_empty()) & (sorted == rising.is_some());
+    Ok(answers & (found.as_str() == wanted.as_str()))
 }
 
 #[test]
 fn keys_in_order(rt: HostRuntime) -> Result<(), Fail> {
-    for (keys, rising) in ORDERS {
-        see_sorted(&rt, keys, *rising)?;
+    for (at, (keys, rising)) in ORDERS.iter().enumerate() {
+        assert!(rt; is_put_in_order(rt.alloc(), keys, *rising)?, "in row {at}");
     }
     Ok(())
 }
