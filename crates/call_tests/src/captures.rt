@@ -31,7 +31,9 @@ const TOLD: &[(&[u8], Seen)] = &[
 ];
 
 /// What both ends send, with what is wrong of which end, and where.
-const FAULTS: &[(&[u8], &[u8], Side, u64, Why)] = &[
+type Wrong = (&'static [u8], &'static [u8], Side, u64, Why);
+
+const FAULTS: &[Wrong] = &[
     (
         b"IceQ",
         b"IceQ",
@@ -59,19 +61,35 @@ const FAULTS: &[(&[u8], &[u8], Side, u64, Why)] = &[
     ),
 ];
 
-/// Whether this is the one line of a capture.
-fn is_told(alloc: Global, client: &[u8], server: &[u8], line: &Line) -> bool {
-    match audit(alloc, client, server) {
-        Ok(Verdict::Yes(lines)) => lines.len() == 1 && lines.get(0) == Some(line),
-        _ => false,
+/// Whether this is the one line that is told.
+fn tells(verdict: &Verdict, line: &Line) -> bool {
+    match verdict {
+        Verdict::Yes(lines) => matches!(lines.as_slice(), [only] if only == line),
+        Verdict::No { .. } => false,
     }
 }
 
-/// What is wrong with a capture.
-fn fault_of(alloc: Global, client: &[u8], server: &[u8]) -> Option<(Side, u64, Why)> {
+/// Whether this is the one line of a capture.
+fn is_told(alloc: Global, client: &[u8], server: &[u8], line: &Line) -> bool {
     match audit(alloc, client, server) {
-        Ok(Verdict::No { side, place, why }) => Some((side, place, why)),
-        _ => None,
+        Ok(verdict) => tells(&verdict, line),
+        Err(_) => false,
+    }
+}
+
+/// Whether this is what is wrong.
+fn refuses(verdict: &Verdict, row: &Wrong) -> bool {
+    match verdict {
+        Verdict::No { side, place, why } => *side == row.2 && *place == row.3 && *why == row.4,
+        Verdict::Yes(_) => false,
+    }
+}
+
+/// Whether this is wrong with the capture.
+fn is_refused(alloc: Global, row: &Wrong) -> bool {
+    match audit(alloc, row.0, row.1) {
+        Ok(verdict) => refuses(&verdict, row),
+        Err(_) => false,
     }
 }
 
@@ -93,8 +111,7 @@ fn captures_by_their_bytes(rt: HostRuntime) {
         seen: Seen::Either,
     };
     assert!(rt; is_told(rt.alloc(), BATCH, VALIDATE, &batch));
-    for (at, (client, server, side, place, why)) in FAULTS.iter().enumerate() {
-        let fault = fault_of(rt.alloc(), client, server);
-        assert!(rt; fault == Some((*side, *place, *why)), "in fault {at}");
+    for (at, row) in FAULTS.iter().enumerate() {
+        assert!(rt; is_refused(rt.alloc(), row), "in fault {at}");
     }
 }

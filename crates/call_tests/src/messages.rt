@@ -1,5 +1,5 @@
-use ice_messages::{FeedFault, Frames, read_message, write_message};
-use ice_prims::{Fault, Kind, ReadFault};
+use ice_messages::{FeedFault, Frames, Message, read_message, write_message};
+use ice_prims::{Kind, ReadFault};
 use std::alloc::Global;
 
 /// Messages as a client and a server of Ice send them: each is read, and what is written of it is the same bytes.
@@ -48,75 +48,95 @@ const FAULTS: &[(&[u8], u64, Kind)] = &[
     ),
 ];
 
-/// Whether the bytes that are written of the message that the bytes are are these.
-fn is_written_as_it_stands(alloc: Global, bytes: &[u8]) -> bool {
-    let Ok(message) = read_message(alloc, bytes) else {
-        return false;
-    };
-    match write_message(alloc, &message) {
+/// Whether these bytes are written of the message.
+fn is_written(alloc: Global, message: &Message, bytes: &[u8]) -> bool {
+    match write_message(alloc, message) {
         Ok(written) => written.as_slice() == bytes,
         Err(_) => false,
     }
 }
 
-/// The first fault of the bytes, or None.
-fn fault_of(alloc: Global, bytes: &[u8]) -> Option<Fault> {
+/// Whether the bytes that are written of the message that the bytes are are these.
+fn is_written_as_it_stands(alloc: Global, bytes: &[u8]) -> bool {
     match read_message(alloc, bytes) {
-        Err(ReadFault::Broken(fault)) => Some(fault),
-        _ => None,
+        Ok(message) => is_written(alloc, &message, bytes),
+        Err(_) => false,
     }
 }
 
-/// Whether a message is next, or the fault where the bytes are none.
-fn is_next(frames: &mut Frames) -> Result<bool, Option<Fault>> {
-    match frames.next() {
-        Ok(message) => Ok(message.is_some()),
-        Err(ReadFault::Broken(fault)) => Err(Some(fault)),
-        Err(_) => Err(None),
+/// Whether it is this fault.
+fn is_fault(found: &ReadFault, place: u64, kind: Kind) -> bool {
+    match found {
+        ReadFault::Broken(fault) => fault.place == place && fault.kind == kind,
+        _ => false,
     }
+}
+
+/// Whether this is the first fault of the bytes.
+fn is_refused(alloc: Global, bytes: &[u8], place: u64, kind: Kind) -> bool {
+    match read_message(alloc, bytes) {
+        Ok(_) => false,
+        Err(found) => is_fault(&found, place, kind),
+    }
+}
+
+/// Whether a message is next, or None where the bytes are none.
+fn is_next(frames: &mut Frames) -> Option<bool> {
+    match frames.next() {
+        Ok(message) => Some(message.is_some()),
+        Err(_) => None,
+    }
+}
+
+/// Whether the reader holds so many bytes, which are no message yet, and takes one more.
+fn takes_one_more(frames: &mut Frames, held: usize, byte: u8) -> bool {
+    is_next(frames) == Some(false) && frames.held() == held && frames.feed(&[byte]).is_ok()
 }
 
 /// Whether of the bytes fed one at a time no message comes before the last byte, and then one, and nothing is held.
-fn comes_whole(alloc: Global, bytes: &[u8]) -> bool {
-    let mut frames = Frames::new(alloc);
-    for at in 0..bytes.len() {
-        let early = is_next(&mut frames) != Ok(false) || frames.held() != at;
-        if early || frames.feed(&bytes[at..at + 1]).is_err() {
+fn gives_whole(frames: &mut Frames, bytes: &[u8]) -> bool {
+    for (at, byte) in bytes.iter().enumerate() {
+        if !takes_one_more(frames, at, *byte) {
             return false;
         }
     }
-    is_next(&mut frames) == Ok(true) && frames.held() == 0
+    is_next(frames) == Some(true) && frames.held() == 0
+}
+
+/// The same of a new reader.
+fn comes_whole(alloc: Global, bytes: &[u8]) -> bool {
+    gives_whole(&mut Frames::new(alloc), bytes)
 }
 
 #[test]
 fn messages_by_their_bytes(rt: HostRuntime) {
     for (at, bytes) in MESSAGES.iter().enumerate() {
-        assert!(rt;
-            is_written_as_it_stands(rt.alloc(), bytes),
-            "in message {at}"
-        );
-        assert!(rt; comes_whole(rt.alloc(), bytes), "in message {at}");
+        let well = is_written_as_it_stands(rt.alloc(), bytes) && comes_whole(rt.alloc(), bytes);
+        assert!(rt; well, "in message {at}");
     }
     for (at, (bytes, place, kind)) in FAULTS.iter().enumerate() {
-        let fault = Fault {
-            place: *place,
-            kind: *kind,
-        };
-        assert_eq!(rt; fault_of(rt.alloc(), bytes), Some(fault), "in fault {at}");
+        assert!(rt;
+            is_refused(rt.alloc(), bytes, *place, *kind),
+            "in fault {at}"
+        );
     }
+}
+
+/// Whether a reader tells this fault, and takes no more.
+fn has_stopped(frames: &mut Frames, place: u64, kind: Kind) -> bool {
+    let told = match frames.next() {
+        Ok(_) => false,
+        Err(found) => is_fault(&found, place, kind),
+    };
+    told && matches!(frames.feed(b"x"), Err(FeedFault::Stopped))
 }
 
 /// A fault comes as soon as its byte is there, and for good.
 #[test]
 fn a_reader_that_has_stopped(rt: HostRuntime) {
     let mut frames = Frames::new(rt.alloc());
-    let fault = Fault {
-        place: 3,
-        kind: Kind::BadMagic,
-    };
-    assert_eq!(rt; frames.feed(b"IceQ"), Ok(()));
+    assert!(rt; frames.feed(b"IceQ").is_ok());
     for _ in 0..2 {
-        assert_eq!(rt; is_next(&mut frames), Err(Some(fault)));
-        assert_eq!(rt; frames.feed(b"x"), Err(FeedFault::Stopped));
+        assert!(rt; has_stopped(&mut frames, 3, Kind::BadMagic));
     }
 }

@@ -107,10 +107,15 @@ const CALLS: &[(bool, u32, Steps, &[Attempt])] = &[
     ),
 ];
 
+/// Whether the event can come, and the client does this then.
+fn does(client: &mut Client, event: ClientEvent, action: ClientAction) -> bool {
+    client.accepts(event) && client.step(event) == action
+}
+
 /// The first step that cannot come, or at which the client does something else.
 fn other_step(client: &mut Client, steps: &[(ClientEvent, ClientAction)]) -> Option<usize> {
     for (at, (event, action)) in steps.iter().enumerate() {
-        if !client.accepts(*event) || client.step(*event) != *action {
+        if !does(client, *event, *action) {
             return Some(at);
         }
     }

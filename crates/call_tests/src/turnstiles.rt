@@ -56,6 +56,13 @@ fn see_reply(
     assert!(rt; reply == wanted);
 }
 
+/// What is counted once the turnstile is closed with this pass.
+fn closed(stile: Counters, all: Pass<Counter>) -> Result<u64, Stray>
+    requires { IsPassOf stile all }
+{
+    stile.close(all).map(|counter| counter.count)
+}
+
 /// Five turns of two callers, one of whom finds no memory once. The count is 6 then.
 fn five_turns(
     rt: &(impl Wait + Abort),
@@ -80,8 +87,7 @@ fn five_turns(
 fn two_callers_take_turns(rt: HostRuntime) -> Result<(), Fail> {
     let (stile, a) = Turnstile::new(rt.alloc(), Counter { count: 0 })?;
     let all = five_turns(&rt, &stile, a)?;
-    let closed = stile.close(all).map(|counter| counter.count);
-    assert!(rt; closed == Ok(6));
+    assert!(rt; closed(stile, all) == Ok(6));
     Ok(())
 }
 
@@ -130,39 +136,45 @@ fn thousand_turns<R: Threads + Wait + Sync>(
 fn two_threads_add(rt: HostRuntime) -> Result<(), Fail> {
     let (stile, first) = Turnstile::new(rt.alloc(), Counter { count: 0 })?;
     let all = thousand_turns(&rt, &stile, first)?;
-    let closed = stile.close(all).map(|counter| counter.count);
-    assert!(rt; closed == Ok(1000));
+    assert!(rt; closed(stile, all) == Ok(1000));
     Ok(())
 }
 
-/// The reply and the end where a further pass asks for the total and is dropped.
-fn see_dropped(
+/// A further pass asks for the total and is dropped.
+fn see_total(
     rt: &(impl Wait + Abort),
-    stile: Counters,
-    mut all: Pass<Counter>,
+    stile: &Counters,
+    all: &mut Pass<Counter>,
     total: u64,
-    own: u64,
 ) -> Result<(), AllocError>
-    requires pass { IsPassOf stile all }
-    requires own { own < 2000 }
+    requires { IsPassOf stile.now all.old }
+    ensures { IsPassOf stile.now all.new }
 {
-    let mut other = stile.split(&mut all)?;
-    see_reply(rt, &stile, &mut other, Ask::Total, Some(total));
-    drop(other);
-    let closed = stile.close(all).map(|counter| counter.count);
-    let entries = own + 1;
-    assert!(rt; closed == Err(Stray::Others { entries, own }));
+    let mut other = stile.split(all)?;
+    see_reply(rt, stile, &mut other, Ask::Total, Some(total));
     Ok(())
 }
 
 #[test]
 fn joined_calls_are_counted(rt: HostRuntime) -> Result<(), Fail> {
     let (stile, a) = Turnstile::new(rt.alloc(), Counter { count: 0 })?;
-    let all = five_turns(&rt, &stile, a)?;
-    see_dropped(&rt, stile, all, 6, 5)?;
+    let mut all = five_turns(&rt, &stile, a)?;
+    see_total(&rt, &stile, &mut all, 6)?;
+    let lost = Stray::Others { entries: 6, own: 5 };
+    assert!(rt; closed(stile, all) == Err(lost));
+    Ok(())
+}
+
+#[test]
+fn joined_calls_of_threads_are_counted(rt: HostRuntime) -> Result<(), Fail> {
     let (stile, a) = Turnstile::new(rt.alloc(), Counter { count: 0 })?;
-    let all = thousand_turns(&rt, &stile, a)?;
-    see_dropped(&rt, stile, all, 1000, 1000)?;
+    let mut all = thousand_turns(&rt, &stile, a)?;
+    see_total(&rt, &stile, &mut all, 1000)?;
+    let lost = Stray::Others {
+        entries: 1001,
+        own: 1000,
+    };
+    assert!(rt; closed(stile, all) == Err(lost));
     Ok(())
 }
 
@@ -173,8 +185,8 @@ fn a_dropped_pass_leaves_its_calls(rt: HostRuntime) -> Result<(), Fail> {
     see_reply(&rt, &stile, &mut b, Ask::Add(1), Some(1));
     drop(b);
     see_reply(&rt, &stile, &mut a, Ask::Starve, None);
-    let closed = stile.close(a).map(|counter| counter.count);
-    assert!(rt; closed == Err(Stray::Others { entries: 1, own: 0 }));
+    let lost = Stray::Others { entries: 1, own: 0 };
+    assert!(rt; closed(stile, a) == Err(lost));
     Ok(())
 }
 

@@ -1,6 +1,6 @@
 use encaps_optionals::{Skipped, open_encaps, put_tag, skip_format, take_tag, wrap_encaps};
 use ice_prims::{Cursor, Fault, Kind};
-use std::process::Abort;
+use std::alloc::{AllocError, Global};
 use std::test::Fail;
 
 /// Bytes that begin with an encapsulation, its content, and how many bytes are left behind it.
@@ -70,82 +70,127 @@ const UNSKIPPED: &[(u8, &[u8], u64, Kind)] = &[
     (6, b"\xff\xff\xff\xff", 0, Kind::BadSize),
 ];
 
-/// The content of the encapsulation at the front, what is left, and the bytes that wrap that content.
-fn see_opened(
-    rt: &(impl AllocGlobal + Abort),
+/// Whether the encapsulation at the front has this content and leaves so many bytes.
+fn is_opened(bytes: &[u8], content: &[u8], left: usize) -> bool {
+    let mut cursor = Cursor::new(bytes);
+    match open_encaps(&mut cursor) {
+        Ok(mut inside) => {
+            let whole = cursor.left() == left && inside.place() == 6;
+            whole && inside.take_bytes(inside.left()) == Ok(content)
+        }
+        Err(_) => false,
+    }
+}
+
+/// Whether the bytes up to so many wrap this content.
+fn is_wrapped(
+    alloc: Global,
     bytes: &[u8],
     content: &[u8],
     left: usize,
-) -> Result<(), Fail> {
-    let mut cursor = Cursor::new(bytes);
-    let Ok(mut inside) = open_encaps(&mut cursor) else {
-        return Err(Fail::from("no such answer"));
-    };
-    assert_eq!(rt; cursor.left(), left);
-    assert_eq!(rt; inside.place(), 6);
-    assert_eq!(rt; inside.take_bytes(inside.left()), Ok(content));
-    let mut out = Vec::new(rt.alloc());
+) -> Result<bool, AllocError> {
+    if content.len() > 1000 {
+        return Ok(false);
+    }
+    let mut out = Vec::new(alloc);
     wrap_encaps(content, &mut out)?;
-    assert_eq!(rt; out.as_slice(), &bytes[..bytes.len() - left]);
-    Ok(())
+    let end = bytes.len().saturating_sub(left);
+    Ok(out.as_slice() == &bytes[..end])
 }
 
-/// The first fault of what is opened, which leaves all bytes.
-fn see_unopened(
-    rt: &(impl AllocGlobal + Abort),
-    bytes: &[u8],
-    place: u64,
-    kind: Kind,
-) -> Result<(), Fail> {
+/// Whether this is the first fault of what is opened, which leaves all bytes.
+fn is_unopened(bytes: &[u8], place: u64, kind: Kind) -> bool {
     let mut cursor = Cursor::new(bytes);
-    let Err(fault) = open_encaps(&mut cursor) else {
-        return Err(Fail::from("no such answer"));
-    };
-    assert_eq!(rt; fault, Fault { place, kind });
-    assert_eq!(rt; cursor.left(), bytes.len());
-    Ok(())
+    match open_encaps(&mut cursor) {
+        Ok(_) => false,
+        Err(fault) => fault == Fault { place, kind } && cursor.left() == bytes.len(),
+    }
 }
 
 #[test]
-fn parts_by_their_bytes(rt: HostRuntime) -> Result<(), Fail> {
-    for (bytes, content, left) in ENCAPSULATIONS {
-        see_opened(&rt, bytes, content, *left)?;
+fn encapsulations_by_their_bytes(rt: HostRuntime) -> Result<(), Fail> {
+    for (at, (bytes, content, left)) in ENCAPSULATIONS.iter().enumerate() {
+        let wrapped = is_wrapped(rt.alloc(), bytes, content, *left)?;
+        assert!(rt; wrapped && is_opened(bytes, content, *left), "in row {at}");
     }
-    for (bytes, place, kind) in UNOPENED {
-        see_unopened(&rt, bytes, *place, *kind)?;
-    }
-    for (bytes, last, marked, next) in TAGS {
-        assert_eq!(rt;
-            take_tag(&mut Cursor::new(bytes), *last, *marked),
-            Ok(*next)
-        );
-    }
-    for (bytes, last, marked, place, kind) in UNTAGGED {
-        let fault = Fault {
-            place: *place,
-            kind: *kind,
-        };
-        assert_eq!(rt;
-            take_tag(&mut Cursor::new(bytes), *last, *marked),
-            Err(fault)
-        );
-    }
-    for (tag, format, bytes) in PUT {
-        let mut out = Vec::new(rt.alloc());
-        put_tag(&mut out, *tag, *format)?;
-        assert_eq!(rt; out.as_slice(), *bytes);
-    }
-    for (format, bytes, skipped, left) in SKIPPED {
-        let mut cursor = Cursor::new(bytes);
-        assert_eq!(rt; skip_format(&mut cursor, *format), Ok(*skipped));
-        assert_eq!(rt; cursor.left(), *left);
-    }
-    for (format, bytes, place, kind) in UNSKIPPED {
-        let fault = Fault {
-            place: *place,
-            kind: *kind,
-        };
-        assert_eq!(rt; skip_format(&mut Cursor::new(bytes), *format), Err(fault));
+    for (at, (bytes, place, kind)) in UNOPENED.iter().enumerate() {
+        assert!(rt; is_unopened(bytes, *place, *kind), "in fault {at}");
     }
     Ok(())
+}
+
+/// Whether this tag stands next.
+fn is_tagged(bytes: &[u8], last: Option<u32>, marked: bool, next: Option<(u32, u8)>) -> bool {
+    match take_tag(&mut Cursor::new(bytes), last, marked) {
+        Ok(found) => found == next,
+        Err(_) => false,
+    }
+}
+
+/// Whether this is the first fault of the tag.
+fn is_untagged(bytes: &[u8], last: Option<u32>, marked: bool, place: u64, kind: Kind) -> bool {
+    match take_tag(&mut Cursor::new(bytes), last, marked) {
+        Ok(_) => false,
+        Err(fault) => fault == Fault { place, kind },
+    }
+}
+
+/// Whether the tag is put so.
+fn is_put(alloc: Global, tag: u32, format: u8, bytes: &[u8]) -> Result<bool, AllocError> {
+    if tag > 1000 || format > 7 {
+        return Ok(false);
+    }
+    let mut out = Vec::new(alloc);
+    put_tag(&mut out, tag, format)?;
+    Ok(out.as_slice() == bytes)
+}
+
+#[test]
+fn tags_by_their_bytes(rt: HostRuntime) -> Result<(), Fail> {
+    for (at, (bytes, last, marked, next)) in TAGS.iter().enumerate() {
+        assert!(rt; is_tagged(bytes, *last, *marked, *next), "in row {at}");
+    }
+    for (at, (bytes, last, marked, place, kind)) in UNTAGGED.iter().enumerate() {
+        let refused = is_untagged(bytes, *last, *marked, *place, *kind);
+        assert!(rt; refused, "in fault {at}");
+    }
+    for (tag, format, bytes) in PUT {
+        assert!(rt; is_put(rt.alloc(), *tag, *format, bytes)?);
+    }
+    Ok(())
+}
+
+/// What becomes of a value of a format that there is.
+fn skipped_at(cursor: &mut Cursor<'_>, format: u8) -> Result<Skipped, Fault> {
+    skip_format(cursor, format.min(7))
+}
+
+/// Whether so many bytes are left behind a value of the format, of which this becomes.
+fn is_skipped(format: u8, bytes: &[u8], skipped: Skipped, left: usize) -> bool {
+    let mut cursor = Cursor::new(bytes);
+    match skipped_at(&mut cursor, format) {
+        Ok(found) => found == skipped && cursor.left() == left,
+        Err(_) => false,
+    }
+}
+
+/// Whether this is the first fault of the value.
+fn is_unskipped(format: u8, bytes: &[u8], place: u64, kind: Kind) -> bool {
+    match skipped_at(&mut Cursor::new(bytes), format) {
+        Ok(_) => false,
+        Err(fault) => fault == Fault { place, kind },
+    }
+}
+
+#[test]
+fn formats_by_their_bytes(rt: HostRuntime) {
+    for (at, (format, bytes, skipped, left)) in SKIPPED.iter().enumerate() {
+        assert!(rt; is_skipped(*format, bytes, *skipped, *left), "in row {at}");
+    }
+    for (at, (format, bytes, place, kind)) in UNSKIPPED.iter().enumerate() {
+        assert!(rt;
+            is_unskipped(*format, bytes, *place, *kind),
+            "in fault {at}"
+        );
+    }
 }

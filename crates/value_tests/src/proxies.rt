@@ -1,6 +1,6 @@
+use ice_types::Name;
 use proxy_text::{TextFault, parse_text, print_text};
 use std::process::Abort;
-use std::test::Fail;
 
 /// Texts of proxies, and what is printed of the proxy that each is read as.
 const PRINTED: &[(&str, &str)] = &[
@@ -61,35 +61,34 @@ const REFUSED: &[(&str, u32)] = &[
     ("a b", 2),
 ];
 
-fn see_printed(rt: &(impl AllocGlobal + Abort), text: &str, printed: &str) -> Result<(), Fail> {
+/// How the proxy of a text is printed.
+fn printed_of(rt: &(impl AllocGlobal + Abort), text: &str) -> Result<Name, TextFault> {
     assert!(rt; text.len() < 8_192);
-    let Ok(proxy) = parse_text(rt.alloc(), text) else {
-        return Err(Fail::from("no such answer"));
-    };
-    let Ok(found) = print_text(rt.alloc(), &proxy) else {
-        return Err(Fail::from("no such answer"));
-    };
-    assert_eq!(rt; found.as_str(), printed);
-    Ok(())
+    let proxy = parse_text(rt.alloc(), text)?;
+    Ok(print_text(rt.alloc(), &proxy)?)
 }
 
-fn see_refused(rt: &(impl AllocGlobal + Abort), text: &str, place: u32) -> Result<(), Fail> {
-    assert!(rt; text.len() < 8_192);
-    let Err(fault) = parse_text(rt.alloc(), text) else {
-        return Err(Fail::from("no such answer"));
-    };
-    assert_eq!(rt; fault, TextFault::Broken { place });
-    Ok(())
+fn is_printed(rt: &(impl AllocGlobal + Abort), text: &str, printed: &str) -> bool {
+    match printed_of(rt, text) {
+        Ok(found) => found.as_str() == printed,
+        Err(_) => false,
+    }
+}
+
+fn is_refused(rt: &(impl AllocGlobal + Abort), text: &str, place: u32) -> bool {
+    match printed_of(rt, text) {
+        Ok(_) => false,
+        Err(fault) => fault == TextFault::Broken { place },
+    }
 }
 
 #[test]
-fn proxies_by_their_texts(rt: HostRuntime) -> Result<(), Fail> {
-    for (text, printed) in PRINTED {
-        see_printed(&rt, text, printed)?;
-        see_printed(&rt, printed, printed)?;
+fn proxies_by_their_texts(rt: HostRuntime) {
+    for (at, (text, printed)) in PRINTED.iter().enumerate() {
+        let both = is_printed(&rt, text, printed) && is_printed(&rt, printed, printed);
+        assert!(rt; both, "in row {at}");
     }
-    for (text, place) in REFUSED {
-        see_refused(&rt, text, *place)?;
+    for (at, (text, place)) in REFUSED.iter().enumerate() {
+        assert!(rt; is_refused(&rt, text, *place), "in fault {at}");
     }
-    Ok(())
 }

@@ -1,10 +1,8 @@
 use graph_arena::{Members, Value};
-use ice_prims::{Cursor, Fault, Kind, ReadFault};
+use ice_prims::{Cursor, Kind, ReadFault};
 use ice_types::{Member, Name, Schema, TypeRef};
 use ice_values::{DeclaredMembers, Numbers, Optionals, read_members};
 use std::alloc::{AllocError, Global};
-use std::process::Abort;
-use std::test::Fail;
 use value_checks::fits;
 
 /// Where the optional members stand, the bytes, and how many optional ones are read.
@@ -46,57 +44,87 @@ fn member(
     Ok(Member { name, kind, tag })
 }
 
-/// The members of the bytes, where an int is required, and a text of tag 1 and a bool of tag 3 are
-/// optional.
-fn read(rt: &impl AllocGlobal, optionals: Optionals, bytes: &[u8]) -> Result<Members, ReadFault> {
-    let alloc = rt.alloc();
+/// An int that is required, and a text of tag 1 and a bool of tag 3 that are optional.
+fn declared(alloc: Global) -> Result<[Member; 3], AllocError> {
     let text = member(alloc, "t", TypeRef::Text, Some(1))?;
     let number = member(alloc, "n", TypeRef::Int, None)?;
-    let members = [text, number, member(alloc, "b", TypeRef::Bool, Some(3))?];
+    Ok([text, number, member(alloc, "b", TypeRef::Bool, Some(3))?])
+}
+
+/// The members of the bytes.
+fn read_by(
+    alloc: Global,
+    schema: &Schema,
+    members: &[Member],
+    optionals: Optionals,
+    bytes: &[u8],
+) -> Result<Members, ReadFault> {
     let fields = DeclaredMembers {
-        required: &members,
-        optional: &members,
+        required: members,
+        optional: members,
     };
     let mut cursor = Cursor::new(bytes);
-    read_members(
-        alloc,
-        &Schema::new(alloc),
-        fields,
-        optionals,
-        &mut cursor,
-        &mut Numbers,
-    )
+    read_members(alloc, schema, fields, optionals, &mut cursor, &mut Numbers)
+}
+
+/// The same, where those are declared.
+fn read(alloc: Global, optionals: Optionals, bytes: &[u8]) -> Result<Members, ReadFault> {
+    let members = declared(alloc)?;
+    let schema = Schema::new(alloc);
+    read_by(alloc, &schema, &members, optionals, bytes)
+}
+
+/// Whether the one required member is 7, and so many optional ones are there.
+fn are(members: &Members, options: usize) -> bool {
+    match members.required.as_slice() {
+        [Value::Int(number)] => *number == 7 && members.optional.len() == options,
+        _ => false,
+    }
+}
+
+fn is_read(alloc: Global, optionals: Optionals, bytes: &[u8], options: usize) -> bool {
+    match read(alloc, optionals, bytes) {
+        Ok(members) => are(&members, options),
+        Err(_) => false,
+    }
+}
+
+fn is_fault(found: &ReadFault, place: u64, kind: Kind) -> bool {
+    match found {
+        ReadFault::Broken(fault) => fault.place == place && fault.kind == kind,
+        _ => false,
+    }
+}
+
+fn is_refused(alloc: Global, optionals: Optionals, bytes: &[u8], place: u64, kind: Kind) -> bool {
+    match read(alloc, optionals, bytes) {
+        Ok(_) => false,
+        Err(found) => is_fault(&found, place, kind),
+    }
 }
 
 #[test]
-fn members_by_their_bytes(rt: HostRuntime) -> Result<(), Fail> {
-    for (optionals, bytes, options) in READ {
-        let members = read(&rt, *optionals, bytes)?;
-        assert_eq!(rt; members.optional.len(), *options);
-        match members.required.as_slice() {
-            [Value::Int(number)] => assert_eq!(rt; *number, 7),
-            _ => return Err(Fail::from("no such members")),
-        }
+fn members_by_their_bytes(rt: HostRuntime) {
+    for (at, (optionals, bytes, options)) in READ.iter().enumerate() {
+        assert!(rt;
+            is_read(rt.alloc(), *optionals, bytes, *options),
+            "in row {at}"
+        );
     }
-    for (optionals, bytes, place, kind) in REFUSED {
-        match read(&rt, *optionals, bytes) {
-            Err(ReadFault::Broken(fault)) => {
-                let first = Fault {
-                    place: *place,
-                    kind: *kind,
-                };
-                assert_eq!(rt; fault, first);
-            }
-            _ => return Err(Fail::from("no such fault")),
-        }
+    for (at, (optionals, bytes, place, kind)) in REFUSED.iter().enumerate() {
+        let refused = is_refused(rt.alloc(), *optionals, bytes, *place, *kind);
+        assert!(rt; refused, "in fault {at}");
     }
-    Ok(())
+}
+
+/// Whether a number is a value of the type.
+fn fits_seven(schema: &Schema, kind: TypeRef) -> bool {
+    fits(schema, kind, &Value::Int(7))
 }
 
 #[test]
-fn forms(rt: HostRuntime) -> Result<(), Fail> {
+fn forms(rt: HostRuntime) {
     let schema = Schema::new(rt.alloc());
-    assert!(rt; fits(&schema, TypeRef::Int, &Value::Int(7)));
-    assert!(rt; !fits(&schema, TypeRef::Long, &Value::Int(7)));
-    Ok(())
+    assert!(rt; fits_seven(&schema, TypeRef::Int));
+    assert!(rt; !fits_seven(&schema, TypeRef::Long));
 }
