@@ -12,8 +12,7 @@
 //!   in their order (`Ran`): one list for each message that was forwarded.
 //! - A call is copied with its new body, since a message is lent to what handles it.
 //! - A request with id 0, and a batch, is dropped where it is refused: nobody waits for an answer.
-//! - Want of memory ends the session. The message at which it came is told as not handled, and of its attempts nothing
-//!   is told but that they are those of one message, since `invoke` says no more.
+//! - Want of memory ends the session. The message at which it came is told as not handled, with the attempts at it.
 #![tactic(auto)]
 
 mod admitting;
