@@ -120,7 +120,7 @@ class Target:
 
     def __init__(self, name, serve, workers, count, sayings):
         self.name, self.serve, self.workers, self.count, self.sayings = name, serve, workers, count, sayings
-        self.begun = self.valid = 0
+        self.begun, self.valid, self.given = 0, 0, None
         self.slow, self.faults, self.peaks, self.sorts = [], [], [], collections.Counter()
 
     def is_going(self):
@@ -176,9 +176,13 @@ class Target:
         self.sorts["valid"] += 1
         say(link, said)
         self.hear(link, said, wanted)
-        given, ended = self.serve.ended(), (0, b"listening %d\nserved %d\n" % (self.serve.port, self.count), b"")
-        if given != ended:
-            self.faults.append(f"{self.name} ended with {given}, and not with {ended}")
+        self.given, wanted = self.serve.ended(), (0, b"listening %d\nserved %d\n" % (self.serve.port, self.count), b"")
+        if self.given != wanted:
+            self.faults.append(f"{self.name} ended with {self.given}, and not with {wanted}")
+
+    def has_ended(self):
+        """Says whether the command has ended before its last connection."""
+        return self.given is None and self.serve.process.poll() is not None
 
     def measure(self):
         self.peaks.append(memory_of(self.serve.process, "VmHWM"))
@@ -225,6 +229,7 @@ def tried(program, folder, seed, count, changed):
         try:
             played(targets, count)
         except Exception:
+            faults += [f"{it.name} ended with {it.serve.ended()}" for it in targets if it.has_ended()]
             faults.append(traceback.format_exc())
     sorts = sum((it.sorts for it in targets), collections.Counter())
     print(*targets, "; ".join(f"{sort}: {sorts[sort]:,}" for sort in sorted(sorts)), sep="\n")

@@ -139,9 +139,6 @@ class Network(hostile_server.Network):
         self.check(len(self.log))
         return super().create_connection(address, seconds)
 
-    def handed(self):
-        return [(port, it.handed) for port, it in self.log]
-
     def check(self, count):
         if not hostile_server.fits(self.handed(), self.heard[:count]):
             raise Otherwise
@@ -205,7 +202,7 @@ def misfit(trial, heard, told):
         plans += choices.others()
         count += 1
     lines = [f"  wanted, of {count} ways", *(f"    told {it.hex()}" for it in farthest[0])]
-    return lines + [f"    handed at {port} {handed.hex()}" for port, handed in farthest[1]]
+    return lines + [f"    handed at {port} {handed.hex()}" for port, handed, _ in farthest[1]]
 
 
 # The laws
@@ -269,7 +266,7 @@ def broken_laws(trial, heard, told):
         yield "  more attempts than retries allow"
     for _, data, is_all, script in heard:
         calls = forwarded(data)
-        if is_all and data and not calls:
+        if hostile_server.is_torn(data, is_all, script) or is_all and hostile_server.is_whole(data) and not calls:
             yield "  what is no message with calls, or not all of one"
         for number, call in calls:
             came[key(call)] += not has_close(script)

@@ -112,6 +112,16 @@ class Choices:
         return [[*self.made[:at], 1] for at in range(len(self.plan), len(self.made))]
 
 
+def is_long(message):
+    """Says whether a message, or one that begins so, need not come whole."""
+    return len(message) >= messages.HEADER and messages.size_of(message[: messages.HEADER]) > MOST_AT_ONCE
+
+
+def takes_all(script):
+    """Says whether a server takes all of the request before it goes on."""
+    return script.waits and script.part == 1
+
+
 class Played:
     """A client's end of a connection.
 
@@ -136,12 +146,12 @@ class Played:
         """Says whether the connection may be reset by now."""
         script = self.script
         if script.ends == "closes":
-            return bool(self.handed) and not (script.waits and script.part == 1)
+            return bool(self.handed) and not takes_all(script)
         return script.ends == "unaccepted" or script.ends == "dies" and (bool(self.handed) or not script.waits)
 
     def is_reset(self):
         """Says whether what the client sees behind all that was given is a reset."""
-        is_chosen = self.script.ends == "closes" and (not self.script.waits or len(self.handed) > MOST_AT_ONCE)
+        is_chosen = self.script.ends == "closes" and (not self.script.waits or is_long(self.handed))
         return self.may_reset() and (not is_chosen or bool(self.choose()))
 
     def recv(self, count):
@@ -157,10 +167,15 @@ class Played:
         if not self.script.waits and self.script.ends == "dies" and self.choose():
             raise BrokenPipeError(errno.EPIPE, "broken pipe")
         self.handed = message
-        if len(message) > MOST_AT_ONCE and self.may_reset() and self.choose():
+        if is_long(message) and self.may_reset() and self.choose():
             self.handed = message[:-1]
             raise BrokenPipeError(errno.EPIPE, "broken pipe")
         self.left += self.script.after if self.script.waits else b""
+
+    def may_be_cut(self):
+        """Says whether the server may get a beginning of the request alone: a client that closes and has not read all that it was given
+        resets the connection too, and then what has not gone out of a long request is thrown away."""
+        return bool(self.left) and is_long(self.handed) and not takes_all(self.script)
 
 
 class Network:
@@ -190,6 +205,10 @@ class Network:
                 raise ConnectionRefusedError(errno.ECONNREFUSED, "refused")
         return played
 
+    def handed(self):
+        """Returns of each connection the port, what was handed, and whether the server may have got a beginning of that alone."""
+        return [(port, it.handed, it.may_be_cut()) for port, it in self.log]
+
 
 def ended(trial, choose):
     """Returns one answer that may be, and what each connection was handed."""
@@ -200,7 +219,7 @@ def ended(trial, choose):
         calling.answer(text.shelf, options, text.file, trial.interface, trial.proxy, trial.name, lambda: trial.data, lines.append)
     except calling.Ends as why:
         ends = why.args[0], f"ice: {why.args[1]}\n".encode()
-    return (ends[0], b"".join(lines), ends[1]), [(port, it.handed) for port, it in network.log]
+    return (ends[0], b"".join(lines), ends[1]), network.handed()
 
 
 def all_ends(trial):
@@ -232,12 +251,17 @@ def fits(log, heard):
     """Says whether the connections of one answer are those that were heard."""
     if [it[0] for it in log] != [it[0] for it in heard]:
         return False
-    pairs = [(handed, data, is_all) for (_, handed), (_, data, is_all, _) in zip(log, heard)]
+    pairs = [(handed, data, is_all and not is_cut) for (_, handed, is_cut), (_, data, is_all, _) in zip(log, heard)]
     return all(data == handed if is_all else handed.startswith(data) for handed, data, is_all in pairs)
 
 
 def is_whole(data):
     return len(data) >= messages.HEADER and len(data) == messages.size_of(data)
+
+
+def is_torn(data, is_all, script):
+    """Says whether a server that waited for the other end got something else than a message, where it has to get a whole one or nothing."""
+    return is_all and bool(data) and not is_whole(data) and (takes_all(script) or not is_long(data))
 
 
 def has_answer(script):
@@ -251,7 +275,7 @@ def broken_laws(trial, heard):
     units = 1 if trial.mode == "-O" else trial.times
     if len(heard) > units * (trial.retries + 1):
         yield "  more attempts than retries allow"
-    if any(data and not is_whole(data) for _, data, is_all, _ in heard if is_all):
+    if any(is_torn(*it) for _, *it in heard):
         yield "  a message that is not whole"
     if trial.operation.is_idempotent:
         return
@@ -268,7 +292,7 @@ def shown(trial, ends, given, server):
     lines = [f"  words {trial.words()}", f"  input {trial.data.decode()}", f"  ports {trial.ports}, open {list(trial.scripts)}"]
     for port, data, is_all, script in server.heard:
         lines += [f"  at {port} gave {script}", f"    heard {data.hex()}{'' if is_all else ' ..'}"]
-    wanted = [f"    {answer} {[(port, handed.hex()) for port, handed in log]}" for answer, log in ends]
+    wanted = [f"    {answer} {[(port, handed.hex()) for port, handed, _ in log]}" for answer, log in ends]
     return "\n".join([*lines, *server.faults, "  wanted, one of", *wanted, "  came", f"    {given}"])
 
 
