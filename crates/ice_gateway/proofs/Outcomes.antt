@@ -3,6 +3,7 @@ use Rattle.std.proofs.Common.{◌≡◌, ℕ, Bool, true, false, List, [], ◌�
 use Rattle.ice_encoding.specs.Parts.{Each}
 use Rattle.ice_ports.specs.declared.talk.Talk.{Talk}
 use Rattle.ice_proxy.specs.Usable.{tcp_at}
+use Rattle.ice_messages.specs.declared.fault.WriteFault.{WriteFault}
 use Rattle.ice_messages.specs.declared.fault.WriteFault.TheVariants.{Memory}
 use Rattle.ice_messages.specs.declared.message.Answer.{Answer}
 use Rattle.ice_messages.specs.declared.message.Message.{Message}
@@ -68,8 +69,10 @@ was_tried gate m tried r some (attempts, did, placed, uncached, short) =
 pub starved_behind : (gate : Gate) (m : Message) (runs : List (List Tried)) (tried : List Tried) (outcome : Outcome) → runs ≡ tried ∷ [] → ClientDid m gate.retries tried (Some outcome) → Each is_uncached tried → WasStarved gate m runs
 starved_behind gate m runs tried outcome is did uncached = inr (tried, is, uncached, inr (outcome, did))
 
-pub starved_in : (gate : Gate) (m : Message) (tried : List Tried) → Invokes m gate.endpoints gate.retries tried (Err Memory) → WasStarved gate m (tried ∷ [])
-starved_in gate m tried h = inr (tried, refl, h.1, inl h.0)
+pub starved_in : (gate : Gate) (m : Message) (tried : List Tried) (e : WriteFault) → e ≡ Memory → Invokes m gate.endpoints gate.retries tried (Err e) → WasStarved gate m (tried ∷ [])
+starved_in gate m tried e is h =
+    let so = subst (λ (x : WriteFault). Invokes m gate.endpoints gate.retries tried (Err x)) is h in
+    inr (tried, refl, so.1, inl so.0)
 
 pub none_starved : (gate : Gate) (due : Option Message) → DueStarved gate due []
 none_starved gate None = refl

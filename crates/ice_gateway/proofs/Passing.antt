@@ -5,6 +5,7 @@ use Rattle.std.proofs.lemmas.Bool.{le-leb, lt-leb}
 use Rattle.std.proofs.lemmas.List.{drop_all, drop_more}
 use Rattle.ice_encoding.specs.declared.limits.TheConstants.{LARGEST}
 use Rattle.ice_proxy.specs.Usable.{tcp_at}
+use Rattle.ice_messages.specs.declared.fault.WriteFault.{WriteFault}
 use Rattle.ice_messages.specs.declared.fault.WriteFault.TheVariants.{Memory}
 use Rattle.ice_messages.specs.declared.message.Call.{Call}
 use Rattle.ice_messages.specs.declared.message.Answer.{Answer}
@@ -51,8 +52,8 @@ was_sent gate m tried r some h =
 pub due_starved : (gate : Gate) (m : Message) (runs : List (List Tried)) → IsSome (tcp_at 0 gate.endpoints) → WasStarved gate m runs → DueStarved gate (placed gate m) runs
 due_starved gate m runs some h = subst (λ (d : Option Message). DueStarved gate d runs) (sym (placed_some gate m some)) h
 
-pub send_starved : (gate : Gate) (m : Message) (tried : List Tried) → IsSome (tcp_at 0 gate.endpoints) → Invokes m gate.endpoints gate.retries tried (Err Memory) → DueStarved gate (placed gate m) (tried ∷ [])
-send_starved gate m tried some h = due_starved gate m (tried ∷ []) some (starved_in gate m tried h)
+pub send_starved : (gate : Gate) (m : Message) (tried : List Tried) (e : WriteFault) → IsSome (tcp_at 0 gate.endpoints) → e ≡ Memory → Invokes m gate.endpoints gate.retries tried (Err e) → DueStarved gate (placed gate m) (tried ∷ [])
+send_starved gate m tried e some is h = due_starved gate m (tried ∷ []) some (starved_in gate m tried e is h)
 
 -- ---- the calls of a batch
 

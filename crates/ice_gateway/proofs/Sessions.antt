@@ -310,7 +310,7 @@ module _ (gate : Gate) where
 
   -- after the stated number of messages
   module _ (most : ℕ) (runs : List (List Tried)) (t s : Talk) (held : List ℕ) (p : Part gate runs t held most) where
-    closed : (end : Option End) (closes : Bool) → s.given ≡ [] → Shows (and_then t s) held end → ClosesBy end closes (length p.reads) most → WasSaid end p.handled closes (t.taken ++ s.taken) → IsLeft end [] []
+    closed : (end : Option End) (closes : Bool) → s.given ≡ [] → Shows (and_then t s) held end → ClosesBy end closes (length p.reads) most → WasSaid end p.handled closes (t.taken ++ s.taken) → IsLeft gate end [] []
         → GateDid gate most (and_then t s) runs end
     closed end closes none shows by said left = record {
       reads = p.reads;

@@ -67,7 +67,7 @@ module _ (sessions : List Session) (other : Matching) where
       let same = first_is (record { message = c.message; retries = c.retries; attempts = attempts_from sessions other d 0 c.tried; outcome = c.outcome }) x h in
       let e : d ≡ d + 0 = omega arith in
       attempt_back d 0 c.tried n a (ap (λ (y : Delivery). slice_get y.attempts n) same ∙ g)
-          ∙ (ap (λ (j : ℕ). session_at sessions (other d j)) (zero-add n) ∙ ap (λ (j : ℕ). session_at sessions (other j n)) e)
+      ∙ (ap (λ (j : ℕ). session_at sessions (other d j)) (zero-add n) ∙ ap (λ (j : ℕ). session_at sessions (other j n)) e)
   session_back d (c ∷ clients) (suc number) n x a h g =
       let e : suc d + number ≡ d + suc number = omega arith in
       session_back (suc d) clients number n x a h g ∙ ap (λ (j : ℕ). session_at sessions (other j n)) e

@@ -27,5 +27,5 @@ returns g c =
           rw w.result-is (record { told = (told.0 ∷ [], ran_one gate.endpoints told.0 old new told.1 w.in-Ok.ensures.kept, was_sent gate c.args.message.now told.0 w.in-Ok.field-0 some told.2) })
       | in-Err-Memory w ↦
           let told = w.in-Err-Memory.ensures.told in
-          rw w.result-is (record { told = (told.0 ∷ [], ran_one gate.endpoints told.0 old new told.1 w.in-Err-Memory.ensures.kept, send_starved gate c.args.message.now told.0 some told.2) })
+          rw w.result-is (record { told = (told.0 ∷ [], ran_one gate.endpoints told.0 old new told.1 w.in-Err-Memory.ensures.kept, send_starved gate c.args.message.now told.0 _ some w.in-Err-Memory.field-0-is told.2) })
     ]

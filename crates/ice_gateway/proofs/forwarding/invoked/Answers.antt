@@ -26,4 +26,4 @@ returns-in-Err-Memory-clause-told g c =
     let told = c.in-Err-Memory.ensures.told in
     let old = net_seen (g.N.Net.told c.args.net.now) (g.N.Net.failures c.args.net.now) (g.N.Net.listen_failures c.args.net.now) in
     let new = net_seen (g.N.Net.told c.invoke.new.net) (g.N.Net.failures c.invoke.new.net) (g.N.Net.listen_failures c.invoke.new.net) in
-    (told.0 ∷ [], ran_one c.args.gateway.now.upstream.now.endpoints told.0 old new told.1 c.in-Err-Memory.ensures.kept, starved_in (seen c.args.gateway.now) (Request (pos 1) c.args.call.now) told.0 told.2)
+    (told.0 ∷ [], ran_one c.args.gateway.now.upstream.now.endpoints told.0 old new told.1 c.in-Err-Memory.ensures.kept, starved_in (seen c.args.gateway.now) (Request (pos 1) c.args.call.now) told.0 _ c.in-Err-Memory.field-0-is told.2)
