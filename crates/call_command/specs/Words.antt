@@ -1,8 +1,8 @@
 -- The words of `call`.
-use Rattle.std.specs.Prelude.{ℕ, ◌≡◌, ◌≢◌, ◌≤◌, ◌⊎◌, Bool, false, List, [], ◌∷◌, ◌++◌, codes, Option, Some, None, IfSome, option_copied, unwrap_or, if◌then◌else◌}
+use Rattle.std.specs.Prelude.{ℕ, ◌≡◌, ◌≢◌, ◌≤◌, ◌⊎◌, Bool, true, false, List, [], ◌∷◌, ◌++◌, codes, Option, Some, None, IfSome, option_copied, unwrap_or, if◌then◌else◌}
 use Rattle.instance_writing.specs.declared.format.Format.{Format}
 use Rattle.instance_writing.specs.declared.format.Format.TheVariants.{Sliced, Compact}
-use Rattle.node_commands.specs.Words.{Word, Command, IsWord, Form}
+use Rattle.node_commands.specs.Words.{Word, Command, IsWord, Form, SpellsWithin}
 use Rattle.call_command.specs.declared.words.CallCommand.{CallCommand}
 use Rattle.call_command.specs.declared.words.Options.{Options}
 use Rattle.call_command.specs.declared.words.TheConstants.{MOST_RETRIES, MOST_TIMES}

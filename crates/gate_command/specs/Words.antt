@@ -2,7 +2,7 @@
 use Rattle.std.specs.Prelude.{ℕ, ◌≡◌, ◌≤◌, ◌⊎◌, List, [], ◌∷◌, ◌++◌, codes, Option, Some, None, unwrap_or}
 use Rattle.std.specs.Fmt.{decimal}
 use Rattle.std.specs.List.{AllByRecursion}
-use Rattle.node_commands.specs.Words.{Word, Command, IsWord, Form}
+use Rattle.node_commands.specs.Words.{Word, Command, IsWord, Form, SpellsWithin}
 use Rattle.call_command.specs.declared.words.TheConstants.{MOST_RETRIES}
 use Rattle.serve_command.specs.declared.operands.TheConstants.{MOST_CONNECTIONS, MOST_PORT}
 use Rattle.serve_command.specs.Words.{Serve, ServeForm}
