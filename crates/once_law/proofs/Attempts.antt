@@ -20,7 +20,7 @@ use Rattle.ice_client.specs.Sending.{asks_reply, IsIdempotent, IsOf}
 use Rattle.ice_client.specs.Asking.{HasRow}
 use Rattle.ice_messages.specs.Calls.{status_of}
 use Rattle.dispatch_pool.specs.Handled.{Handled, answer_of, replies, reply_of}
-use Rattle.dispatch_pool.specs.ServerDid as servers
+use Rattle.talking.specs.Ends as ends
 use Rattle.call_world.specs.World as world
 use Rattle.once_law.specs.Placed.{From, seats, after, connection_of}
 use Rattle.once_law.specs.Ends.{Session, IsSession, IsSent, IsPrefix, IsMet}
@@ -187,17 +187,17 @@ data IsSecond (hs : List Handled) (closes : Bool) (x : Message) : Type 0 where
   is_close : hs ≡ [] → closes ≡ true → x ≡ Close → IsSecond hs closes x
   is_reply : (h : Handled) → hs ≡ h ∷ [] → x ≡ Reply (pos 1) (answer_of h.outcome) → IsSecond hs closes x
 
-second_closing : (hs : List Handled) (closes : Bool) (x : Message) (others : List Message) → hs ≡ [] → x ∷ others ≡ servers.closing closes → IsSecond hs closes x
+second_closing : (hs : List Handled) (closes : Bool) (x : Message) (others : List Message) → hs ≡ [] → x ∷ others ≡ ends.closing closes → IsSecond hs closes x
 second_closing hs true x others none e = is_close none refl (head_is e)
 second_closing hs false x others none e = absurd (nothing e)
 
-second_is : (hs : List Handled) (closes : Bool) (x : Message) (others : List Message) → IsOne hs → x ∷ others ≡ replies hs ++ servers.closing closes → IsSecond hs closes x
+second_is : (hs : List Handled) (closes : Bool) (x : Message) (others : List Message) → IsOne hs → x ∷ others ≡ replies hs ++ ends.closing closes → IsSecond hs closes x
 second_is hs closes x others (none_handled none) e =
-    second_closing hs closes x others none (e ∙ ap (λ (z : List Handled). replies z ++ servers.closing closes) none)
+    second_closing hs closes x others none (e ∙ ap (λ (z : List Handled). replies z ++ ends.closing closes) none)
 second_is hs closes x others (one_handled h one id) e =
-    let f : replies hs ++ servers.closing closes ≡ Reply (pos 1) (answer_of h.outcome) ∷ servers.closing closes =
-    ap (λ (z : List Handled). replies z ++ servers.closing closes) one
-    ∙ ap (λ (z : ℤ). (reply_of z (answer_of h.outcome) ++ []) ++ servers.closing closes) id in
+    let f : replies hs ++ ends.closing closes ≡ Reply (pos 1) (answer_of h.outcome) ∷ ends.closing closes =
+    ap (λ (z : List Handled). replies z ++ ends.closing closes) one
+    ∙ ap (λ (z : ℤ). (reply_of z (answer_of h.outcome) ++ []) ++ ends.closing closes) id in
     is_reply h one (head_is (e ∙ f))
 
 no_validate : (hs : List Handled) (closes : Bool) (x : Message) → x ≡ Validate → IsSecond hs closes x → ⊥
@@ -206,7 +206,7 @@ no_validate hs closes x e (is_reply h one f) = validate_reply (sym e ∙ f)
 
 -- behind validates alone it is the first message
 second_read : (hs : List Handled) (closes : Bool) (ms : List Message) (x : Message) (others : List Message) → IsOne hs → AreValidates ms
-    → (ms ++ x ∷ []) ++ others ≡ replies hs ++ servers.closing closes → (ms ≡ []) × IsSecond hs closes x
+    → (ms ++ x ∷ []) ++ others ≡ replies hs ++ ends.closing closes → (ms ≡ []) × IsSecond hs closes x
 second_read hs closes [] x others one all e = (refl, second_is hs closes x others one e)
 second_read hs closes (u ∷ us) x others one all e =
     absurd (no_validate hs closes u all.0 (second_is hs closes u ((us ++ x ∷ []) ++ others) one e))
