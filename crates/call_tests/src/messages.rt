@@ -48,18 +48,13 @@ const FAULTS: &[(&[u8], u64, Kind)] = &[
     ),
 ];
 
-/// Whether these bytes are written of the message.
-fn is_written(alloc: Global, message: &Message, bytes: &[u8]) -> bool {
-    match write_message(alloc, message) {
-        Ok(written) => written.as_slice() == bytes,
-        Err(_) => false,
-    }
-}
-
 /// Whether the bytes that are written of the message that the bytes are are these.
 fn is_written_as_it_stands(alloc: Global, bytes: &[u8]) -> bool {
-    match read_message(alloc, bytes) {
-        Ok(message) => is_written(alloc, &message, bytes),
+    let Ok(message) = read_message(alloc, bytes) else {
+        return false;
+    };
+    match write_message(alloc, &message) {
+        Ok(written) => written.as_slice() == bytes,
         Err(_) => false,
     }
 }
