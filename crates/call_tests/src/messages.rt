@@ -1,4 +1,4 @@
-use ice_messages::{FeedFault, Frames, Message, read_message, write_message};
+use ice_messages::{FeedFault, Frames, read_message, write_message};
 use ice_prims::{Kind, ReadFault};
 use std::alloc::Global;
 
