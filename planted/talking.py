@@ -1,0 +1,28 @@
+CRATE='talking'
+H='src/hearing.rt'; W='src/writing.rt'; S='src/saying.rt'
+PLANTS=[
+('broken_as_ended','bytes that are no message are told as the end',H,"return Ok(Heard::Broken(fault)),","{ let _ = fault; return Ok(Heard::Ended) }"),
+('memory_as_failed','want of memory is told as a failed read',H,"Err(ReadFault::Memory) => return Err(AllocError),","Err(ReadFault::Memory) => return Ok(Heard::Failed),"),
+('end_as_failed','the end is told as a failure',H,"Ok(0) => return Ok(Heard::Ended),","Ok(0) => return Ok(Heard::Failed),"),
+('failure_as_end','a failed read is told as the end',H,"Err(Failed) => return Ok(Heard::Failed),","Err(Failed) => return Ok(Heard::Ended),"),
+('read_before_looking','it reads although a message stands',H,"        match frames.next() {","        if frames.is_empty() { }\n        match frames.next() {"),
+('piece_lacks_its_last','the last byte of a piece is lost',H,"take_piece(frames, &buffer[..count])?;","take_piece(frames, &buffer[..count - 1])?;"),
+('piece_has_all_room','the whole buffer is taken in',H,"take_piece(frames, &buffer[..count])?;","take_piece(frames, &buffer)?;"),
+('piece_twice','a piece is taken in twice',H,"take_piece(frames, &buffer[..count])?;","take_piece(frames, &buffer[..count])?;\n        take_piece(frames, &buffer[..count])?;"),
+('piece_dropped','a piece is dropped',H,"        take_piece(frames, &buffer[..count])?;\n",""),
+('piece_not_fed','a piece is told as taken, and is not',H,"    if frames.feed(piece).is_err() {\n        return Err(AllocError);\n    }\n    Ok(())","    let _ = (frames, piece);\n    Ok(())"),
+('retries_a_failed_read','a failed read is tried again',H,"Err(Failed) => return Ok(Heard::Failed),","Err(Failed) => match read_link(link, &mut buffer) { Ok(count) => count, Err(Failed) => return Ok(Heard::Failed) },"),
+('writes_first_byte_alone','one byte a write',W,"match write_link(link, &bytes[at..]) {","match write_link(link, &bytes[at..at + 1]) {"),
+('writes_from_the_start','each write begins with the first byte',W,"match write_link(link, &bytes[at..]) {","match write_link(link, &bytes[..]) {"),
+('counts_one_less','one byte less is counted',W,"Ok(count) => at += count,","Ok(count) => at += count - 1,"),
+('failed_write_as_whole','a failed write is told as all',W,"Err(Failed) => return at,","Err(Failed) => return bytes.len(),"),
+('failed_write_as_none','a failed write is told as nothing taken',W,"Err(Failed) => return at,","Err(Failed) => return 0,"),
+('failed_write_again','a failed write is tried again',W,"Err(Failed) => return at,","Err(Failed) => match write_link(link, &bytes[at..]) { Ok(count) => at += count, Err(Failed) => return at },"),
+('stops_before_the_last','the last byte is not written',W,"    while at < bytes.len() {","    while at + 1 < bytes.len() {"),
+('writes_nothing','nothing is written',W,"    let mut at = 0;\n    while at < bytes.len() {","    let mut at = bytes.len();\n    while at < bytes.len() {"),
+('said_though_cut','a message that was cut is told as said',S,"    Ok(write_bytes(link, piece) == piece.len())","    write_bytes(link, piece);\n    Ok(true)"),
+('said_as_cut','a message that was said is told as cut',S,"    Ok(write_bytes(link, piece) == piece.len())","    write_bytes(link, piece);\n    Ok(false)"),
+('said_twice','a message is said twice',S,"    Ok(write_bytes(link, piece) == piece.len())","    write_bytes(link, piece);\n    Ok(write_bytes(link, piece) == piece.len())"),
+('memory_as_cut','want of memory is told as a failed write',S,"    let bytes = bytes_of(alloc, message)?;","    let Ok(bytes) = bytes_of(alloc, message) else { return Ok(false) };"),
+('says_validate','another message is said',S,"    let bytes = bytes_of(alloc, message)?;","    let _ = message;\n    let bytes = bytes_of(alloc, &Message::Validate)?;"),
+]
