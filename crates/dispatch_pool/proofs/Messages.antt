@@ -1,5 +1,5 @@
 -- The reply of a call, as it is said.
-use Rattle.std.proofs.Common.{◌≡◌, ◌≢◌, ◌≤◌, zero, suc, Bool, true, List, [], ◌∷◌, length, refl, sym, ap, subst, arith}
+use Rattle.std.proofs.Common.{◌≡◌, ◌≢◌, zero, suc, Bool, true, List, [], ◌∷◌, refl, sym, ap, subst}
 use Rattle.std.specs.Prelude.{ℤ, pos, negsuc, Result, Ok}
 use Rattle.ice_ports.specs.declared.talk.Talk.{Talk}
 use Rattle.ice_ports.specs.Talks.{silent}
@@ -8,11 +8,6 @@ use Rattle.ice_messages.specs.declared.message.Message.{Message}
 use Rattle.ice_messages.specs.declared.message.Message.TheVariants.{Reply}
 use Rattle.talking.specs.Said.{Says}
 use Rattle.dispatch_pool.specs.Handled.{reply_of}
-
-pub reply_few : (id : ℤ) (answer : Answer) → length (reply_of id answer) ≤ 1
-reply_few (pos zero) answer = omega arith
-reply_few (pos (suc n)) answer = omega arith
-reply_few (negsuc n) answer = omega arith
 
 pub no_reply : (id : ℤ) (answer : Answer) → id ≡ pos 0 → reply_of id answer ≡ []
 no_reply id answer is = ap (λ (z : ℤ). reply_of z answer) is

@@ -1,5 +1,5 @@
 -- Messages that are taken one after the other, and how a session ends.
-use Rattle.std.proofs.Common.{◌≡◌, ◌≢◌, ℕ, suc, ◌+◌, ◌<◌, ◌≤◌, inl, inr, Bool, true, false, List, [], ◌∷◌, ◌++◌, length, refl, sym, ap, ap₂, ◌∙◌, subst, arith, append_assoc, append-nil, length-append}
+use Rattle.std.proofs.Common.{◌≡◌, ℕ, suc, ◌+◌, ◌<◌, ◌≤◌, inl, inr, Bool, true, false, List, [], ◌∷◌, ◌++◌, length, refl, sym, ap, ap₂, ◌∙◌, subst, arith, append_assoc, append-nil, length-append}
 use Rattle.std.specs.Prelude.{ℤ, pos, Option, Some, None, Result, Ok, Err}
 use Rattle.turnstile.specs.declared.turned.Turned.{Ghosts}
 use Rattle.turnstile.specs.declared.passes.Pass.{Pass}
@@ -11,20 +11,19 @@ use Rattle.ice_messages.specs.declared.message.Message.{Message}
 use Rattle.ice_messages.specs.declared.message.Message.TheVariants.{Request, Batch, Reply, Validate, Close}
 use Rattle.ice_messages.specs.Messages.{SpellsMessage}
 use Rattle.ice_messages.specs.Streams.{Stream}
-use Rattle.talking.specs.Said.{bytes_of, IsSaid, IsBegun, IsFine, Says}
-use Rattle.talking.specs.Ends.{Shows, IsTaken, ClosesBy, StepSaid}
+use Rattle.talking.specs.Said.{all_of, IsSaid, IsSaidBut, IsFine, Says}
+use Rattle.talking.specs.Ends.{Shows, IsTaken, IsSingle, WasSaid, EndsBy, closing}
 use Rattle.dispatch_pool.specs.declared.object.Object.{Object}
 use Rattle.talking.specs.declared.end.End.{End}
 use Rattle.talking.specs.declared.end.End.TheVariants as ends
 use Rattle.dispatch_pool.specs.Rows.{RowGrew}
-use Rattle.dispatch_pool.specs.Handled.{Keys, Asked, Handled, answer_of, asked, asked_of, asking, replies, reply_of, turns_of, unasked}
-use Rattle.dispatch_pool.specs.ServerDid.{ServerDid, IsCut, WasSaid, IsLeft, all_said}
-use Rattle.dispatch_pool.specs.Parts.{IsSingle, Handling, Next, Part, IsNext, LeavesNone}
-use Rattle.talking.proofs.Said.{said_then, none_begun, said_begun}
-use Rattle.talking.proofs.Ends.{stream_then, taken_append, stepped, nothing_said, nothing_taken, or_right, both_fine, shows_later, not_closed}
+use Rattle.dispatch_pool.specs.Handled.{Keys, Asked, Handled, answer_of, asked, asked_of, asking, replies, reply_of, reply_steps, turns_of, unasked}
+use Rattle.dispatch_pool.specs.ServerDid.{ServerDid, IsLeft}
+use Rattle.dispatch_pool.specs.Parts.{Handling, Next, Part, IsNext, LeavesNone}
+use Rattle.talking.proofs.Said.{steps_said, steps_cut, steps_but, step_begun}
+use Rattle.talking.proofs.Ends.{stream_then, taken_append, stepped, or_right, both_fine, shows_later, said_later}
 use Rattle.dispatch_pool.proofs.Turning.{row_still}
-use Rattle.dispatch_pool.proofs.Messages.{reply_few}
-use Rattle.dispatch_pool.proofs.Calls.{asking_append, replies_append, outcomes_append, grew_more}
+use Rattle.dispatch_pool.proofs.Calls.{asking_append, outcomes_append, grew_more}
 
 -- ---- lists
 
@@ -34,17 +33,22 @@ asked_append (x ∷ xs) ys = ap (λ (z : List Asked). asked_of x ++ z) (asked_ap
 
 -- ---- one message
 
-next_by : {E : Type 0} (r : Result Bool E) (m : Message) (t : Talk) (held : List ℕ) (rest : List Asked) (messages : List Message) → LeavesNone rest r → Says messages t r → IsNext t held (m ∷ []) held rest messages (stepped r)
-next_by (Ok true) m t held rest messages none s = (refl, refl, none, s.1, s.2)
-next_by (Ok false) m t held rest messages none s = (s.2, none, s.1, tt)
-next_by (Err e) m t held rest messages none s = (s.1, s.2)
+next_by : {E : Type 0} (r : Result Bool E) (m : Message) (t : Talk) (held : List ℕ) (rest : List Asked) (steps : List (List Message)) → IsSingle steps → LeavesNone rest r → Says (all_of steps) t r → IsNext t held (m ∷ []) held rest steps (stepped r)
+next_by (Ok true) m t held rest steps single none s = (refl, refl, none, s.1, s.2)
+next_by (Ok false) m t held rest steps single none s = (s.2, none, inr (step_begun steps t.taken single s.1))
+next_by (Err e) m t held rest steps single none s = (s.1, s.2)
 
 asking_long : (hs : List Handled) → length (asking hs) ≡ length hs
 asking_long [] = refl
 asking_long (h ∷ hs) = ap suc (asking_long hs)
 
-few_asked : (asks rest : List Asked) (hs : List Handled) → asks ≡ asking hs ++ rest → length asks ≤ 1 → length hs ≤ 1
-few_asked asks rest hs is few = let a = ap (λ (z : List Asked). length z) is in let b = length-append (asking hs) rest in let c = asking_long hs in omega arith
+steps_long : (hs : List Handled) → length (reply_steps hs) ≡ length hs
+steps_long [] = refl
+steps_long (h ∷ hs) = ap suc (steps_long hs)
+
+few_asked : (asks rest : List Asked) (hs : List Handled) → asks ≡ asking hs ++ rest → length asks ≤ 1 → length (reply_steps hs) ≤ 1
+few_asked asks rest hs is few =
+    let a = ap (λ (z : List Asked). length z) is in let b = length-append (asking hs) rest in let c = asking_long hs in let d = steps_long hs in omega arith
 
 -- the calls of a batch ask for no reply
 unasked_quiet : (cs : List Call) (rest : List Asked) (hs : List Handled) → unasked cs ≡ asking hs ++ rest → replies hs ≡ []
@@ -63,7 +67,7 @@ unasked_quiet (c ∷ cs) rest (h ∷ hs) is =
     behind_first [] = []
     behind_first (a ∷ others) = others
 
-single_of : (m : Message) (rest : List Asked) (hs : List Handled) → asked_of m ≡ asking hs ++ rest → IsSingle hs
+single_of : (m : Message) (rest : List Asked) (hs : List Handled) → asked_of m ≡ asking hs ++ rest → IsSingle (reply_steps hs)
 single_of (Request id call) rest hs is = inl (few_asked (asked_of (Request id call)) rest hs is (omega arith))
 single_of (Batch calls) rest hs is = inr (unasked_quiet calls rest hs is)
 single_of (Reply id answer) rest hs is = inl (few_asked [] rest hs is (omega arith))
@@ -85,7 +89,7 @@ module _ {g : Ghosts Object Call Answer} (keys : Keys) where
     calls = append-nil (asked_of m) ∙ h.calls;
     outcomes = h.outcomes;
     grew = h.grew;
-    how = next_by r m t held h.rest (replies h.handled) h.left h.says;
+    how = next_by r m t held h.rest (reply_steps h.handled) (single_of m h.rest h.handled h.calls) h.left h.says;
   }
 
   -- a message without calls
@@ -106,8 +110,8 @@ module _ {g : Ghosts Object Call Answer} (keys : Keys) where
     how = (refl, refl, refl, (refl, tt), (refl, refl));
   }
 
-  pub next_end : {E : Type 0} (ps : List (Pass Object Call Answer g)) (t : Talk) (bytes held : List ℕ) (end : End) → t.taken ≡ [] → Shows t bytes (Some end) → end ≢ ends.Enough → Next keys ps ps {E = E} t bytes held (Ok (Some end))
-  next_end ps t bytes held end none shows ne = record {
+  pub next_end : {E : Type 0} (ps : List (Pass Object Call Answer g)) (t : Talk) (bytes held : List ℕ) (end : End) → Shows t bytes (Some end) → EndsBy end bytes [] [] t.taken → Next keys ps ps {E = E} t bytes held (Ok (Some end))
+  next_end ps t bytes held end shows by = record {
     reads = [];
     left = bytes;
     handled = [];
@@ -119,7 +123,7 @@ module _ {g : Ghosts Object Call Answer} (keys : Keys) where
     calls = refl;
     outcomes = tt;
     grew = row_still ps;
-    how = (shows, refl, nothing_said end t ne none, nothing_taken end ne);
+    how = (shows, refl, by);
   }
 
   pub next_starved : {E : Type 0} (e : E) (ps : List (Pass Object Call Answer g)) (t : Talk) (bytes held : List ℕ) → t.taken ≡ [] → IsFine t → Next keys ps ps {E = E} t bytes held (Err e)
@@ -139,15 +143,15 @@ module _ {g : Ghosts Object Call Answer} (keys : Keys) where
   }
 
 -- behind the bytes of a message
-shown_behind : {E : Type 0} (got : List ℕ) (t : Talk) (held : List ℕ) (reads : List Message) (left : List ℕ) (rest : List Asked) (messages : List Message) (r : Result (Option End) E)
-    → IsNext t held reads left rest messages r → IsNext (and_then (gives got) t) held reads left rest messages r
-shown_behind got t held reads left rest messages (Ok None) h = h
-shown_behind got t held reads left rest messages (Ok (Some ends.PeerEnded)) h = h
-shown_behind got t held reads left rest messages (Ok (Some ends.PeerClosed)) h = h
-shown_behind got t held reads left rest messages (Ok (Some (ends.PeerBroke fault))) h = h
-shown_behind got t held reads left rest messages (Ok (Some ends.LinkFailed)) h = h
-shown_behind got t held reads left rest messages (Ok (Some ends.Enough)) h = h
-shown_behind got t held reads left rest messages (Err e) h = h
+shown_behind : {E : Type 0} (got : List ℕ) (t : Talk) (held : List ℕ) (reads : List Message) (left : List ℕ) (rest : List Asked) (steps : List (List Message)) (r : Result (Option End) E)
+    → IsNext t held reads left rest steps r → IsNext (and_then (gives got) t) held reads left rest steps r
+shown_behind got t held reads left rest steps (Ok None) h = h
+shown_behind got t held reads left rest steps (Ok (Some ends.PeerEnded)) h = h
+shown_behind got t held reads left rest steps (Ok (Some ends.PeerClosed)) h = h
+shown_behind got t held reads left rest steps (Ok (Some (ends.PeerBroke fault))) h = h
+shown_behind got t held reads left rest steps (Ok (Some ends.LinkFailed)) h = h
+shown_behind got t held reads left rest steps (Ok (Some ends.Enough)) h = h
+shown_behind got t held reads left rest steps (Err e) h = h
 
 pub next_behind : {E : Type 0} {g : Ghosts Object Call Answer} (keys : Keys) (ps qs : List (Pass Object Call Answer g)) (r : Result (Option End) E) (before got held : List ℕ) (t : Talk) → t.given ≡ []
     → Next keys ps qs t (before ++ got) held r → Next keys ps qs (and_then (gives got) t) (before ++ (got ++ t.given)) held r
@@ -163,103 +167,21 @@ next_behind keys ps qs r before got held t none n = record {
   calls = n.calls;
   outcomes = n.outcomes;
   grew = n.grew;
-  how = shown_behind got t held n.reads n.left n.rest (replies n.handled) r n.how;
+  how = shown_behind got t held n.reads n.left n.rest (reply_steps n.handled) r n.how;
 }
 
 -- ---- the whole session
 
--- validate and replies, one part and another
-said_more : (xs ys : List Handled) → (Validate ∷ replies xs) ++ replies ys ≡ Validate ∷ replies (xs ++ ys)
-said_more xs ys = ap (λ (z : List Message). Validate ∷ z) (sym (replies_append xs ys))
+-- what a session says, step by step
+abbrev steps : List Handled → List (List Message)
+steps handled = (Validate ∷ []) ∷ reply_steps handled
 
-unclosed : (hs : List Handled) → Validate ∷ replies hs ≡ all_said hs false
-unclosed hs = ap (λ (z : List Message). Validate ∷ z) (sym (append-nil (replies hs)))
-
-said_both : (xs ys : List Handled) (x y : List ℕ) → IsSaid (Validate ∷ replies xs) x → IsSaid (replies ys) y → IsSaid (all_said (xs ++ ys) false) (x ++ y)
-said_both xs ys x y h k =
-    subst (λ (z : List Message). IsSaid z (x ++ y)) (said_more xs ys ∙ unclosed (xs ++ ys)) (said_then (Validate ∷ replies xs) (replies ys) x y h k)
-
--- ---- what was said, where a write failed or memory lacked
-
--- nothing was taken of no messages
-nothing_begun : (ms : List Message) (y : List ℕ) → ms ≡ [] → IsBegun ms y → y ≡ []
-nothing_begun ms y none k =
-    let two = both_none k.whole k.last (sym k.parts ∙ none) in
-    let begun = both_none k.begun k.lacks (sym k.last_is ∙ ap bytes_of two.1) in
-    k.taken_is ∙ ap₂ (λ (a b : List ℕ). a ++ b) (ap bytes_of two.0) begun.0
+steps_more : (xs ys : List Handled) → steps xs ++ reply_steps ys ≡ steps (xs ++ ys)
+steps_more xs ys = ap (λ (z : List (List Message)). (Validate ∷ []) ∷ z) (more xs)
   where
-    both_none : {A : Type 0} (a b : List A) → a ++ b ≡ [] → (a ≡ []) × (b ≡ [])
-    both_none [] b e = (refl, e)
-    both_none {A} (x ∷ a) b e = absurd (let z = ap (λ (y : List A). length y) e in omega arith)
-
-cut_behind : (xs ys : List Handled) (x y : List ℕ) → IsSingle ys → IsSaid (Validate ∷ replies xs) x → IsBegun (replies ys) y → IsCut (xs ++ ys) false (x ++ y)
-cut_behind xs ys x y (inl one) h k = inr (record {
-  whole = xs;
-  last = ys;
-  parts = refl;
-  one = one;
-  before = x;
-  behind = y;
-  taken_is = refl;
-  said = h;
-  begun = subst (λ (z : List Message). IsBegun z y) (sym (append-nil (replies ys))) k;
-})
-cut_behind xs ys x y (inr none) h k = inr (record {
-  whole = xs ++ ys;
-  last = [];
-  parts = sym (append-nil (xs ++ ys));
-  one = omega arith;
-  before = x ++ [];
-  behind = [];
-  taken_is = ap (λ (z : List ℕ). x ++ z) (nothing_begun (replies ys) y none k) ∙ sym (append-nil (x ++ []));
-  said = subst (λ (z : List Message). IsSaid z (x ++ [])) (said_more xs ys)
-      (said_then (Validate ∷ replies xs) (replies ys) x [] h (subst (λ (z : List Message). IsSaid z []) (sym none) (refl, tt)));
-  begun = said_begun [] [] (refl, tt);
-})
-
--- nothing was said of what a message came to
-few_replies : (ys : List Handled) → length ys ≤ 1 → length (replies ys) ≤ 1
-few_replies [] one = omega arith
-few_replies (h ∷ []) one = let l = length-append (reply_of h.asked.id (answer_of h.outcome)) [] in let f = reply_few h.asked.id (answer_of h.outcome) in omega arith
-few_replies (h ∷ k ∷ r) one = absurd (omega arith)
-
-unsaid : (ys : List Handled) (y : List ℕ) → IsSingle ys → y ≡ [] → IsBegun (replies ys) y
-unsaid ys y (inl one) none = subst (λ (z : List ℕ). IsBegun (replies ys) z) (sym none) (none_begun (replies ys) (few_replies ys one))
-unsaid ys y (inr quiet) none = subst (λ (z : List ℕ). IsBegun (replies ys) z) (sym none) (subst (λ (z : List Message). IsBegun z []) (sym quiet) (said_begun [] [] (refl, tt)))
-
--- nor of the close message
-cut_unsaid : (hs : List Handled) (x y : List ℕ) → IsSaid (Validate ∷ replies hs) x → y ≡ [] → IsCut hs false (x ++ y)
-cut_unsaid hs x y h none = inr (record {
-  whole = hs;
-  last = [];
-  parts = sym (append-nil hs);
-  one = omega arith;
-  before = x;
-  behind = y;
-  taken_is = refl;
-  said = h;
-  begun = subst (λ (z : List ℕ). IsBegun [] z) (sym none) (said_begun [] [] (refl, tt));
-})
-
-cut_close : (hs : List Handled) (x y : List ℕ) → IsSaid (Validate ∷ replies hs) x → IsBegun (Close ∷ []) y → IsCut hs true (x ++ y)
-cut_close hs x y h k = inr (record {
-  whole = hs;
-  last = [];
-  parts = sym (append-nil hs);
-  one = omega arith;
-  before = x;
-  behind = y;
-  taken_is = refl;
-  said = h;
-  begun = k;
-})
-
-was_then : (e : End) (xs ys : List Handled) (x y : List ℕ) → IsSingle ys → IsSaid (Validate ∷ replies xs) x → StepSaid e (replies ys) y → WasSaid (Some e) (xs ++ ys) false (x ++ y)
-was_then ends.PeerEnded xs ys x y one h k = said_both xs ys x y h k
-was_then ends.PeerClosed xs ys x y one h k = said_both xs ys x y h k
-was_then (ends.PeerBroke fault) xs ys x y one h k = said_both xs ys x y h k
-was_then ends.LinkFailed xs ys x y one h k = cut_behind xs ys x y one h k
-was_then ends.Enough xs ys x y one h k = absurd k
+    more : (hs : List Handled) → reply_steps hs ++ reply_steps ys ≡ reply_steps (hs ++ ys)
+    more [] = refl
+    more (h ∷ hs) = ap (λ (z : List (List Message)). reply_of h.asked.id (answer_of h.outcome) ∷ z) (more hs)
 
 module _ {g : Ghosts Object Call Answer} (keys : Keys) where
   pub part_begun : (E : Type 0) (ps : List (Pass Object Call Answer g)) (t : Talk) → Says {E = E} (Validate ∷ []) t (Ok true) → Part keys ps ps t [] 0
@@ -276,7 +198,7 @@ module _ {g : Ghosts Object Call Answer} (keys : Keys) where
     calls = asked_append p.reads n.reads ∙ (ap₂ (λ (a b : List Asked). a ++ b) p.calls (n.calls ∙ (ap (λ (z : List Asked). asking n.handled ++ z) n.how.2 ∙ append-nil (asking n.handled))) ∙ sym (asking_append p.handled n.handled));
     outcomes = outcomes_append keys p.handled n.handled p.outcomes n.outcomes;
     grew = grew_more ps qs rs p.handled n.handled p.grew n.grew;
-    said = subst (λ (z : List Message). IsSaid z (t.taken ++ s.taken)) (said_more p.handled n.handled) (said_then (Validate ∷ replies p.handled) (replies n.handled) t.taken s.taken p.said n.how.3);
+    said = subst (λ (z : List (List Message)). IsSaid (all_of z) (t.taken ++ s.taken)) (steps_more p.handled n.handled) (steps_said (steps p.handled) (reply_steps n.handled) t.taken s.taken p.said n.how.3);
     fine = both_fine t s p.fine n.how.4;
   }
 
@@ -297,9 +219,11 @@ module _ {g : Ghosts Object Call Answer} (keys : Keys) where
         calls = asked_append p.reads n.reads ∙ (ap₂ (λ (a b : List Asked). a ++ b) p.calls n.calls ∙ (sym (append_assoc (asking p.handled) (asking n.handled) n.rest) ∙ ap (λ (z : List Asked). z ++ n.rest) (sym (asking_append p.handled n.handled))));
         is_left = n.how.1;
         outcomes = outcomes_append keys p.handled n.handled p.outcomes n.outcomes;
-        closes = false;
-        closes_by = not_closed e n.reads i (length (p.reads ++ n.reads)) most n.how.3 lt (length-append p.reads n.reads ∙ ap (λ (k : ℕ). k + length n.reads) p.long);
-        said = was_then e p.handled n.handled t.taken s.taken n.single p.said n.how.2;
+        said = (
+            let more = length-append p.reads n.reads ∙ ap (λ (k : ℕ). k + length n.reads) p.long in
+            subst (λ (z : List (List Message)). WasSaid (Some e) n.left (length (p.reads ++ n.reads)) most z (t.taken ++ s.taken)) (steps_more p.handled n.handled)
+            (said_later i (length (p.reads ++ n.reads)) most n.left n.reads (steps p.handled) (reply_steps n.handled) t.taken s.taken p.said lt more e n.how.2)
+            );
       },
     )
 
@@ -318,17 +242,15 @@ module _ {g : Ghosts Object Call Answer} (keys : Keys) where
         calls = asked_append p.reads n.reads ∙ (ap₂ (λ (a b : List Asked). a ++ b) p.calls n.calls ∙ (sym (append_assoc (asking p.handled) (asking n.handled) n.rest) ∙ ap (λ (z : List Asked). z ++ n.rest) (sym (asking_append p.handled n.handled))));
         is_left = tt;
         outcomes = outcomes_append keys p.handled n.handled p.outcomes n.outcomes;
-        closes = false;
-        closes_by = refl;
-        said = cut_behind p.handled n.handled t.taken s.taken n.single p.said (unsaid n.handled s.taken n.single n.how.0);
+        said = subst (λ (z : List (List Message)). IsSaidBut z (t.taken ++ s.taken)) (steps_more p.handled n.handled) (steps_but (steps p.handled) (reply_steps n.handled) t.taken s.taken p.said n.single n.how.0);
       },
     )
 
   -- after the stated number of messages
   module _ (most : ℕ) (ps qs : List (Pass Object Call Answer g)) (t s : Talk) (held : List ℕ) (p : Part keys ps qs t held most) where
-    closed : (end : Option End) (closes : Bool) → s.given ≡ [] → Shows (and_then t s) held end → ClosesBy end closes (length p.reads) most → WasSaid end p.handled closes (t.taken ++ s.taken) → IsLeft end []
+    closed : (end : Option End) → s.given ≡ [] → Shows (and_then t s) held end → WasSaid end held (length p.reads) most (steps p.handled) (t.taken ++ s.taken) → IsLeft end []
         → (hs : List Handled) × RowGrew ps qs (turns_of hs) × ServerDid keys most (and_then t s) hs end
-    closed end closes none shows by said left = (
+    closed end none shows said left = (
       p.handled,
       p.grew,
       record {
@@ -342,33 +264,32 @@ module _ {g : Ghosts Object Call Answer} (keys : Keys) where
         calls = p.calls ∙ sym (append-nil (asking p.handled));
         is_left = left;
         outcomes = p.outcomes;
-        closes = closes;
-        closes_by = by;
         said = said;
       },
     )
 
     pub enough : (E : Type 0) → Says {E = E} (Close ∷ []) s (Ok true) → (hs : List Handled) × RowGrew ps qs (turns_of hs) × ServerDid keys most (and_then t s) hs (Some ends.Enough)
-    enough E h = closed (Some ends.Enough) true h.0 tt (refl, p.long) (said_then (Validate ∷ replies p.handled) (Close ∷ []) t.taken s.taken p.said h.1) refl
+    enough E h = closed (Some ends.Enough) h.0 tt (p.long, steps_said (steps p.handled) closing t.taken s.taken p.said h.1) refl
 
     pub not_said : (E : Type 0) → Says {E = E} (Close ∷ []) s (Ok false) → (hs : List Handled) × RowGrew ps qs (turns_of hs) × ServerDid keys most (and_then t s) hs (Some ends.LinkFailed)
-    not_said E h = closed (Some ends.LinkFailed) true h.0 (or_right t.failed s.failed h.2) (λ f. p.long) (cut_close p.handled t.taken s.taken p.said h.1) refl
+    not_said E h = closed (Some ends.LinkFailed) h.0 (or_right t.failed s.failed h.2)
+        (inr (inr (p.long, steps_cut (steps p.handled) closing t.taken s.taken p.said (step_begun closing s.taken (inl (omega arith)) h.1)))) refl
 
     pub starved_last : (E : Type 0) (e : E) → Says {E = E} (Close ∷ []) s (Err e) → (hs : List Handled) × RowGrew ps qs (turns_of hs) × ServerDid keys most (and_then t s) hs None
-    starved_last E e h = closed None false h.0 (both_fine t s p.fine h.2) refl (cut_unsaid p.handled t.taken s.taken p.said h.1) tt
+    starved_last E e h = closed None h.0 (both_fine t s p.fine h.2)
+        (subst (λ (z : List (List Message)). IsSaidBut z (t.taken ++ s.taken)) (append-nil (steps p.handled)) (steps_but (steps p.handled) [] t.taken s.taken p.said (inr refl) h.1)) tt
 
   -- not even a validate was said
-  not_begun : (most : ℕ) (ps : List (Pass Object Call Answer g)) (t : Talk) (end : Option End) → t.given ≡ [] → Shows t [] end → ClosesBy end false 0 most → IsLeft end [] → WasSaid end [] false t.taken
+  not_begun : (most : ℕ) (ps : List (Pass Object Call Answer g)) (t : Talk) (end : Option End) → t.given ≡ [] → Shows t [] end → IsLeft end [] → WasSaid end [] 0 most (steps []) t.taken
       → (hs : List Handled) × RowGrew ps ps (turns_of hs) × ServerDid keys most t hs end
-  not_begun most ps t end none shows by left said = (
+  not_begun most ps t end none shows left said = (
     [],
     row_still ps,
-    record { reads = []; left = []; stream = none; few = omega arith; going = tt; shows = shows; rest = []; calls = refl; is_left = left; outcomes = tt; closes = false; closes_by = by; said = said },
+    record { reads = []; left = []; stream = none; few = omega arith; going = tt; shows = shows; rest = []; calls = refl; is_left = left; outcomes = tt; said = said },
   )
 
   pub no_validate : (E : Type 0) (most : ℕ) (ps : List (Pass Object Call Answer g)) (t : Talk) → Says {E = E} (Validate ∷ []) t (Ok false) → (hs : List Handled) × RowGrew ps ps (turns_of hs) × ServerDid keys most t hs (Some ends.LinkFailed)
-  no_validate E most ps t h = not_begun most ps t (Some ends.LinkFailed) h.0 h.2 (λ f. absurd cc) refl (inl (refl, refl, h.1))
+  no_validate E most ps t h = not_begun most ps t (Some ends.LinkFailed) h.0 h.2 refl (inr (inl (step_begun ((Validate ∷ []) ∷ []) t.taken (inl (omega arith)) h.1)))
 
   pub starved_first : (E : Type 0) (e : E) (most : ℕ) (ps : List (Pass Object Call Answer g)) (t : Talk) → Says {E = E} (Validate ∷ []) t (Err e) → (hs : List Handled) × RowGrew ps ps (turns_of hs) × ServerDid keys most t hs None
-  starved_first E e most ps t h =
-      not_begun most ps t None h.0 h.2 refl tt (inl (refl, refl, subst (λ (z : List ℕ). IsBegun (Validate ∷ []) z) (sym h.1) (none_begun (Validate ∷ []) (omega arith))))
+  starved_first E e most ps t h = not_begun most ps t None h.0 h.2 tt (steps_but [] (steps []) [] t.taken (refl, tt) (inl (omega arith)) h.1)

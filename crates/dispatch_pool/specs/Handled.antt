@@ -1,5 +1,5 @@
 -- Calls that were handled, and what is said of them.
-use Rattle.std.specs.Prelude.{ℕ, ℤ, pos, negsuc, zero, suc, ◌≡◌, ◌⊎◌, List, [], ◌∷◌, ◌++◌}
+use Rattle.std.specs.Prelude.{ℕ, ℤ, pos, negsuc, zero, suc, ◌≡◌, ◌⊎◌, List, [], ◌∷◌, ◌++◌, map}
 use Rattle.ice_types.specs.declared.identity.Identity.{Identity}
 use Rattle.ice_messages.specs.declared.message.Call.{Call}
 use Rattle.ice_messages.specs.declared.message.Answer.{Answer}
@@ -9,6 +9,7 @@ use Rattle.object_adapter.specs.declared.keys.Found.TheVariants.{At, NoObject, N
 use Rattle.object_adapter.specs.Keys.{IsFound}
 use Rattle.object_adapter.specs.Laws.{IsDispatched}
 use Rattle.object_adapter.specs.Refusals.{missed}
+use Rattle.talking.specs.Said.{all_of}
 use Rattle.dispatch_pool.specs.Rows.{Turn}
 use Rattle.dispatch_pool.specs.Turns.{turn_at}
 
@@ -84,6 +85,9 @@ reply_of (pos zero) answer = []
 reply_of (pos (suc n)) answer = Reply (pos (suc n)) answer ∷ []
 reply_of (negsuc n) answer = Reply (negsuc n) answer ∷ []
 
+-- that of each call, or none
+abbrev pub reply_steps : List Handled → List (List Message)
+reply_steps = map (λ (h : Handled). reply_of h.asked.id (answer_of h.outcome))
+
 abbrev pub replies : List Handled → List Message
-replies [] = []
-replies (h ∷ hs) = reply_of h.asked.id (answer_of h.outcome) ++ replies hs
+replies handled = all_of (reply_steps handled)

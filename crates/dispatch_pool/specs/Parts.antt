@@ -9,12 +9,12 @@ use Rattle.ice_messages.specs.declared.message.Answer.{Answer}
 use Rattle.ice_messages.specs.declared.message.Message.{Message}
 use Rattle.ice_messages.specs.declared.message.Message.TheVariants.{Validate}
 use Rattle.ice_messages.specs.Streams.{Stream}
-use Rattle.talking.specs.Said.{IsSaid, Says, IsFine}
-use Rattle.talking.specs.Ends.{Shows, IsTaken, StepSaid, ComesBy}
+use Rattle.talking.specs.Said.{all_of, IsSaid, Says, IsFine}
+use Rattle.talking.specs.Ends.{Shows, IsTaken, IsSingle, EndsBy}
 use Rattle.dispatch_pool.specs.declared.object.Object.{Object}
 use Rattle.talking.specs.declared.end.End.{End}
 use Rattle.dispatch_pool.specs.Rows.{RowGrew}
-use Rattle.dispatch_pool.specs.Handled.{Keys, Outcome, Asked, Handled, IsOutcome, AreOutcomes, answer_of, turn_of, turns_of, asked, asking, replies}
+use Rattle.dispatch_pool.specs.Handled.{Keys, Outcome, Asked, Handled, IsOutcome, AreOutcomes, answer_of, turn_of, turns_of, asked, asking, reply_steps, replies}
 
 -- ---- what is left of a message's calls and replies
 
@@ -28,14 +28,10 @@ abbrev pub LeavesNone : {E : Type 0} → List Asked → Result Bool E → Type 0
 LeavesNone rest (Ok went) = rest ≡ []
 LeavesNone rest (Err e) = Unit {0}
 
--- one call that asks for a reply, or such as ask for none
-abbrev pub IsSingle : List Handled → Type 0
-IsSingle handled = (length handled ≤ 1) ⊎ (replies handled ≡ [])
-
-abbrev pub IsNext : {E : Type 0} → Talk → List ℕ → List Message → List ℕ → List Asked → List Message → Result (Option End) E → Type 0
-IsNext t held reads left rest messages (Ok None) = (length reads ≡ 1) × (left ≡ held) × (rest ≡ []) × IsSaid messages t.taken × IsFine t
-IsNext t held reads left rest messages (Ok (Some end)) = Shows t left (Some end) × (rest ≡ []) × StepSaid end messages t.taken × ComesBy end reads
-IsNext t held reads left rest messages (Err e) = (t.taken ≡ []) × IsFine t
+abbrev pub IsNext : {E : Type 0} → Talk → List ℕ → List Message → List ℕ → List Asked → List (List Message) → Result (Option End) E → Type 0
+IsNext t held reads left rest steps (Ok None) = (length reads ≡ 1) × (left ≡ held) × (rest ≡ []) × IsSaid (all_of steps) t.taken × IsFine t
+IsNext t held reads left rest steps (Ok (Some end)) = Shows t left (Some end) × (rest ≡ []) × EndsBy end left reads steps t.taken
+IsNext t held reads left rest steps (Err e) = (t.taken ≡ []) × IsFine t
 
 module _ {g : Ghosts Object Call Answer} (keys : Keys) (ps qs : List (Pass Object Call Answer g)) where
   -- a call had a turn, or a refusal without one
@@ -74,8 +70,8 @@ module _ {g : Ghosts Object Call Answer} (keys : Keys) (ps qs : List (Pass Objec
     pub stream : Stream bytes reads left
     pub few : length reads ≤ 1
     pub going : Each IsTaken reads
-    pub single : IsSingle handled
+    pub single : IsSingle (reply_steps handled)
     pub calls : asked reads ≡ asking handled ++ rest
     pub outcomes : AreOutcomes keys handled
     pub grew : RowGrew ps qs (turns_of handled)
-    pub how : IsNext t held reads left rest (replies handled) r
+    pub how : IsNext t held reads left rest (reply_steps handled) r

@@ -2,7 +2,7 @@
 use Rattle.std.proofs.Common.{◌≡◌, ◌⊎◌, ◌++◌, ℕ, Bool, true, false, List, [], ◌∷◌, Option, None, Some, sym, subst, ap, ◌∙◌, inl, inr}
 use Rattle.ice_encoding.specs.Parts.{Each}
 use Rattle.ice_client.specs.Sending.{IsIdempotent}
-use Rattle.ice_client.specs.ClientDid.{Tried, ClientDid, ClientCut, is_uncached}
+use Rattle.ice_client.specs.ClientDid.{Tried, ClientDid, ClientStarved, is_uncached}
 use Rattle.ice_ports.specs.Failures.{one_more, count_after}
 use Rattle.ice_gateway.specs.Gate.{Gate}
 use Rattle.ice_gateway.specs.Runs.{NetSeen}
@@ -81,17 +81,16 @@ module _ (once : ForwardsOnce) (gate : Gate) where
   sent_once (Some m) (Some i) (is, did, uncached) = λ never.
       once.done i.message gate.retries i.tried i.outcome never (subst (λ (x : Message). ClientDid x gate.retries i.tried (Some i.outcome)) (sym is) did) uncached
 
-  due_once : (n : Message) (cut : List (List Tried)) (tried : List Tried) → DueStarved gate (Some n) cut → cut ≡ tried ∷ [] → (IsIdempotent n → ⊥) → (tried ≡ []) ⊎ OnlyLastCounts n tried
+  due_once : (n : Message) (cut : List (List Tried)) (tried : List Tried) → DueStarved gate (Some n) cut → cut ≡ tried ∷ [] → (IsIdempotent n → ⊥) → OnlyLastCounts n tried
   due_once n cut tried (inl none) is never = absurd (let e : [] ≡ tried ∷ [] = sym none ∙ is in cc)
-  due_once n cut tried (inr (other, are, uncached, inl (inl none))) is never = inl (let e : other ∷ [] ≡ tried ∷ [] = sym are ∙ is in let same : other ≡ tried = cc in sym same ∙ none)
+  due_once n cut tried (inr (other, are, uncached, inl starved)) is never =
+      let e : other ∷ [] ≡ tried ∷ [] = sym are ∙ is in
+      let same : other ≡ tried = cc in
+      once.starved n gate.retries tried never (subst (ClientStarved n gate.retries) same starved) (subst (Each is_uncached) same uncached)
   due_once n cut tried (inr (other, are, uncached, inr (outcome, did))) is never =
       let e : other ∷ [] ≡ tried ∷ [] = sym are ∙ is in
       let same : other ≡ tried = cc in
-      inr (once.done n gate.retries tried outcome never (subst (λ (z : List Tried). ClientDid n gate.retries z (Some outcome)) same did) (subst (Each is_uncached) same uncached))
-  due_once n cut tried (inr (other, are, uncached, inl (inr did))) is never =
-      let e : other ∷ [] ≡ tried ∷ [] = sym are ∙ is in
-      let same : other ≡ tried = cc in
-      inr (once.cut_off n gate.retries tried never (subst (ClientCut n gate.retries) same did) (subst (Each is_uncached) same uncached))
+      once.done n gate.retries tried outcome never (subst (λ (z : List Tried). ClientDid n gate.retries z (Some outcome)) same did) (subst (Each is_uncached) same uncached)
 
   left_once : (rest : List Message) (cut : List (List Tried)) → AreLeft gate rest cut → IsLeftOnce gate rest cut
   left_once [] cut left = λ m n tried one due are never. absurd cc

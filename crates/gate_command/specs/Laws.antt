@@ -68,8 +68,7 @@ IsSentOnce (Some i) = (IsIdempotent i.message → ⊥) → OnlyLastCounts i.mess
 
 -- nor of those at a message that was not handled, since memory ran out
 abbrev pub IsLeftOnce : Gate → List Message → List (List Tried) → Type 0
-IsLeftOnce gate rest cut = (m n : Message) (tried : List Tried) → rest ≡ m ∷ [] → forwarded gate m ≡ Some n → cut ≡ tried ∷ [] → (IsIdempotent n → ⊥)
-    → (tried ≡ []) ⊎ OnlyLastCounts n tried
+IsLeftOnce gate rest cut = (m n : Message) (tried : List Tried) → rest ≡ m ∷ [] → forwarded gate m ≡ Some n → cut ≡ tried ∷ [] → (IsIdempotent n → ⊥) → OnlyLastCounts n tried
 
 -- each message that was taken, on each connection
 abbrev pub AreSentOnce : (gate : Gate) (most : ℕ) (sessions : List Session) → AllDid gate most sessions → Type 0

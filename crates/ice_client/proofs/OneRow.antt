@@ -16,7 +16,8 @@ use Rattle.retry_core.specs.declared.attempt.Attempt.{Attempt}
 use Rattle.retry_core.specs.declared.attempt.Attempt.TheVariants as tries
 use Rattle.ice_client.specs.declared.outcome.Outcome.{Outcome}
 use Rattle.ice_client.specs.declared.outgoing.Outgoing.{Outgoing}
-use Rattle.ice_client.specs.Rows.{Begins, IsGreeted, AreValidates, Reads, awaited, Meets, is_stale, Row}
+use Rattle.ice_client.specs.Rows.{IsGreeted, AreValidates, Reads, awaited, Meets, is_stale, Row}
+use Rattle.talking.specs.Ends.{Begins}
 use Rattle.ice_client.specs.Laws.{TalksHaveOneRow, RepliesHaveOneAnswer}
 
 -- ---- what stands behind validates

@@ -24,7 +24,8 @@ use Rattle.ice_client.specs.declared.outcome.Outcome.TheVariants as outcomes
 use Rattle.ice_client.specs.declared.outgoing.Outgoing.{Outgoing}
 use Rattle.ice_messages.specs.Ends.{client_fault}
 use Rattle.talking.specs.Hearing.{IsGoing, Hears, ReadsFrugally, heard_part, is_ended, is_failed}
-use Rattle.ice_client.specs.Rows.{AreValidates, Begins, Reads, is_no_object}
+use Rattle.ice_client.specs.Rows.{AreValidates, Reads, is_no_object}
+use Rattle.talking.specs.Ends.{Begins}
 use Rattle.ice_client.specs.Steps.{broke, met_end, end_of, EndsBy, Greets, Awaits}
 use Rattle.talking.proofs.Adding.{adds_then}
 use Rattle.ice_client.proofs.Messages.{stream_join, stream_more, stream_grows, unfaulted, reply_id}

@@ -28,7 +28,8 @@ use Rattle.ice_client.specs.declared.outcome.Outcome.TheVariants as outcomes
 use Rattle.ice_client.specs.declared.outcome.End.{End}
 use Rattle.ice_client.specs.declared.outcome.Once.{Once}
 use Rattle.ice_client.specs.declared.outgoing.Outgoing.{Outgoing}
-use Rattle.ice_client.specs.Rows.{Begins, Row, IsOrderly, IsGreeted}
+use Rattle.ice_client.specs.Rows.{Row, IsOrderly, IsGreeted}
+use Rattle.talking.specs.Ends.{Begins}
 use Rattle.ice_client.specs.Steps.{EndsBy, Awaits}
 use Rattle.ice_client.specs.Asking.{IsFor, Ends, IsOver, Converses, Asks, RunsOut}
 use Rattle.talking.specs.Writing.{writes_part}

@@ -14,7 +14,8 @@ use Rattle.ice_client.specs.declared.outcome.Outcome.TheVariants.{NetFailed}
 use Rattle.ice_client.specs.declared.outcome.End.{End}
 use Rattle.ice_client.specs.declared.outcome.Once.{Once}
 use Rattle.ice_client.specs.declared.outgoing.Outgoing.{Outgoing}
-use Rattle.ice_client.specs.Rows.{Begins, Row, IsOrderly, IsGreeted}
+use Rattle.ice_client.specs.Rows.{Row, IsOrderly, IsGreeted}
+use Rattle.talking.specs.Ends.{Begins}
 
 -- the client was made for this message, which has bytes
 pub record IsFor (i : Invoking) (o : Outgoing) : Type 0 where

@@ -8,6 +8,7 @@ use Rattle.ice_messages.specs.declared.message.Answer.TheVariants.{Done, Raised,
 use Rattle.ice_messages.specs.declared.message.Message.{Message}
 use Rattle.ice_messages.specs.declared.message.Message.TheVariants.{Reply, Validate, Close}
 use Rattle.ice_messages.specs.Streams.{Stream, StreamEnds}
+use Rattle.talking.specs.Ends.{Begins}
 use Rattle.retry_core.specs.declared.attempt.Attempt.{Attempt}
 use Rattle.retry_core.specs.declared.attempt.Attempt.TheVariants as tries
 use Rattle.ice_messages.specs.declared.ends.TheConstants.{MOST_MESSAGES}
@@ -17,10 +18,6 @@ use Rattle.ice_client.specs.declared.outgoing.Outgoing.{Outgoing}
 use Rattle.ice_messages.specs.Ends.{client_fault}
 
 -- ---- what was read
-
--- the bytes begin with this message
-abbrev pub Begins : List ℕ → Message → Type 0
-Begins bytes m = (rest : List ℕ) × Stream bytes (m ∷ []) rest
 
 -- the bytes begin with a validate, and nothing was read once that was whole: all but the last piece is a front
 abbrev pub IsGreeted : List ℕ → Type 0

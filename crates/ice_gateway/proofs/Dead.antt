@@ -1,5 +1,5 @@
 -- No server may dispatch a message that is not idempotent from any attempt but the last.
-use Rattle.std.proofs.Common.{◌≡◌, Bool, true, false, List, [], ◌∷◌, ◌++◌, Option, None, Some, refl, subst, inl, inr}
+use Rattle.std.proofs.Common.{◌≡◌, ℕ, Bool, true, false, List, [], ◌∷◌, ◌++◌, Option, None, Some, refl, subst, inl, inr}
 use Rattle.std.specs.Prelude.{IsTrue}
 use Rattle.ice_encoding.specs.Parts.{Each}
 use Rattle.ice_ports.specs.declared.talk.Talk.{Talk}
@@ -13,7 +13,7 @@ use Rattle.ice_messages.specs.declared.message.Message.{Message}
 use Rattle.ice_client.specs.Rows.{is_stale}
 use Rattle.ice_client.specs.Sending.{IsOf, IsIdempotent}
 use Rattle.ice_client.specs.Asking.{HasRow}
-use Rattle.ice_client.specs.ClientDid.{Tried, IsFollowed, is_uncached}
+use Rattle.ice_client.specs.ClientDid.{Tried, IsFollowed, ClientStarved, is_uncached}
 use Rattle.ice_gateway.specs.Laws.{ForwardsOnce, IsDead, OnlyLastCounts}
 
 -- at a place that came from no cache no answer is stale
@@ -47,7 +47,8 @@ front P (x ∷ xs) ys each = (each.0, front P xs ys each.1)
 only_last : (m : Message) (o : Outgoing) (tried before : List Tried) (last : Tried) → (IsIdempotent m → ⊥) → IsOf o m → tried ≡ before ++ last ∷ [] → Each (IsFollowed o) before → Each is_uncached tried → OnlyLastCounts m tried
 only_last m o tried before last twice is_of parts followed uncached =
     let fresh : o.idempotent ≡ false = not_true o.idempotent (λ is. twice (is_of.idempotent.0 is)) in
-    let all = front is_uncached before (last ∷ []) (subst (Each is_uncached) parts uncached) in (
+    let all = front is_uncached before (last ∷ []) (subst (Each is_uncached) parts uncached) in
+    inr (
       o,
       before,
       last,
@@ -56,8 +57,12 @@ only_last m o tried before last twice is_of parts followed uncached =
       each_dead o before fresh followed (λ x free follows. row_dead o x.cached x.attempt follows.0.0 x.talk free follows.0.1 (subst (λ (b : Bool). may_follow b x.attempt ≡ true) fresh follows.1)) all,
     )
 
+starved_once : (m : Message) (retries : ℕ) (tried : List Tried) → (IsIdempotent m → ⊥) → ClientStarved m retries tried → Each is_uncached tried → OnlyLastCounts m tried
+starved_once m retries tried twice (inl none) uncached = inl none
+starved_once m retries tried twice (inr did) uncached = only_last m did.outgoing tried did.cut.before did.cut.last twice did.is_of did.cut.parts did.cut.followed uncached
+
 pub forwards_once : ForwardsOnce
 forwards_once = record {
   done = λ m retries tried outcome twice did uncached. only_last m did.outgoing tried did.ended.0 did.ended.1 twice did.is_of did.ended.2 did.ended.3 uncached;
-  cut_off = λ m retries tried twice did uncached. only_last m did.outgoing tried did.cut.before did.cut.last twice did.is_of did.cut.parts did.cut.followed uncached;
+  starved = starved_once;
 }

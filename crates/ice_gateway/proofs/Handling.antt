@@ -1,5 +1,5 @@
 -- One message that is handled.
-use Rattle.std.proofs.Common.{◌≡◌, ◌≢◌, ℕ, ◌-◌, ◌≤◌, ◌^◌, zero, suc, Bool, true, false, List, [], ◌∷◌, ◌++◌, length, refl, sym, ap, ◌∙◌, subst, arith, append-nil}
+use Rattle.std.proofs.Common.{◌≡◌, ◌≢◌, ℕ, ◌-◌, ◌^◌, zero, suc, Bool, true, false, List, [], ◌∷◌, ◌++◌, refl, sym, ap, ◌∙◌, subst, arith, append-nil}
 use Rattle.std.specs.Prelude.{ℤ, pos, negsuc, Option, Result, Ok, Err}
 use Rattle.std.proofs.Math.Facts.{to_z-of_z}
 use Rattle.std.proofs.lemmas.Bool.{ltb-true, ltb-false}
@@ -20,7 +20,7 @@ use Rattle.talking.specs.Said.{Says}
 use Rattle.ice_gateway.specs.Gate.{Gate}
 use Rattle.ice_gateway.specs.Mapped.{Mapped, admitted}
 use Rattle.ice_gateway.specs.Forwarded.{forwarded, going, id_anew, request_anew}
-use Rattle.ice_gateway.specs.Handled.{Invocation, WasForwarded, WasAnswered, DueStarved, outcome_of, run_of, replies}
+use Rattle.ice_gateway.specs.Handled.{Invocation, WasForwarded, WasAnswered, DueStarved, outcome_of, run_of}
 use Rattle.ice_gateway.specs.Parts.{Handling, Leaves, Passed}
 
 -- ---- ids

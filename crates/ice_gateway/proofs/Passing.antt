@@ -1,5 +1,5 @@
 -- How a message that is due was forwarded, and what that makes of a request.
-use Rattle.std.proofs.Common.{◌≡◌, ◌≢◌, ℕ, pos, ◌<◌, ◌≤◌, ◌⊎◌, inl, inr, Bool, List, [], ◌∷◌, length, refl, sym, ap, subst, arith, ◌++◌, ◌+◌, ◌∙◌, drop, get_or, append_assoc, append-nil}
+use Rattle.std.proofs.Common.{◌≡◌, ◌≢◌, ℕ, pos, ◌<◌, ◌≤◌, ◌⊎◌, inl, inr, Bool, List, [], ◌∷◌, length, refl, sym, ap, subst, ◌++◌, ◌+◌, ◌∙◌, drop, get_or, append_assoc, append-nil}
 use Rattle.std.specs.Prelude.{Option, Some, None, IsSome, IfOk, OnOk, Result, Ok, Err, is_some, if◌then◌else◌}
 use Rattle.std.proofs.lemmas.Bool.{le-leb, lt-leb}
 use Rattle.std.proofs.lemmas.List.{drop_all, drop_more}

@@ -1,26 +1,24 @@
 -- Messages that are taken one after the other, and how a session ends.
-use Rattle.std.proofs.Common.{◌≡◌, ◌≢◌, ℕ, suc, ◌+◌, ◌<◌, ◌≤◌, inl, inr, Bool, true, false, List, [], ◌∷◌, ◌++◌, length, refl, sym, ap, ap₂, ◌∙◌, subst, arith, append_assoc, append-nil, length-append}
-use Rattle.std.specs.Prelude.{ℤ, pos, negsuc, zero, ◌⊎◌, Option, Some, None, Result, Ok, Err, IfOk}
+use Rattle.std.proofs.Common.{◌≡◌, ℕ, suc, ◌+◌, ◌<◌, ◌≤◌, inl, inr, Bool, true, false, List, [], ◌∷◌, ◌++◌, length, refl, sym, ap, ap₂, ◌∙◌, subst, arith, append_assoc, append-nil, length-append}
+use Rattle.std.specs.Prelude.{◌⊎◌, Option, Some, None, Result, Ok, Err, IfOk}
 use Rattle.ice_encoding.specs.Parts.{Each}
 use Rattle.ice_ports.specs.declared.talk.Talk.{Talk}
 use Rattle.ice_ports.specs.Talks.{and_then, gives, silent}
 use Rattle.ice_messages.specs.declared.message.Message.{Message}
-use Rattle.ice_messages.specs.declared.message.Answer.{Answer}
-use Rattle.ice_messages.specs.declared.message.Message.TheVariants.{Request, Batch, Reply, Validate, Close}
+use Rattle.ice_messages.specs.declared.message.Message.TheVariants.{Validate, Close}
 use Rattle.ice_messages.specs.Messages.{SpellsMessage}
 use Rattle.ice_messages.specs.Streams.{Stream}
-use Rattle.ice_client.specs.declared.outcome.Outcome.{Outcome}
 use Rattle.ice_client.specs.ClientDid.{Tried}
 use Rattle.talking.specs.declared.end.End.{End}
 use Rattle.talking.specs.declared.end.End.TheVariants as ends
-use Rattle.talking.specs.Said.{IsSaid, IsBegun, IsFine, Says}
-use Rattle.talking.specs.Ends.{Shows, IsTaken, ClosesBy, StepSaid}
+use Rattle.talking.specs.Said.{all_of, IsSaid, IsSaidBut, IsFine, Says}
+use Rattle.talking.specs.Ends.{Shows, IsTaken, IsSingle, WasSaid, EndsBy, closing}
 use Rattle.ice_gateway.specs.Gate.{Gate}
-use Rattle.ice_gateway.specs.Handled.{Handled, WasHandled, WasAnswered, outcome_of, messages, runs_of, run_of, replies}
-use Rattle.ice_gateway.specs.GateDid.{GateDid, IsCut, WasSaid, IsLeft, all_said}
+use Rattle.ice_gateway.specs.Handled.{Handled, WasHandled, messages, runs_of, run_of, reply_steps, replies}
+use Rattle.ice_gateway.specs.GateDid.{GateDid, IsLeft}
 use Rattle.ice_gateway.specs.Parts.{Handling, Next, Part, IsNext, Leaves}
-use Rattle.talking.proofs.Said.{said_then, none_begun, said_begun}
-use Rattle.talking.proofs.Ends.{stream_then, taken_append, stepped, nothing_said, nothing_taken, or_right, both_fine, shows_later, not_closed}
+use Rattle.talking.proofs.Said.{steps_said, steps_cut, steps_but, step_begun}
+use Rattle.talking.proofs.Ends.{stream_then, taken_append, stepped, or_right, both_fine, shows_later, said_later}
 use Rattle.ice_gateway.proofs.Handling.{one_handled}
 
 -- ---- lists
@@ -33,10 +31,6 @@ runs_append : (xs ys : List Handled) → runs_of (xs ++ ys) ≡ runs_of xs ++ ru
 runs_append [] ys = refl
 runs_append (x ∷ xs) ys = ap (λ (z : List (List Tried)). run_of x.invocation ++ z) (runs_append xs ys) ∙ sym (append_assoc (run_of x.invocation) (runs_of xs) (runs_of ys))
 
-replies_append : (xs ys : List Handled) → replies (xs ++ ys) ≡ replies xs ++ replies ys
-replies_append [] ys = refl
-replies_append (x ∷ xs) ys = ap (λ (z : List Message). x.replies ++ z) (replies_append xs ys) ∙ sym (append_assoc x.replies (replies xs) (replies ys))
-
 each_append : (gate : Gate) (xs ys : List Handled) → Each (WasHandled gate) xs → Each (WasHandled gate) ys → Each (WasHandled gate) (xs ++ ys)
 each_append gate [] ys a b = b
 each_append gate (x ∷ xs) ys a b = (a.0, each_append gate xs ys a.1 b)
@@ -48,10 +42,23 @@ behind {A} f append xs ys a b rest one two =
 
 -- ---- one message
 
-next_by : {E : Type 0} (gate : Gate) (r : Result Bool E) (m : Message) (t : Talk) (held : List ℕ) (rest : List Message) (cut : List (List Tried)) (said : List Message) → Leaves gate rest cut r → Says said t r → IsNext gate t held (m ∷ []) held rest cut said (stepped r)
-next_by gate (Ok true) m t held rest cut said none s = (refl, refl, none.0, none.1, s.1, s.2)
-next_by gate (Ok false) m t held rest cut said none s = (s.2, none.0, none.1, s.1, tt)
-next_by gate (Err e) m t held rest cut said none s = (none, s.1, s.2)
+next_by : {E : Type 0} (gate : Gate) (r : Result Bool E) (m : Message) (t : Talk) (held : List ℕ) (rest : List Message) (cut : List (List Tried)) (steps : List (List Message)) → IsSingle steps → Leaves gate rest cut r → Says (all_of steps) t r → IsNext gate t held (m ∷ []) held rest cut steps (stepped r)
+next_by gate (Ok true) m t held rest cut steps single none s = (refl, refl, none.0, none.1, s.1, s.2)
+next_by gate (Ok false) m t held rest cut steps single none s = (s.2, none.0, none.1, inr (step_begun steps t.taken single s.1))
+next_by gate (Err e) m t held rest cut steps single none s = (none, s.1, s.2)
+
+messages_long : (hs : List Handled) → length (messages hs) ≡ length hs
+messages_long [] = refl
+messages_long (h ∷ hs) = ap suc (messages_long hs)
+
+steps_long : (hs : List Handled) → length (reply_steps hs) ≡ length hs
+steps_long [] = refl
+steps_long (h ∷ hs) = ap suc (steps_long hs)
+
+-- of one message one at most was handled
+single_of : (reads rest : List Message) (hs : List Handled) → reads ≡ messages hs ++ rest → length reads ≤ 1 → IsSingle (reply_steps hs)
+single_of reads rest hs is few =
+    inl (let a = ap (λ (z : List Message). length z) is in let b = length-append (messages hs) rest in let c = messages_long hs in let d = steps_long hs in omega arith)
 
 module _ (gate : Gate) where
   pub next_handled : {E : Type 0} (r : Result Bool E) (runs : List (List Tried)) (m : Message) (bytes held first : List ℕ) (t : Talk) → bytes ≡ first ++ held → SpellsMessage first m
@@ -68,15 +75,15 @@ module _ (gate : Gate) where
     taken = h.taken;
     did = h.did;
     invoked = h.invoked;
-    how = next_by gate r m t held h.rest h.cut (replies h.handled) h.left h.says;
+    how = next_by gate r m t held h.rest h.cut (reply_steps h.handled) (single_of (m ∷ []) h.rest h.handled h.taken (omega arith)) h.left h.says;
   }
 
   -- a message of which nothing comes
   pub next_quiet : {E : Type 0} (bytes held first : List ℕ) → bytes ≡ first ++ held → SpellsMessage first Validate → Next {E = E} gate [] silent bytes held (Ok None)
   next_quiet {E = E} bytes held first is spelled = next_handled {E = E} (Ok true) [] Validate bytes held first silent is spelled (refl, λ e. cc) (one_handled gate Validate [] None [] silent (Ok true) refl tt refl (refl, (refl, tt), (refl, refl)))
 
-  pub next_end : {E : Type 0} (t : Talk) (bytes held : List ℕ) (end : End) → t.taken ≡ [] → Shows t bytes (Some end) → end ≢ ends.Enough → Next {E = E} gate [] t bytes held (Ok (Some end))
-  next_end t bytes held end none shows ne = record {
+  pub next_end : {E : Type 0} (t : Talk) (bytes held : List ℕ) (end : End) → Shows t bytes (Some end) → EndsBy end bytes [] [] t.taken → Next {E = E} gate [] t bytes held (Ok (Some end))
+  next_end t bytes held end shows by = record {
     reads = [];
     left = bytes;
     handled = [];
@@ -88,7 +95,7 @@ module _ (gate : Gate) where
     taken = refl;
     did = tt;
     invoked = refl;
-    how = (shows, refl, refl, nothing_said end t ne none, nothing_taken end ne);
+    how = (shows, refl, refl, by);
   }
 
   pub next_starved : {E : Type 0} (e : E) (t : Talk) (bytes held : List ℕ) → t.taken ≡ [] → IsFine t → Next {E = E} gate [] t bytes held (Err e)
@@ -108,15 +115,15 @@ module _ (gate : Gate) where
   }
 
 -- behind the bytes of a message
-shown_behind : {E : Type 0} (gate : Gate) (got : List ℕ) (t : Talk) (held : List ℕ) (reads : List Message) (left : List ℕ) (rest : List Message) (cut : List (List Tried)) (said : List Message) (r : Result (Option End) E)
-    → IsNext gate t held reads left rest cut said r → IsNext gate (and_then (gives got) t) held reads left rest cut said r
-shown_behind gate got t held reads left rest cut said (Ok None) h = h
-shown_behind gate got t held reads left rest cut said (Ok (Some ends.PeerEnded)) h = h
-shown_behind gate got t held reads left rest cut said (Ok (Some ends.PeerClosed)) h = h
-shown_behind gate got t held reads left rest cut said (Ok (Some (ends.PeerBroke fault))) h = h
-shown_behind gate got t held reads left rest cut said (Ok (Some ends.LinkFailed)) h = h
-shown_behind gate got t held reads left rest cut said (Ok (Some ends.Enough)) h = h
-shown_behind gate got t held reads left rest cut said (Err e) h = h
+shown_behind : {E : Type 0} (gate : Gate) (got : List ℕ) (t : Talk) (held : List ℕ) (reads : List Message) (left : List ℕ) (rest : List Message) (cut : List (List Tried)) (steps : List (List Message)) (r : Result (Option End) E)
+    → IsNext gate t held reads left rest cut steps r → IsNext gate (and_then (gives got) t) held reads left rest cut steps r
+shown_behind gate got t held reads left rest cut steps (Ok None) h = h
+shown_behind gate got t held reads left rest cut steps (Ok (Some ends.PeerEnded)) h = h
+shown_behind gate got t held reads left rest cut steps (Ok (Some ends.PeerClosed)) h = h
+shown_behind gate got t held reads left rest cut steps (Ok (Some (ends.PeerBroke fault))) h = h
+shown_behind gate got t held reads left rest cut steps (Ok (Some ends.LinkFailed)) h = h
+shown_behind gate got t held reads left rest cut steps (Ok (Some ends.Enough)) h = h
+shown_behind gate got t held reads left rest cut steps (Err e) h = h
 
 pub next_behind : {E : Type 0} (gate : Gate) (runs : List (List Tried)) (r : Result (Option End) E) (before got held : List ℕ) (t : Talk) → t.given ≡ []
     → Next gate runs t (before ++ got) held r → Next gate runs (and_then (gives got) t) (before ++ (got ++ t.given)) held r
@@ -132,85 +139,21 @@ next_behind gate runs r before got held t none n = record {
   taken = n.taken;
   did = n.did;
   invoked = n.invoked;
-  how = shown_behind gate got t held n.reads n.left n.rest n.cut (replies n.handled) r n.how;
+  how = shown_behind gate got t held n.reads n.left n.rest n.cut (reply_steps n.handled) r n.how;
 }
 
 -- ---- the whole session
 
--- validate and replies, one part and another
-said_more : (xs ys : List Handled) → (Validate ∷ replies xs) ++ replies ys ≡ Validate ∷ replies (xs ++ ys)
-said_more xs ys = ap (λ (z : List Message). Validate ∷ z) (sym (replies_append xs ys))
+-- what a session says, step by step
+abbrev steps : List Handled → List (List Message)
+steps handled = (Validate ∷ []) ∷ reply_steps handled
 
-unclosed : (hs : List Handled) → Validate ∷ replies hs ≡ all_said hs false
-unclosed hs = ap (λ (z : List Message). Validate ∷ z) (sym (append-nil (replies hs)))
-
-said_both : (xs ys : List Handled) (x y : List ℕ) → IsSaid (Validate ∷ replies xs) x → IsSaid (replies ys) y → IsSaid (all_said (xs ++ ys) false) (x ++ y)
-said_both xs ys x y h k =
-    subst (λ (z : List Message). IsSaid z (x ++ y)) (said_more xs ys ∙ unclosed (xs ++ ys)) (said_then (Validate ∷ replies xs) (replies ys) x y h k)
-
--- ---- what was said, where a write failed or memory lacked
-
-messages_long : (hs : List Handled) → length (messages hs) ≡ length hs
-messages_long [] = refl
-messages_long (h ∷ hs) = ap suc (messages_long hs)
-
--- of one message one at most was handled
-one_at_most : (reads rest : List Message) (hs : List Handled) → reads ≡ messages hs ++ rest → length reads ≤ 1 → length hs ≤ 1
-one_at_most reads rest hs is few = let a = ap (λ (z : List Message). length z) is in let b = length-append (messages hs) rest in let c = messages_long hs in omega arith
-
-cut_behind : (xs ys : List Handled) (x y : List ℕ) → length ys ≤ 1 → IsSaid (Validate ∷ replies xs) x → IsBegun (replies ys) y → IsCut (xs ++ ys) false (x ++ y)
-cut_behind xs ys x y one h k = inr (record {
-  whole = xs;
-  last = ys;
-  parts = refl;
-  one = one;
-  before = x;
-  behind = y;
-  taken_is = refl;
-  said = h;
-  begun = subst (λ (z : List Message). IsBegun z y) (sym (append-nil (replies ys))) k;
-})
-
--- nothing was said of what a message came to
-few_answers : (gate : Gate) (h : Handled) → WasHandled gate h → length h.replies ≤ 1
-few_answers gate h was = few h.message (outcome_of h.invocation) h.replies was.1
+steps_more : (xs ys : List Handled) → steps xs ++ reply_steps ys ≡ steps (xs ++ ys)
+steps_more xs ys = ap (λ (z : List (List Message)). (Validate ∷ []) ∷ z) (more xs)
   where
-    none : (rs : List Message) → rs ≡ [] → length rs ≤ 1
-    none rs is = let l = ap (λ (z : List Message). length z) is in omega arith
-
-    single : (id : ℤ) (answer : Answer) (rs : List Message) → rs ≡ Reply id answer ∷ [] → length rs ≤ 1
-    single id answer rs is = let l = ap (λ (z : List Message). length z) is in omega arith
-
-    few : (m : Message) (o : Option Outcome) (rs : List Message) → WasAnswered gate m o rs → length rs ≤ 1
-    few (Request (pos zero) c) o rs w = none rs w
-    few (Request (pos (suc n)) c) o rs w = single (pos (suc n)) w.0 rs w.1
-    few (Request (negsuc n) c) o rs w = single (negsuc n) w.0 rs w.1
-    few (Batch cs) o rs w = none rs w
-    few (Reply id answer) o rs w = none rs w
-    few Validate o rs w = none rs w
-    few Close o rs w = none rs w
-
-few_replies : (gate : Gate) (ys : List Handled) → Each (WasHandled gate) ys → length ys ≤ 1 → length (replies ys) ≤ 1
-few_replies gate [] did one = omega arith
-few_replies gate (h ∷ []) did one = let l = length-append h.replies [] in let f = few_answers gate h did.0 in omega arith
-few_replies gate (h ∷ k ∷ r) did one = absurd (omega arith)
-
-unsaid : (gate : Gate) (ys : List Handled) (y : List ℕ) → Each (WasHandled gate) ys → length ys ≤ 1 → y ≡ [] → IsBegun (replies ys) y
-unsaid gate ys y did one none = subst (λ (z : List ℕ). IsBegun (replies ys) z) (sym none) (none_begun (replies ys) (few_replies gate ys did one))
-
--- nor of the close message
-cut_unsaid : (hs : List Handled) (x y : List ℕ) → IsSaid (Validate ∷ replies hs) x → y ≡ [] → IsCut hs false (x ++ y)
-cut_unsaid hs x y h none = inr (record {
-  whole = hs;
-  last = [];
-  parts = sym (append-nil hs);
-  one = omega arith;
-  before = x;
-  behind = y;
-  taken_is = refl;
-  said = h;
-  begun = subst (λ (z : List ℕ). IsBegun [] z) (sym none) (said_begun [] [] (refl, tt));
-})
+    more : (hs : List Handled) → reply_steps hs ++ reply_steps ys ≡ reply_steps (hs ++ ys)
+    more [] = refl
+    more (h ∷ hs) = ap (λ (z : List (List Message)). h.replies ∷ z) (more hs)
 
 -- a message is left only where none was handled in its place
 all_before : (xs ys : List Handled) (reads rest : List Message) (x y : List ℕ) → reads ≡ messages ys ++ rest → length reads ≤ 1 → y ≡ [] → IsSaid (Validate ∷ replies xs) x
@@ -221,26 +164,6 @@ all_before xs [] reads (m ∷ rest) x y is few none h =
     (subst (λ (z : List ℕ). IsSaid (Validate ∷ replies xs) z) (sym (ap (λ (z : List ℕ). x ++ z) none ∙ append-nil x)) h))
 all_before xs (k ∷ ys) reads (m ∷ rest) x y is few none h =
     absurd (let a = ap (λ (z : List Message). length z) is in let b = length-append (messages (k ∷ ys)) (m ∷ rest) in omega arith)
-
-cut_close : (hs : List Handled) (x y : List ℕ) → IsSaid (Validate ∷ replies hs) x → IsBegun (Close ∷ []) y → IsCut hs true (x ++ y)
-cut_close hs x y h k = inr (record {
-  whole = hs;
-  last = [];
-  parts = sym (append-nil hs);
-  one = omega arith;
-  before = x;
-  behind = y;
-  taken_is = refl;
-  said = h;
-  begun = k;
-})
-
-was_then : (e : End) (xs ys : List Handled) (x y : List ℕ) → length ys ≤ 1 → IsSaid (Validate ∷ replies xs) x → StepSaid e (replies ys) y → WasSaid (Some e) (xs ++ ys) false (x ++ y)
-was_then ends.PeerEnded xs ys x y one h k = said_both xs ys x y h k
-was_then ends.PeerClosed xs ys x y one h k = said_both xs ys x y h k
-was_then (ends.PeerBroke fault) xs ys x y one h k = said_both xs ys x y h k
-was_then ends.LinkFailed xs ys x y one h k = cut_behind xs ys x y one h k
-was_then ends.Enough xs ys x y one h k = absurd k
 
 module _ (gate : Gate) where
   pub part_begun : (E : Type 0) (t : Talk) → Says {E = E} (Validate ∷ []) t (Ok true) → Part gate [] t [] 0
@@ -257,7 +180,7 @@ module _ (gate : Gate) where
     taken = behind messages messages_append p.handled n.handled p.reads n.reads [] p.taken (n.taken ∙ ap (λ (z : List Message). messages n.handled ++ z) n.how.2) ∙ append-nil (messages (p.handled ++ n.handled));
     did = each_append gate p.handled n.handled p.did n.did;
     invoked = behind runs_of runs_append p.handled n.handled runs more [] p.invoked (n.invoked ∙ ap (λ (z : List (List Tried)). runs_of n.handled ++ z) n.how.3) ∙ append-nil (runs_of (p.handled ++ n.handled));
-    said = subst (λ (z : List Message). IsSaid z (t.taken ++ s.taken)) (said_more p.handled n.handled) (said_then (Validate ∷ replies p.handled) (replies n.handled) t.taken s.taken p.said n.how.4);
+    said = subst (λ (z : List (List Message)). IsSaid (all_of z) (t.taken ++ s.taken)) (steps_more p.handled n.handled) (steps_said (steps p.handled) (reply_steps n.handled) t.taken s.taken p.said n.how.4);
     fine = both_fine t s p.fine n.how.5;
   }
 
@@ -279,9 +202,11 @@ module _ (gate : Gate) where
       invoked = behind runs_of runs_append p.handled n.handled runs more n.cut p.invoked n.invoked;
       is_left = (n.how.1, n.how.2);
       unhandled = inl n.how.1;
-      closes = false;
-      closes_by = not_closed e n.reads i (length (p.reads ++ n.reads)) most n.how.4 lt (length-append p.reads n.reads ∙ ap (λ (k : ℕ). k + length n.reads) p.long);
-      said = was_then e p.handled n.handled t.taken s.taken (one_at_most n.reads n.rest n.handled n.taken n.few) p.said n.how.3;
+      said = (
+          let more = length-append p.reads n.reads ∙ ap (λ (k : ℕ). k + length n.reads) p.long in
+          subst (λ (z : List (List Message)). WasSaid (Some e) n.left (length (p.reads ++ n.reads)) most z (t.taken ++ s.taken)) (steps_more p.handled n.handled)
+          (said_later i (length (p.reads ++ n.reads)) most n.left n.reads (steps p.handled) (reply_steps n.handled) t.taken s.taken p.said lt more e n.how.3)
+          );
     }
 
     pub starves : (E : Type 0) (e : E) → i < most → Next {E = E} gate more s (held ++ s.given) now (Err e) → GateDid gate most (and_then t s) (runs ++ more) None
@@ -300,19 +225,18 @@ module _ (gate : Gate) where
       invoked = behind runs_of runs_append p.handled n.handled runs more n.cut p.invoked n.invoked;
       is_left = n.how.0;
       unhandled = all_before p.handled n.handled n.reads n.rest t.taken s.taken n.taken n.few n.how.1 p.said;
-      closes = false;
-      closes_by = refl;
       said = (
-          let one = one_at_most n.reads n.rest n.handled n.taken n.few in
-          cut_behind p.handled n.handled t.taken s.taken one p.said (unsaid gate n.handled s.taken n.did one n.how.1)
+          let single = single_of n.reads n.rest n.handled n.taken n.few in
+          subst (λ (z : List (List Message)). IsSaidBut z (t.taken ++ s.taken)) (steps_more p.handled n.handled)
+          (steps_but (steps p.handled) (reply_steps n.handled) t.taken s.taken p.said single n.how.1)
           );
     }
 
   -- after the stated number of messages
   module _ (most : ℕ) (runs : List (List Tried)) (t s : Talk) (held : List ℕ) (p : Part gate runs t held most) where
-    closed : (end : Option End) (closes : Bool) → s.given ≡ [] → Shows (and_then t s) held end → ClosesBy end closes (length p.reads) most → WasSaid end p.handled closes (t.taken ++ s.taken) → IsLeft gate end [] []
+    closed : (end : Option End) → s.given ≡ [] → Shows (and_then t s) held end → WasSaid end held (length p.reads) most (steps p.handled) (t.taken ++ s.taken) → IsLeft gate end [] []
         → GateDid gate most (and_then t s) runs end
-    closed end closes none shows by said left = record {
+    closed end none shows said left = record {
       reads = p.reads;
       left = held;
       stream = subst (λ (z : List ℕ). Stream z p.reads held) (sym (append-nil t.given) ∙ ap (λ (z : List ℕ). t.given ++ z) (sym none)) p.stream;
@@ -327,23 +251,23 @@ module _ (gate : Gate) where
       invoked = p.invoked ∙ sym (append-nil (runs_of p.handled));
       is_left = left;
       unhandled = inl refl;
-      closes = closes;
-      closes_by = by;
       said = said;
     }
 
     pub enough : (E : Type 0) → Says {E = E} (Close ∷ []) s (Ok true) → GateDid gate most (and_then t s) runs (Some ends.Enough)
-    enough E h = closed (Some ends.Enough) true h.0 tt (refl, p.long) (said_then (Validate ∷ replies p.handled) (Close ∷ []) t.taken s.taken p.said h.1) (refl, refl)
+    enough E h = closed (Some ends.Enough) h.0 tt (p.long, steps_said (steps p.handled) closing t.taken s.taken p.said h.1) (refl, refl)
 
     pub not_said : (E : Type 0) → Says {E = E} (Close ∷ []) s (Ok false) → GateDid gate most (and_then t s) runs (Some ends.LinkFailed)
-    not_said E h = closed (Some ends.LinkFailed) true h.0 (or_right t.failed s.failed h.2) (λ f. p.long) (cut_close p.handled t.taken s.taken p.said h.1) (refl, refl)
+    not_said E h = closed (Some ends.LinkFailed) h.0 (or_right t.failed s.failed h.2)
+        (inr (inr (p.long, steps_cut (steps p.handled) closing t.taken s.taken p.said (step_begun closing s.taken (inl (omega arith)) h.1)))) (refl, refl)
 
     pub starved_last : (E : Type 0) (e : E) → Says {E = E} (Close ∷ []) s (Err e) → GateDid gate most (and_then t s) runs None
-    starved_last E e h = closed None false h.0 (both_fine t s p.fine h.2) refl (cut_unsaid p.handled t.taken s.taken p.said h.1) refl
+    starved_last E e h = closed None h.0 (both_fine t s p.fine h.2)
+        (subst (λ (z : List (List Message)). IsSaidBut z (t.taken ++ s.taken)) (append-nil (steps p.handled)) (steps_but (steps p.handled) [] t.taken s.taken p.said (inr refl) h.1)) refl
 
   -- not even a validate was said
-  not_begun : (most : ℕ) (t : Talk) (end : Option End) → t.given ≡ [] → Shows t [] end → ClosesBy end false 0 most → IsLeft gate end [] [] → WasSaid end [] false t.taken → GateDid gate most t [] end
-  not_begun most t end none shows by left said = record {
+  not_begun : (most : ℕ) (t : Talk) (end : Option End) → t.given ≡ [] → Shows t [] end → IsLeft gate end [] [] → WasSaid end [] 0 most (steps []) t.taken → GateDid gate most t [] end
+  not_begun most t end none shows left said = record {
     reads = [];
     left = [];
     stream = none;
@@ -358,17 +282,14 @@ module _ (gate : Gate) where
     invoked = refl;
     is_left = left;
     unhandled = inl refl;
-    closes = false;
-    closes_by = by;
     said = said;
   }
 
   pub no_validate : (E : Type 0) (most : ℕ) (t : Talk) → Says {E = E} (Validate ∷ []) t (Ok false) → GateDid gate most t [] (Some ends.LinkFailed)
-  no_validate E most t h = not_begun most t (Some ends.LinkFailed) h.0 h.2 (λ f. absurd cc) (refl, refl) (inl (refl, refl, h.1))
+  no_validate E most t h = not_begun most t (Some ends.LinkFailed) h.0 h.2 (refl, refl) (inr (inl (step_begun ((Validate ∷ []) ∷ []) t.taken (inl (omega arith)) h.1)))
 
   pub starved_first : (E : Type 0) (e : E) (most : ℕ) (t : Talk) → Says {E = E} (Validate ∷ []) t (Err e) → GateDid gate most t [] None
-  starved_first E e most t h =
-      not_begun most t None h.0 h.2 refl refl (inl (refl, refl, subst (λ (z : List ℕ). IsBegun (Validate ∷ []) z) (sym h.1) (none_begun (Validate ∷ []) (omega arith))))
+  starved_first E e most t h = not_begun most t None h.0 h.2 refl (steps_but [] (steps []) [] t.taken (refl, tt) (inl (omega arith)) h.1)
 
 pub ok_either : {A B : Type 0} (r : Result A B) (P : A → Type 0) → ((x : A) → P x) → IfOk r P
 ok_either (Ok x) P f = f x

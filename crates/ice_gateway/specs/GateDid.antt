@@ -1,5 +1,5 @@
 -- What a gateway did on one connection.
-use Rattle.std.specs.Prelude.{ℕ, ◌≡◌, ◌≤◌, ◌⊎◌, Bool, false, List, [], ◌∷◌, ◌++◌, length, Option, Some, None}
+use Rattle.std.specs.Prelude.{ℕ, ◌≡◌, ◌≤◌, ◌⊎◌, List, [], ◌∷◌, ◌++◌, length, Option, Some, None}
 use Rattle.ice_encoding.specs.Parts.{Each}
 use Rattle.ice_ports.specs.declared.talk.Talk.{Talk}
 use Rattle.ice_messages.specs.declared.message.Message.{Message}
@@ -7,41 +7,10 @@ use Rattle.ice_messages.specs.declared.message.Message.TheVariants.{Validate}
 use Rattle.ice_messages.specs.Streams.{Stream}
 use Rattle.ice_client.specs.ClientDid.{Tried}
 use Rattle.talking.specs.declared.end.End.{End}
-use Rattle.talking.specs.declared.end.End.TheVariants.{PeerEnded, PeerClosed, PeerBroke, LinkFailed, Enough}
-use Rattle.talking.specs.Said.{IsSaid, IsBegun}
-use Rattle.talking.specs.Ends.{Shows, IsTaken, closing, ClosesBy}
+use Rattle.talking.specs.Said.{IsSaid}
+use Rattle.talking.specs.Ends.{Shows, IsTaken, WasSaid}
 use Rattle.ice_gateway.specs.Gate.{Gate}
-use Rattle.ice_gateway.specs.Handled.{Handled, WasHandled, AreLeft, messages, runs_of, replies}
-
--- The replies of all messages but the last that was handled were said. That of the last may lack bytes, or the close message
--- behind it.
-pub record IsCutBehind (handled : List Handled) (closes : Bool) (taken : List ℕ) : Type 0 where
-  pub whole : List Handled
-  pub last : List Handled
-  pub parts : handled ≡ whole ++ last
-  pub one : length last ≤ 1
-  pub before : List ℕ
-  pub behind : List ℕ
-  pub taken_is : taken ≡ before ++ behind
-  pub said : IsSaid (Validate ∷ replies whole) before
-  pub begun : IsBegun (replies last ++ closing closes) behind
-
--- so it was; or not even the validate message was said, and nothing was handled
-abbrev pub IsCut : List Handled → Bool → List ℕ → Type 0
-IsCut handled closes taken = ((handled ≡ []) × (closes ≡ false) × IsBegun (Validate ∷ []) taken) ⊎ IsCutBehind handled closes taken
-
--- validate, the replies in order, and then a close message or none
-abbrev pub all_said : List Handled → Bool → List Message
-all_said handled closes = Validate ∷ (replies handled ++ closing closes)
-
--- only where the link failed, and at want of memory, the last of them may lack bytes
-abbrev pub WasSaid : Option End → List Handled → Bool → List ℕ → Type 0
-WasSaid None handled closes taken = IsCut handled closes taken
-WasSaid (Some PeerEnded) handled closes taken = IsSaid (all_said handled closes) taken
-WasSaid (Some PeerClosed) handled closes taken = IsSaid (all_said handled closes) taken
-WasSaid (Some (PeerBroke fault)) handled closes taken = IsSaid (all_said handled closes) taken
-WasSaid (Some LinkFailed) handled closes taken = IsCut handled closes taken
-WasSaid (Some Enough) handled closes taken = IsSaid (all_said handled closes) taken
+use Rattle.ice_gateway.specs.Handled.{Handled, WasHandled, AreLeft, messages, runs_of, reply_steps, replies}
 
 -- only at want of memory the last message was not handled
 abbrev pub IsLeft : Gate → Option End → List Message → List (List Tried) → Type 0
@@ -69,7 +38,5 @@ pub record GateDid (gate : Gate) (most : ℕ) (t : Talk) (runs : List (List Trie
   pub is_left : IsLeft gate end rest cut
   -- where one is left, the replies before it were said
   pub unhandled : (rest ≡ []) ⊎ IsSaid (Validate ∷ replies handled) t.taken
-  -- and this was said
-  pub closes : Bool
-  pub closes_by : ClosesBy end closes (length reads) most
-  pub said : WasSaid end handled closes t.taken
+  -- and this was said: validate, and the replies in order
+  pub said : WasSaid end left (length reads) most ((Validate ∷ []) ∷ reply_steps handled) t.taken

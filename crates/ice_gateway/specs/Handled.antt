@@ -1,10 +1,11 @@
 -- Messages that were handled: how each was forwarded, and what was answered.
-use Rattle.std.specs.Prelude.{ℤ, pos, negsuc, zero, suc, ◌≡◌, ◌⊎◌, List, [], ◌∷◌, ◌++◌, Option, Some, None}
+use Rattle.std.specs.Prelude.{ℤ, pos, negsuc, zero, suc, ◌≡◌, ◌⊎◌, List, [], ◌∷◌, ◌++◌, map, Option, Some, None}
 use Rattle.ice_encoding.specs.Parts.{Each}
 use Rattle.ice_messages.specs.declared.message.Call.{Call}
 use Rattle.ice_messages.specs.declared.message.Answer.{Answer}
 use Rattle.ice_messages.specs.declared.message.Message.{Message}
 use Rattle.ice_messages.specs.declared.message.Message.TheVariants.{Request, Batch, Reply, Validate, Close}
+use Rattle.talking.specs.Said.{all_of}
 use Rattle.ice_client.specs.declared.outcome.Outcome.{Outcome}
 use Rattle.ice_client.specs.ClientDid.{Tried, ClientDid, ClientStarved, is_uncached}
 use Rattle.ice_gateway.specs.Gate.{Gate}
@@ -86,6 +87,9 @@ abbrev pub runs_of : List Handled → List (List Tried)
 runs_of [] = []
 runs_of (h ∷ hs) = run_of h.invocation ++ runs_of hs
 
+-- those of each message, or none
+abbrev pub reply_steps : List Handled → List (List Message)
+reply_steps = map (λ (h : Handled). h.replies)
+
 abbrev pub replies : List Handled → List Message
-replies [] = []
-replies (h ∷ hs) = h.replies ++ replies hs
+replies handled = all_of (reply_steps handled)

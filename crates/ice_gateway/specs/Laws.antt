@@ -14,7 +14,7 @@ use Rattle.ice_client.specs.declared.outcome.Outcome.TheVariants.{Replied, Sent,
 use Rattle.ice_client.specs.declared.outgoing.Outgoing.{Outgoing}
 use Rattle.ice_client.specs.Rows.{IsReplied, Meets}
 use Rattle.ice_client.specs.Sending.{IsOf, IsIdempotent}
-use Rattle.ice_client.specs.ClientDid.{Tried, ClientDid, ClientCut, is_uncached}
+use Rattle.ice_client.specs.ClientDid.{Tried, ClientDid, ClientStarved, is_uncached}
 use Rattle.object_adapter.specs.Replies.{IsReply, KeepsLimit}
 use Rattle.object_adapter.specs.Results.{AreResults}
 use Rattle.ice_gateway.specs.Gate.{Gate, Operation, operation_of}
@@ -71,15 +71,16 @@ abbrev pub IsDead : Outgoing → Option Talk → Type 0
 IsDead o None = Unit {0}
 IsDead o (Some t) = (length t.taken < length o.bytes) ⊎ ((ms : List Message) × Meets o t ms Close None)
 
--- of these attempts at the message no server may dispatch any but the last
+-- no attempt was made at the message; or no server may dispatch any but the last
 abbrev pub OnlyLastCounts : Message → List Tried → Type 0
-OnlyLastCounts m tried = (o : Outgoing) × (before : List Tried) × (last : Tried) × IsOf o m × (tried ≡ before ++ last ∷ []) × Each (λ (x : Tried). IsDead o x.talk) before
+OnlyLastCounts m tried = (tried ≡ [])
+    ⊎ ((o : Outgoing) × (before : List Tried) × (last : Tried) × IsOf o m × (tried ≡ before ++ last ∷ []) × Each (λ (x : Tried). IsDead o x.talk) before)
 
--- so it is whatever was lost, closed and tried again, where the message had an outcome, and where memory cut off the last
--- attempt
+-- so it is whatever was lost, closed and tried again, where the message had an outcome, and where memory ran out before the
+-- first attempt, or in the last
 pub record ForwardsOnce : Type 0 where
   pub done : (m : Message) (retries : ℕ) (tried : List Tried) (outcome : Outcome) → (IsIdempotent m → ⊥) → ClientDid m retries tried (Some outcome) → Each is_uncached tried → OnlyLastCounts m tried
-  pub cut_off : (m : Message) (retries : ℕ) (tried : List Tried) → (IsIdempotent m → ⊥) → ClientCut m retries tried → Each is_uncached tried → OnlyLastCounts m tried
+  pub starved : (m : Message) (retries : ℕ) (tried : List Tried) → (IsIdempotent m → ⊥) → ClientStarved m retries tried → Each is_uncached tried → OnlyLastCounts m tried
 
 -- ---- a success of a server
 

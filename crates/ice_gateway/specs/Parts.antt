@@ -9,10 +9,10 @@ use Rattle.ice_messages.specs.Streams.{Stream}
 use Rattle.ice_client.specs.declared.outcome.Outcome.{Outcome}
 use Rattle.ice_client.specs.ClientDid.{Tried, ClientDid, is_uncached}
 use Rattle.talking.specs.declared.end.End.{End}
-use Rattle.talking.specs.Said.{IsSaid, IsFine, Says}
-use Rattle.talking.specs.Ends.{Shows, IsTaken, StepSaid, ComesBy}
+use Rattle.talking.specs.Said.{all_of, IsSaid, IsFine, Says}
+use Rattle.talking.specs.Ends.{Shows, IsTaken, EndsBy}
 use Rattle.ice_gateway.specs.Gate.{Gate}
-use Rattle.ice_gateway.specs.Handled.{Handled, Invocation, WasHandled, WasForwarded, WasStarved, DueStarved, AreLeft, messages, outcome_of, run_of, runs_of, replies}
+use Rattle.ice_gateway.specs.Handled.{Handled, Invocation, WasHandled, WasForwarded, WasStarved, DueStarved, AreLeft, messages, outcome_of, run_of, runs_of, reply_steps, replies}
 
 -- ---- one message
 
@@ -57,10 +57,10 @@ pub record Handling {E : Type 0} (gate : Gate) (m : Message) (runs : List (List 
 
 -- ---- what is left of a message
 
-abbrev pub IsNext : {E : Type 0} → Gate → Talk → List ℕ → List Message → List ℕ → List Message → List (List Tried) → List Message → Result (Option End) E → Type 0
-IsNext gate t held reads left rest cut said (Ok None) = (length reads ≡ 1) × (left ≡ held) × (rest ≡ []) × (cut ≡ []) × IsSaid said t.taken × IsFine t
-IsNext gate t held reads left rest cut said (Ok (Some end)) = Shows t left (Some end) × (rest ≡ []) × (cut ≡ []) × StepSaid end said t.taken × ComesBy end reads
-IsNext gate t held reads left rest cut said (Err e) = AreLeft gate rest cut × (t.taken ≡ []) × IsFine t
+abbrev pub IsNext : {E : Type 0} → Gate → Talk → List ℕ → List Message → List ℕ → List Message → List (List Tried) → List (List Message) → Result (Option End) E → Type 0
+IsNext gate t held reads left rest cut steps (Ok None) = (length reads ≡ 1) × (left ≡ held) × (rest ≡ []) × (cut ≡ []) × IsSaid (all_of steps) t.taken × IsFine t
+IsNext gate t held reads left rest cut steps (Ok (Some end)) = Shows t left (Some end) × (rest ≡ []) × (cut ≡ []) × EndsBy end left reads steps t.taken
+IsNext gate t held reads left rest cut steps (Err e) = AreLeft gate rest cut × (t.taken ≡ []) × IsFine t
 
 -- of these bytes a message was taken and handled by these attempts, or the connection ends
 pub record Next {E : Type 0} (gate : Gate) (runs : List (List Tried)) (t : Talk) (bytes held : List ℕ) (r : Result (Option End) E) : Type 0 where
@@ -75,7 +75,7 @@ pub record Next {E : Type 0} (gate : Gate) (runs : List (List Tried)) (t : Talk)
   pub taken : reads ≡ messages handled ++ rest
   pub did : Each (WasHandled gate) handled
   pub invoked : runs ≡ runs_of handled ++ cut
-  pub how : IsNext gate t held reads left rest cut (replies handled) r
+  pub how : IsNext gate t held reads left rest cut (reply_steps handled) r
 
 -- after validate so many messages were taken and handled, and these bytes are held
 pub record Part (gate : Gate) (runs : List (List Tried)) (t : Talk) (held : List ℕ) (count : ℕ) : Type 0 where

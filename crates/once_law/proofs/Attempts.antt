@@ -15,19 +15,19 @@ use Rattle.retry_core.specs.Retries.{may_follow}
 use Rattle.ice_client.specs.declared.outcome.Outcome.{Outcome}
 use Rattle.ice_client.specs.declared.outcome.Outcome.TheVariants as outcomes
 use Rattle.ice_client.specs.declared.outgoing.Outgoing.{Outgoing}
-use Rattle.ice_client.specs.Rows.{Begins, AreValidates, Reads, Meets, is_no_object, IsLoss, Row, IsOrderly}
+use Rattle.ice_client.specs.Rows.{AreValidates, Reads, Meets, is_no_object, IsLoss, Row, IsOrderly}
+use Rattle.talking.specs.Ends.{Begins}
 use Rattle.ice_client.specs.Sending.{asks_reply, IsIdempotent, IsOf}
 use Rattle.ice_client.specs.Asking.{HasRow}
 use Rattle.ice_messages.specs.Calls.{status_of}
 use Rattle.dispatch_pool.specs.Handled.{Handled, answer_of, replies, reply_of}
-use Rattle.talking.specs.Ends as ends
 use Rattle.call_world.specs.World as world
 use Rattle.once_law.specs.Placed.{From, seats, after, connection_of}
 use Rattle.once_law.specs.Ends.{Session, IsSession, IsSent, IsPrefix, IsMet}
 use Rattle.once_law.specs.Shown.{CallWorld, with_mode, calls_of, result_of, turn_at, ShowsAttempt}
 use Rattle.once_law.proofs.Lists.{none_some, false_true, head_is, tail_is, mapped_long}
 use Rattle.once_law.proofs.Links as links
-use Rattle.once_law.proofs.Streams.{prefix_trans, prefix_long, message_some, none_streamed, stream_then, reads_said}
+use Rattle.once_law.proofs.Streams.{prefix_trans, prefix_long, message_some, none_streamed, stream_then, closing, IsTold, ends_told, reads_said}
 use Rattle.once_law.proofs.Sessions.{IsOne, none_handled, one_handled, Dealt, dealt, turns_allowed, reply_is, said_is}
 
 abbrev pub Link : Type 0
@@ -187,17 +187,17 @@ data IsSecond (hs : List Handled) (closes : Bool) (x : Message) : Type 0 where
   is_close : hs ≡ [] → closes ≡ true → x ≡ Close → IsSecond hs closes x
   is_reply : (h : Handled) → hs ≡ h ∷ [] → x ≡ Reply (pos 1) (answer_of h.outcome) → IsSecond hs closes x
 
-second_closing : (hs : List Handled) (closes : Bool) (x : Message) (others : List Message) → hs ≡ [] → x ∷ others ≡ ends.closing closes → IsSecond hs closes x
+second_closing : (hs : List Handled) (closes : Bool) (x : Message) (others : List Message) → hs ≡ [] → x ∷ others ≡ closing closes → IsSecond hs closes x
 second_closing hs true x others none e = is_close none refl (head_is e)
 second_closing hs false x others none e = absurd (nothing e)
 
-second_is : (hs : List Handled) (closes : Bool) (x : Message) (others : List Message) → IsOne hs → x ∷ others ≡ replies hs ++ ends.closing closes → IsSecond hs closes x
+second_is : (hs : List Handled) (closes : Bool) (x : Message) (others : List Message) → IsOne hs → x ∷ others ≡ replies hs ++ closing closes → IsSecond hs closes x
 second_is hs closes x others (none_handled none) e =
-    second_closing hs closes x others none (e ∙ ap (λ (z : List Handled). replies z ++ ends.closing closes) none)
+    second_closing hs closes x others none (e ∙ ap (λ (z : List Handled). replies z ++ closing closes) none)
 second_is hs closes x others (one_handled h one id) e =
-    let f : replies hs ++ ends.closing closes ≡ Reply (pos 1) (answer_of h.outcome) ∷ ends.closing closes =
-    ap (λ (z : List Handled). replies z ++ ends.closing closes) one
-    ∙ ap (λ (z : ℤ). (reply_of z (answer_of h.outcome) ++ []) ++ ends.closing closes) id in
+    let f : replies hs ++ closing closes ≡ Reply (pos 1) (answer_of h.outcome) ∷ closing closes =
+    ap (λ (z : List Handled). replies z ++ closing closes) one
+    ∙ ap (λ (z : ℤ). (reply_of z (answer_of h.outcome) ++ []) ++ closing closes) id in
     is_reply h one (head_is (e ∙ f))
 
 no_validate : (hs : List Handled) (closes : Bool) (x : Message) → x ≡ Validate → IsSecond hs closes x → ⊥
@@ -206,7 +206,7 @@ no_validate hs closes x e (is_reply h one f) = validate_reply (sym e ∙ f)
 
 -- behind validates alone it is the first message
 second_read : (hs : List Handled) (closes : Bool) (ms : List Message) (x : Message) (others : List Message) → IsOne hs → AreValidates ms
-    → (ms ++ x ∷ []) ++ others ≡ replies hs ++ ends.closing closes → (ms ≡ []) × IsSecond hs closes x
+    → (ms ++ x ∷ []) ++ others ≡ replies hs ++ closing closes → (ms ≡ []) × IsSecond hs closes x
 second_read hs closes [] x others one all e = (refl, second_is hs closes x others one e)
 second_read hs closes (u ∷ us) x others one all e =
     absurd (no_validate hs closes u all.0 (second_is hs closes u ((us ++ x ∷ []) ++ others) one e))
@@ -229,15 +229,21 @@ module _ (o : Outgoing) (m : Message) (is_of : IsOf o m) (sent : IsSent m) (t : 
       let p = prefix_trans s.talk.given t.taken o.bytes forth (taken o m is_of sent t orderly) in
       dealt m o.bytes p.0 s sent is_of.spelled server p.1
 
+  told_end : IsTold s.end s.handled s.talk.taken
+  told_end = ends_told s.end server.left (length server.reads) s.most s.handled s.talk.taken server.said
+
+  abbrev closes : Bool
+  closes = told_end.0
+
   abbrev link : ℕ → Link
   link n = record {
     handed = length t.taken;
     arrived = length s.talk.given;
     read = n;
-    served = served_of s.handled server.closes;
+    served = served_of s.handled closes;
   }
 
-  fits : (n : ℕ) → (0 < length t.taken → 0 < n) → n ≤ length (links.said two (map turn_at s.handled) server.closes)
+  fits : (n : ℕ) → (0 < length t.taken → 0 < n) → n ≤ length (links.said two (map turn_at s.handled) closes)
       → links.IsLink status_of two size (length (calls_of m)) (link n)
   fits n greeted read =
       let d = dealt_with in
@@ -268,7 +274,7 @@ module _ (o : Outgoing) (m : Message) (is_of : IsOf o m) (sent : IsSent m) (t : 
     server = (
       ap (λ (k : world.Connection Answer). k.arrived) h,
       ap (λ (k : world.Connection Answer). k.turns) h,
-      (server.closes, ap (λ (k : world.Connection Answer). k.answered) h ∙ said_is m size s server.closes dealt_with),
+      (closes, told_end.1, ap (λ (k : world.Connection Answer). k.answered) h ∙ said_is m size s closes dealt_with),
     );
   }
 
@@ -346,15 +352,15 @@ module _ (o : Outgoing) (m : Message) (is_of : IsOf o m) (sent : IsSent m) (t : 
     stream_two : Stream t.given read_two begins.0
     stream_two = stream_then t.given (v ∷ ms) (x ∷ []) rest begins.0 reads.4 begins.1
 
-    second : (ms ≡ []) × IsSecond s.handled server.closes x
+    second : (ms ≡ []) × IsSecond s.handled closes x
     second =
-        let r = reads_said s.end s.handled server.closes read_two t.given s.talk.taken begins.0 server.said back stream_two in
-        second_read s.handled server.closes ms x r.0 (dealt_with.one asks) reads.2.1 (tail_is r.1)
+        let r = reads_said (Validate ∷ (replies s.handled ++ closing closes)) read_two t.given s.talk.taken begins.0 told_end.2 back stream_two in
+        second_read s.handled closes ms x r.0 (dealt_with.one asks) reads.2.1 (tail_is r.1)
 
     two_read : 2 ≡ length read_two
     two_read = ap (λ (z : List Message). length ((v ∷ z) ++ x ∷ [])) (sym second.0)
 
-    second_link : (follows : Bool) (outcome : Outcome) → 2 ≤ length (links.said two (map turn_at s.handled) server.closes)
+    second_link : (follows : Bool) (outcome : Outcome) → 2 ≤ length (links.said two (map turn_at s.handled) closes)
         → (follows ≡ true → links.IsGone status_of two size (link 2)) → Told two size (result_of (Some outcome)) (Some (link 2))
         → IsLinkOf m o.bytes (Some t) (Some s) follows outcome (Some (link 2))
     second_link follows outcome enough gone told = record {
@@ -369,15 +375,15 @@ module _ (o : Outgoing) (m : Message) (is_of : IsOf o m) (sent : IsSent m) (t : 
   close_link : (v : Message) (ms : List Message) (rest : List ℕ) → Reads o t (v ∷ ms) rest → Begins rest Close → (follows : Bool) (outcome : Outcome) → IsSilent outcome
       → (l : Link) × IsLinkOf m o.bytes (Some t) (Some s) follows outcome (Some l)
   close_link v ms rest reads begins follows outcome silent = by (second v ms rest reads Close begins).1 where
-    by : IsSecond s.handled server.closes Close → (l : Link) × IsLinkOf m o.bytes (Some t) (Some s) follows outcome (Some l)
-    by (is_close none closes e) =
+    by : IsSecond s.handled closes Close → (l : Link) × IsLinkOf m o.bytes (Some t) (Some s) follows outcome (Some l)
+    by (is_close none closed e) =
         let asked = asks v ms rest reads Close begins in
-        let served : served_of s.handled server.closes ≡ served_of [] true =
-        ap (λ (z : List Handled). served_of z server.closes) none ∙ ap (served_of []) closes in
-        let long : length (links.said two (map turn_at s.handled) server.closes) ≡ 2 =
-        ap (λ (b : Bool). length (links.said b (map turn_at s.handled) server.closes)) asked
-        ∙ (ap (λ (z : List Handled). length (links.said true (map turn_at z) server.closes)) none
-        ∙ ap (λ (b : Bool). length (links.said {R = Answer} true [] b)) closes) in (
+        let served : served_of s.handled closes ≡ served_of [] true =
+        ap (λ (z : List Handled). served_of z closes) none ∙ ap (served_of []) closed in
+        let long : length (links.said two (map turn_at s.handled) closes) ≡ 2 =
+        ap (λ (b : Bool). length (links.said b (map turn_at s.handled) closes)) asked
+        ∙ (ap (λ (z : List Handled). length (links.said true (map turn_at z) closes)) none
+        ∙ ap (λ (b : Bool). length (links.said {R = Answer} true [] b)) closed) in (
           link 2,
           second_link v ms rest reads Close begins follows outcome (omega arith) (λ f. inr (inl (asked, refl, served))) (silent_told two size outcome (Some (link 2)) silent),
         )
@@ -388,17 +394,17 @@ module _ (o : Outgoing) (m : Message) (is_of : IsOf o m) (sent : IsSent m) (t : 
       → (follows ≡ true → status_of answer ≡ 2) → (outcome : Outcome) → outcome ≡ outcomes.Replied answer
       → (l : Link) × IsLinkOf m o.bytes (Some t) (Some s) follows outcome (Some l)
   answer_link answer v ms rest reads begins follows stale outcome is = by (second v ms rest reads (Reply (pos 1) answer) begins).1 where
-    by : IsSecond s.handled server.closes (Reply (pos 1) answer) → (l : Link) × IsLinkOf m o.bytes (Some t) (Some s) follows outcome (Some l)
-    by (is_close none closes e) = absurd (close_reply (sym e))
+    by : IsSecond s.handled closes (Reply (pos 1) answer) → (l : Link) × IsLinkOf m o.bytes (Some t) (Some s) follows outcome (Some l)
+    by (is_close none closed e) = absurd (close_reply (sym e))
     by (is_reply h one e) =
         let asked = asks v ms rest reads (Reply (pos 1) answer) begins in
         let same : answer_of h.outcome ≡ answer = sym (reply_same e) in
-        let served : served_of s.handled server.closes ≡ served_of (h ∷ []) server.closes =
-        ap (λ (z : List Handled). served_of z server.closes) one in
-        let has : links.HasAnswer two (link 2) answer = (turn_at h, server.closes, asked, refl, served, reply_is h.outcome ∙ same) in
-        let long : length (links.said two (map turn_at s.handled) server.closes) ≡ length (links.said true (turn_at h ∷ []) server.closes) =
-        ap (λ (b : Bool). length (links.said b (map turn_at s.handled) server.closes)) asked
-        ∙ ap (λ (z : List Handled). length (links.said true (map turn_at z) server.closes)) one in
+        let served : served_of s.handled closes ≡ served_of (h ∷ []) closes =
+        ap (λ (z : List Handled). served_of z closes) one in
+        let has : links.HasAnswer two (link 2) answer = (turn_at h, closes, asked, refl, served, reply_is h.outcome ∙ same) in
+        let long : length (links.said two (map turn_at s.handled) closes) ≡ length (links.said true (turn_at h ∷ []) closes) =
+        ap (λ (b : Bool). length (links.said b (map turn_at s.handled) closes)) asked
+        ∙ ap (λ (z : List Handled). length (links.said true (map turn_at z) closes)) one in
         let told : Told two size (result_of (Some outcome)) (Some (link 2)) =
         subst (λ (z : Outcome). Told two size (result_of (Some z)) (Some (link 2))) (sym is) (link 2, refl, has) in (
           link 2,

@@ -138,7 +138,7 @@ turn_in d n seat a k i bytes t answer at shown had = by a.session refl shown whe
   by None e shown = absurd (none_at seat (Dispatched answer) (sym (ap (λ (ts : List (Turn Answer)). slice_get ts seat) shown.server.1) ∙ had))
   by (Some s) e shown =
       let g = get_mapped turn_at s.handled seat (Dispatched answer) (sym (ap (λ (ts : List (Turn Answer)). slice_get ts seat) shown.server.1) ∙ had) in
-      record { attempt = a; at = at; session = s; served = e; call = g.0; handled = g.1; turn = g.2 }
+      record { attempt = a; at = at; session = s; served = e; gave = g }
 
 pub dispatches_are_turns : (w : CallWorld) (ds : List Delivery) → ShowsFrom w 0 0 ds → IsLogged w → DispatchesAreTurns w ds
 dispatches_are_turns w ds h logged index x at =
@@ -174,5 +174,5 @@ turns_are_dispatches w ds fit h logged number n d seat answer at t =
     let s = shown_at w 0 0 ds number d at h fit in
     let x = attempt_at w s.0 d.message s.3.bytes s.1 d.attempts n t.attempt t.session t.at t.served s.4.ends s.3.attempts in
     let log = logged.known x.connection seat answer
-    (had_turn w d.message s.0 s.3.bytes x.connection seat x.talk t.session t.call answer x.shown t.handled t.turn) in
+    (had_turn w d.message s.0 s.3.bytes x.connection seat x.talk t.session t.gave.0 answer x.shown t.gave.1 t.gave.2) in
     (log.0, record { connection = x.connection; seat = seat; reply = answer }, log.1, refl, refl, subst (λ (c : ℕ). slice_get (connections c (talks d)) n ≡ Some (Some x.connection)) s.2 x.numbered)

@@ -12,7 +12,7 @@ use Rattle.ice_messages.specs.Streams.{IsFront}
 use Rattle.retry_core.specs.declared.attempt.Attempt.TheVariants as tries
 use Rattle.ice_client.specs.declared.outcome.Outcome.TheVariants as outcomes
 use Rattle.ice_client.specs.declared.outgoing.Outgoing.{Outgoing}
-use Rattle.ice_client.specs.Rows.{Begins}
+use Rattle.talking.specs.Ends.{Begins}
 use Rattle.ice_client.specs.Sending.{IsOf}
 use Rattle.ice_client.specs.ClientDid.{Tried}
 use Rattle.object_adapter.specs.Laws.{IsDispatched}
@@ -122,9 +122,7 @@ module _ (call : Call) (answer : Answer) (good : IsDispatched answer) where
       calls = refl;
       is_left = refl;
       outcomes = tt;
-      closes = true;
-      closes_by = (refl, refl);
-      said = (refl, (validate, (close, tt)));
+      said = (refl, (refl, (validate, (close, tt))));
     }
 
     -- the session that gives the call its turn
@@ -149,9 +147,7 @@ module _ (call : Call) (answer : Answer) (good : IsDispatched answer) where
       calls = refl;
       is_left = refl;
       outcomes = ((refl, good), tt);
-      closes = false;
-      closes_by = (refl, omega arith);
-      said = (refl, (validate, (replied, tt)));
+      said = (omega arith, (refl, (validate, (replied, tt))));
     }
 
     abbrev lost_talk : Talk
@@ -314,9 +310,7 @@ module _ (call : Call) (answer : Answer) (good : IsDispatched answer) where
       calls = refl;
       is_left = refl;
       outcomes = ((refl, good), ((refl, good), tt));
-      closes = false;
-      closes_by = (refl, omega arith);
-      said = (refl, (validate, tt));
+      said = (omega arith, (refl, (validate, tt)));
     }
 
     abbrev sent_talk : Talk

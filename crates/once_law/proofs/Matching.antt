@@ -116,23 +116,21 @@ sessions_dispatched clients sessions other m w k = record {
       let met : other t.0 t.1 ≡ Some s.0 = ap (λ (j : ℕ). other j t.1) (sym (zero-add t.0)) ∙ s.1 in (
         s.0,
         record { number = t.0; n = t.1; delivery = t.2; at = t.3; met = met; numbered = t.4 },
-        record { session = turn.session; at = s.2; call = turn.call; handled = turn.handled; turn = turn.turn },
+        (turn.session, s.2, turn.gave),
       );
   dispatched = λ s seat answer e.
-      let b = m.belongs s e.session e.at in
+      let b = m.belongs s e.0 e.1 in
       let t = b.2 in
       let c = b.3 in
       let x = client_in sessions other 0 clients b.0 b.1 c.0 t c.1 c.2 in
-      let served : session_at sessions (other (0 + b.0) b.1) ≡ Some e.session =
-      ap (λ (j : ℕ). session_at sessions (other j b.1)) (zero-add b.0) ∙ (ap (session_at sessions) b.4 ∙ e.at) in
+      let served : session_at sessions (other (0 + b.0) b.1) ≡ Some e.0 =
+      ap (λ (j : ℕ). session_at sessions (other j b.1)) (zero-add b.0) ∙ (ap (session_at sessions) b.4 ∙ e.1) in
       let y = k.turns b.0 b.1 x.0 seat answer x.1 (record {
         attempt = record { tried = t; session = session_at sessions (other (0 + b.0) b.1) };
         at = x.2;
-        session = e.session;
+        session = e.0;
         served = served;
-        call = e.call;
-        handled = e.handled;
-        turn = e.turn;
+        gave = e.2;
       }) in
       (y.0, y.1, y.2, y.3, y.4, record { number = b.0; n = b.1; delivery = x.0; at = x.1; met = b.4; numbered = y.5 });
 }

@@ -1,17 +1,19 @@
 -- Messages one after the other, as both ends of a connection have them.
-use Rattle.std.proofs.Common.{◌≡◌, ℕ, ◌≤◌, ◌⊎◌, inl, inr, Bool, List, [], ◌∷◌, ◌++◌, length, Option, None, Some, refl, ap, sym, ◌∙◌, subst, arith, append_assoc, append-nil, length-append}
+use Rattle.std.proofs.Common.{◌≡◌, ℕ, ◌≤◌, ◌⊎◌, inl, inr, Bool, true, false, List, [], ◌∷◌, ◌++◌, length, Option, None, Some, refl, ap, sym, ◌∙◌, subst, arith, append_assoc, append-nil, length-append}
 use Rattle.ice_messages.specs.declared.message.Message.{Message}
-use Rattle.ice_messages.specs.declared.message.Message.TheVariants.{Validate}
+use Rattle.ice_messages.specs.declared.message.Message.TheVariants.{Validate, Close}
 use Rattle.ice_messages.specs.Messages.{message_bytes, SpellsMessage}
 use Rattle.ice_messages.specs.Streams.{Stream}
 use Rattle.ice_messages.proofs.Streams.{messages_apart, message_long}
 use Rattle.talking.specs.declared.end.End.{End}
 use Rattle.talking.specs.declared.end.End.TheVariants.{LinkFailed, PeerEnded, PeerClosed, PeerBroke, Enough}
-use Rattle.dispatch_pool.specs.Handled.{Handled, answer_of, replies, reply_of}
-use Rattle.dispatch_pool.specs.ServerDid.{IsCut, WasSaid, all_said}
-use Rattle.talking.specs.Said.{bytes_of, AreSpelled, IsSaid, IsBegun}
-use Rattle.talking.specs.Ends.{closing}
+use Rattle.dispatch_pool.specs.Handled.{Handled, replies, reply_steps}
+use Rattle.talking.specs.Said.{bytes_of, all_of, AreSpelled, IsSaid, IsBegun, IsCut, IsSaidBut}
+use Rattle.talking.specs.Ends.{WasSaid}
+use Rattle.talking.specs.Ends as talks
+use Rattle.talking.proofs.Said.{bytes_append, all_append}
 use Rattle.once_law.specs.Ends.{IsPrefix}
+use Rattle.once_law.specs.Shown.{ClosesAt}
 
 -- ---- first bytes
 
@@ -54,14 +56,6 @@ stream_then bytes (m ∷ ms) ns rest left one two = (one.0, one.1, one.2, one.3,
 
 -- ---- what a server said
 
-bytes_append : (a b : List Message) → bytes_of (a ++ b) ≡ bytes_of a ++ bytes_of b
-bytes_append [] b = refl
-bytes_append (m ∷ a) b = ap (λ (z : List ℕ). message_bytes m ++ z) (bytes_append a b) ∙ sym (append_assoc (message_bytes m) (bytes_of a) (bytes_of b))
-
-spelled_both : (a b : List Message) → AreSpelled a → AreSpelled b → AreSpelled (a ++ b)
-spelled_both [] b h k = k
-spelled_both (m ∷ a) b h k = (h.0, spelled_both a b h.1 k)
-
 spelled_stream : (ms : List Message) → AreSpelled ms → Stream (bytes_of ms) ms []
 spelled_stream [] h = refl
 spelled_stream (m ∷ ms) h = (message_bytes m, bytes_of ms, refl, h.0, spelled_stream ms h.1)
@@ -86,29 +80,20 @@ said_began messages taken h = record {
 }
 
 begun_began : (messages : List Message) (taken : List ℕ) → IsBegun messages taken → Began messages taken
-begun_began messages taken h = elim h.last_spelled [
-  | inl none ↦ record {
-    bytes = bytes_of h.whole;
-    some = h.whole;
-    others = h.last;
-    parts = sym h.parts;
-    stream = spelled_stream h.whole h.spelled;
-    taken_is = ([], append-nil taken ∙ (h.taken_is ∙ (ap (λ (z : List ℕ). bytes_of h.whole ++ z) none ∙ append-nil (bytes_of h.whole))));
-  }
-  | inr spelled ↦ record {
-    bytes = bytes_of (h.whole ++ h.last);
-    some = h.whole ++ h.last;
-    others = [];
-    parts = append-nil (h.whole ++ h.last) ∙ sym h.parts;
-    stream = spelled_stream (h.whole ++ h.last) (spelled_both h.whole h.last h.spelled spelled);
-    taken_is = (
-      h.lacks,
-      ap (λ (z : List ℕ). z ++ h.lacks) h.taken_is
-          ∙ (append_assoc (bytes_of h.whole) h.begun h.lacks
-          ∙ (ap (λ (z : List ℕ). bytes_of h.whole ++ z) (sym h.last_is) ∙ sym (bytes_append h.whole h.last))),
-    );
-  }
-]
+begun_began messages taken h = record {
+  bytes = bytes_of messages;
+  some = messages;
+  others = [];
+  parts = append-nil messages;
+  stream = spelled_stream messages h.spelled;
+  taken_is = (
+    h.lacks,
+    ap (λ (z : List ℕ). z ++ h.lacks) h.taken_is
+        ∙ (append_assoc (bytes_of h.before) h.begun h.lacks
+        ∙ (ap (λ (z : List ℕ). bytes_of h.before ++ z) (sym (append-nil (message_bytes h.last) ∙ h.last_is))
+        ∙ (sym (bytes_append h.before (h.last ∷ [])) ∙ ap bytes_of (sym h.parts)))),
+  );
+}
 
 -- messages that were said, before such as were begun
 spelled_before : (a some : List Message) (bytes : List ℕ) → AreSpelled a → Stream bytes some [] → Stream (bytes_of a ++ bytes) (a ++ some) []
@@ -129,36 +114,58 @@ said_then_began a b x y h k = record {
   );
 }
 
-replies_append : (xs ys : List Handled) → replies (xs ++ ys) ≡ replies xs ++ replies ys
-replies_append [] ys = refl
-replies_append (x ∷ xs) ys = ap (λ (z : List Message). reply_of x.asked.id (answer_of x.outcome) ++ z) (replies_append xs ys)
-    ∙ sym (append_assoc (reply_of x.asked.id (answer_of x.outcome)) (replies xs) (replies ys))
+-- what a session says: validate, the replies, and a close message or none
+abbrev pub closing : Bool → List Message
+closing true = Close ∷ []
+closing false = []
 
-cut_began : (handled : List Handled) (closes : Bool) (taken : List ℕ) → IsCut handled closes taken → Began (all_said handled closes) taken
-cut_began handled closes taken (inl (none, opens, begun)) =
-    subst (λ (z : List Handled). Began (all_said z closes) taken) (sym none)
-    (subst (λ (b : Bool). Began (all_said [] b) taken) (sym opens) (begun_began (Validate ∷ []) taken begun))
-cut_began handled closes taken (inr cut) =
-    let all : (Validate ∷ replies cut.whole) ++ (replies cut.last ++ closing closes) ≡ all_said handled closes =
-    ap (λ (z : List Message). Validate ∷ z) (sym (append_assoc (replies cut.whole) (replies cut.last) (closing closes))
-    ∙ (ap (λ (z : List Message). z ++ closing closes) (sym (replies_append cut.whole cut.last)) ∙ ap (λ (z : List Handled). replies z ++ closing closes) (sym cut.parts))) in
-    subst (λ (z : List ℕ). Began (all_said handled closes) z) (sym cut.taken_is)
-    (subst (λ (z : List Message). Began z (cut.before ++ cut.behind)) all
-    (said_then_began (Validate ∷ replies cut.whole) (replies cut.last ++ closing closes) cut.before cut.behind cut.said (begun_began (replies cut.last ++ closing closes) cut.behind cut.begun)))
+abbrev pub all_said : List Handled → Bool → List Message
+all_said handled closes = Validate ∷ (replies handled ++ closing closes)
 
-pub began : (end : Option End) (handled : List Handled) (closes : Bool) (taken : List ℕ) → WasSaid end handled closes taken → Began (all_said handled closes) taken
-began None handled closes taken h = cut_began handled closes taken h
-began (Some PeerEnded) handled closes taken h = said_began (all_said handled closes) taken h
-began (Some PeerClosed) handled closes taken h = said_began (all_said handled closes) taken h
-began (Some (PeerBroke fault)) handled closes taken h = said_began (all_said handled closes) taken h
-began (Some LinkFailed) handled closes taken h = cut_began handled closes taken h
-began (Some Enough) handled closes taken h = said_began (all_said handled closes) taken h
+abbrev steps : List Handled → List (List Message)
+steps handled = (Validate ∷ []) ∷ reply_steps handled
+
+opened : (handled : List Handled) (taken : List ℕ) → Began (all_of (steps handled)) taken → Began (all_said handled false) taken
+opened handled taken h = subst (λ (z : List Message). Began (Validate ∷ z) taken) (sym (append-nil (replies handled))) h
+
+closed : (handled : List Handled) (taken : List ℕ) → Began (all_of (steps handled ++ talks.closing)) taken → Began (all_said handled true) taken
+closed handled taken h = subst (λ (z : List Message). Began z taken) (all_append (steps handled) talks.closing) h
+
+cut_began : (them : List (List Message)) (taken : List ℕ) → IsCut them taken → Began (all_of them) taken
+cut_began them taken cut =
+    let all : all_of cut.before ++ cut.last ≡ all_of them =
+    ap (λ (z : List Message). all_of cut.before ++ z) (sym (append-nil cut.last)) ∙ (sym (all_append cut.before (cut.last ∷ [])) ∙ ap all_of (sym cut.parts)) in
+    subst (λ (z : List ℕ). Began (all_of them) z) (sym cut.taken_is)
+    (subst (λ (z : List Message). Began z (cut.whole ++ cut.begun)) all
+    (said_then_began (all_of cut.before) cut.last cut.whole cut.begun cut.is_said (begun_began cut.last cut.begun cut.is_begun)))
+
+but_began : (them : List (List Message)) (taken : List ℕ) → IsSaidBut them taken → Began (all_of them) taken
+but_began them taken (before, last, parts, few, said) = record {
+  bytes = bytes_of (all_of before);
+  some = all_of before;
+  others = all_of last;
+  parts = sym (all_append before last) ∙ ap all_of (sym parts);
+  stream = spelled_stream (all_of before) said.1;
+  taken_is = ([], append-nil taken ∙ said.0);
+}
+
+-- what of it was taken
+abbrev pub IsTold : Option End → List Handled → List ℕ → Type 0
+IsTold end handled taken = (closes : Bool) × ClosesAt end closes × Began (all_said handled closes) taken
+
+pub ends_told : (end : Option End) (left : List ℕ) (read most : ℕ) (handled : List Handled) (taken : List ℕ) → WasSaid end left read most (steps handled) taken → IsTold end handled taken
+ends_told None left read most handled taken h = (false, refl, opened handled taken (but_began (steps handled) taken h))
+ends_told (Some PeerEnded) left read most handled taken h = (false, refl, opened handled taken (said_began (all_of (steps handled)) taken h.1))
+ends_told (Some PeerClosed) left read most handled taken h = (false, refl, opened handled taken (said_began (all_of (steps handled)) taken h.1))
+ends_told (Some (PeerBroke fault)) left read most handled taken h = (false, refl, opened handled taken (said_began (all_of (steps handled)) taken h.1))
+ends_told (Some LinkFailed) left read most handled taken (inl h) = (false, tt, opened handled taken (said_began (all_of (steps handled)) taken h.2))
+ends_told (Some LinkFailed) left read most handled taken (inr (inl h)) = (false, tt, opened handled taken (cut_began (steps handled) taken h))
+ends_told (Some LinkFailed) left read most handled taken (inr (inr h)) = (true, tt, closed handled taken (cut_began (steps handled ++ talks.closing) taken h.1))
+ends_told (Some Enough) left read most handled taken h = (true, refl, closed handled taken (said_began (all_of (steps handled ++ talks.closing)) taken h.1))
 
 -- the messages that a client reads are the first that the server said
-pub reads_said : (end : Option End) (handled : List Handled) (closes : Bool) (reads : List Message) (given taken rest : List ℕ) → WasSaid end handled closes taken → IsPrefix given taken
-    → Stream given reads rest → (others : List Message) × (reads ++ others ≡ all_said handled closes)
-reads_said end handled closes reads given taken rest said first stream =
-    let b = began end handled closes taken said in
+pub reads_said : (all reads : List Message) (given taken rest : List ℕ) → Began all taken → IsPrefix given taken → Stream given reads rest → (others : List Message) × (reads ++ others ≡ all)
+reads_said all reads given taken rest b first stream =
     let p = prefix_trans given taken b.bytes first b.taken_is in
     let f = first_messages given p.0 reads b.some rest stream (subst (λ (z : List ℕ). Stream z b.some []) (sym p.1) b.stream) in
     (f.0 ++ b.others, sym (append_assoc reads f.0 b.others) ∙ (ap (λ (z : List Message). z ++ b.others) f.1 ∙ b.parts))

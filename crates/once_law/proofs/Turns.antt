@@ -151,7 +151,7 @@ module _ (d : Delivery) (h : IsDelivery d) (k : Alone d) where
   found n seat answer within t =
       let x = attempt_at w 0 d.message k.shown.bytes 0 d.attempts n t.attempt t.session t.at t.served h.ends k.shown.attempts in
       let had : slice_get (w.connections x.connection).turns seat ≡ Some (Dispatched answer) =
-      had_turn w d.message 0 k.shown.bytes x.connection seat x.talk t.session t.call answer x.shown t.handled t.turn in
+      had_turn w d.message 0 k.shown.bytes x.connection seat x.talk t.session t.gave.0 answer x.shown t.gave.1 t.gave.2 in
       let log = k.logged.known x.connection seat answer had in
       let s = seat_at 0 two (length k.shown.bytes) calls seat within in
       record {

@@ -23,15 +23,17 @@ use Rattle.once_law.specs.Ends.{Session, Attempted, attempt_of, is_served, Deliv
 use Rattle.once_law.specs.Matched.{Client, Matching, AreMatched, joined}
 use Rattle.once_law.specs.Shown.{CallWorld, calls_of, turn_at, Shows}
 
+-- the session gave the call in this seat a turn, with this answer
+abbrev pub GaveTurn : Session → ℕ → Answer → Type 0
+GaveTurn session seat answer = (call : Handled) × (slice_get session.handled seat ≡ Some call) × (turn_at call ≡ Dispatched answer)
+
 -- the session at the other end of attempt number n gave the call in this seat of the message a turn, with this answer
 pub record HasTurn (d : Delivery) (n seat : ℕ) (answer : Answer) : Type 0 where
   pub attempt : Attempted
   pub at : slice_get d.attempts n ≡ Some attempt
   pub session : Session
   pub served : attempt.session ≡ Some session
-  pub call : Handled
-  pub handled : slice_get session.handled seat ≡ Some call
-  pub turn : turn_at call ≡ Dispatched answer
+  pub gave : GaveTurn session seat answer
 
 -- the first connection of the attempts at message number `number`, where those at the first message begin with c
 abbrev pub first_connection : ℕ → List Delivery → ℕ → ℕ
@@ -70,12 +72,8 @@ pub record IsWorldOf (w : CallWorld) (deliveries : List Delivery) : Type 0 where
   pub turns : TurnsAreDispatches w deliveries
 
 -- session number s gave its call number `seat` a turn, with this answer
-pub record HasEntry (sessions : List Session) (s seat : ℕ) (answer : Answer) : Type 0 where
-  pub session : Session
-  pub at : slice_get sessions s ≡ Some session
-  pub call : Handled
-  pub handled : slice_get session.handled seat ≡ Some call
-  pub turn : turn_at call ≡ Dispatched answer
+abbrev pub HasEntry : List Session → ℕ → ℕ → Answer → Type 0
+HasEntry sessions s seat answer = (session : Session) × (slice_get sessions s ≡ Some session) × GaveTurn session seat answer
 
 -- session number s is at the other end of this connection
 pub record IsSessionOf (clients : List Client) (sessions : List Session) (other : Matching) (s connection : ℕ) : Type 0 where

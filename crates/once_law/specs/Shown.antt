@@ -1,6 +1,6 @@
 -- How a world of calls shows what both ends say: each call of a message is an invocation of its own, at its place in that
 -- message, and each attempt that connected is a connection of its own; both are numbered in order, from 0 on.
-use Rattle.std.specs.Prelude.{ℕ, ℤ, pos, negsuc, zero, suc, ◌≡◌, ◌+◌, ◌≤◌, nat_lt, Bool, true, List, [], ◌∷◌, ◌++◌, length, map, Option, None, Some}
+use Rattle.std.specs.Prelude.{ℕ, ℤ, pos, negsuc, zero, suc, ◌≡◌, ◌+◌, ◌≤◌, nat_lt, Bool, true, false, List, [], ◌∷◌, ◌++◌, length, map, Option, None, Some}
 use Rattle.ice_ports.specs.declared.talk.Talk.{Talk}
 use Rattle.ice_messages.specs.declared.message.Call.{Call}
 use Rattle.ice_messages.specs.declared.message.Answer.{Answer}
@@ -12,6 +12,8 @@ use Rattle.ice_messages.specs.Streams.{Stream}
 use Rattle.ice_client.specs.declared.outcome.Outcome.TheVariants as outcomes
 use Rattle.ice_client.specs.declared.outcome.Outcome as clients
 use Rattle.ice_client.specs.Sending.{asks_reply}
+use Rattle.talking.specs.declared.end.End.{End}
+use Rattle.talking.specs.declared.end.End.TheVariants.{PeerEnded, PeerClosed, PeerBroke, LinkFailed, Enough}
 use Rattle.dispatch_pool.specs.Handled.{Handled, had_turn, refused, answer_of}
 use Rattle.dispatch_pool.specs.Handled as servers
 use Rattle.call_world.specs.World.{World, Connection, Turn, Dispatched, Refused, Sent, Validate, Answer as AnswerSent, Outcome, Replied, Handed, Failed, fresh}
@@ -70,12 +72,21 @@ abbrev pub answers_at : ℕ → List Handled → List (Sent Answer)
 answers_at seat [] = []
 answers_at seat (h ∷ hs) = answer_at seat h.asked.id (answer_of h.outcome) ++ answers_at (suc seat) hs
 
+-- a close message was to be said before this end, or not; where the link failed it may have been
+abbrev pub ClosesAt : Option End → Bool → Type 0
+ClosesAt None closes = closes ≡ false
+ClosesAt (Some PeerEnded) closes = closes ≡ false
+ClosesAt (Some PeerClosed) closes = closes ≡ false
+ClosesAt (Some (PeerBroke fault)) closes = closes ≡ false
+ClosesAt (Some LinkFailed) closes = Unit {0}
+ClosesAt (Some Enough) closes = closes ≡ true
+
 -- the server's part of a connection is that of the session
 abbrev pub ShowsSession : Connection Answer → Option Session → Type 0
 ShowsSession k None = (k.arrived ≡ 0) × (k.turns ≡ []) × (k.answered ≡ [])
 ShowsSession k (Some s) =
     (k.arrived ≡ length s.talk.given) × (k.turns ≡ map turn_at s.handled)
-    × ((closes : Bool) × (k.answered ≡ Validate ∷ (answers_at 0 s.handled ++ closing closes)))
+    × ((closes : Bool) × ClosesAt s.end closes × (k.answered ≡ Validate ∷ (answers_at 0 s.handled ++ closing closes)))
 
 -- the connection carried the message with these bytes, whose first call is invocation i
 pub record ShowsTalk (k : Connection Answer) (i : ℕ) (m : Message) (bytes : List ℕ) (t : Talk) (session : Option Session) : Type 0 where

@@ -1,5 +1,5 @@
 -- How a session that ends goes on from what was read and said before.
-use Rattle.std.proofs.Common.{◌≡◌, ◌≢◌, ℕ, ◌+◌, ◌<◌, Bool, true, false, ◌||◌, List, [], ◌∷◌, ◌++◌, length, refl, sym, ap, ◌∙◌, subst, arith, append_assoc}
+use Rattle.std.proofs.Common.{◌≡◌, ℕ, ◌+◌, ◌<◌, inl, inr, Bool, true, false, ◌||◌, List, [], ◌∷◌, ◌++◌, length, refl, sym, ap, ◌∙◌, subst, arith, append_assoc}
 use Rattle.std.specs.Prelude.{Option, Some, Result, Ok, Err}
 use Rattle.ice_encoding.specs.Parts.{Each}
 use Rattle.ice_ports.specs.declared.talk.Talk.{Talk}
@@ -8,9 +8,9 @@ use Rattle.ice_messages.specs.declared.message.Message.{Message}
 use Rattle.ice_messages.specs.Streams.{Stream}
 use Rattle.talking.specs.declared.end.End.{End}
 use Rattle.talking.specs.declared.end.End.TheVariants as ends
-use Rattle.talking.specs.Ends.{went_on, IsTaken, Shows, ClosesBy, StepSaid, ComesBy}
-use Rattle.talking.specs.Said.{IsFine}
-use Rattle.talking.proofs.Said.{said_begun}
+use Rattle.talking.specs.Ends.{went_on, IsTaken, Shows, WasSaid, IsStill, EndsBy}
+use Rattle.talking.specs.Said.{all_of, IsFine, IsSaid}
+use Rattle.talking.proofs.Said.{steps_said, steps_cut}
 
 -- ---- messages that were read
 
@@ -29,20 +29,6 @@ taken_append (m ∷ ms) ns a b = (a.0, taken_append ms ns a.1 b)
 abbrev pub stepped : {E : Type 0} → Result Bool E → Result (Option End) E
 stepped (Ok b) = Ok (went_on b)
 stepped (Err e) = Err e
-
-pub nothing_said : (end : End) (t : Talk) → end ≢ ends.Enough → t.taken ≡ [] → StepSaid end [] t.taken
-nothing_said ends.PeerEnded t ne none = (none, tt)
-nothing_said ends.PeerClosed t ne none = (none, tt)
-nothing_said (ends.PeerBroke fault) t ne none = (none, tt)
-nothing_said ends.LinkFailed t ne none = said_begun [] t.taken (none, tt)
-nothing_said ends.Enough t ne none = ne refl
-
-pub nothing_taken : (end : End) → end ≢ ends.Enough → ComesBy end []
-nothing_taken ends.PeerEnded ne = refl
-nothing_taken ends.PeerClosed ne = refl
-nothing_taken (ends.PeerBroke fault) ne = refl
-nothing_taken ends.LinkFailed ne = tt
-nothing_taken ends.Enough ne = ne refl
 
 -- ---- behind what was read and said before
 
@@ -64,9 +50,15 @@ shows_later a s left (ends.PeerBroke fault) h = h
 shows_later a s left ends.LinkFailed h = or_right a.failed s.failed h
 shows_later a s left ends.Enough h = h
 
-pub not_closed : (e : End) (reads : List Message) (before total most : ℕ) → ComesBy e reads → before < most → total ≡ before + length reads → ClosesBy (Some e) false total most
-not_closed ends.PeerEnded reads before total most by lt is = let none = ap (λ (z : List Message). length z) by in (refl, omega arith)
-not_closed ends.PeerClosed reads before total most by lt is = let none = ap (λ (z : List Message). length z) by in (refl, omega arith)
-not_closed (ends.PeerBroke fault) reads before total most by lt is = let none = ap (λ (z : List Message). length z) by in (refl, omega arith)
-not_closed ends.LinkFailed reads before total most by lt is = λ f. absurd cc
-not_closed ends.Enough reads before total most by lt is = absurd by
+-- the end of the next message is the end of all
+module _ (before total most : ℕ) (left : List ℕ) (reads : List Message) (a b : List (List Message)) (x y : List ℕ) (h : IsSaid (all_of a) x) (lt : before < most) (is : total ≡ before + length reads) where
+  still : IsStill reads b y → (total < most) × IsSaid (all_of (a ++ b)) (x ++ y)
+  still k = (let none = ap (λ (z : List Message). length z) k.0 in omega (arith, lt, is), steps_said a b x y h k.1)
+
+  pub said_later : (e : End) → EndsBy e left reads b y → WasSaid (Some e) left total most (a ++ b) (x ++ y)
+  said_later ends.PeerEnded k = still k
+  said_later ends.PeerClosed k = still k
+  said_later (ends.PeerBroke fault) k = still k
+  said_later ends.LinkFailed (inl k) = inl (let s = still k.1 in (k.0, s.0, s.1))
+  said_later ends.LinkFailed (inr k) = inr (inl (steps_cut a b x y h k))
+  said_later ends.Enough k = absurd k

@@ -1,5 +1,5 @@
 -- How a connection that is served ends, and what shows it.
-use Rattle.std.specs.Prelude.{ℕ, ◌≡◌, ◌≢◌, ◌<◌, ◌⊎◌, Bool, true, false, List, [], ◌∷◌, Option, Some, None, Result, Ok, Err}
+use Rattle.std.specs.Prelude.{ℕ, ◌≡◌, ◌≢◌, ◌≤◌, ◌<◌, ◌⊎◌, Bool, true, false, List, [], ◌∷◌, ◌++◌, length, Option, Some, None, Result, Ok, Err}
 use Rattle.ice_ports.specs.declared.talk.Talk.{Talk}
 use Rattle.ice_messages.specs.declared.message.Message.{Message}
 use Rattle.ice_messages.specs.declared.message.Message.TheVariants.{Close}
@@ -7,7 +7,7 @@ use Rattle.ice_messages.specs.Streams.{Stream, IsFront, next_at}
 use Rattle.ice_messages.specs.Ends.{server_fault}
 use Rattle.talking.specs.declared.end.End.{End}
 use Rattle.talking.specs.declared.end.End.TheVariants.{PeerEnded, PeerClosed, PeerBroke, LinkFailed, Enough}
-use Rattle.talking.specs.Said.{IsSaid, IsBegun, IsFine}
+use Rattle.talking.specs.Said.{all_of, IsSaid, IsSaidBut, IsCut, IsFine}
 
 -- the end, or None at want of memory
 abbrev pub end_of : {E : Type 0} → Result End E → Option End
@@ -57,33 +57,44 @@ Shows t left (Some Enough) = Unit {0}
 abbrev pub IsTaken : Message → Type 0
 IsTaken m = (server_fault m ≡ None) × (m ≢ Close)
 
--- ---- what is said before one
+-- ---- what was said before one
 
-abbrev pub closing : Bool → List Message
-closing true = Close ∷ []
-closing false = []
+-- a close message, as a last step
+abbrev pub closing : List (List Message)
+closing = (Close ∷ []) ∷ []
 
--- a close message is said exactly after the stated number of messages, and before that no other end is one of these
-abbrev pub ClosesBy : Option End → Bool → ℕ → ℕ → Type 0
-ClosesBy None closes read most = closes ≡ false
-ClosesBy (Some PeerEnded) closes read most = (closes ≡ false) × (read < most)
-ClosesBy (Some PeerClosed) closes read most = (closes ≡ false) × (read < most)
-ClosesBy (Some (PeerBroke fault)) closes read most = (closes ≡ false) × (read < most)
-ClosesBy (Some LinkFailed) closes read most = closes ≡ true → read ≡ most
-ClosesBy (Some Enough) closes read most = (closes ≡ true) × (read ≡ most)
+-- A read failed: fewer messages were read than the most that are, none lay whole behind them, and all of the steps was said.
+abbrev pub IsReadFailed : List ℕ → (read most : ℕ) → List (List Message) → List ℕ → Type 0
+IsReadFailed left read most steps taken = IsFront left × (read < most) × IsSaid (all_of steps) taken
 
--- only where the link failed a reply may lack bytes
-abbrev pub StepSaid : End → List Message → List ℕ → Type 0
-StepSaid PeerEnded said taken = IsSaid said taken
-StepSaid PeerClosed said taken = IsSaid said taken
-StepSaid (PeerBroke fault) said taken = IsSaid said taken
-StepSaid LinkFailed said taken = IsBegun said taken
-StepSaid Enough said taken = ⊥
+-- A write failed: that of the last step, or of the close message behind all of them, once the most were read.
+abbrev pub IsWriteFailed : (read most : ℕ) → List (List Message) → List ℕ → Type 0
+IsWriteFailed read most steps taken = IsCut steps taken ⊎ ((read ≡ most) × IsCut (steps ++ closing) taken)
 
--- only where the link failed a message was taken before the end
-abbrev pub ComesBy : End → List Message → Type 0
-ComesBy PeerEnded reads = reads ≡ []
-ComesBy PeerClosed reads = reads ≡ []
-ComesBy (PeerBroke fault) reads = reads ≡ []
-ComesBy LinkFailed reads = Unit {0}
-ComesBy Enough reads = ⊥
+-- all of the steps, validate and the replies, and behind them a close message exactly where the most were read; only at want
+-- of memory, and where a write failed, what comes last was not said whole
+abbrev pub WasSaid : Option End → List ℕ → (read most : ℕ) → List (List Message) → List ℕ → Type 0
+WasSaid None left read most steps taken = IsSaidBut steps taken
+WasSaid (Some PeerEnded) left read most steps taken = (read < most) × IsSaid (all_of steps) taken
+WasSaid (Some PeerClosed) left read most steps taken = (read < most) × IsSaid (all_of steps) taken
+WasSaid (Some (PeerBroke fault)) left read most steps taken = (read < most) × IsSaid (all_of steps) taken
+WasSaid (Some LinkFailed) left read most steps taken = IsReadFailed left read most steps taken ⊎ IsWriteFailed read most steps taken
+WasSaid (Some Enough) left read most steps taken = (read ≡ most) × IsSaid (all_of (steps ++ closing)) taken
+
+-- ---- in place of a message, or behind one
+
+-- one step, or such as say nothing
+abbrev pub IsSingle : List (List Message) → Type 0
+IsSingle steps = (length steps ≤ 1) ⊎ (all_of steps ≡ [])
+
+-- nothing was read, and all of the steps was said
+abbrev pub IsStill : List Message → List (List Message) → List ℕ → Type 0
+IsStill reads steps taken = (reads ≡ []) × IsSaid (all_of steps) taken
+
+-- only where a write failed a message was read before the end
+abbrev pub EndsBy : End → List ℕ → List Message → List (List Message) → List ℕ → Type 0
+EndsBy PeerEnded left reads steps taken = IsStill reads steps taken
+EndsBy PeerClosed left reads steps taken = IsStill reads steps taken
+EndsBy (PeerBroke fault) left reads steps taken = IsStill reads steps taken
+EndsBy LinkFailed left reads steps taken = (IsFront left × IsStill reads steps taken) ⊎ IsCut steps taken
+EndsBy Enough left reads steps taken = ⊥

@@ -1,5 +1,5 @@
 -- Messages that were said, as a link took them, and how its counts of failures rose.
-use Rattle.std.specs.Prelude.{ℕ, ◌≡◌, ◌≤◌, ◌⊎◌, Bool, true, false, List, [], ◌∷◌, ◌++◌, length, Result, Ok, Err}
+use Rattle.std.specs.Prelude.{ℕ, ◌≡◌, ◌≢◌, ◌≤◌, ◌⊎◌, Bool, true, false, List, [], ◌∷◌, ◌++◌, length, Result, Ok, Err}
 use Rattle.std.specs.List.{flat_map}
 use Rattle.ice_ports.specs.declared.talk.Talk.{Talk}
 use Rattle.ice_ports.specs.Failures.{one_more}
@@ -19,25 +19,47 @@ AreSpelled (m ∷ ms) = SpellsMessage (message_bytes m) m × AreSpelled ms
 abbrev pub IsSaid : List Message → List ℕ → Type 0
 IsSaid messages taken = (taken ≡ bytes_of messages) × AreSpelled messages
 
--- all of the messages was taken, but that the last may lack bytes
+-- all of the messages was taken but the end of the last, which lacks a byte at least
 pub record IsBegun (messages : List Message) (taken : List ℕ) : Type 0 where
-  pub whole : List Message
-  pub last : List Message
-  pub parts : messages ≡ whole ++ last
-  pub one : length last ≤ 1
-  pub spelled : AreSpelled whole
+  pub before : List Message
+  pub last : Message
+  pub parts : messages ≡ before ++ last ∷ []
+  pub spelled : AreSpelled messages
   -- these bytes of the last were taken, and these were not
   pub begun : List ℕ
   pub lacks : List ℕ
-  pub taken_is : taken ≡ bytes_of whole ++ begun
-  pub last_is : bytes_of last ≡ begun ++ lacks
-  pub last_spelled : (begun ≡ []) ⊎ AreSpelled last
+  pub taken_is : taken ≡ bytes_of before ++ begun
+  pub last_is : message_bytes last ≡ begun ++ lacks
+  pub some : lacks ≢ []
+
+-- ---- step by step: each says a message or none
+
+-- what the steps say, in order
+abbrev pub all_of : List (List Message) → List Message
+all_of = flat_map (λ said. said)
+
+-- all before the last step was said, and all of that but the end
+pub record IsCut (steps : List (List Message)) (taken : List ℕ) : Type 0 where
+  pub before : List (List Message)
+  pub last : List Message
+  pub parts : steps ≡ before ++ last ∷ []
+  pub whole : List ℕ
+  pub begun : List ℕ
+  pub taken_is : taken ≡ whole ++ begun
+  pub is_said : IsSaid (all_of before) whole
+  pub is_begun : IsBegun last begun
+
+-- all was said, or nothing of the last step and all before it
+abbrev pub IsSaidBut : List (List Message) → List ℕ → Type 0
+IsSaidBut steps taken = (before last : List (List Message)) × (steps ≡ before ++ last) × (length last ≤ 1) × IsSaid (all_of before) taken
+
+-- ---- in one call
 
 -- neither an end nor a failure came
 abbrev pub IsFine : Talk → Type 0
 IsFine t = (t.ended ≡ false) × (t.failed ≡ false)
 
--- these messages were said; or a write failed in the midst of the last one; or memory lacked, and nothing was said
+-- these messages were said; or a write failed before the end of the last one; or memory lacked, and nothing was said
 abbrev pub Says : {E : Type 0} → List Message → Talk → Result Bool E → Type 0
 Says messages t (Ok true) = (t.given ≡ []) × IsSaid messages t.taken × IsFine t
 Says messages t (Ok false) = (t.given ≡ []) × IsBegun messages t.taken × (t.failed ≡ true)

@@ -23,7 +23,7 @@ returns-in-Some-clause-did g c = (
   silent,
   sym (adds_nothing (g.L.Link.talk c.args.link.now)),
   refl,
-  λ bytes held first is spelled. next_end c.args.service.now.lanes.now.keys c.args.passes.now.passes.items silent bytes held (ends.PeerBroke c.in-Some.fault) refl (inr (c.args.message.now, (held, (first, held, is, spelled, refl)), sym c.server_fault.ensures ∙ c.in-Some.is)) (λ e. cc),
+  λ bytes held first is spelled. next_end c.args.service.now.lanes.now.keys c.args.passes.now.passes.items silent bytes held (ends.PeerBroke c.in-Some.fault) (inr (c.args.message.now, (held, (first, held, is, spelled, refl)), sym c.server_fault.ensures ∙ c.in-Some.is)) (refl, (refl, tt)),
 )
 
 pub serve_request-requires-clause-came : goal.serve_request-requires-clause-came
@@ -100,5 +100,5 @@ returns-in-Close-clause-did g c = (
   silent,
   sym (adds_nothing (g.L.Link.talk c.args.link.now)),
   refl,
-  λ bytes held first is spelled. next_end c.args.service.now.lanes.now.keys c.args.passes.now.passes.items silent bytes held ends.PeerClosed refl (held, (first, held, is, subst (λ (z : Message). SpellsMessage first z) c.in-Close.is spelled, refl)) (λ e. cc),
+  λ bytes held first is spelled. next_end c.args.service.now.lanes.now.keys c.args.passes.now.passes.items silent bytes held ends.PeerClosed (held, (first, held, is, subst (λ (z : Message). SpellsMessage first z) c.in-Close.is spelled, refl)) (refl, (refl, tt)),
 )

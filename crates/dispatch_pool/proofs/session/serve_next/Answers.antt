@@ -48,7 +48,7 @@ returns-in-Broken-clause-did g c =
     let one = subst (λ (z : Heard). g.L.Link.talk c.hear.new.link ≡ adds (g.L.Link.talk c.args.link.now) (heard_part {E = AllocError} d.0 (Ok z))) c.in-Broken.is d.1 in (
       heard_part {E = AllocError} d.0 (Ok (heards.Broken fault)),
       one,
-      next_end c.args.service.now.lanes.now.keys c.args.passes.now.passes.items (heard_part {E = AllocError} d.0 (Ok (heards.Broken fault))) (c.args.frames.now.bytes ++ d.0) c.hear.new.frames.bytes (ends.PeerBroke fault) refl (inl h) (λ e. cc),
+      next_end c.args.service.now.lanes.now.keys c.args.passes.now.passes.items (heard_part {E = AllocError} d.0 (Ok (heards.Broken fault))) (c.args.frames.now.bytes ++ d.0) c.hear.new.frames.bytes (ends.PeerBroke fault) (inl h) (refl, (refl, tt)),
     )
 
 pub returns-in-Ended-clause-did : goal.returns-in-Ended-clause-did
@@ -58,14 +58,15 @@ returns-in-Ended-clause-did g c =
     let one = subst (λ (z : Heard). g.L.Link.talk c.hear.new.link ≡ adds (g.L.Link.talk c.args.link.now) (heard_part {E = AllocError} d.0 (Ok z))) c.in-Ended.is d.1 in (
       heard_part {E = AllocError} d.0 (Ok heards.Ended),
       one,
-      next_end c.args.service.now.lanes.now.keys c.args.passes.now.passes.items (heard_part {E = AllocError} d.0 (Ok heards.Ended)) (c.args.frames.now.bytes ++ d.0) c.hear.new.frames.bytes ends.PeerEnded refl (h, refl) (λ e. cc),
+      next_end c.args.service.now.lanes.now.keys c.args.passes.now.passes.items (heard_part {E = AllocError} d.0 (Ok heards.Ended)) (c.args.frames.now.bytes ++ d.0) c.hear.new.frames.bytes ends.PeerEnded (h, refl) (refl, (refl, tt)),
     )
 
 pub returns-in-Failed-clause-did : goal.returns-in-Failed-clause-did
 returns-in-Failed-clause-did g c =
     let d = c.in_ok-message.ensures.heard in
+    let h = subst (λ (z : Heard). Hears {E = AllocError} (c.args.frames.now.bytes ++ d.0) c.hear.new.frames (Ok z)) c.in-Failed.is d.2 in
     let one = subst (λ (z : Heard). g.L.Link.talk c.hear.new.link ≡ adds (g.L.Link.talk c.args.link.now) (heard_part {E = AllocError} d.0 (Ok z))) c.in-Failed.is d.1 in (
       heard_part {E = AllocError} d.0 (Ok heards.Failed),
       one,
-      next_end c.args.service.now.lanes.now.keys c.args.passes.now.passes.items (heard_part {E = AllocError} d.0 (Ok heards.Failed)) (c.args.frames.now.bytes ++ d.0) c.hear.new.frames.bytes ends.LinkFailed refl refl (λ e. cc),
+      next_end c.args.service.now.lanes.now.keys c.args.passes.now.passes.items (heard_part {E = AllocError} d.0 (Ok heards.Failed)) (c.args.frames.now.bytes ++ d.0) c.hear.new.frames.bytes ends.LinkFailed refl (inl (h, (refl, (refl, tt)))),
     )

@@ -1,4 +1,4 @@
-use Rattle.std.proofs.Common.{◌≡◌, ◌∙◌, inl, ℕ, ◌+◌, Bool, false, true, refl, sym, ap, subst, arith, rules}
+use Rattle.std.proofs.Common.{◌≡◌, ◌∙◌, inl, ℕ, ◌+◌, Bool, false, refl, sym, ap, subst, arith, rules}
 use denote.Enum.Bare.{differs_false, differs_true}
 use Rattle.ice_ports.specs.Failures.{count_after}
 use Rattle.talking.specs.Told.{NoneToCome}

@@ -32,7 +32,7 @@ returns-in-Some-clause-did g c = (
   sym (adds_nothing (g.L.Link.talk c.args.link.now)),
   ran_none c.args.gateway.now.upstream.now.endpoints (net_seen (g.N.Net.told c.args.net.now) (g.N.Net.failures c.args.net.now) (g.N.Net.listen_failures c.args.net.now)),
   refl,
-  λ bytes held first is spelled. next_end (seen c.args.gateway.now) silent bytes held (ends.PeerBroke c.in-Some.fault) refl (inr (c.args.message.now, (held, (first, held, is, spelled, refl)), sym c.server_fault.ensures ∙ c.in-Some.is)) (λ e. cc),
+  λ bytes held first is spelled. next_end (seen c.args.gateway.now) silent bytes held (ends.PeerBroke c.in-Some.fault) (inr (c.args.message.now, (held, (first, held, is, spelled, refl)), sym c.server_fault.ensures ∙ c.in-Some.is)) (refl, (refl, tt)),
 )
 
 pub handle_request-requires-clause-came : goal.handle_request-requires-clause-came
@@ -123,5 +123,5 @@ returns-in-Close-clause-did g c = (
   sym (adds_nothing (g.L.Link.talk c.args.link.now)),
   ran_none c.args.gateway.now.upstream.now.endpoints (net_seen (g.N.Net.told c.args.net.now) (g.N.Net.failures c.args.net.now) (g.N.Net.listen_failures c.args.net.now)),
   refl,
-  λ bytes held first is spelled. next_end (seen c.args.gateway.now) silent bytes held ends.PeerClosed refl (held, (first, held, is, subst (λ (z : Message). SpellsMessage first z) c.in-Close.is spelled, refl)) (λ e. cc),
+  λ bytes held first is spelled. next_end (seen c.args.gateway.now) silent bytes held ends.PeerClosed (held, (first, held, is, subst (λ (z : Message). SpellsMessage first z) c.in-Close.is spelled, refl)) (refl, (refl, tt)),
 )

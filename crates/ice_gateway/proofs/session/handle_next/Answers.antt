@@ -55,7 +55,7 @@ returns-in-Broken-clause-did g c =
       [],
       one,
       ran_none c.args.gateway.now.upstream.now.endpoints net,
-      next_end (seen c.args.gateway.now) (heard_part {E = AllocError} d.0 (Ok (heards.Broken fault))) (c.args.frames.now.bytes ++ d.0) c.hear.new.frames.bytes (ends.PeerBroke fault) refl (inl h) (λ e. cc),
+      next_end (seen c.args.gateway.now) (heard_part {E = AllocError} d.0 (Ok (heards.Broken fault))) (c.args.frames.now.bytes ++ d.0) c.hear.new.frames.bytes (ends.PeerBroke fault) (inl h) (refl, (refl, tt)),
     )
 
 pub returns-in-Ended-clause-did : goal.returns-in-Ended-clause-did
@@ -68,17 +68,18 @@ returns-in-Ended-clause-did g c =
       [],
       one,
       ran_none c.args.gateway.now.upstream.now.endpoints net,
-      next_end (seen c.args.gateway.now) (heard_part {E = AllocError} d.0 (Ok heards.Ended)) (c.args.frames.now.bytes ++ d.0) c.hear.new.frames.bytes ends.PeerEnded refl (h, refl) (λ e. cc),
+      next_end (seen c.args.gateway.now) (heard_part {E = AllocError} d.0 (Ok heards.Ended)) (c.args.frames.now.bytes ++ d.0) c.hear.new.frames.bytes ends.PeerEnded (h, refl) (refl, (refl, tt)),
     )
 
 pub returns-in-Failed-clause-did : goal.returns-in-Failed-clause-did
 returns-in-Failed-clause-did g c =
     let d = c.in_ok-message.ensures.heard in
+    let h = subst (λ (z : Heard). Hears {E = AllocError} (c.args.frames.now.bytes ++ d.0) c.hear.new.frames (Ok z)) c.in-Failed.is d.2 in
     let one = subst (λ (z : Heard). g.L.Link.talk c.hear.new.link ≡ adds (g.L.Link.talk c.args.link.now) (heard_part {E = AllocError} d.0 (Ok z))) c.in-Failed.is d.1 in
     let net = net_seen (g.N.Net.told c.args.net.now) (g.N.Net.failures c.args.net.now) (g.N.Net.listen_failures c.args.net.now) in (
       heard_part {E = AllocError} d.0 (Ok heards.Failed),
       [],
       one,
       ran_none c.args.gateway.now.upstream.now.endpoints net,
-      next_end (seen c.args.gateway.now) (heard_part {E = AllocError} d.0 (Ok heards.Failed)) (c.args.frames.now.bytes ++ d.0) c.hear.new.frames.bytes ends.LinkFailed refl refl (λ e. cc),
+      next_end (seen c.args.gateway.now) (heard_part {E = AllocError} d.0 (Ok heards.Failed)) (c.args.frames.now.bytes ++ d.0) c.hear.new.frames.bytes ends.LinkFailed refl (inl (h, (refl, (refl, tt)))),
     )

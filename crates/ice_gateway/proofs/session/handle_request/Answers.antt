@@ -3,7 +3,7 @@ use Rattle.std.specs.declared.alloc.AllocError.{AllocError}
 use Rattle.std.proofs.lemmas.Result.{err_from_is_err_and}
 use Rattle.std.proofs.Math.Facts.{to_z-of_z}
 use Rattle.ice_ports.specs.Talks.{silent}
-use Rattle.ice_messages.specs.declared.message.Message.TheVariants.{Request, Reply}
+use Rattle.ice_messages.specs.declared.message.Message.TheVariants.{Reply}
 use Rattle.ice_messages.proofs.Writable.{answer_writable}
 use Rattle.object_adapter.specs.Replies.{KeepsLimit}
 use Rattle.talking.proofs.Adding.{adds_nothing}
