@@ -16,8 +16,8 @@ use Rattle.ice_audit.specs.declared.verdict.Seen.{Seen}
 use Rattle.ice_audit.specs.declared.verdict.Seen.TheVariants.{Once, Never, Either}
 use Rattle.ice_audit.specs.Pieces.{Piece, messages_of, Pieces, IsRead, AreWhole}
 use Rattle.ice_audit.specs.Captured.{seat_ids, replies_in, reply_answers, closes}
-use Rattle.ice_audit.specs.Traces.{IsTrace, Tells, flags, reply_at, seen_of}
-use Rattle.ice_audit.specs.Captures.{Trace, TellsIn, CaptureHasTrace, CaptureIsTold, CaptureNoneTwice}
+use Rattle.ice_audit.specs.Traces.{IsTrace, TellsIn, flags, reply_at, seen_of}
+use Rattle.ice_audit.specs.Captures.{Trace, CaptureHasTrace, CaptureIsTold, CaptureNoneTwice}
 use Rattle.ice_audit.proofs.Tracing.{good_lem, told_lem, twice_lem}
 
 abbrev Next : Type 0
@@ -126,7 +126,7 @@ down client server asked sent a w t =
     subst (λ (ms : List Piece). IsTrace asked (messages_of ms) w) m (subst (λ (ps : List Piece). IsTrace ps (messages_of t.sent) w) p t.trace)
 
 tells_over : (client server : List ℕ) (asked sent : List Piece) → AreWhole client server asked sent
-    → (seat : ℕ) (seen : Seen) → Tells asked (messages_of sent) seat seen → TellsIn (Trace client server) seat seen
+    → (seat : ℕ) (seen : Seen) → TellsIn (IsTrace asked (messages_of sent)) seat seen → TellsIn (Trace client server) seat seen
 tells_over client server asked sent a seat Once h = λ w s t at. h w s (down client server asked sent a w t) at
 tells_over client server asked sent a seat Never h = λ w s t at. h w s (down client server asked sent a w t) at
 tells_over client server asked sent a seat Either (none, once) = (

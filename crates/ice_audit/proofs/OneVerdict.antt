@@ -24,9 +24,9 @@ use Rattle.ice_audit.specs.declared.verdict.Verdict.{Verdict}
 use Rattle.ice_audit.specs.declared.verdict.Verdict.TheVariants.{Yes, No}
 use Rattle.ice_audit.specs.Pieces.{Piece, IsRead}
 use Rattle.ice_audit.specs.Captured.{is_asked, asked_in, seat_ids, ids_by, batch_ids, due}
-use Rattle.ice_audit.specs.Traces.{flags}
+use Rattle.ice_audit.specs.Traces.{flags, TellsIn}
 use Rattle.ice_audit.specs.Stops.{client_stop, server_stop}
-use Rattle.ice_audit.specs.Captures.{Trace, TellsIn, RequestTells, BatchTells, SomeTell, OneTells, LinesTell}
+use Rattle.ice_audit.specs.Captures.{Trace, RequestTells, BatchTells, SomeTell, OneTells, LinesTell}
 use Rattle.ice_audit.specs.Verdicts.{AreShort, Stops, client_long, server_long, client_wrong, server_wrong, no_validate, IsTold, Judges}
 use Rattle.ice_audit.proofs.Said.{ids_twoways}
 use Rattle.ice_audit.proofs.Bytes.{read_one}

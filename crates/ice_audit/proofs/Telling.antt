@@ -10,10 +10,10 @@ use Rattle.ice_audit.specs.declared.verdict.Seen.TheVariants.{Either}
 use Rattle.ice_audit.specs.declared.verdict.Line.{Line}
 use Rattle.ice_audit.specs.Pieces.{Piece, messages_of}
 use Rattle.ice_audit.specs.Captured.{is_asked, seat_ids, ids_by, batch_ids, replies_in, reply_answers, closes}
-use Rattle.ice_audit.specs.Traces.{flags, reply_at, seen_of}
+use Rattle.ice_audit.specs.Traces.{flags, reply_at, seen_of, TellsIn, HasAtMostOne}
 use Rattle.ice_audit.specs.Posing.{posed_by, posed_in, batch_posed, statuses}
 use Rattle.ice_audit.specs.Lines.{lines_of, left_if, rest_of, request_seen, next_seen}
-use Rattle.ice_audit.specs.Captures.{TellsIn, HasAtMostOne, SomeTell, OneTells, LinesTell, LinesAreTold, Trace}
+use Rattle.ice_audit.specs.Captures.{SomeTell, OneTells, LinesTell, LinesAreTold, Trace}
 use Rattle.ice_audit.proofs.Bytes.{is_told_lem, none_twice_lem}
 
 abbrev tail : List (ℤ × Answer) → List (ℤ × Answer)

@@ -22,7 +22,7 @@ use Rattle.audit_world.proofs.Rows.{answers, replies, row_told}
 use Rattle.ice_audit.specs.declared.verdict.Seen.TheVariants.{Once, Never, Either}
 use Rattle.ice_audit.specs.Pieces.{Piece}
 use Rattle.ice_audit.specs.Captured.{asked_in, seat_ids, first_validate, without_validates, IsGood, replies_in, reply_answers, closes}
-use Rattle.ice_audit.specs.Traces.{repeatable, AreSaid, IsTrace, SomeTrace, GoodHasTrace, EachIsTold, NoneTwice, reply_at, flags, seen_of, seen_by, Tells}
+use Rattle.ice_audit.specs.Traces.{repeatable, AreSaid, IsTrace, HasSome, GoodHasTrace, EachIsTold, NoneTwice, reply_at, flags, seen_of, seen_by, TellsIn}
 use Rattle.ice_audit.proofs.Said.{ids_twoways, said_replies, said_close, kept_lem, said_told, answers_of}
 
 -- ---- a good capture has a run
@@ -220,17 +220,17 @@ module _ (client : List Piece) (server : List Message) (g : IsGood client server
     behind closed (inl a) = no_reply 0 ts rs seat h two_here n r (a ∙ ap (λ (m : ℕ). Some (world.Answer m r)) (sym (zero-add seat)))
     behind closed (inr b) = let z : world.Close ≡ world.Answer seat r = b in cc
 
-  has_reply : (a : Answer) → reply_at ts rs seat ≡ Some a → Tells client server seat (seen_by (status_of a))
+  has_reply : (a : Answer) → reply_at ts rs seat ≡ Some a → TellsIn (IsTrace client server) seat (seen_by (status_of a))
   has_reply a h =
       let s = stands a h in
       elim (seen_cases (status_of a)) [
-        | inl bad ↦ subst (Tells client server seat) (sym bad.1) (λ w x t at.
+        | inl bad ↦ subst (TellsIn (IsTrace client server) seat) (sym bad.1) (λ w x t at.
             refused_lem status_of repeatable (asked_in client) (shown_of client g.others) seat s.0 a s.1 bad.0 w x t.reached (trace_shown client server g w t) at)
-        | inr good ↦ subst (Tells client server seat) (sym good.1) (λ w x t at.
+        | inr good ↦ subst (TellsIn (IsTrace client server) seat) (sym good.1) (λ w x t at.
             answered_lem status_of repeatable (asked_in client) (shown_of client g.others) seat s.0 a s.1 good.0 w x t.reached (trace_shown client server g w t) at)
       ]
 
-  no_reply_closed : reply_at ts rs seat ≡ None → closes g.others ≡ true → Tells client server seat Never
+  no_reply_closed : reply_at ts rs seat ≡ None → closes g.others ≡ true → TellsIn (IsTrace client server) seat Never
   unfolding shown_of ts rs
   no_reply_closed h closed w s t at =
       let x = wanted_at (wanted 0 (asked_in client)) seat two_here in
@@ -238,30 +238,30 @@ module _ (client : List Piece) (server : List Message) (g : IsGood client server
       closed_lem status_of repeatable (asked_in client) (shown (asked_in client) rs true) seat (suc (length (told 0 ts rs))) x.0 x.1 x.2
       (get_last (told 0 ts rs) world.Close) (lacks true h) w s t.reached shows at
 
-  no_reply_open : reply_at ts rs seat ≡ None → closes g.others ≡ false → Tells client server seat Either
+  no_reply_open : reply_at ts rs seat ≡ None → closes g.others ≡ false → TellsIn (IsTrace client server) seat Either
   unfolding shown_of ts rs
   no_reply_open h closed =
       let x = wanted_at (wanted 0 (asked_in client)) seat two_here in
       let each = either_lem status_of repeatable (Done []) done_good (asked_in client) rs seat x.0 x.1 x.2 (lacks false h) in
-      let run : (n : ℕ) → n ≤ 1 → SomeTrace client server seat n = λ n l.
+      let run : (n : ℕ) → n ≤ 1 → HasSome (IsTrace client server) seat n = λ n l.
       let r = each n l in
       (r.0, r.1, good_trace client server g r.0 r.2 (subst (λ (b : Bool). Fits repeatable (asked_in client) (shown (asked_in client) rs b) r.0) (sym closed) r.3), r.4, r.5) in
       (run 0 (omega arith), run 1 (omega arith))
 
-  told_by : (o : Option Answer) → reply_at ts rs seat ≡ o → (b : Bool) → closes g.others ≡ b → Tells client server seat (seen_of o b)
+  told_by : (o : Option Answer) → reply_at ts rs seat ≡ o → (b : Bool) → closes g.others ≡ b → TellsIn (IsTrace client server) seat (seen_of o b)
   told_by (Some a) h b c = has_reply a h
   told_by None h true c = no_reply_closed h c
   told_by None h false c = no_reply_open h c
 
-  is_told : Tells client server seat (seen_of (reply_at ts rs seat) (closes g.others))
+  is_told : TellsIn (IsTrace client server) seat (seen_of (reply_at ts rs seat) (closes g.others))
   is_told = told_by (reply_at ts rs seat) refl (closes g.others) refl
 
 pub told_lem : EachIsTold
 unfolding ts rs
 told_lem client server g seat two =
     let a = is_told client server g seat two in
-    let b = subst (λ (l : List Bool). Tells client server seat (seen_of (reply_at l (reply_answers (replies_in g.others)) seat) (closes g.others))) (ids_twoways client 0) a in
-    subst (λ (ms : List Message). Tells client server seat (seen_of (reply_at (flags (seat_ids client)) (reply_answers (replies_in ms)) seat) (closes ms))) (sym g.greeted) b
+    let b = subst (λ (l : List Bool). TellsIn (IsTrace client server) seat (seen_of (reply_at l (reply_answers (replies_in g.others)) seat) (closes g.others))) (ids_twoways client 0) a in
+    subst (λ (ms : List Message). TellsIn (IsTrace client server) seat (seen_of (reply_at (flags (seat_ids client)) (reply_answers (replies_in ms)) seat) (closes ms))) (sym g.greeted) b
 
 pub twice_lem : NoneTwice
 twice_lem client server seat w s t at = at_most_lem status_of repeatable (asked_in client) t.sent seat w s t.reached t.fits at

@@ -1,19 +1,17 @@
 -- Captures as bytes: what each end sent, from the beginning of the connection on.
-use Rattle.std.specs.Prelude.{ℕ, ℤ, pos, suc, ◌≡◌, ◌≤◌, ◌<◌, ◌+◌, ◌⊎◌, true, false, List, [], ◌∷◌, length, Some, slice_get}
-use Rattle.call_world.specs.World.{World, Seat}
-use Rattle.call_world.specs.Counts.{count}
+use Rattle.std.specs.Prelude.{ℕ, ℤ, pos, suc, ◌≡◌, ◌<◌, ◌+◌, ◌⊎◌, true, false, List, [], ◌∷◌, length, Some, slice_get}
+use Rattle.call_world.specs.World.{World}
 use Rattle.ice_messages.specs.declared.message.Call.{Call}
 use Rattle.ice_messages.specs.declared.message.Answer.{Answer}
 use Rattle.ice_messages.specs.declared.message.Message.{Message}
 use Rattle.ice_messages.specs.declared.message.Message.TheVariants.{Request, Batch, Reply, Validate, Close}
-use Rattle.ice_audit.specs.declared.verdict.Seen.{Seen}
-use Rattle.ice_audit.specs.declared.verdict.Seen.TheVariants.{Once, Never, Either}
+use Rattle.ice_audit.specs.declared.verdict.Seen.TheVariants.{Either}
 use Rattle.ice_audit.specs.declared.verdict.Line.{Line}
 use Rattle.ice_audit.specs.Lines.{lines_of}
 use Rattle.ice_audit.specs.Pieces.{Piece, AreWhole, messages_of}
 use Rattle.ice_audit.specs.Posing.{posed_in, statuses}
 use Rattle.ice_audit.specs.Captured.{is_asked, seat_ids, IsGood, replies_in, reply_answers, closes}
-use Rattle.ice_audit.specs.Traces.{IsTrace, flags, reply_at, seen_of}
+use Rattle.ice_audit.specs.Traces.{IsTrace, TellsIn, HasAtMostOne, flags, reply_at, seen_of}
 
 -- Whole messages that are good, and then less than a message. Where the server has sent no whole message, the client
 -- has sent nothing.
@@ -29,29 +27,6 @@ pub record Trace (client server : List ℕ) (w : World Call Answer (Unit {0})) :
   pub sent : List Piece
   pub whole : AreWhole client server asked sent
   pub trace : IsTrace asked (messages_of sent) w
-
--- ---- how often the call in a seat is dispatched, over all these runs
-
--- so often in some run
-abbrev pub HasSome : (World Call Answer (Unit {0}) → Type 0) → ℕ → ℕ → Type 0
-HasSome IsRun seat n =
-    (w : World Call Answer (Unit {0})) × (s : Seat) × IsRun w × (slice_get (w.connections 0).asked seat ≡ Some s) × (count w s.invocation ≡ n)
-
--- so often in each run
-abbrev pub HasAll : (World Call Answer (Unit {0}) → Type 0) → ℕ → ℕ → Type 0
-HasAll IsRun seat n =
-    (w : World Call Answer (Unit {0})) (s : Seat) → IsRun w → slice_get (w.connections 0).asked seat ≡ Some s → count w s.invocation ≡ n
-
--- in each run not twice
-abbrev pub HasAtMostOne : (World Call Answer (Unit {0}) → Type 0) → ℕ → Type 0
-HasAtMostOne IsRun seat =
-    (w : World Call Answer (Unit {0})) (s : Seat) → IsRun w → slice_get (w.connections 0).asked seat ≡ Some s → count w s.invocation ≤ 1
-
--- what is told of the call is so
-abbrev pub TellsIn : (World Call Answer (Unit {0}) → Type 0) → ℕ → Seen → Type 0
-TellsIn IsRun seat Once = HasAll IsRun seat 1
-TellsIn IsRun seat Never = HasAll IsRun seat 0
-TellsIn IsRun seat Either = HasSome IsRun seat 0 × HasSome IsRun seat 1
 
 -- ---- what the lines tell
 

@@ -43,15 +43,28 @@ pub record IsTrace (client : List Piece) (server : List Message) (w : World Call
   pub said : AreSaid (seat_ids client) (first_validate server) sent
   pub fits : Fits repeatable (asked_in client) sent w
 
--- in every run that shows it the call in this seat has so many dispatches
-abbrev pub EachTrace : List Piece → List Message → ℕ → (ℕ → Type 0) → Type 0
-EachTrace client server seat IsSo =
-    (w : World Call Answer (Unit {0})) (s : Seat) → IsTrace client server w → slice_get (w.connections 0).asked seat ≡ Some s → IsSo (count w s.invocation)
+-- ---- how often the call in a seat is dispatched, over all these runs
 
--- in some run
-abbrev pub SomeTrace : List Piece → List Message → ℕ → ℕ → Type 0
-SomeTrace client server seat n =
-    (w : World Call Answer (Unit {0})) × (s : Seat) × IsTrace client server w × (slice_get (w.connections 0).asked seat ≡ Some s) × (count w s.invocation ≡ n)
+-- so often in some run
+abbrev pub HasSome : (World Call Answer (Unit {0}) → Type 0) → ℕ → ℕ → Type 0
+HasSome IsRun seat n =
+    (w : World Call Answer (Unit {0})) × (s : Seat) × IsRun w × (slice_get (w.connections 0).asked seat ≡ Some s) × (count w s.invocation ≡ n)
+
+-- so often in each run
+abbrev pub HasAll : (World Call Answer (Unit {0}) → Type 0) → ℕ → ℕ → Type 0
+HasAll IsRun seat n =
+    (w : World Call Answer (Unit {0})) (s : Seat) → IsRun w → slice_get (w.connections 0).asked seat ≡ Some s → count w s.invocation ≡ n
+
+-- in each run not twice
+abbrev pub HasAtMostOne : (World Call Answer (Unit {0}) → Type 0) → ℕ → Type 0
+HasAtMostOne IsRun seat =
+    (w : World Call Answer (Unit {0})) (s : Seat) → IsRun w → slice_get (w.connections 0).asked seat ≡ Some s → count w s.invocation ≤ 1
+
+-- what is told of the call is so
+abbrev pub TellsIn : (World Call Answer (Unit {0}) → Type 0) → ℕ → Seen → Type 0
+TellsIn IsRun seat Once = HasAll IsRun seat 1
+TellsIn IsRun seat Never = HasAll IsRun seat 0
+TellsIn IsRun seat Either = HasSome IsRun seat 0 × HasSome IsRun seat 1
 
 -- ---- the laws
 
@@ -84,18 +97,12 @@ seen_of (Some a) closed = seen_by (status_of a)
 seen_of None true = Never
 seen_of None false = Either
 
--- what is told of the call in this seat is so
-abbrev pub Tells : List Piece → List Message → ℕ → Seen → Type 0
-Tells client server seat Once = EachTrace client server seat (λ n. n ≡ 1)
-Tells client server seat Never = EachTrace client server seat (λ n. n ≡ 0)
-Tells client server seat Either = SomeTrace client server seat 0 × SomeTrace client server seat 1
-
 -- of each call that asks for a reply, in a good capture
 abbrev pub EachIsTold : Type 0
 EachIsTold =
     (client : List Piece) (server : List Message) → IsGood client server → (seat : ℕ) → slice_get (flags (seat_ids client)) seat ≡ Some true
-    → Tells client server seat (seen_of (reply_at (flags (seat_ids client)) (reply_answers (replies_in server)) seat) (closes server))
+    → TellsIn (IsTrace client server) seat (seen_of (reply_at (flags (seat_ids client)) (reply_answers (replies_in server)) seat) (closes server))
 
 -- and no call is dispatched twice
 abbrev pub NoneTwice : Type 0
-NoneTwice = (client : List Piece) (server : List Message) (seat : ℕ) → EachTrace client server seat (λ n. n ≤ 1)
+NoneTwice = (client : List Piece) (server : List Message) (seat : ℕ) → HasAtMostOne (IsTrace client server) seat
