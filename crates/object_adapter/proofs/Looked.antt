@@ -1,14 +1,17 @@
 -- The argument of a locator's operation, and the exception that says that nothing was found.
-use Rattle.std.proofs.Common.{ℕ, suc, ◌≡◌, true, List, [], ◌∷◌, length, map, Option, None, Some, Result, Ok, Err, inl, inr, refl, sym, subst, ap, ◌∙◌, arith}
+use Rattle.std.proofs.Common.{ℕ, suc, ◌≡◌, true, List, [], ◌∷◌, ◌<◌, length, map, Option, None, Some, Result, Ok, Err, inl, inr, refl, sym, subst, ap, ◌∙◌, arith}
 use Rattle.std.specs.Prelude.{MatchOption, slice_get}
 use Rattle.ice_types.specs.declared.proxy.Proxy.{Proxy}
 use Rattle.ice_encoding.specs.Proxy.{HasProxySizes}
+use Rattle.ice_encoding.specs.Proxy as form
 use Rattle.ice_messages.specs.declared.message.Call.{Call}
 use Rattle.ice_messages.specs.declared.message.Answer.{Answer}
+use Rattle.object_adapter.specs.declared.refusal.Refusal.{Refusal}
+use Rattle.object_adapter.specs.declared.refusal.TheConstants.{LONGEST}
 use Rattle.object_adapter.specs.declared.refusal.Refusal.TheVariants.{NoOperation, BadMode, BadArguments, TooLong}
 use Rattle.object_adapter.specs.declared.refusal.Unanswered.{Unanswered}
 use Rattle.object_adapter.specs.declared.refusal.Unanswered.TheVariants.{Refused, Memory}
-use Rattle.object_adapter.specs.Admitting.{Comes}
+use Rattle.object_adapter.specs.Admitting.{Comes, IsRefusedLength}
 use Rattle.object_adapter.specs.Refusals.{Outcome}
 use Rattle.object_adapter.specs.Places.{Known, IsAt}
 use Rattle.ice_types.specs.declared.kind.TypeRef.{TypeRef}
@@ -28,7 +31,7 @@ use Rattle.locator_types.specs.Locator.{adapter_not_found, find_object, identity
 use Rattle.object_adapter.specs.declared.seeking.Sought.{Sought}
 use Rattle.object_adapter.specs.declared.seeking.Sought.TheVariants.{Object, Adapter}
 use Rattle.object_adapter.specs.Arguments.{identity_of, sole_members, text_at}
-use Rattle.object_adapter.specs.Locators.{Acts, Gives, IsNamed, IsSought, Overflows, Refuses, not_found, sought_shape}
+use Rattle.object_adapter.specs.Locators.{Acts, Gives, GivesProxy, GivesNotFound, IsNamed, IsSought, Overflows, Refuses, not_found, not_found_bytes, sought_shape}
 
 -- ---- an identity
 
@@ -100,14 +103,28 @@ module _ {B : Type 0} (now : B → Proxy) (k : Known) (g : Graph) (found : Optio
 pub acted : (k : Known) (call : Call) (sought : Sought) (g : Graph) (r : Result Answer Unanswered) → IsNamed call.operation sought → Comes locator_tables true (sought_shape sought) call g
     → Outcome (Gives k sought g) (Overflows k sought g) r → Outcome (Acts k call) (Refuses k call) r
 acted k call sought g (Ok answer) named comes gives = (sought, g, named, comes, gives)
-acted k call sought g (Err (Refused NoOperation)) named comes (inl (p, is, long)) = absurd long
-acted k call sought g (Err (Refused NoOperation)) named comes (inr (is, long)) = absurd cc
-acted k call sought g (Err (Refused BadMode)) named comes (inl (p, is, long)) = absurd long
-acted k call sought g (Err (Refused BadMode)) named comes (inr (is, long)) = absurd cc
-acted k call sought g (Err (Refused (BadArguments fault))) named comes (inl (p, is, long)) = absurd long
-acted k call sought g (Err (Refused (BadArguments fault))) named comes (inr (is, long)) = absurd cc
+acted k call sought g (Err (Refused NoOperation)) named comes (inl (p, is, (e, long))) = absurd cc
+acted k call sought g (Err (Refused NoOperation)) named comes (inr (nowhere, e, long)) = absurd cc
+acted k call sought g (Err (Refused BadMode)) named comes (inl (p, is, (e, long))) = absurd cc
+acted k call sought g (Err (Refused BadMode)) named comes (inr (nowhere, e, long)) = absurd cc
+acted k call sought g (Err (Refused (BadArguments fault))) named comes (inl (p, is, (e, long))) = absurd cc
+acted k call sought g (Err (Refused (BadArguments fault))) named comes (inr (nowhere, e, long)) = absurd cc
 acted k call sought g (Err (Refused TooLong)) named comes long = (sought, g, named, comes, long)
 acted k call sought g (Err Memory) named comes tells = tt
+
+-- with the proxy of what is sought
+pub given : (k : Known) (sought : Sought) (g : Graph) (p : Proxy) (r : Result Answer Unanswered) → IsSought k sought g p → Outcome (GivesProxy p) (IsRefusedLength (form.proxy.put (Some p))) r
+    → Outcome (Gives k sought g) (Overflows k sought g) r
+given k sought g p (Ok answer) is gives = inl (p, is, gives)
+given k sought g p (Err (Refused refusal)) is long = inl (p, is, long)
+given k sought g p (Err Memory) is tells = tt
+
+-- where there is none
+pub none_given : (k : Known) (sought : Sought) (g : Graph) (r : Result Answer Unanswered) → ((p : Proxy) → IsSought k sought g p → ⊥)
+    → Outcome (GivesNotFound sought) (λ (refusal : Refusal). (refusal ≡ TooLong) × (LONGEST < length (not_found_bytes sought))) r → Outcome (Gives k sought g) (Overflows k sought g) r
+none_given k sought g (Ok answer) nowhere gives = inr (nowhere, gives)
+none_given k sought g (Err (Refused refusal)) nowhere long = inr (nowhere, long.0, long.1)
+none_given k sought g (Err Memory) nowhere tells = tt
 
 -- ---- the exception
 

@@ -21,7 +21,6 @@ use Rattle.ice_messages.specs.declared.message.Answer.TheVariants.{Done, Raised}
 use Rattle.ice_messages.specs.declared.message.Message.TheVariants.{Request, Reply}
 use Rattle.ice_messages.specs.Calls as form
 use Rattle.ice_messages.specs.Messages.{header, magic, versions, message_bytes, SpellsMessage}
-use Rattle.object_adapter.specs.declared.refusal.Refusal.TheVariants.{BadMode}
 use Rattle.object_adapter.specs.Refusals.{missed, failed, fault_text}
 use Rattle.object_adapter.specs.Replies.{IsReply, CanReply}
 use Rattle.object_adapter.specs.Results.{AreResults}

@@ -22,5 +22,5 @@ pub id_given : (t : Tables) (interface : ℕ) (g : Graph) (s : List ℕ) (result
     → Outcome (λ (content : Vec ℕ Global). content.items ≡ text_bytes s) (λ (refusal : Refusal). (refusal ≡ TooLong) × (LONGEST < length s)) result
     → Outcome (λ (content : Vec ℕ Global). OwnGives t interface Id g content.items) (OwnOverflows t interface Id g) result
 id_given t interface g s (Ok content) has is = is ∙ ap text_bytes has
-id_given t interface g s (Err (Refused refusal)) has (is, long) = rw is (text_bytes s, ap text_bytes has, longer s long)
+id_given t interface g s (Err (Refused refusal)) has (is, long) = (is, (text_bytes s, ap text_bytes has, longer s long))
 id_given t interface g s (Err Memory) has is = tt

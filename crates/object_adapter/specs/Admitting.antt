@@ -40,7 +40,4 @@ IsEnclosed content results = (results ≡ encapsulated_bytes content) × (length
 
 -- they would be too long
 abbrev pub IsRefusedLength : List ℕ → Refusal → Type 0
-IsRefusedLength content NoOperation = ⊥
-IsRefusedLength content BadMode = ⊥
-IsRefusedLength content (BadArguments fault) = ⊥
-IsRefusedLength content TooLong = LONGEST < length (encapsulated_bytes content)
+IsRefusedLength content refusal = (refusal ≡ TooLong) × (LONGEST < length (encapsulated_bytes content))

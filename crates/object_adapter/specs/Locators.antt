@@ -80,7 +80,7 @@ Gives p sought g answer = ((proxy : Proxy) × IsSought p sought g proxy × Gives
 -- it is refused: the answer would be longer than it may be
 abbrev pub Overflows : Known → Sought → Graph → Refusal → Type 0
 Overflows p sought g refusal = ((proxy : Proxy) × IsSought p sought g proxy × IsRefusedLength (form.proxy.put (Some proxy)) refusal)
-    ⊎ ((refusal ≡ TooLong) × (LONGEST < length (not_found_bytes sought)))
+    ⊎ (((proxy : Proxy) → IsSought p sought g proxy → ⊥) × (refusal ≡ TooLong) × (LONGEST < length (not_found_bytes sought)))
 
 -- ---- what a locator answers to a call
 

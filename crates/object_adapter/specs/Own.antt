@@ -69,10 +69,7 @@ module _ (t : Tables) (interface : ℕ) where
 
   -- it is refused: the results would be too long
   abbrev pub OwnOverflows : Own → Graph → Refusal → Type 0
-  OwnOverflows own g NoOperation = ⊥
-  OwnOverflows own g BadMode = ⊥
-  OwnOverflows own g (BadArguments fault) = ⊥
-  OwnOverflows own g TooLong = (content : List ℕ) × OwnGives own g content × (LONGEST < length (encapsulated_bytes content))
+  OwnOverflows own g refusal = (refusal ≡ TooLong) × ((content : List ℕ) × OwnGives own g content × (LONGEST < length (encapsulated_bytes content)))
 
   -- the results of a call of it
   abbrev pub OwnActs : Own → Call → List ℕ → Type 0

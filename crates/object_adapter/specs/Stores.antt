@@ -41,10 +41,7 @@ Does t Get shape g old results new = (Some results ≡ old.value) × (new ≡ ol
 
 -- it is refused: the results would be too long
 abbrev pub Overflows : Deed → Kept → Refusal → Type 0
-Overflows deed kept NoOperation = ⊥
-Overflows deed kept BadMode = ⊥
-Overflows deed kept (BadArguments fault) = ⊥
-Overflows deed kept TooLong = (deed ≡ Get) × (kept.value ≡ None)
+Overflows deed kept refusal = (refusal ≡ TooLong) × (deed ≡ Get) × (kept.value ≡ None)
 
 -- ---- what a store answers to a call
 
