@@ -10,3 +10,4 @@ pub mod RequiredParts
 pub mod OptionParts
 pub mod Stages
 pub mod WritingSteps
+mod Listed

@@ -45,7 +45,7 @@ waiting (levels.Pairs slice) = Pairs (view_pairs slice.now)
 
 -- what is left at each level, the innermost last
 abbrev pub lists : ValueWriter → List Waiting
-lists writer = map waiting writer.levels.items
+lists writer = map waiting writer.levels
 
 module _ {S : Type 0} (put : Option ℕ → S → Put S) (inside : InsideWritten S) where
   abbrev pub level_written : Waiting → Piece S

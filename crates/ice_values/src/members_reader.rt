@@ -66,6 +66,28 @@ impl<'a> MembersReader<'a> {
         }
     }
 
+    /// Reads on up to the end of the members, at a port at which nothing begins.
+    fn finish<P: RefPort>(
+        &mut self,
+        alloc: Global,
+        schema: &Schema,
+        fields: DeclaredMembers<'_>,
+        cursor: &mut Cursor<'a>,
+        port: &mut P,
+    ) -> Result<Members, ReadFault>
+        requires { P.room port.old ≡ 0 }
+        ensures { (inside : Inside P)
+            → ReadsMembers result
+            (left_of_members P.take schema.now inside (handed fields.entry) self.old port.old cursor.old)
+            port.new cursor.new }
+    {
+        match self.go(alloc, schema, fields, cursor, port) {
+            Ok(Paused::Done(members)) => Ok(members),
+            Ok(Paused::Begins(_)) => unreachable!(),
+            Err(fault) => Err(fault),
+        }
+    }
+
     /// Reads on in the required members, and then in the optional ones.
     fn go_required<P: RefPort>(
         &mut self,
@@ -182,9 +204,5 @@ fn read_on<P: RefPort>(
         (shape_seen fields.entry) port.old cursor.old) port.new cursor.new }
 {
     let mut reader = MembersReader::new(alloc, optionals);
-    match reader.go(alloc, schema, fields, cursor, port) {
-        Ok(Paused::Done(members)) => Ok(members),
-        Ok(Paused::Begins(_)) => unreachable!(),
-        Err(fault) => Err(fault),
-    }
+    reader.finish(alloc, schema, fields, cursor, port)
 }

@@ -17,6 +17,7 @@ use crate::paused::{Paused, Step};
 use crate::put_port::PutPort;
 use graph_arena::Value;
 use ice_prims::put_size;
+use ice_types::List;
 use std::alloc::{AllocError, Global};
 
 /// What is left of a list of values or of pairs, or one value.
@@ -31,7 +32,7 @@ pub enum Level<'a> {
 #[derive(Drop)]
 pub struct ValueWriter<'a> {
     /// The values that are left at each level, the innermost level last.
-    levels: Vec<Level<'a>>,
+    levels: List<Level<'a>>,
 }
 
 impl<'a> ValueWriter<'a> {
@@ -52,7 +53,7 @@ impl<'a> ValueWriter<'a> {
     fn at(alloc: Global, level: Level<'a>) -> Result<ValueWriter<'a>, AllocError>
         ensures { IfOk result (λ writer. lists writer ≡ waiting level.entry ∷ []) }
     {
-        let mut levels = Vec::new(alloc);
+        let mut levels = List::new(alloc);
         levels.push(level)?;
         Ok(ValueWriter { levels })
     }
