@@ -20,7 +20,7 @@ use Rattle.call_command.specs.Endings.{Ended, finished, refused, twoway_only, st
 use Rattle.call_command.specs.Decided.{IsListed, IsListedCallee, IsInterface, LacksReply, Plans, Decides, callee_named}
 use Rattle.call_command.specs.Rounds.{NetSeen, sink_seen, Finishes, Stops}
 use Rattle.call_command.specs.Called.{Steps, WantsInput, Comes, TakesInput}
-use Rattle.call_command.specs.Steps.{KnownDecides, KnownWants, SchemaDecides, SchemaWants, LacksPlan, LooksFor}
+use Rattle.call_command.specs.Steps.{KnownDecides, KnownWants, SchemaDecides, SchemaWants, FoundDecides, FoundWants, LacksPlan, LooksFor, CarriesOut}
 
 abbrev answer_in : Ended → Answer
 answer_in finished = no_memory
@@ -121,7 +121,7 @@ module _ (c : CallWords) (files : Option Files) (input : Option (List ℕ)) (she
 
 module _ (c : CallWords) (input : Option (List ℕ)) (o : Operation) (callee : Callee) (shelf source now sink after : ℕ) (old new : Option (List ℕ)) (net later : NetSeen) (plan : Plan)
     (given : (came : Ended) → KnownDecides c input o callee came (λ q. q ≡ plan)) (same : now ≡ source) where
-  pub finished_so : Finishes plan (sink_seen old sink) (sink_seen new after) net later
+  finished_so : Finishes plan (sink_seen old sink) (sink_seen new after) net later
       → Comes (KnownDecides c input o callee) (KnownWants c o callee) (counts shelf source sink) (counts shelf now after) old new net later finished
   finished_so h = (
     known_then c input o callee finished (λ q. q ≡ plan) (λ q. Finishes q (sink_seen old sink) (sink_seen new after) net later)
@@ -129,7 +129,7 @@ module _ (c : CallWords) (input : Option (List ℕ)) (o : Operation) (callee : C
     (refl, same),
   )
 
-  pub stopped_so : (stop : Stop) → Stops plan (sink_seen old sink) (sink_seen new after) net later stop
+  stopped_so : (stop : Stop) → Stops plan (sink_seen old sink) (sink_seen new after) net later stop
       → Comes (KnownDecides c input o callee) (KnownWants c o callee) (counts shelf source sink) (counts shelf now after) old new net later (stopped stop)
   stopped_so stop h = (
     known_then c input o callee (stopped stop) (λ q. q ≡ plan) (λ q. Stops q (sink_seen old sink) (sink_seen new after) net later stop)
@@ -137,7 +137,24 @@ module _ (c : CallWords) (input : Option (List ℕ)) (o : Operation) (callee : C
     (refl, same),
   )
 
+  pub carried_so : (came : Ended) → CarriesOut plan (sink_seen old sink) (sink_seen new after) net later came
+      → Comes (KnownDecides c input o callee) (KnownWants c o callee) (counts shelf source sink) (counts shelf now after) old new net later came
+  carried_so finished h = finished_so h
+  carried_so (stopped stop) h = stopped_so stop h
+  carried_so (refused answer) h = absurd h
+  carried_so (twoway_only word) h = absurd h
+
 -- ---- where a name or the text of a proxy is refused
+
+module _ (c : CallWords) (input : Option (List ℕ)) (found : Option Operation) (parsed : Result Callee ℕ) (shelf source sink : ℕ) (old : Option (List ℕ)) (net : NetSeen) where
+  abbrev pub RefusedFound : Answer → Type 0
+  RefusedFound answer = Comes (FoundDecides c input found parsed) (FoundWants c found parsed) (counts shelf source sink) (counts shelf source sink) old old net net (refused answer)
+
+  pub no_operation : found ≡ None → RefusedFound (no_such_name c.operation)
+  no_operation none = (inl (inl (none, refl), (refl, refl, refl)), keeps_itself old, refl)
+
+  pub no_callee : (o : Operation) → found ≡ Some o → (place : ℕ) → parsed ≡ Err place → RefusedFound (text_refused place)
+  no_callee o is place text = (inl (inr (o, is, inl (place, text, refl)), (refl, refl, refl)), keeps_itself old, refl)
 
 module _ (c : CallWords) (input : Option (List ℕ)) (parsed : Result Callee ℕ) (t : Tables) (shelf source sink : ℕ) (old : Option (List ℕ)) (net : NetSeen) where
   abbrev pub RefusedHere : Answer → Type 0
@@ -149,22 +166,23 @@ module _ (c : CallWords) (input : Option (List ℕ)) (parsed : Result Callee ℕ
   pub out_of_memory : RefusedHere no_memory
   out_of_memory = (inr (inr (refl, (refl, refl, refl))), keeps_itself old, refl)
 
-  module _ (at : ℕ) (names : IsInterface t c.interface at) where
-    pub no_operation : operation_of t at c.operation ≡ None → RefusedHere (no_such_name c.operation)
-    no_operation none = (inl (inr (at, names, inl (none, refl)), (refl, refl, refl)), keeps_itself old, refl)
-
-    pub no_callee : (o : Operation) → operation_of t at c.operation ≡ Some o → (place : ℕ) → parsed ≡ Err place → RefusedHere (text_refused place)
-    no_callee o is place text = (inl (inr (at, names, inr (o, is, inl (place, text, refl))), (refl, refl, refl)), keeps_itself old, refl)
-
 -- ---- the steps before the operation and the object
 
-module _ (c : CallWords) (input : Option (List ℕ)) (parsed : Result Callee ℕ) (t : Tables) (at : ℕ) (names : IsInterface t c.interface at)
-    (o : Operation) (is : operation_of t at c.operation ≡ Some o) (callee : Callee) (text : parsed ≡ Ok callee) where
-  pub schema_decides : (came : Ended) (Next : Plan → Type 0) → KnownDecides c input o callee came Next → SchemaDecides c input parsed t came Next
-  schema_decides came Next h = inr (at, names, inr (o, is, inr (callee, text, h)))
+module _ (c : CallWords) (input : Option (List ℕ)) (found : Option Operation) (parsed : Result Callee ℕ)
+    (o : Operation) (is : found ≡ Some o) (callee : Callee) (text : parsed ≡ Ok callee) where
+  pub found_decides : (came : Ended) (Next : Plan → Type 0) → KnownDecides c input o callee came Next → FoundDecides c input found parsed came Next
+  found_decides came Next h = inr (o, is, inr (callee, text, h))
 
-  pub schema_wants : KnownWants c o callee → SchemaWants c parsed t
-  schema_wants h = inr (at, names, inr (o, is, inr (callee, text, h)))
+  pub found_wants : KnownWants c o callee → FoundWants c found parsed
+  found_wants h = inr (o, is, inr (callee, text, h))
+
+module _ (c : CallWords) (input : Option (List ℕ)) (parsed : Result Callee ℕ) (t : Tables) (at : ℕ) (names : IsInterface t c.interface at)
+    (found : Option Operation) (is : found ≡ operation_of t at c.operation) where
+  pub schema_decides : (came : Ended) (Next : Plan → Type 0) → FoundDecides c input found parsed came Next → SchemaDecides c input parsed t came Next
+  schema_decides came Next h = inr (at, names, subst (λ (x : Option Operation). FoundDecides c input x parsed came Next) is h)
+
+  pub schema_wants : FoundWants c found parsed → SchemaWants c parsed t
+  schema_wants h = inr (at, names, subst (λ (x : Option Operation). FoundWants c x parsed) is h)
 
 module _ (c : CallWords) (files : Option Files) (input : Option (List ℕ)) (parsed : Result Callee ℕ) (t : Tables)
     (text : callee_named c ≡ parsed) (listed : IsListed (proxy_text c.proxy)) (means : IsSchema files c.file t) where

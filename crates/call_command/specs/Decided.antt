@@ -59,10 +59,13 @@ WithInterface t word came Next =
     ⊎ ((at : ℕ) × IsInterface t word at × Next at)
 
 -- OPERATION names none, or an operation that every object or the interface has
+abbrev pub WithFound : Option Operation → Word → Ended → (Operation → Type 0) → Type 0
+WithFound found word came Next =
+    ((found ≡ None) × (came ≡ refused (no_such_name word)))
+    ⊎ ((o : Operation) × (found ≡ Some o) × Next o)
+
 abbrev pub WithOperation : Tables → (interface : ℕ) → Word → Ended → (Operation → Type 0) → Type 0
-WithOperation t interface word came Next =
-    ((operation_of t interface word ≡ None) × (came ≡ refused (no_such_name word)))
-    ⊎ ((o : Operation) × (operation_of t interface word ≡ Some o) × Next o)
+WithOperation t interface word came Next = WithFound (operation_of t interface word) word came Next
 
 -- what the texts of the locator and of PROXY say
 abbrev pub callee_named : CallWords → Result Callee ℕ

@@ -69,4 +69,4 @@ target_of plan = target plan.callee.locator plan.callee.proxy plan.retries
 
 -- wherever its parts lie in memory
 abbrev pub seen : Written → Plan
-seen p = record { expected = expected_of p.expected; callee = p.callee; message = p.message; retries = p.retries; rounds = p.rounds }
+seen p = record { expected = expected_of p.expected; callee = p.callee.now; message = p.message; retries = p.retries; rounds = p.rounds }

@@ -48,9 +48,9 @@ use Rattle.call_command.specs.Words.{CallWords}
 use Rattle.call_command.specs.Operations.{Operation}
 use Rattle.call_command.specs.Planning.{Expected, Plan, of_locator, seen, target_of}
 use Rattle.call_command.specs.Replies.{HasLine, HasReason, IsLine, IsReason}
-use Rattle.call_command.specs.Endings.{Ended, refused, ending_seen}
-use Rattle.call_command.specs.Decided.{IsListed, IsInterface, WithInterface, WithOperation, WithCallee, WithReply, Plans}
-use Rattle.call_command.specs.Rounds.{Delivered, IsUsed, NetSeen, SinkSeen}
+use Rattle.call_command.specs.Endings.{Ended, finished, refused, twoway_only, stopped, ending_seen}
+use Rattle.call_command.specs.Decided.{IsListed, IsInterface, WithInterface, WithFound, WithOperation, WithCallee, WithReply, Plans}
+use Rattle.call_command.specs.Rounds.{Delivered, Finishes, IsUsed, NetSeen, SinkSeen, Stops}
 
 -- ---- the proxies
 
@@ -79,6 +79,17 @@ KnownDecides c input o callee came Next = WithReply callee.proxy o.declared c.op
 
 abbrev pub KnownWants : CallWords → Operation → Callee → Type 0
 KnownWants c o callee = WithReply callee.proxy o.declared c.operation (refused read_failed) (Unit {0})
+
+-- of what the operation's name was found to be
+abbrev pub FoundDecides : CallWords → Option (List ℕ) → Option Operation → Result Callee ℕ → Ended → (Plan → Type 0) → Type 0
+FoundDecides c input found parsed came Next =
+    WithFound found c.operation came (λ o.
+    WithCallee parsed came (λ callee. KnownDecides c input o callee came Next))
+
+abbrev pub FoundWants : CallWords → Option Operation → Result Callee ℕ → Type 0
+FoundWants c found parsed =
+    WithFound found c.operation (refused read_failed) (λ o.
+    WithCallee parsed (refused read_failed) (λ callee. KnownWants c o callee))
 
 -- of the schema
 abbrev pub SchemaDecides : CallWords → Option (List ℕ) → Result Callee ℕ → Tables → Ended → (Plan → Type 0) → Type 0
@@ -212,3 +223,12 @@ DeliversOnce plan old before after new (Err stop) = (rounds : List Round) × IsU
 abbrev pub PrintsLine : {X : Type 0} → (before after : SinkSeen) → List ℕ → Result X Stop → Type 0
 PrintsLine before after line (Ok x) = Appends before.taken after.taken line × (after.failures ≡ before.failures)
 PrintsLine before after line (Err stop) = (stop ≡ stops.WriteFailed) × AppendsPrefix before.taken after.taken line × (after.failures ≡ one_more before.failures)
+
+-- ---- all messages
+
+-- the end of a call that has a plan
+abbrev pub CarriesOut : Plan → (before after : SinkSeen) → (net new : NetSeen) → Ended → Type 0
+CarriesOut plan before after net new finished = Finishes plan before after net new
+CarriesOut plan before after net new (stopped stop) = Stops plan before after net new stop
+CarriesOut plan before after net new (refused answer) = ⊥
+CarriesOut plan before after net new (twoway_only word) = ⊥

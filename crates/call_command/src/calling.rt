@@ -1,20 +1,23 @@
 //! `call [--retries R] [--times T] [--compact] [--locator PROXY] FILE INTERFACE PROXY OPERATION`
 
-ghost use Rattle.std.specs.Prelude.{◌≤◌, ℕ};
+ghost use Rattle.std.specs.Prelude.{◌≡◌, ◌≤◌, IfSome, option_map, ℕ};
+ghost use Rattle.proxy_text.specs.Grammar.{proxy_text};
 ghost use Rattle.node_commands.specs.Outside.{counts, outside};
 ghost use Rattle.call_command.specs.Words.{IsWithin, seen};
 ghost use Rattle.call_command.specs.Operations.{IsDeclared, seen as operation_seen};
 ghost use Rattle.call_command.specs.Endings.{ended_of};
-ghost use Rattle.call_command.specs.Decided.{Decides, IsListedCallee};
-ghost use Rattle.call_command.specs.Rounds.{net_seen};
+ghost use Rattle.call_command.specs.Planning.{seen as plan_seen};
+ghost use Rattle.call_command.specs.Decided.{Decides, IsListed, IsListedCallee, callee_named};
+ghost use Rattle.call_command.specs.Rounds.{net_seen, sink_seen};
 ghost use Rattle.call_command.specs.Called.{Called, Comes, TakesInput, WantsInput};
+ghost use Rattle.call_command.specs.Steps.{CanBeSent, CarriesOut, FoundDecides, FoundWants};
 ghost use Rattle.call_command.specs.Steps.{KnownDecides, KnownWants, SchemaDecides, SchemaWants};
 
 use crate::callee::{Callee, callee_of};
 use crate::ending::{Ending, report};
 use crate::known::{Known, interface_of, known_of};
 use crate::performing::perform;
-use crate::preparing::plan_of;
+use crate::preparing::{Plan, plan_of};
 use crate::words::CallCommand;
 use ice_ports::{Net, Shelf, Sink, Source};
 use ice_types::{Schema, object_schema};
@@ -70,6 +73,32 @@ fn run<'a, H: Shelf, S: Source, K: Sink, N: Net>(
         (S.left source.old) (S.left source.new) }
 {
     let callee = callee_of(alloc, command.locator, command.proxy)?;
+    with_callee(alloc, command, &callee, shelf, source, sink, net)
+}
+
+/// Goes on where the texts of proxies say this. It has the schema, which it lends to what may end in many ways.
+fn with_callee<'a, H: Shelf, S: Source, K: Sink, N: Net>(
+    alloc: Global,
+    command: CallCommand<'a>,
+    callee: &Result<Callee, u32>,
+    shelf: &mut H,
+    source: &mut S,
+    sink: &mut K,
+    net: &mut N,
+) -> Result<(), Ending<'a>>
+    requires within { IsWithin (seen command) }
+    requires named { callee_named (seen command) ≡ callee.now }
+    requires listed { IsListed (proxy_text command.proxy.now) }
+    ensures comes { Comes (Decides (seen command.entry) (H.files shelf.old) (S.left source.old))
+        (WantsInput (seen command.entry) (H.files shelf.old))
+        (counts (H.failures shelf.old) (S.failures source.old) (K.failures sink.old))
+        (counts (H.failures shelf.new) (S.failures source.new) (K.failures sink.new))
+        (K.taken sink.old) (K.taken sink.new)
+        (net_seen (N.told net.old) (N.failures net.old) (N.listen_failures net.old))
+        (net_seen (N.told net.new) (N.failures net.new) (N.listen_failures net.new)) (ended_of result) }
+    ensures taken { TakesInput (WantsInput (seen command.entry) (H.files shelf.old))
+        (S.left source.old) (S.left source.new) }
+{
     let schema = load_schema(alloc, command.file, shelf)?;
     under(alloc, command, callee, &schema, source, sink, net)
 }
@@ -78,35 +107,63 @@ fn run<'a, H: Shelf, S: Source, K: Sink, N: Net>(
 fn under<'a, S: Source, K: Sink, N: Net>(
     alloc: Global,
     command: CallCommand<'a>,
-    callee: Result<Callee, u32>,
+    callee: &Result<Callee, u32>,
     schema: &Schema,
     source: &mut S,
     sink: &mut K,
     net: &mut N,
 ) -> Result<(), Ending<'a>>
     requires within { IsWithin (seen command) }
-    requires listed { IsListedCallee callee }
+    requires listed { IsListedCallee callee.now }
     ensures comes { (shelf : ℕ)
-        → Comes (SchemaDecides (seen command.entry) (S.left source.old) callee schema.now)
-        (SchemaWants (seen command.entry) callee schema.now)
+        → Comes (SchemaDecides (seen command.entry) (S.left source.old) callee.now schema.now)
+        (SchemaWants (seen command.entry) callee.now schema.now)
         (counts shelf (S.failures source.old) (K.failures sink.old))
         (counts shelf (S.failures source.new) (K.failures sink.new))
         (K.taken sink.old) (K.taken sink.new)
         (net_seen (N.told net.old) (N.failures net.old) (N.listen_failures net.old))
         (net_seen (N.told net.new) (N.failures net.new) (N.listen_failures net.new)) (ended_of result) }
-    ensures taken { TakesInput (SchemaWants (seen command.entry) callee schema.now)
+    ensures taken { TakesInput (SchemaWants (seen command.entry) callee.now schema.now)
         (S.left source.old) (S.left source.new) }
 {
     let Some(interface) = interface_of(schema, command.interface) else {
         return Err(Ending::Refused(Outcome::NoSuchName(command.interface)));
     };
     let object = object_schema(alloc)?;
-    let Some(known) = known_of(&object, schema, interface, command.operation) else {
+    let found = known_of(&object, schema, interface, command.operation);
+    with_found(alloc, command, found, callee, source, sink, net)
+}
+
+/// Goes on where the interface and the object have this operation, or none of the name.
+fn with_found<'a, S: Source, K: Sink, N: Net>(
+    alloc: Global,
+    command: CallCommand<'a>,
+    found: Option<Known<'_>>,
+    callee: &Result<Callee, u32>,
+    source: &mut S,
+    sink: &mut K,
+    net: &mut N,
+) -> Result<(), Ending<'a>>
+    requires within { IsWithin (seen command) }
+    requires listed { IsListedCallee callee.now }
+    requires declared { IfSome found (λ k. IsDeclared (operation_seen k)) }
+    ensures comes { (shelf : ℕ)
+        → Comes (FoundDecides (seen command.entry) (S.left source.old) (option_map operation_seen found.entry) callee.now)
+        (FoundWants (seen command.entry) (option_map operation_seen found.entry) callee.now)
+        (counts shelf (S.failures source.old) (K.failures sink.old))
+        (counts shelf (S.failures source.new) (K.failures sink.new))
+        (K.taken sink.old) (K.taken sink.new)
+        (net_seen (N.told net.old) (N.failures net.old) (N.listen_failures net.old))
+        (net_seen (N.told net.new) (N.failures net.new) (N.listen_failures net.new)) (ended_of result) }
+    ensures taken { TakesInput (FoundWants (seen command.entry) (option_map operation_seen found.entry) callee.now)
+        (S.left source.old) (S.left source.new) }
+{
+    let Some(known) = found else {
         return Err(Ending::Refused(Outcome::NoSuchName(command.operation)));
     };
     match callee {
         Ok(callee) => of_known(alloc, command, known, callee, source, sink, net),
-        Err(place) => Err(Ending::Refused(Outcome::TextRefused(place))),
+        Err(place) => Err(Ending::Refused(Outcome::TextRefused(*place))),
     }
 }
 
@@ -115,25 +172,44 @@ fn of_known<'a, S: Source, K: Sink, N: Net>(
     alloc: Global,
     command: CallCommand<'a>,
     known: Known<'_>,
-    callee: Callee,
+    callee: &Callee,
     source: &mut S,
     sink: &mut K,
     net: &mut N,
 ) -> Result<(), Ending<'a>>
     requires within { IsWithin (seen command) }
-    requires listed { callee.proxy.mode ≤ 2 }
+    requires listed { callee.now.proxy.mode ≤ 2 }
     requires declared { IsDeclared (operation_seen known) }
     ensures comes { (shelf : ℕ)
-        → Comes (KnownDecides (seen command.entry) (S.left source.old) (operation_seen known.entry) callee)
-        (KnownWants (seen command.entry) (operation_seen known.entry) callee)
+        → Comes (KnownDecides (seen command.entry) (S.left source.old) (operation_seen known.entry) callee.now)
+        (KnownWants (seen command.entry) (operation_seen known.entry) callee.now)
         (counts shelf (S.failures source.old) (K.failures sink.old))
         (counts shelf (S.failures source.new) (K.failures sink.new))
         (K.taken sink.old) (K.taken sink.new)
         (net_seen (N.told net.old) (N.failures net.old) (N.listen_failures net.old))
         (net_seen (N.told net.new) (N.failures net.new) (N.listen_failures net.new)) (ended_of result) }
-    ensures taken { TakesInput (KnownWants (seen command.entry) (operation_seen known.entry) callee)
+    ensures taken { TakesInput (KnownWants (seen command.entry) (operation_seen known.entry) callee.now)
         (S.left source.old) (S.left source.new) }
 {
     let plan = plan_of(alloc, command, known, callee, source)?;
-    Ok(perform(alloc, &plan, sink, net)?)
+    carry_out(alloc, &plan, sink, net)
+}
+
+/// Does what was planned.
+fn carry_out<'a, K: Sink, N: Net>(
+    alloc: Global,
+    plan: &Plan<'_>,
+    sink: &mut K,
+    net: &mut N,
+) -> Result<(), Ending<'a>>
+    requires { CanBeSent plan.now }
+    ensures { CarriesOut (plan_seen plan.now) (sink_seen (K.taken sink.old) (K.failures sink.old))
+        (sink_seen (K.taken sink.new) (K.failures sink.new))
+        (net_seen (N.told net.old) (N.failures net.old) (N.listen_failures net.old))
+        (net_seen (N.told net.new) (N.failures net.new) (N.listen_failures net.new)) (ended_of result) }
+{
+    match perform(alloc, plan, sink, net) {
+        Ok(()) => Ok(()),
+        Err(stop) => Err(Ending::Stopped(stop)),
+    }
 }

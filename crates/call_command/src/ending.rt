@@ -185,14 +185,3 @@ impl From<AllocError> for Ending<'_> {
         Ending::Refused(Outcome::Memory)
     }
 }
-
-impl From<Stop> for Ending<'_> {
-    ghost use Rattle.std.specs.Prelude.{◌≡◌};
-    ghost use Rattle.call_command.specs.declared.ending.Ending.TheVariants as endings;
-
-    ghost from_gives = { λ stop ending. ending ≡ endings.Stopped stop };
-
-    fn from(stop: Stop) -> Self {
-        Ending::Stopped(stop)
-    }
-}

@@ -34,7 +34,7 @@ pub struct Expected<'a> {
 #[derive(Debug, Drop)]
 pub struct Plan<'a> {
     pub expected: Expected<'a>,
-    pub callee: Callee,
+    pub callee: &'a Callee,
     pub message: Message,
     pub retries: u32,
     /// How many messages there are, one after the other.
@@ -46,16 +46,16 @@ pub(crate) fn plan_of<'a, 'b, S: Source>(
     alloc: Global,
     command: CallCommand<'b>,
     known: Known<'a>,
-    callee: Callee,
+    callee: &'a Callee,
     source: &mut S,
 ) -> Result<Plan<'a>, Ending<'b>>
     requires within { IsWithin (words_seen command) }
-    requires listed { callee.proxy.mode ≤ 2 }
+    requires listed { callee.now.proxy.mode ≤ 2 }
     requires declared { IsDeclared (operation_seen known) }
-    ensures plan { GivesPlan (words_seen command.entry) (S.left source.old) (operation_seen known.entry) callee
+    ensures plan { GivesPlan (words_seen command.entry) (S.left source.old) (operation_seen known.entry) callee.now
         (S.failures source.old) (S.failures source.new) result }
     ensures sendable { IfOk result CanBeSent }
-    ensures taken { LooksFor (LacksReply callee.proxy known.entry.operation.now)
+    ensures taken { LooksFor (LacksReply callee.now.proxy known.entry.operation.now)
         (S.left source.old) (S.left source.new) }
 {
     if lacks_reply(&callee.proxy, known.operation) {

@@ -11,7 +11,7 @@ returns-in-Some-clause-told g c =
     let told = c.call_through.ensures.told in (
       told.0,
       told.1,
-      goes_so c.args.plan.now.message _ (option_copied c.as_ref-locator.result) c.args.plan.now.callee.locator c.args.plan.now.callee.proxy c.args.plan.now.retries c.args.cache.now told.0 c.call_through.new.cache c.call_through.result
+      goes_so c.args.plan.now.message _ (option_copied c.as_ref-locator.result) c.args.plan.now.callee.now.locator c.args.plan.now.callee.now.proxy c.args.plan.now.retries c.args.cache.now told.0 c.call_through.new.cache c.call_through.result
           (twoway_is c.args.plan.now.message c.in-Some.call.now c.in-Some.ensures) c.as_ref-locator.ensures.value told.2,
     )
 
@@ -23,6 +23,6 @@ returns-in-None-clause-told g c =
     let told = c.send_through.ensures.told in (
       told.0,
       told.1,
-      goes_so c.args.plan.now.message c.args.plan.now.message (option_copied c.as_ref-locator.result) c.args.plan.now.callee.locator c.args.plan.now.callee.proxy c.args.plan.now.retries c.args.cache.now told.0 c.send_through.new.cache c.send_through.result
+      goes_so c.args.plan.now.message c.args.plan.now.message (option_copied c.as_ref-locator.result) c.args.plan.now.callee.now.locator c.args.plan.now.callee.now.proxy c.args.plan.now.retries c.args.cache.now told.0 c.send_through.new.cache c.send_through.result
           refl c.as_ref-locator.ensures.value told.2,
     )
