@@ -1,11 +1,11 @@
 //! A request is answered by what the server said, and one that may have arrived is not sent again.
 
-ghost use Rattle.std.specs.Prelude.{◌≡◌, ◌≤◌, All, IfOk};
+ghost use Rattle.std.specs.Prelude.{◌≡◌, IfOk};
 ghost use Rattle.ice_types.specs.Object.{object_tables};
-ghost use Rattle.ice_ports.specs.MemLinks.{IsPlan};
 
+use crate::links::{Taking, plan, plans};
 use ice_gateway::{Gated, Gateway, gate_all};
-use ice_ports::{Failed, Listener, MemNet, Net, Plan};
+use ice_ports::{Failed, Listener, MemNet, Net};
 use ice_types::{List, Proxy, Schema, object_schema};
 use proxy_text::parse_text;
 use slice_check::load;
@@ -38,47 +38,16 @@ const FAILED: &[u8] = b"IceP\x01\x00\x01\x00\x03\x00\x0E\x00\x00\x00\
 
 /// How many bytes the links to the server take, whose reads fail behind the validate message or never; what the
 /// last one took; and what the caller is given.
-type Row = (&'static [(u64, Option<u64>)], &'static [u8], &'static [u8]);
+type Row = (&'static [Taking], &'static [u8], &'static [u8]);
 
 const ROWS: &[Row] = &[
     (&[(38, None), (38, None)], SENT, ANSWERED),
     (&[(37, Some(14)), (38, Some(14))], SENT, FAILED),
 ];
 
-/// A link that gives these bytes, and takes so many.
-fn plan(alloc: Global, gives: &[u8], takes: u64, fails: Option<u64>) -> Result<Plan, AllocError>
-    requires { takes ≤ 16777216 }
-    ensures { IfOk result IsPlan }
-{
-    Ok(Plan {
-        refuse: false,
-        gives: List::from_vec(Vec::from_slice(alloc, gives)?),
-        piece: 14,
-        read_fails_at: fails,
-        takes,
-    })
-}
-
-/// Puts a plan behind those that are there.
-fn add(
-    alloc: Global,
-    plans: &mut List<Plan>,
-    takes: u64,
-    fails: Option<u64>,
-) -> Result<(), AllocError>
-    requires { All IsPlan plans.old }
-    ensures { All IsPlan plans.new }
-{
-    plans.push(plan(alloc, GIVEN, takes.min(16_777_216), fails)?)
-}
-
 /// A net with two links to the server, and one from a caller.
-fn net_of(alloc: Global, links: &[(u64, Option<u64>)]) -> Result<MemNet, AllocError> {
-    let mut plans = List::new(alloc);
-    if let [(takes, fails), (then, and_fails)] = links {
-        add(alloc, &mut plans, *takes, *fails)?;
-        add(alloc, &mut plans, *then, *and_fails)?;
-    }
+fn net_of(alloc: Global, links: &[Taking]) -> Result<MemNet, AllocError> {
+    let plans = plans(alloc, GIVEN, links)?;
     let mut incoming = List::new(alloc);
     incoming.push(plan(alloc, ADD, 1000, None)?)?;
     MemNet::new(alloc, plans, incoming, List::new(alloc), false)

@@ -1,5 +1,10 @@
-//! What a gateway forwards and answers, over links in memory that take and give what no real one lets a peer choose.
+//! What a client tries again, and what a gateway forwards and answers, over links in memory that take and give what no
+//! real one lets a peer choose. The crate has no functions of its own.
 #![tactic(auto)]
 
 #[cfg(test)]
 mod forwarding;
+#[cfg(test)]
+mod links;
+#[cfg(test)]
+mod retries;

@@ -1,12 +1,13 @@
 //! What is tried again where a connection took less than the whole message, or all of it, as no real one lets a peer
 //! choose.
-ghost use Rattle.std.specs.Prelude.{◌≤◌, All, IfOk};
-ghost use Rattle.ice_ports.specs.MemLinks.{IsPlan};
+
+ghost use Rattle.std.specs.Prelude.{IfOk};
 ghost use Rattle.ice_messages.specs.Written.{IsWritableCall};
 
+use crate::links::{Taking, plans};
 use ice_client::{Invoked, invoke, send};
 use ice_messages::{Call, Message, WriteFault, read_message};
-use ice_ports::{MemNet, Plan};
+use ice_ports::MemNet;
 use ice_types::{List, Proxy};
 use proxy_text::parse_text;
 use retry_core::Attempt;
@@ -28,11 +29,7 @@ const GIVEN: &[u8] = b"IceP\x01\x00\x01\x00\x03\x00\x0E\x00\x00\x00\
 
 /// The message; how many bytes each link takes, whose reads fail behind the validate message or never; and how the
 /// attempts end.
-type Row = (
-    &'static [u8],
-    &'static [(u64, Option<u64>)],
-    &'static [Attempt],
-);
+type Row = (&'static [u8], &'static [Taking], &'static [Attempt]);
 
 const ROWS: &[Row] = &[
     (PUT, &[(35, None), (36, Some(14))], &[NotWhole, Sent]),
@@ -41,40 +38,9 @@ const ROWS: &[Row] = &[
     (ASK, &[(36, Some(14)), (36, None)], &[Lost]),
 ];
 
-/// A link that takes so many bytes.
-fn plan(alloc: Global, takes: u64, fails: Option<u64>) -> Result<Plan, AllocError>
-    requires { takes ≤ 16777216 }
-    ensures { IfOk result IsPlan }
-{
-    Ok(Plan {
-        refuse: false,
-        gives: List::from_vec(Vec::from_slice(alloc, GIVEN)?),
-        piece: 14,
-        read_fails_at: fails,
-        takes,
-    })
-}
-
-/// Puts a plan behind those that are there.
-fn add(
-    alloc: Global,
-    plans: &mut List<Plan>,
-    takes: u64,
-    fails: Option<u64>,
-) -> Result<(), AllocError>
-    requires { All IsPlan plans.old }
-    ensures { All IsPlan plans.new }
-{
-    plans.push(plan(alloc, takes.min(16_777_216), fails)?)
-}
-
 /// A net of two links.
-fn net_of(alloc: Global, links: &[(u64, Option<u64>)]) -> Result<MemNet, AllocError> {
-    let mut plans = List::new(alloc);
-    if let [(takes, fails), (then, and_fails)] = links {
-        add(alloc, &mut plans, *takes, *fails)?;
-        add(alloc, &mut plans, *then, *and_fails)?;
-    }
+fn net_of(alloc: Global, links: &[Taking]) -> Result<MemNet, AllocError> {
+    let plans = plans(alloc, GIVEN, links)?;
     MemNet::new(alloc, plans, List::new(alloc), List::new(alloc), false)
 }
 

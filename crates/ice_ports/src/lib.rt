@@ -53,9 +53,6 @@ pub use nets::{Listener, Net, Tray};
 pub use output::{write_all, write_pieces};
 pub use plan_of_link::Plan;
 pub use ports::{Failed, MOST_OF_A_READ, PortFault, Shelf, ShelfFault, Sink, Source};
-pub use std_streams::{StdSink, StdSource};
+pub use std_streams::{StdSink, StdSource, read_once, write_once};
 pub use talk::Talk;
 pub use tcp::{TcpLink, TcpListener, TcpNet, TcpTray};
-
-#[cfg(test)]
-mod tests;

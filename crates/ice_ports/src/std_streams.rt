@@ -135,8 +135,9 @@ impl<W: Write> Sink for StdSink<W> {
     }
 }
 
-/// One read, repeated only where it was interrupted.
-pub(crate) fn read_once<R: Read>(reader: &mut R, into: &mut [u8]) -> Result<usize, Failed>
+/// One read, repeated only where the system interrupted it. `Failed` where it fails in any other way, and then the
+/// reader gave nothing.
+pub fn read_once<R: Read>(reader: &mut R, into: &mut [u8]) -> Result<usize, Failed>
     ensures bound { ReadsAtMost result into.new }
     ensures bytes { ReadConsumes (R.remaining reader.old) (R.remaining reader.new) result into.new }
 {
@@ -153,8 +154,9 @@ pub(crate) fn read_once<R: Read>(reader: &mut R, into: &mut [u8]) -> Result<usiz
     Err(Failed)
 }
 
-/// One write, repeated only where it was interrupted. A write that takes nothing has failed.
-pub(crate) fn write_once<W: Write>(writer: &mut W, piece: &[u8]) -> Result<usize, Failed>
+/// One write, repeated only where the system interrupted it. `Failed` where it fails in any other way or takes nothing
+/// of a piece that has bytes, and then the writer took nothing.
+pub fn write_once<W: Write>(writer: &mut W, piece: &[u8]) -> Result<usize, Failed>
     ensures bound { WritesAtMost result piece.now }
     ensures bytes { WriteAppends (W.contents writer.old) (W.contents writer.new) result piece.now }
     ensures progress { IfOk result (λ n. 0 < length piece.now → 0 < n) }

@@ -1,8 +1,7 @@
-//! Calls of the system that are interrupted, which no public call can bring about.
+//! Calls of the system that are interrupted, which no case can bring about.
 ghost use Rattle.std.specs.Prelude.{◌≤◌, IfOk};
 
-use crate::ports::Failed;
-use crate::std_streams::{read_once, write_once};
+use ice_ports::{Failed, read_once, write_once};
 use std::io::{self, Error, ErrorKind, Read, Write};
 
 /// Is interrupted twice, and then answers.
