@@ -1,6 +1,6 @@
-//! Tests of inputs, of what they come by and of user exceptions, over public calls, one module a subject: files, streams,
-//! and connections over the loopback, alone and many at once, and in memory; what no case can bring about, and calls that
-//! no command makes. The crate has no functions of its own.
+//! Tests of inputs, of what they come by and of user exceptions, over public calls, one module a subject: files,
+//! streams, and connections over the loopback, alone and many at once, and in memory; what no case can bring about,
+//! and calls that no command makes. The crate has no functions of its own.
 #![tactic(auto)]
 
 #[cfg(test)]
