@@ -83,10 +83,10 @@ module _ (once : ForwardsOnce) (gate : Gate) where
 
   due_once : (n : Message) (cut : List (List Tried)) (tried : List Tried) → DueStarved gate (Some n) cut → cut ≡ tried ∷ [] → (IsIdempotent n → ⊥) → OnlyLastCounts n tried
   due_once n cut tried (inl none) is never = absurd (let e : [] ≡ tried ∷ [] = sym none ∙ is in cc)
-  due_once n cut tried (inr (other, are, uncached, inl starved)) is never =
+  due_once n cut tried (inr (other, are, uncached, inl ran_out)) is never =
       let e : other ∷ [] ≡ tried ∷ [] = sym are ∙ is in
       let same : other ≡ tried = cc in
-      once.starved n gate.retries tried never (subst (ClientStarved n gate.retries) same starved) (subst (Each is_uncached) same uncached)
+      once.starved n gate.retries tried never (subst (ClientStarved n gate.retries) same ran_out) (subst (Each is_uncached) same uncached)
   due_once n cut tried (inr (other, are, uncached, inr (outcome, did))) is never =
       let e : other ∷ [] ≡ tried ∷ [] = sym are ∙ is in
       let same : other ≡ tried = cc in
