@@ -44,3 +44,7 @@ pub record IsDeclared (o : Operation) : Type 0 where
 -- wherever its rows lie in memory
 abbrev pub seen : Known → Operation
 seen k = record { tables = k.schema.now; declared = k.operation.now; mode = k.mode }
+
+-- one that was found, or none
+abbrev pub found_seen : Option Known → Option Operation
+found_seen = option_map seen

@@ -13,7 +13,7 @@ use proxy_text::{TextFault, parse_text};
 use std::alloc::Global;
 
 /// The object that is called, and who is asked for endpoints where its proxy has none.
-#[derive(Debug, Drop)]
+#[derive(Drop)]
 pub struct Callee {
     pub locator: Option<Proxy>,
     pub proxy: Proxy,

@@ -1,10 +1,10 @@
 //! `call [--retries R] [--times T] [--compact] [--locator PROXY] FILE INTERFACE PROXY OPERATION`
 
-ghost use Rattle.std.specs.Prelude.{◌≡◌, ◌≤◌, IfSome, option_map, ℕ};
+ghost use Rattle.std.specs.Prelude.{◌≡◌, ◌≤◌, IfSome, ℕ};
 ghost use Rattle.proxy_text.specs.Grammar.{proxy_text};
 ghost use Rattle.node_commands.specs.Outside.{counts, outside};
 ghost use Rattle.call_command.specs.Words.{IsWithin, seen};
-ghost use Rattle.call_command.specs.Operations.{IsDeclared, seen as operation_seen};
+ghost use Rattle.call_command.specs.Operations.{IsDeclared, found_seen, seen as operation_seen};
 ghost use Rattle.call_command.specs.Endings.{ended_of};
 ghost use Rattle.call_command.specs.Planning.{seen as plan_seen};
 ghost use Rattle.call_command.specs.Decided.{Decides, IsListed, IsListedCallee, callee_named};
@@ -148,14 +148,14 @@ fn with_found<'a, S: Source, K: Sink, N: Net>(
     requires listed { IsListedCallee callee.now }
     requires declared { IfSome found (λ k. IsDeclared (operation_seen k)) }
     ensures comes { (shelf : ℕ)
-        → Comes (FoundDecides (seen command.entry) (S.left source.old) (option_map operation_seen found.entry) callee.now)
-        (FoundWants (seen command.entry) (option_map operation_seen found.entry) callee.now)
+        → Comes (FoundDecides (seen command.entry) (S.left source.old) (found_seen found.entry) callee.now)
+        (FoundWants (seen command.entry) (found_seen found.entry) callee.now)
         (counts shelf (S.failures source.old) (K.failures sink.old))
         (counts shelf (S.failures source.new) (K.failures sink.new))
         (K.taken sink.old) (K.taken sink.new)
         (net_seen (N.told net.old) (N.failures net.old) (N.listen_failures net.old))
         (net_seen (N.told net.new) (N.failures net.new) (N.listen_failures net.new)) (ended_of result) }
-    ensures taken { TakesInput (FoundWants (seen command.entry) (option_map operation_seen found.entry) callee.now)
+    ensures taken { TakesInput (FoundWants (seen command.entry) (found_seen found.entry) callee.now)
         (S.left source.old) (S.left source.new) }
 {
     let Some(known) = found else {

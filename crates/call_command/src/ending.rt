@@ -15,7 +15,7 @@ use node_commands::{Line, Outcome};
 use std::alloc::AllocError;
 
 /// How a call that does not succeed ends.
-#[derive(Debug, Drop)]
+#[derive(Drop)]
 pub enum Ending<'a> {
     /// It is refused as any command is, before anything is connected.
     Refused(Outcome<'a>),

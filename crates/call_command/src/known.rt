@@ -8,7 +8,7 @@ ghost use Rattle.call_command.specs.Steps.{FindsInterface};
 use ice_types::{OpDecl, Schema};
 
 /// An operation, the schema in which its types are, and the mode of a call of it.
-#[derive(Clone, Copy, Debug)]
+#[derive(Clone, Copy)]
 pub(crate) struct Known<'a> {
     pub schema: &'a Schema,
     pub operation: &'a OpDecl,

@@ -10,7 +10,7 @@ ghost use Rattle.call_command.specs.Steps.{MakesMessage};
 use ice_encoding::LARGEST;
 use ice_messages::{Call, Message, request_length};
 use ice_relay::RelayFault;
-use ice_types::{Bytes, Identity, List, Name, Proxy};
+use ice_types::{Bytes, List, Name, Proxy};
 use std::alloc::{AllocError, Global};
 
 /// How many bytes a message of calls has beside them: its header, and the id or the count.
@@ -27,22 +27,12 @@ pub(crate) fn call_with(
     ensures { IfOk result (λ c. c ≡ call_of proxy.now operation.now mode body) }
 {
     Ok(Call {
-        identity: identity_like(alloc, &proxy.identity)?,
+        identity: proxy.identity.copied(alloc)?,
         facet: Name::of(alloc, proxy.facet.as_str())?,
         operation: Name::of(alloc, operation)?,
         mode,
         context: List::new(alloc),
         body,
-    })
-}
-
-/// A copy of the identity.
-fn identity_like(alloc: Global, identity: &Identity) -> Result<Identity, AllocError>
-    ensures { IfOk result (λ copy. copy ≡ identity.now) }
-{
-    Ok(Identity {
-        name: Name::of(alloc, identity.name.as_str())?,
-        category: Name::of(alloc, identity.category.as_str())?,
     })
 }
 
@@ -114,7 +104,7 @@ fn copy_of(alloc: Global, call: &Call) -> Result<Call, AllocError>
     let mut body = Vec::new(alloc);
     body.extend_from_slice(call.body.as_slice())?;
     Ok(Call {
-        identity: identity_like(alloc, &call.identity)?,
+        identity: call.identity.copied(alloc)?,
         facet: Name::of(alloc, call.facet.as_str())?,
         operation: Name::of(alloc, call.operation.as_str())?,
         mode: call.mode,

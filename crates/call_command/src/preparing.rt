@@ -22,7 +22,7 @@ use ice_types::{OpDecl, Proxy, Schema, Shape};
 use std::alloc::Global;
 
 /// By what it is told what a message came to.
-#[derive(Clone, Copy, Debug)]
+#[derive(Clone, Copy)]
 pub struct Expected<'a> {
     pub schema: &'a Schema,
     pub results: &'a Shape,
@@ -31,7 +31,7 @@ pub struct Expected<'a> {
 }
 
 /// What is sent to whom, how often, and by what it is told what it came to.
-#[derive(Debug, Drop)]
+#[derive(Drop)]
 pub struct Plan<'a> {
     pub expected: Expected<'a>,
     pub callee: &'a Callee,

@@ -8,7 +8,7 @@ use ice_types::Name;
 use std::alloc::AllocError;
 
 /// Why a message was not answered with results.
-#[derive(Debug, Drop)]
+#[derive(Drop)]
 pub enum Reason {
     /// The operation raised a user exception: the type id of its first slice.
     Raised(Name),
@@ -29,7 +29,7 @@ pub enum Reason {
 }
 
 /// What stops a call.
-#[derive(Debug, Drop)]
+#[derive(Drop)]
 pub enum Stop {
     /// A line was not taken.
     WriteFailed,

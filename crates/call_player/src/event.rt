@@ -24,7 +24,7 @@ use std::str::SplitWhitespace;
 use thiserror::Error;
 
 /// What a call is like.
-#[derive(Clone, Copy, Debug)]
+#[derive(Clone, Copy)]
 pub struct Form {
     pub is_idempotent: bool,
     /// It asks for a reply.
@@ -34,7 +34,7 @@ pub struct Form {
 }
 
 /// What happens next in the world.
-#[derive(Clone, Copy, Debug)]
+#[derive(Clone, Copy)]
 pub enum Event {
     Call {
         length: u64,

@@ -4,7 +4,7 @@ use retry_core::{Attempt, ClientAction, ServerAction};
 use std::fmt;
 
 /// What was done at an event.
-#[derive(Clone, Copy, Debug)]
+#[derive(Clone, Copy)]
 pub enum Told {
     /// A call has begun.
     Begun {

@@ -9,7 +9,7 @@ use crate::pair::pass_pair;
 use ice_types::{Schema, TypeRef};
 
 /// The parts that are left of a value.
-#[derive(Clone, Copy, Debug)]
+#[derive(Clone, Copy)]
 pub enum Left {
     /// So many values of one type.
     Items(TypeRef, u32),
@@ -20,7 +20,7 @@ pub enum Left {
 }
 
 /// A value that has begun.
-#[derive(Clone, Copy, Debug)]
+#[derive(Clone, Copy)]
 pub struct Frame {
     /// How deep each part nests at most.
     pub levels: u32,
@@ -28,7 +28,7 @@ pub struct Frame {
 }
 
 /// What stands at a place.
-#[derive(Clone, Copy, Debug)]
+#[derive(Clone, Copy)]
 pub enum Part {
     /// A value, which ends here.
     Over(usize),
@@ -39,7 +39,7 @@ pub enum Part {
 }
 
 /// What one look at a value that has begun comes to.
-#[derive(Clone, Copy, Debug)]
+#[derive(Clone, Copy)]
 pub enum Step {
     /// Parts that end here, and then what is left.
     On(usize, Frame),

@@ -1,5 +1,6 @@
 -- Messages that are taken one after the other, and how a session ends.
 use Rattle.std.proofs.Common.{◌≡◌, ℕ, suc, ◌+◌, ◌<◌, ◌≤◌, inl, inr, Bool, true, false, List, [], ◌∷◌, ◌++◌, length, refl, sym, ap, ap₂, ◌∙◌, subst, arith, append_assoc, append-nil, length-append}
+use Rattle.std.proofs.lemmas.List.{length-map, map-append}
 use Rattle.std.specs.Prelude.{ℤ, pos, Option, Some, None, Result, Ok, Err}
 use Rattle.turnstile.specs.declared.turned.Turned.{Ghosts}
 use Rattle.turnstile.specs.declared.passes.Pass.{Pass}
@@ -42,13 +43,9 @@ asking_long : (hs : List Handled) → length (asking hs) ≡ length hs
 asking_long [] = refl
 asking_long (h ∷ hs) = ap suc (asking_long hs)
 
-steps_long : (hs : List Handled) → length (reply_steps hs) ≡ length hs
-steps_long [] = refl
-steps_long (h ∷ hs) = ap suc (steps_long hs)
-
 few_asked : (asks rest : List Asked) (hs : List Handled) → asks ≡ asking hs ++ rest → length asks ≤ 1 → length (reply_steps hs) ≤ 1
 few_asked asks rest hs is few =
-    let a = ap (λ (z : List Asked). length z) is in let b = length-append (asking hs) rest in let c = asking_long hs in let d = steps_long hs in omega arith
+    let a = ap (λ (z : List Asked). length z) is in let b = length-append (asking hs) rest in let c = asking_long hs in let d : length (reply_steps hs) ≡ length hs = length-map hs _ in omega arith
 
 -- the calls of a batch ask for no reply
 unasked_quiet : (cs : List Call) (rest : List Asked) (hs : List Handled) → unasked cs ≡ asking hs ++ rest → replies hs ≡ []
@@ -177,11 +174,7 @@ abbrev steps : List Handled → List (List Message)
 steps handled = (Validate ∷ []) ∷ reply_steps handled
 
 steps_more : (xs ys : List Handled) → steps xs ++ reply_steps ys ≡ steps (xs ++ ys)
-steps_more xs ys = ap (λ (z : List (List Message)). (Validate ∷ []) ∷ z) (more xs)
-  where
-    more : (hs : List Handled) → reply_steps hs ++ reply_steps ys ≡ reply_steps (hs ++ ys)
-    more [] = refl
-    more (h ∷ hs) = ap (λ (z : List (List Message)). reply_of h.asked.id (answer_of h.outcome) ∷ z) (more hs)
+steps_more xs ys = ap (λ (z : List (List Message)). (Validate ∷ []) ∷ z) (sym (map-append _ xs ys))
 
 module _ {g : Ghosts Object Call Answer} (keys : Keys) where
   pub part_begun : (E : Type 0) (ps : List (Pass Object Call Answer g)) (t : Talk) → Says {E = E} (Validate ∷ []) t (Ok true) → Part keys ps ps t [] 0

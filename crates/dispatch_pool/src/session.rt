@@ -7,7 +7,7 @@ ghost use Rattle.ice_messages.specs.Messages.{SpellsMessage};
 ghost use Rattle.retry_core.specs.declared.server.ServerState.TheVariants as states;
 ghost use Rattle.talking.specs.Hearing.{IsGoing};
 ghost use Rattle.talking.specs.Said.{Counts};
-ghost use Rattle.talking.specs.Ends.{end_of, is_link_failed, fails_next, went_on};
+ghost use Rattle.talking.specs.Ends.{end_of, is_link_failed, fails_next};
 ghost use Rattle.dispatch_pool.specs.Lanes.{AreOf};
 ghost use Rattle.dispatch_pool.specs.Turns.{Grew};
 ghost use Rattle.dispatch_pool.specs.Handled.{Handled, turns_of};
@@ -22,14 +22,7 @@ use ice_ports::Link;
 use retry_core::{Server, ServerEvent};
 use std::alloc::{AllocError, Global};
 use std::sync::Wait;
-use talking::{End, Heard, hear, say};
-
-/// How the connection ends where a reply could not be written.
-fn went_on(went: bool) -> Option<End>
-    ensures { result ≡ went_on went }
-{
-    if went { None } else { Some(End::LinkFailed) }
-}
+use talking::{End, Heard, hear, say, went_on};
 
 /// Handles a message. None where the connection goes on.
 fn serve_message<R: Wait, L: Link, G: Gate>(

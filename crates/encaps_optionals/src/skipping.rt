@@ -10,7 +10,7 @@ use crate::prefix::{bound_by_int, bound_by_size};
 use ice_prims::{Cursor, Fault};
 
 /// What became of the value of an unknown member.
-#[derive(Clone, Copy, Debug, PartialEq, Eq)]
+#[derive(Clone, Copy, PartialEq, Eq)]
 pub enum Skipped {
     /// It was passed over.
     Passed,

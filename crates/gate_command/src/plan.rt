@@ -15,7 +15,7 @@ use proxy_text::{TextFault, parse_text};
 use std::alloc::Global;
 
 /// What calls are forwarded by.
-#[derive(Debug, Drop)]
+#[derive(Drop)]
 pub struct Plan {
     /// The operations that every object has.
     pub object: Schema,

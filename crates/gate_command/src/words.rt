@@ -18,7 +18,7 @@ const CONNECTIONS: &str = "--connections";
 const RETRIES: &str = "--retries";
 
 /// `gate [--connections C] [--retries R] FILE INTERFACE HOST PORT PROXY`
-#[derive(Clone, Copy, Debug, PartialEq, Eq)]
+#[derive(Clone, Copy, PartialEq, Eq)]
 pub struct GateCommand<'a> {
     /// How many connections are accepted.
     pub connections: u32,
@@ -35,7 +35,7 @@ pub struct GateCommand<'a> {
 }
 
 /// The options that were given.
-#[derive(Clone, Copy, Debug, PartialEq, Eq)]
+#[derive(Clone, Copy, PartialEq, Eq)]
 pub struct Options {
     pub connections: Option<u32>,
     pub retries: Option<u32>,

@@ -18,7 +18,7 @@ use serde_json::{Map, Value as Json};
 use std::alloc::{AllocError, Global};
 
 /// The values of the roots, and the instances in the order of the list.
-#[derive(Debug, Drop)]
+#[derive(Drop)]
 pub(crate) struct Listed {
     pub(crate) roots: Members,
     pub(crate) instances: Vec<Instance>,

@@ -14,7 +14,7 @@ use ice_messages::{Call, Frames, Message, is_clients, messages_exact};
 use std::alloc::{AllocError, Global};
 
 /// What a client asked with a message.
-#[derive(Debug, Clone, Copy, PartialEq, Eq)]
+#[derive(Clone, Copy, PartialEq, Eq)]
 pub enum Posed {
     /// A request with this id.
     Request(i32),
@@ -23,7 +23,7 @@ pub enum Posed {
 }
 
 /// What a client asked, and the ids of the replies that it waits for.
-#[derive(Debug, Drop)]
+#[derive(Drop)]
 pub struct Asked {
     pub posed: Vec<Posed>,
     pub due: Vec<i32>,

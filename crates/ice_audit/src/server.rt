@@ -19,7 +19,7 @@ use std::alloc::{AllocError, Global};
 const BEFORE_ID: u64 = 14;
 
 /// The statuses of the replies, and what the stream has come to.
-#[derive(Debug, Drop)]
+#[derive(Drop)]
 pub struct Answered {
     pub statuses: Vec<u8>,
     pub stage: Stage,

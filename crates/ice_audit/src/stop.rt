@@ -7,14 +7,14 @@ use crate::verdict::Why;
 use std::alloc::{AllocError, AllocFailed};
 
 /// What is wrong with a stream, and how many of its bytes stand before that.
-#[derive(Debug, Clone, Copy, PartialEq, Eq)]
+#[derive(Clone, Copy, PartialEq, Eq)]
 pub struct Stop {
     pub place: u64,
     pub why: Why,
 }
 
 /// Why a stream was not read to its end.
-#[derive(Debug, PartialEq, Eq, Drop)]
+#[derive(PartialEq, Eq, Drop)]
 pub enum Halt {
     /// It is no good.
     Found(Stop),
@@ -23,7 +23,7 @@ pub enum Halt {
 }
 
 /// What a stream has come to.
-#[derive(Debug, Clone, Copy, PartialEq, Eq)]
+#[derive(Clone, Copy, PartialEq, Eq)]
 pub enum Stage {
     /// Its end has to send a validate message first, and has sent none.
     Fresh,

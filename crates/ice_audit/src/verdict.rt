@@ -7,7 +7,7 @@ use ice_types::List;
 pub const MOST_BYTES: usize = 16_777_216;
 
 /// How often a call was dispatched, as far as a capture tells.
-#[derive(Debug, Clone, Copy, PartialEq, Eq)]
+#[derive(Clone, Copy, PartialEq, Eq)]
 pub enum Seen {
     /// Once in every run that shows the capture.
     Once,
@@ -18,7 +18,7 @@ pub enum Seen {
 }
 
 /// A request, or a batch that is not empty.
-#[derive(Debug, Clone, Copy, PartialEq, Eq)]
+#[derive(Clone, Copy, PartialEq, Eq)]
 pub struct Line {
     /// The request's id, which is 0 where it asks for no reply; 0 for a batch.
     pub id: i32,
@@ -29,14 +29,14 @@ pub struct Line {
 }
 
 /// An end of a connection.
-#[derive(Debug, Clone, Copy, PartialEq, Eq)]
+#[derive(Clone, Copy, PartialEq, Eq)]
 pub enum Side {
     Client,
     Server,
 }
 
 /// Why a capture is none of a connection whose server answers in order.
-#[derive(Debug, Clone, Copy, PartialEq, Eq)]
+#[derive(Clone, Copy, PartialEq, Eq)]
 pub enum Why {
     /// What is wrong with the bytes there. `Unexpected`: a message that this end does not send. `NotValidated`: the
     /// server sent no validate message first. `UnknownId`: a reply that is not to the next request that asks for one.
@@ -48,7 +48,7 @@ pub enum Why {
 }
 
 /// What a capture tells.
-#[derive(Debug, Drop)]
+#[derive(Drop)]
 pub enum Verdict {
     /// A line for each request and each batch that is not empty, in order.
     Yes(List<Line>),

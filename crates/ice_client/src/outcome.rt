@@ -6,7 +6,7 @@ use ice_types::List;
 use retry_core::{Attempt, ClientAction, ClientEvent};
 
 /// What a message came to, by its last attempt.
-#[derive(Debug, Drop)]
+#[derive(Drop)]
 pub enum Outcome {
     /// The reply was read.
     Replied(Answer),
@@ -25,21 +25,21 @@ pub enum Outcome {
 }
 
 /// What a message came to, and how its attempts ended.
-#[derive(Debug, Drop)]
+#[derive(Drop)]
 pub struct Invoked {
     pub outcome: Outcome,
     pub attempts: List<Attempt>,
 }
 
 /// What one attempt came to, and what its client does next.
-#[derive(Debug, Drop)]
+#[derive(Drop)]
 pub struct Once {
     pub action: ClientAction,
     pub outcome: Outcome,
 }
 
 /// How an attempt ends: what its client is told, and what the message comes to where no attempt follows.
-#[derive(Debug, Drop)]
+#[derive(Drop)]
 pub struct End {
     pub event: ClientEvent,
     pub outcome: Outcome,

@@ -14,7 +14,7 @@ use std::alloc::Global;
 pub const REQUEST_ID: i32 = 1;
 
 /// A message as it is sent.
-#[derive(Debug, Drop)]
+#[derive(Drop)]
 pub struct Outgoing {
     pub bytes: Bytes,
     /// It asks for a reply.

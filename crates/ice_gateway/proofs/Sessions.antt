@@ -1,5 +1,6 @@
 -- Messages that are taken one after the other, and how a session ends.
 use Rattle.std.proofs.Common.{◌≡◌, ℕ, suc, ◌+◌, ◌<◌, ◌≤◌, inl, inr, Bool, true, false, List, [], ◌∷◌, ◌++◌, length, refl, sym, ap, ap₂, ◌∙◌, subst, arith, append_assoc, append-nil, length-append}
+use Rattle.std.proofs.lemmas.List.{length-map, map-append}
 use Rattle.std.specs.Prelude.{◌⊎◌, Option, Some, None, Result, Ok, Err, IfOk}
 use Rattle.ice_encoding.specs.Parts.{Each}
 use Rattle.ice_ports.specs.declared.talk.Talk.{Talk}
@@ -51,14 +52,10 @@ messages_long : (hs : List Handled) → length (messages hs) ≡ length hs
 messages_long [] = refl
 messages_long (h ∷ hs) = ap suc (messages_long hs)
 
-steps_long : (hs : List Handled) → length (reply_steps hs) ≡ length hs
-steps_long [] = refl
-steps_long (h ∷ hs) = ap suc (steps_long hs)
-
 -- of one message one at most was handled
 single_of : (reads rest : List Message) (hs : List Handled) → reads ≡ messages hs ++ rest → length reads ≤ 1 → IsSingle (reply_steps hs)
 single_of reads rest hs is few =
-    inl (let a = ap (λ (z : List Message). length z) is in let b = length-append (messages hs) rest in let c = messages_long hs in let d = steps_long hs in omega arith)
+    inl (let a = ap (λ (z : List Message). length z) is in let b = length-append (messages hs) rest in let c = messages_long hs in let d : length (reply_steps hs) ≡ length hs = length-map hs _ in omega arith)
 
 module _ (gate : Gate) where
   pub next_handled : {E : Type 0} (r : Result Bool E) (runs : List (List Tried)) (m : Message) (bytes held first : List ℕ) (t : Talk) → bytes ≡ first ++ held → SpellsMessage first m
@@ -149,11 +146,7 @@ abbrev steps : List Handled → List (List Message)
 steps handled = (Validate ∷ []) ∷ reply_steps handled
 
 steps_more : (xs ys : List Handled) → steps xs ++ reply_steps ys ≡ steps (xs ++ ys)
-steps_more xs ys = ap (λ (z : List (List Message)). (Validate ∷ []) ∷ z) (more xs)
-  where
-    more : (hs : List Handled) → reply_steps hs ++ reply_steps ys ≡ reply_steps (hs ++ ys)
-    more [] = refl
-    more (h ∷ hs) = ap (λ (z : List (List Message)). h.replies ∷ z) (more hs)
+steps_more xs ys = ap (λ (z : List (List Message)). (Validate ∷ []) ∷ z) (sym (map-append _ xs ys))
 
 -- a message is left only where none was handled in its place
 all_before : (xs ys : List Handled) (reads rest : List Message) (x y : List ℕ) → reads ≡ messages ys ++ rest → length reads ≤ 1 → y ≡ [] → IsSaid (Validate ∷ replies xs) x

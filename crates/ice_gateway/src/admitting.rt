@@ -19,7 +19,7 @@ use ice_messages::{Answer, Call, request_length};
 use std::alloc::{AllocError, Global};
 
 /// What becomes of a call.
-#[derive(Debug, Drop)]
+#[derive(Drop)]
 pub enum Admitted {
     /// It is forwarded so.
     Goes(Call),

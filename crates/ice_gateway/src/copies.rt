@@ -3,7 +3,7 @@
 ghost use Rattle.std.specs.Prelude.{◌≡◌, IfOk};
 
 use ice_messages::Call;
-use ice_types::{Bytes, Identity, List, Name};
+use ice_types::{Bytes, List, Name};
 use std::alloc::{AllocError, Global};
 
 /// A copy of the call with this body.
@@ -11,7 +11,7 @@ pub(crate) fn call_with(alloc: Global, call: &Call, body: Bytes) -> Result<Call,
     ensures { IfOk result (λ copy. copy ≡ record call.now { body = body }) }
 {
     Ok(Call {
-        identity: identity_like(alloc, &call.identity)?,
+        identity: call.identity.copied(alloc)?,
         facet: name_like(alloc, &call.facet)?,
         operation: name_like(alloc, &call.operation)?,
         mode: call.mode,
@@ -24,15 +24,6 @@ fn name_like(alloc: Global, name: &Name) -> Result<Name, AllocError>
     ensures { IfOk result (λ copy. copy ≡ name.now) }
 {
     Name::of(alloc, name.as_str())
-}
-
-fn identity_like(alloc: Global, identity: &Identity) -> Result<Identity, AllocError>
-    ensures { IfOk result (λ copy. copy ≡ identity.now) }
-{
-    Ok(Identity {
-        name: name_like(alloc, &identity.name)?,
-        category: name_like(alloc, &identity.category)?,
-    })
 }
 
 fn context_like(alloc: Global, context: &[(Name, Name)]) -> Result<List<(Name, Name)>, AllocError>

@@ -8,7 +8,7 @@ use ice_types::{OpDecl, Proxy, Schema};
 use std::alloc::Global;
 
 /// What calls are forwarded by.
-#[derive(Clone, Copy, Debug)]
+#[derive(Clone, Copy)]
 pub struct Gateway<'a> {
     pub alloc: Global,
     /// The operations that every object has.
@@ -23,7 +23,7 @@ pub struct Gateway<'a> {
 }
 
 /// An operation, and the schema in which its types are.
-#[derive(Clone, Copy, Debug)]
+#[derive(Clone, Copy)]
 pub struct Known<'a> {
     pub schema: &'a Schema,
     pub operation: &'a OpDecl,

@@ -20,7 +20,7 @@ use object_adapter::LONGEST;
 use std::alloc::{AllocError, Global};
 
 /// A body that was written anew.
-#[derive(Debug, Drop)]
+#[derive(Drop)]
 pub enum Renewed {
     /// Its canonical bytes, in sliced format.
     Written(Bytes),

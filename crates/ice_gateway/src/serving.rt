@@ -27,7 +27,7 @@ pub struct Gated<D: Listener> {
 }
 
 /// What became of the next link.
-#[derive(Clone, Copy, Debug, PartialEq, Eq)]
+#[derive(Clone, Copy, PartialEq, Eq)]
 pub enum Turn {
     /// It was served, and taken back.
     Served,

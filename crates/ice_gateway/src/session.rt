@@ -9,7 +9,7 @@ ghost use Rattle.ice_messages.specs.Messages.{SpellsMessage};
 ghost use Rattle.ice_client.specs.ClientDid.{Tried};
 ghost use Rattle.talking.specs.Hearing.{IsGoing};
 ghost use Rattle.talking.specs.Said.{Counts, fails_said};
-ghost use Rattle.talking.specs.Ends.{end_of, is_link_failed, fails_next, went_on};
+ghost use Rattle.talking.specs.Ends.{end_of, is_link_failed, fails_next};
 ghost use Rattle.ice_gateway.specs.Gate.{seen};
 ghost use Rattle.ice_gateway.specs.Runs.{Ran, net_seen};
 ghost use Rattle.ice_gateway.specs.GateDid.{GateDid};
@@ -20,14 +20,7 @@ use crate::gateway::Gateway;
 use ice_messages::{Call, Frames, Message, server_fault};
 use ice_ports::{Link, Net};
 use std::alloc::AllocError;
-use talking::{End, Heard, hear, say};
-
-/// How the connection ends where a reply could not be written.
-fn went_on(went: bool) -> Option<End>
-    ensures { result ≡ went_on went }
-{
-    if went { None } else { Some(End::LinkFailed) }
-}
+use talking::{End, Heard, hear, say, went_on};
 
 /// Forwards a request, and writes its answer where one is asked for. False where a write failed.
 fn handle_request<N: Net, L: Link>(

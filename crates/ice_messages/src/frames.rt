@@ -12,7 +12,7 @@ use std::marker::Model;
 
 /// A reader of messages that come in pieces, as from a connection. Contracts see the bytes that it holds and the fault
 /// that has stopped it.
-#[derive(Debug, Drop)]
+#[derive(Drop)]
 pub struct Frames {
     alloc: Global,
     /// What was fed. The messages that were handed out stand before `head`.

@@ -6,7 +6,7 @@ use ice_types::{Bytes, Identity, List, Name};
 pub const HEADER_BYTES: usize = 14;
 
 /// An operation of an object, called with arguments. (Ice manual, "Request Message".)
-#[derive(Debug, Drop)]
+#[derive(Drop)]
 pub struct Call {
     pub identity: Identity,
     /// Empty for the default facet.
@@ -21,7 +21,7 @@ pub struct Call {
 }
 
 /// What a call came to. (Ice manual, "Reply Message".)
-#[derive(Debug, Drop)]
+#[derive(Drop)]
 pub enum Answer {
     /// The encapsulation of the results.
     Done(Bytes),
@@ -42,7 +42,7 @@ pub enum Answer {
 }
 
 /// A message of protocol 1.0. (Ice manual, "Protocol Messages".)
-#[derive(Debug, Drop)]
+#[derive(Drop)]
 pub enum Message {
     /// A call that wants the reply with this id, or with 0 none.
     Request { id: i32, call: Call },

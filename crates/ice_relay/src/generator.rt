@@ -4,7 +4,7 @@ ghost use Rattle.std.specs.Prelude.{◌≡◌, ◌<◌};
 ghost use Rattle.ice_relay.specs.Drawn.{after, draw, given, next};
 
 /// A linear congruential generator, by the number that it stands at.
-#[derive(Clone, Copy, Debug)]
+#[derive(Clone, Copy)]
 pub(crate) struct Generator {
     pub(crate) number: u32,
 }

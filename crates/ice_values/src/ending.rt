@@ -1,7 +1,7 @@
 //! What stands behind optional members.
 
 /// How the optional members of a shape end. (Ice manual, "Data Encoding for Optional Values".)
-#[derive(Clone, Copy, Debug)]
+#[derive(Clone, Copy)]
 pub enum Ending {
     /// Those of a slice: with the byte 255, where there is any.
     Marked,

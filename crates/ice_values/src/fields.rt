@@ -8,14 +8,14 @@ use ice_types::Member;
 /// The members of a shape by where they are declared: those that are always there, in order, and the
 /// optional ones, in any order. A class or an exception hands over its own members as both: those with
 /// a tag are none of the required ones, and those without a tag none of the optional ones.
-#[derive(Clone, Copy, Debug)]
+#[derive(Clone, Copy)]
 pub struct DeclaredMembers<'a> {
     pub required: &'a [Member],
     pub optional: &'a [Member],
 }
 
 /// Where the optional members stand.
-#[derive(Clone, Copy, Debug, PartialEq, Eq)]
+#[derive(Clone, Copy, PartialEq, Eq)]
 pub enum Optionals {
     /// Nowhere: a slice whose flag says that there are none.
     Absent,

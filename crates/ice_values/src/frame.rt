@@ -13,7 +13,7 @@ use ice_types::{List, Schema, TypeRef};
 use std::alloc::{AllocError, Global};
 
 /// What is made of the parts.
-#[derive(Clone, Copy, Debug)]
+#[derive(Clone, Copy)]
 pub enum Assembly {
     /// The one part itself.
     Whole,
@@ -22,7 +22,7 @@ pub enum Assembly {
 }
 
 /// Parts one after the other.
-#[derive(Debug, Drop)]
+#[derive(Drop)]
 pub struct Each {
     pub sort: Assembly,
     pub left: Left,
@@ -31,7 +31,7 @@ pub struct Each {
 }
 
 /// How far the next key or value of a dictionary is.
-#[derive(Clone, Copy, Debug)]
+#[derive(Clone, Copy)]
 pub enum Part {
     /// Not begun.
     Next,
@@ -42,7 +42,7 @@ pub enum Part {
 }
 
 /// The pairs of a dictionary.
-#[derive(Debug, Drop)]
+#[derive(Drop)]
 pub struct Pairs {
     pub key: TypeRef,
     pub value: TypeRef,
@@ -54,14 +54,14 @@ pub struct Pairs {
 }
 
 /// What a value has, and what it still waits for.
-#[derive(Debug, Drop)]
+#[derive(Drop)]
 pub enum Parts {
     Each(Each),
     Pairs(Pairs),
 }
 
 /// A value of which some parts are read.
-#[derive(Debug, Drop)]
+#[derive(Drop)]
 pub struct Frame {
     /// How deep each part nests at most.
     pub levels: u32,

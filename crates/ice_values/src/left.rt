@@ -5,7 +5,7 @@ ghost use Rattle.ice_values.specs.Frames.{Splits};
 use ice_types::{Schema, TypeRef};
 
 /// The types of the parts that are left.
-#[derive(Clone, Copy, Debug)]
+#[derive(Clone, Copy)]
 pub enum Left {
     /// So many of one type.
     Items(TypeRef, u32),

@@ -20,7 +20,7 @@ use std::alloc::Global;
 use std::mem;
 
 /// Members that are being read. It takes memory for what is read, and never for what a size merely claims.
-#[derive(Debug, Drop)]
+#[derive(Drop)]
 pub struct MembersReader<'a> {
     optionals: Optionals,
     required: RequiredReader,

@@ -11,7 +11,7 @@ use std::alloc::AllocError;
 use std::marker::Model;
 
 /// Each reference is its number: 0 for null, else one more than the number. No instance begins.
-#[derive(Debug, Drop)]
+#[derive(Drop)]
 pub struct Numbers;
 
 impl Model for Numbers {

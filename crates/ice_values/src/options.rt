@@ -28,7 +28,7 @@ use std::alloc::Global;
 use std::mem;
 
 /// An optional member that has begun and is not read whole.
-#[derive(Debug, Drop)]
+#[derive(Drop)]
 pub struct Item<'a> {
     pub tag: u32,
     pub reader: ValueReader,
@@ -37,7 +37,7 @@ pub struct Item<'a> {
 }
 
 /// What stands before an optional member.
-#[derive(Clone, Copy, Debug)]
+#[derive(Clone, Copy)]
 pub(crate) struct Lead {
     pub place: u64,
     pub tag: u32,
@@ -45,7 +45,7 @@ pub(crate) struct Lead {
 }
 
 /// Optional members of which some are read.
-#[derive(Debug, Drop)]
+#[derive(Drop)]
 pub struct OptionsReader<'a> {
     /// Those that are read, by rising tag.
     pub done: List<(u32, Value)>,

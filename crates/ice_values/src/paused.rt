@@ -1,7 +1,7 @@
 //! What work ends with that pauses where an instance begins.
 
 /// What a piece of the work ends with.
-#[derive(Debug, Drop)]
+#[derive(Drop)]
 pub enum Paused<T> {
     /// All is done, and this is what is made of it.
     Done(T),
@@ -10,7 +10,7 @@ pub enum Paused<T> {
 }
 
 /// What one step of the work ends with.
-#[derive(Debug, Drop)]
+#[derive(Drop)]
 pub enum Step<T> {
     /// There is more to do.
     On,

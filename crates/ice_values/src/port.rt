@@ -8,7 +8,7 @@ ghost use Rattle.ice_values.specs.Taking.{TakesMet, NarrowsOnMet};
 use ice_prims::{Cursor, ReadFault};
 
 /// What stands at a reference.
-#[derive(Clone, Copy, Debug, PartialEq, Eq)]
+#[derive(Clone, Copy, PartialEq, Eq)]
 pub enum Met {
     /// An instance that has begun, by its name; None for null.
     Known(Option<u32>),

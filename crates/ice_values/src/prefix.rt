@@ -10,7 +10,7 @@ use ice_prims::{Cursor, Fault, Kind};
 use ice_types::{FORMAT_FSIZE, FORMAT_VSIZE, Schema, TypeRef};
 
 /// Which length stands before a value.
-#[derive(Clone, Copy, Debug)]
+#[derive(Clone, Copy)]
 pub enum Prefix {
     /// None.
     NoLength,

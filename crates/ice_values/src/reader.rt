@@ -24,7 +24,7 @@ use std::alloc::{AllocError, Global};
 use std::mem;
 
 /// A value that is being read. It takes memory for what is read, and never for what a size merely claims.
-#[derive(Debug, Drop)]
+#[derive(Drop)]
 pub struct ValueReader {
     /// The innermost value that has begun.
     top: Frame,

@@ -17,7 +17,7 @@ use std::alloc::Global;
 use std::mem;
 
 /// Required members of which some are read.
-#[derive(Debug, Drop)]
+#[derive(Drop)]
 pub struct RequiredReader {
     /// The values of those that are read.
     pub done: List<Value>,

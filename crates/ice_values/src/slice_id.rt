@@ -10,7 +10,7 @@ use std::alloc::{AllocError, Global};
 
 /// The id of a slice: of an instance its type id or its compact id, of an exception its type id.
 /// (Ice manual, "Compact Type IDs".)
-#[derive(Clone, Copy, Debug)]
+#[derive(Clone, Copy)]
 pub enum SliceId<'a> {
     /// A type id, which is empty where none stands or the schema has no such row.
     Text(&'a str),

@@ -15,7 +15,7 @@ use ice_types::{Member, Schema, number_in};
 /// What has slices: an instance, whose slices are of classes, or a user exception, whose slices are of
 /// exceptions. A class or an exception is named by its row in the schema.
 /// (Ice manual, "Data Encoding for Class and Exception Types".)
-#[derive(Clone, Copy, Debug, PartialEq, Eq)]
+#[derive(Clone, Copy, PartialEq, Eq)]
 pub enum SlicedType {
     /// Class instances: the rows are the classes of the schema.
     Class,

@@ -15,7 +15,7 @@ use std::marker::Model;
 use std::mem;
 
 /// Pairs in rising order of their keys.
-#[derive(Debug, Drop)]
+#[derive(Drop)]
 pub enum Kept {
     /// Each key was above those before.
     Rising(List<(Value, Value)>),
@@ -79,7 +79,7 @@ impl Kept {
 
 /// The pairs of a dictionary that are read, and the key whose value is not. Contracts see the pairs in
 /// rising order of their keys, and that key.
-#[derive(Debug, Drop)]
+#[derive(Drop)]
 pub struct SortedPairs {
     kept: Kept,
     waits: Option<Value>,

@@ -22,7 +22,7 @@ use std::marker::Model;
 pub const MOST_INSTANCES: u32 = 100_000;
 
 /// A reference that is not null.
-#[derive(Clone, Copy, Debug)]
+#[derive(Clone, Copy)]
 pub(crate) struct Reference {
     /// The place of its first byte.
     pub place: u64,

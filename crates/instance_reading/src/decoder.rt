@@ -15,7 +15,7 @@ use ice_values::{DeclaredMembers, MembersReader, Optionals, Paused};
 use std::alloc::Global;
 
 /// The members of a whole content, and the instances that begin in it, each named by its place.
-#[derive(Debug, Drop)]
+#[derive(Drop)]
 pub struct Content {
     pub roots: Members,
     pub instances: Vec<Instance>,

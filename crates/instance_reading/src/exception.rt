@@ -18,7 +18,7 @@ use std::alloc::Global;
 
 /// The slices of a user exception, in which a known one names an exception of the schema by its place, and
 /// the instances that begin in them, each named by its place.
-#[derive(Debug, Drop)]
+#[derive(Drop)]
 pub struct UserExceptionContent {
     pub slices: List<Slice>,
     pub instances: Vec<Instance>,

@@ -20,7 +20,7 @@ use ice_values::{MembersReader, SliceId, SlicedType};
 use std::alloc::Global;
 
 /// What a slice follows.
-#[derive(Clone, Copy, Debug)]
+#[derive(Clone, Copy)]
 pub(crate) enum Before {
     /// Nothing: it is the first.
     First,

@@ -1,7 +1,7 @@
 //! The two formats of class instances.
 
 /// How class instances are written. (Ice manual, "Data Encoding for Class and Exception Types".)
-#[derive(Clone, Copy, Debug, PartialEq, Eq)]
+#[derive(Clone, Copy, PartialEq, Eq)]
 pub enum Format {
     /// Each slice with its size and a table of the instances that its members name.
     Sliced,

@@ -26,7 +26,7 @@ const AS_INDEX: u8 = 2;
 const AS_NUMBER: u8 = 3;
 
 /// What the flags of a slice say beside how its type id stands.
-#[derive(Clone, Copy, Debug)]
+#[derive(Clone, Copy)]
 pub(crate) struct Flags {
     pub has_optional: bool,
     pub has_table: bool,

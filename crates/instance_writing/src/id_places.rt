@@ -7,7 +7,7 @@ use std::alloc::{AllocError, Global};
 use std::collections::BTreeMap;
 
 /// The place of each type id that was written as a text.
-#[derive(Debug, Drop)]
+#[derive(Drop)]
 pub(crate) struct IdPlaces {
     places: BTreeMap<String, u32>,
     alloc: Global,

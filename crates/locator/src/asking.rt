@@ -18,7 +18,7 @@ use locator_types::locator_schema;
 use std::alloc::{AllocError, Global};
 
 /// What one question came to.
-#[derive(Debug, Drop)]
+#[derive(Drop)]
 pub enum Told {
     /// An answer that leads there.
     Leads(Lead),
@@ -27,7 +27,7 @@ pub enum Told {
 }
 
 /// What is done after the first question.
-#[derive(Debug, Drop)]
+#[derive(Drop)]
 pub enum Next {
     /// The adapter with this id is asked for in turn.
     Ask(Name),
@@ -36,7 +36,7 @@ pub enum Next {
 }
 
 /// What a locator found.
-#[derive(Debug, Drop)]
+#[derive(Drop)]
 pub enum Found {
     /// These endpoints.
     At(List<Endpoint>),

@@ -14,7 +14,7 @@ use std::alloc::{AllocError, Global};
 use std::hash::{Hash, Hasher};
 
 /// What a place is kept by, and asked for. (Ice manual, "Locators".)
-#[derive(Debug, Drop)]
+#[derive(Drop)]
 pub enum Key {
     /// An object, by its identity.
     Object(Identity),

@@ -19,7 +19,7 @@ use ice_values::DeclaredMembers;
 use std::alloc::{AllocError, Global};
 
 /// Where an answer of the locator leads.
-#[derive(Debug, Drop)]
+#[derive(Drop)]
 pub enum Lead {
     /// To these endpoints, one at least.
     At(List<Endpoint>),

@@ -18,7 +18,7 @@ use ice_types::{Endpoint, Name, Proxy};
 use std::alloc::{AllocError, Global};
 
 /// Where a proxy leads.
-#[derive(Debug, Drop)]
+#[derive(Drop)]
 pub enum Resolved {
     /// To the endpoints of this proxy: the one given, or for one without endpoints the same without its adapter
     /// and with those that were found; and whether they came from the cache.

@@ -22,7 +22,7 @@ use retry_core::{Attempt, Client};
 use std::alloc::{AllocError, Global};
 
 /// To whom a message goes, and by which locator.
-#[derive(Clone, Copy, Debug)]
+#[derive(Clone, Copy)]
 pub struct Target<'a> {
     pub locator: Option<&'a Proxy>,
     pub proxy: &'a Proxy,
@@ -30,7 +30,7 @@ pub struct Target<'a> {
 }
 
 /// What one step came to.
-#[derive(Debug, Drop)]
+#[derive(Drop)]
 pub enum Step {
     /// An attempt, which is over.
     Over(Once),

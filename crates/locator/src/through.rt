@@ -21,7 +21,7 @@ use retry_core::{Client, ClientAction};
 use std::alloc::{AllocError, Global};
 
 /// What a message to a proxy came to.
-#[derive(Debug, Drop)]
+#[derive(Drop)]
 pub enum Through {
     /// Its attempts came to this.
     Invoked(Invoked),

@@ -15,7 +15,7 @@ use std::alloc::{AllocError, Global};
 pub const MOST_MESSAGES: u32 = ice_messages::MOST_MESSAGES;
 
 /// What telling the messages of an input came to.
-#[derive(Clone, Copy, Debug, PartialEq, Eq)]
+#[derive(Clone, Copy, PartialEq, Eq)]
 pub enum Dump {
     /// Each message has its line, and nothing follows the last one.
     Finished,

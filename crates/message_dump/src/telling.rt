@@ -13,7 +13,7 @@ use ice_prims::{Fault, Kind, ReadFault};
 use std::alloc::Global;
 
 /// How far the messages of an input are told.
-#[derive(Debug, Drop)]
+#[derive(Drop)]
 pub struct Telling {
     /// The bytes behind the messages that were told.
     pub frames: Frames,

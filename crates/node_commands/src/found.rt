@@ -1,7 +1,7 @@
 //! What is found for the words.
 
 /// What is found, before any of it is written.
-#[derive(Debug, Drop)]
+#[derive(Drop)]
 pub enum Found {
     /// Bytes, which are to be written.
     Bytes(Vec<u8>),

@@ -19,7 +19,7 @@ use slice_check::LoadFault;
 use std::alloc::AllocError;
 
 /// What the program's work came to.
-#[derive(Debug, Drop)]
+#[derive(Drop)]
 pub enum Outcome<'a> {
     /// The answer was written.
     Done,

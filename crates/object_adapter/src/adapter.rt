@@ -19,7 +19,7 @@ use std::alloc::{AllocError, Global};
 use std::marker::Model;
 
 /// The objects of a server by identity and facet.
-#[derive(Debug, Drop)]
+#[derive(Drop)]
 pub struct Adapter {
     keys: Keys,
     servants: Vec<Servant>,

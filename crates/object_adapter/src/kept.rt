@@ -23,7 +23,7 @@ use ice_types::{Schema, Shape};
 use std::alloc::{AllocError, Global};
 
 /// What a store keeps.
-#[derive(Debug, Drop)]
+#[derive(Drop)]
 pub struct Kept {
     pub number: i32,
     /// The canonical encapsulation of the value, None where it is longer than results may be.

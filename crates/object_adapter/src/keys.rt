@@ -15,7 +15,7 @@ use std::marker::Model;
 pub const MOST_OBJECTS: u32 = 1_000;
 
 /// Which object a call names.
-#[derive(Clone, Copy, Debug, PartialEq, Eq)]
+#[derive(Clone, Copy, PartialEq, Eq)]
 pub enum Found {
     /// The one at this place.
     At(u32),
@@ -27,7 +27,7 @@ pub enum Found {
 
 /// The keys of objects: identities with facets, each once, in rising order.
 /// (Ice manual, "Object Identity" and "Facets".)
-#[derive(Debug, Drop)]
+#[derive(Drop)]
 pub struct Keys {
     keys: Vec<(Identity, Name)>,
 }

@@ -15,7 +15,7 @@ use locator_types::locator_schema;
 use std::alloc::{AllocError, Global};
 
 /// An object that tells where objects and adapters are.
-#[derive(Debug, Drop)]
+#[derive(Drop)]
 pub struct Locator {
     pub schema: Schema,
     pub places: Places,

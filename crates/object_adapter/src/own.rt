@@ -23,7 +23,7 @@ use ice_types::{List, Member, Name, Schema, Shape, TypeRef};
 use std::alloc::{AllocError, Global};
 
 /// An operation that every object has.
-#[derive(Clone, Copy, Debug, PartialEq, Eq)]
+#[derive(Clone, Copy, PartialEq, Eq)]
 pub enum Own {
     /// Does nothing.
     Ping,

@@ -21,7 +21,7 @@ use std::marker::Model;
 pub const MOST_PLACES: usize = 1_000;
 
 /// Where objects and adapters are.
-#[derive(Debug, Drop)]
+#[derive(Drop)]
 pub struct Places {
     objects: Vec<(Identity, Proxy)>,
     adapters: Vec<(Name, Proxy)>,

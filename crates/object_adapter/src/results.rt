@@ -12,7 +12,7 @@ use std::marker::Model;
 
 /// The encapsulation of results or of a user exception, which is not longer than results may be. Contracts
 /// see its bytes.
-#[derive(Debug, Drop)]
+#[derive(Drop)]
 pub struct Results {
     bytes: Bytes,
 }

@@ -25,7 +25,7 @@ use ice_types::{List, Member, Name, Proxy, Schema, Shape, TypeRef};
 use std::alloc::{AllocError, Global};
 
 /// What an operation of a locator seeks.
-#[derive(Clone, Copy, Debug, PartialEq, Eq)]
+#[derive(Clone, Copy, PartialEq, Eq)]
 pub enum Sought {
     /// An object, by its identity.
     Object,

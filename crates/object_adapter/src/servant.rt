@@ -20,7 +20,7 @@ use std::alloc::{AllocError, Global};
 use std::sync::Arc;
 
 /// An object of a server, by what it does.
-#[derive(Debug, Drop)]
+#[derive(Drop)]
 pub enum Servant {
     Store(Store),
     Echo(Echo),

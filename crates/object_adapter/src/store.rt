@@ -20,7 +20,7 @@ use std::alloc::{AllocError, Global};
 use std::sync::Arc;
 
 /// An object that keeps a number and a value.
-#[derive(Debug, Drop)]
+#[derive(Drop)]
 pub struct Store {
     pub schema: Arc<Schema>,
     /// The place of its interface.

@@ -1,5 +1,6 @@
 -- Which connection is which attempt's, and which dispatch is which turn.
-use Rattle.std.proofs.Common.{◌≡◌, ℕ, zero, suc, ◌+◌, ◌<◌, ◌≤◌, ◌⊎◌, inl, inr, List, [], ◌∷◌, length, Option, None, Some, refl, ap, sym, ◌∙◌, subst, arith, map}
+use Rattle.std.proofs.Common.{◌≡◌, ℕ, zero, suc, ◌+◌, ◌<◌, ◌≤◌, ◌⊎◌, inl, inr, List, [], ◌∷◌, ◌++◌, length, take, Option, None, Some, refl, ap, sym, ◌∙◌, subst, arith, map}
+use Rattle.std.specs.List.{flat_map}
 use Rattle.std.specs.Prelude.{slice_get}
 use Rattle.ice_encoding.specs.Parts.{Each}
 use Rattle.ice_ports.specs.declared.talk.Talk.{Talk}
@@ -11,7 +12,7 @@ use Rattle.call_world.specs.Reached.{IsLogged}
 use Rattle.once_law.specs.Placed.{after, connection_of, connections, after_all}
 use Rattle.once_law.specs.Ends.{Session, Attempted, Delivery, talk_of, talks, IsMet, HasOtherEnd, IsDelivery}
 use Rattle.once_law.specs.Shown.{CallWorld, calls_of, turn_at, ShowsTalk, ShowsAttempt, ShowsAttempts, ShowsDelivery, ShowsFrom}
-use Rattle.once_law.specs.Laws.{HasTurn, first_connection, DispatchesAreTurns, TurnsAreDispatches}
+use Rattle.once_law.specs.Laws.{HasTurn, DispatchesAreTurns, TurnsAreDispatches}
 use Rattle.once_law.proofs.Lists.{none_some, none_at, first_is, get_mapped}
 
 pub got : {A B : Type 0} (f : A → B) (xs : List A) (n : ℕ) (x : A) → slice_get xs n ≡ Some x → slice_get (map f xs) n ≡ Some (f x)
@@ -105,6 +106,17 @@ module _ (w : CallWorld) (i : ℕ) (message : Message) (bytes : List ℕ) where
 
 -- ---- all messages
 
+-- the first connection of those of message number `number`, where those of the first begin with c
+abbrev first_from : ℕ → List Delivery → ℕ → ℕ
+first_from c ds number = after_all c (flat_map talks (take number ds))
+
+first_later : (c : ℕ) (d : Delivery) (ds : List Delivery) (number : ℕ) → first_from c (d ∷ ds) (suc number) ≡ first_from (after_all c (talks d)) ds number
+first_later c d ds number = both c (talks d)
+  where
+    both : (first : ℕ) (ts : List (Option Talk)) → after_all first (ts ++ flat_map talks (take number ds)) ≡ after_all (after_all first ts) (flat_map talks (take number ds))
+    both first [] = refl
+    both first (t ∷ ts) = both (after first t) ts
+
 -- a connection that was used is that of an attempt of one of them
 record IsUsed (w : CallWorld) (c k : ℕ) (ds : List Delivery) : Type 0 where
   number : ℕ
@@ -112,7 +124,7 @@ record IsUsed (w : CallWorld) (c k : ℕ) (ds : List Delivery) : Type 0 where
   at : slice_get ds number ≡ Some delivery
   first : ℕ
   bytes : List ℕ
-  on : IsOn w first delivery.message bytes (first_connection c ds number) k delivery.attempts
+  on : IsOn w first delivery.message bytes (first_from c ds number) k delivery.attempts
 
 used : (w : CallWorld) (i c k : ℕ) (ds : List Delivery) → c ≤ k → ¬ (w.connections k ≡ fresh) → ShowsFrom w i c ds → IsUsed w c k ds
 used w i c k [] low some h = absurd (some (h.1 k low))
@@ -127,7 +139,14 @@ used w i c k (d ∷ ds) low some h = elim (lt_or k (after_all c (talks d))) [
   }
   | inr behind ↦
       let u = used w (i + length (calls_of d.message)) (after_all c (talks d)) k ds behind some h.1 in
-      record { number = suc u.number; delivery = u.delivery; at = u.at; first = u.first; bytes = u.bytes; on = u.on }
+      record {
+        number = suc u.number;
+        delivery = u.delivery;
+        at = u.at;
+        first = u.first;
+        bytes = u.bytes;
+        on = subst (λ (x : ℕ). IsOn w u.first u.delivery.message u.bytes x k u.delivery.attempts) (sym (first_later c d ds u.number)) u.on;
+      }
 ]
 
 -- a turn of a connection is that of the session at its other end
@@ -155,12 +174,14 @@ dispatches_are_turns w ds h logged index x at =
 
 -- the place of one of the messages in the world
 shown_at : (w : CallWorld) (i c : ℕ) (ds : List Delivery) (number : ℕ) (d : Delivery) → slice_get ds number ≡ Some d → ShowsFrom w i c ds → Each IsDelivery ds
-    → (first connection : ℕ) × (connection ≡ first_connection c ds number) × ShowsDelivery w first connection d × IsDelivery d
+    → (first connection : ℕ) × (connection ≡ first_from c ds number) × ShowsDelivery w first connection d × IsDelivery d
 shown_at w i c [] number d at h fit = absurd (none_at number d at)
 shown_at w i c (b ∷ ds) zero d at h fit =
     let same : b ≡ d = first_is b d at in
     (i, c, refl, subst (λ (x : Delivery). ShowsDelivery w i c x) same h.0, subst IsDelivery same fit.0)
-shown_at w i c (b ∷ ds) (suc number) d at h fit = shown_at w (i + length (calls_of b.message)) (after_all c (talks b)) ds number d at h.1 fit.1
+shown_at w i c (b ∷ ds) (suc number) d at h fit =
+    let s = shown_at w (i + length (calls_of b.message)) (after_all c (talks b)) ds number d at h.1 fit.1 in
+    (s.0, s.1, s.2 ∙ sym (first_later c b ds number), s.3, s.4)
 
 pub had_turn : (w : CallWorld) (message : Message) (i : ℕ) (bytes : List ℕ) (k seat : ℕ) (talk : Talk) (s : Session) (call : Handled) (answer : Answer)
     → ShowsTalk (w.connections k) i message bytes talk (Some s) → slice_get s.handled seat ≡ Some call → turn_at call ≡ Dispatched answer

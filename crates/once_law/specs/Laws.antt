@@ -1,5 +1,6 @@
 -- The law that joins both ends. (Ice manual, "At-Most-Once Semantics".)
-use Rattle.std.specs.Prelude.{ℕ, pos, zero, suc, ◌≡◌, Bool, true, false, List, [], ◌∷◌, map, Some, slice_get}
+use Rattle.std.specs.Prelude.{ℕ, pos, ◌≡◌, Bool, true, false, List, [], ◌∷◌, map, Some, slice_get, take}
+use Rattle.std.specs.List.{flat_map}
 use Rattle.ice_encoding.specs.Parts.{Each}
 use Rattle.ice_messages.specs.declared.message.Call.{Call}
 use Rattle.ice_messages.specs.declared.message.Answer.{Answer}
@@ -35,15 +36,13 @@ pub record HasTurn (d : Delivery) (n seat : ℕ) (answer : Answer) : Type 0 wher
   pub served : attempt.session ≡ Some session
   pub gave : GaveTurn session seat answer
 
--- the first connection of the attempts at message number `number`, where those at the first message begin with c
-abbrev pub first_connection : ℕ → List Delivery → ℕ → ℕ
-first_connection c [] number = c
-first_connection c (d ∷ ds) zero = c
-first_connection c (d ∷ ds) (suc number) = first_connection (after_all c (talks d)) ds number
+-- the first connection of the attempts at message number `number`: the one behind those of all attempts before
+abbrev pub first_connection : List Delivery → ℕ → ℕ
+first_connection deliveries number = after_all 0 (flat_map talks (take number deliveries))
 
 -- attempt number n at message number `number`, which is d, has this connection
 abbrev pub IsConnection : List Delivery → ℕ → Delivery → ℕ → ℕ → Type 0
-IsConnection deliveries number d n connection = slice_get (connections (first_connection 0 deliveries number) (talks d)) n ≡ Some (Some connection)
+IsConnection deliveries number d n connection = slice_get (connections (first_connection deliveries number) (talks d)) n ≡ Some (Some connection)
 
 -- each dispatch of the world is a turn of the session at the other end of its connection, of the call in its seat, and
 -- recorded the answer of that turn

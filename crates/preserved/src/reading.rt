@@ -19,7 +19,7 @@ use std::alloc::{AllocError, Global};
 pub(crate) const END_MARKER: u8 = 255;
 
 /// What stands in a slice behind its type id and its size, and what its flags say.
-#[derive(Clone, Copy, Debug)]
+#[derive(Clone, Copy)]
 pub struct UnknownPart<'a> {
     /// The bytes of its members, without the end marker of optional ones.
     pub bytes: &'a [u8],

@@ -15,7 +15,7 @@ use proxy_text::{TextFault, parse_identity};
 use std::alloc::{AllocError, Global};
 
 /// What a word names: an object, the place of an object, or the place of an adapter.
-#[derive(Debug, Drop)]
+#[derive(Drop)]
 pub(crate) enum Named {
     Object(Identity),
     Place(Identity),

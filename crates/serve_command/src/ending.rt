@@ -8,7 +8,7 @@ use ice_ports::{Sink, write_all};
 use node_commands::{Outcome, report as report_outcome};
 
 /// How serving ended.
-#[derive(Debug, Drop)]
+#[derive(Drop)]
 pub enum Ending<'a> {
     /// With an outcome that other commands have too.
     Known(Outcome<'a>),

@@ -4,7 +4,7 @@ ghost use Rattle.std.specs.Prelude.{codes, ◌++◌, ◌≢◌};
 ghost use Rattle.serve_command.specs.ObjectWords.{LacksEquals, Spells};
 
 /// What one word asks for.
-#[derive(Clone, Copy, Debug, PartialEq, Eq)]
+#[derive(Clone, Copy, PartialEq, Eq)]
 pub enum ObjectWord<'a> {
     /// `store=IDENTITY=INTERFACE`: an object that keeps a number and a value.
     Store {

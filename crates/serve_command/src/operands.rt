@@ -25,7 +25,7 @@ const WORKERS: &str = "--workers";
 const CONNECTIONS: &str = "--connections";
 
 /// The numbers of the options, FILE, HOST and PORT, and the words behind them.
-#[derive(Clone, Copy, Debug)]
+#[derive(Clone, Copy)]
 pub(crate) struct Operands<'a> {
     pub(crate) workers: u32,
     pub(crate) connections: u32,

@@ -17,7 +17,7 @@ use std::alloc::{AllocError, Global};
 pub const MOST_WORDS: usize = 64;
 
 /// What the words of `serve` ask for.
-#[derive(Debug, Drop)]
+#[derive(Drop)]
 pub struct ServeCommand<'a> {
     /// How many connections are served at once.
     pub workers: u32,

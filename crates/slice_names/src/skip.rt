@@ -9,7 +9,7 @@ use crate::entry::Entry;
 ///
 /// Each scope has one. Their lengths are those of a skew binary counter, so that any way outwards is made in a number
 /// of steps that is the logarithm of its length.
-#[derive(Clone, Copy, Debug)]
+#[derive(Clone, Copy)]
 pub struct Skip {
     /// The number of the scope that it leads to.
     pub to: usize,

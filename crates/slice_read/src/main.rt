@@ -20,7 +20,7 @@ use tree::tree;
 const MOST_OF_A_FILE: u64 = MOST_BYTES as u64 + 1;
 
 /// What is printed of a file.
-#[derive(Clone, Copy, Debug, PartialEq, Eq)]
+#[derive(Clone, Copy, PartialEq, Eq)]
 enum Shown {
     Outcome,
     Tokens,

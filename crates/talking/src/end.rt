@@ -1,9 +1,12 @@
 //! How a connection ended.
 
+ghost use Rattle.std.specs.Prelude.{◌≡◌};
+ghost use Rattle.talking.specs.Ends.{went_on};
+
 use ice_prims::Fault;
 
 /// How a connection that was served ended.
-#[derive(Clone, Copy, Debug, PartialEq, Eq)]
+#[derive(Clone, Copy, PartialEq, Eq)]
 pub enum End {
     /// The peer's bytes ended, with or without a part of a message.
     PeerEnded,
@@ -15,4 +18,11 @@ pub enum End {
     LinkFailed,
     /// As many messages were taken as was stated, and a close message was written.
     Enough,
+}
+
+/// How a connection ends behind a reply: not, where it was written.
+pub fn went_on(went: bool) -> Option<End>
+    ensures { result ≡ went_on went }
+{
+    if went { None } else { Some(End::LinkFailed) }
 }

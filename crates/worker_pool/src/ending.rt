@@ -1,7 +1,7 @@
 //! Why accepting has ended.
 
 /// Why accepting has ended, where it has.
-#[derive(Clone, Copy, Debug, PartialEq, Eq)]
+#[derive(Clone, Copy, PartialEq, Eq)]
 pub enum Ending {
     /// It goes on.
     Open,

@@ -1,10 +1,9 @@
 use Rattle.std.proofs.Common.{inl}
 use Rattle.std.proofs.lemmas.Result.{err_from_is_err_and}
-use Rattle.std.specs.Prelude.{option_map}
 use Rattle.node_commands.specs.Outside.{counts}
 use Rattle.node_commands.proofs.Keeping.{keeps_itself}
 use Rattle.call_command.specs.Words.{seen}
-use Rattle.call_command.specs.Operations.{seen as operation_seen}
+use Rattle.call_command.specs.Operations.{found_seen}
 use Rattle.call_command.specs.Endings.{ended_of}
 use Rattle.call_command.specs.Rounds.{net_seen}
 use Rattle.call_command.specs.Steps.{FoundDecides, FoundWants, SchemaDecides, SchemaWants}
@@ -34,7 +33,7 @@ returns-clause-comes g c = λ shelf.
     let input = g.S.Source.left c.args.source.now in
     let t = c.args.schema.now in
     let parsed = c.args.callee.now in
-    let found = option_map operation_seen c.known_of-found.result in
+    let found = found_seen c.known_of-found.result in
     comes_so (FoundDecides command input found parsed) (SchemaDecides command input parsed t) (FoundWants command found parsed) (SchemaWants command parsed t)
     (schema_decides command input parsed t c.in-Some.interface c.in-Some.ensures found c.known_of-found.ensures.found)
     (schema_wants command input parsed t c.in-Some.interface c.in-Some.ensures found c.known_of-found.ensures.found)
@@ -48,7 +47,7 @@ returns-clause-taken g c =
     let input = g.S.Source.left c.args.source.now in
     let t = c.args.schema.now in
     let parsed = c.args.callee.now in
-    let found = option_map operation_seen c.known_of-found.result in
+    let found = found_seen c.known_of-found.result in
     takes_so (FoundWants command found parsed) (SchemaWants command parsed t)
     (schema_wants command input parsed t c.in-Some.interface c.in-Some.ensures found c.known_of-found.ensures.found)
     input (g.S.Source.left c.with_found.new.source) c.with_found.ensures.taken

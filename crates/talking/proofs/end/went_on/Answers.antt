@@ -1,6 +1,6 @@
 use Rattle.std.proofs.Common.{sym, ap}
 use Rattle.talking.specs.Ends.{went_on}
-use Rattle.ice_gateway.proofs.session.went_on.Goals as goal
+use Rattle.talking.proofs.end.went_on.Goals as goal
 
 pub returns-then-went : goal.returns-then-went
 returns-then-went c = sym (ap went_on c.if-went.true)
