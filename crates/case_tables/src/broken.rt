@@ -5,7 +5,7 @@ ghost use Rattle.case_tables.specs.Tables.{are_distinct};
 ghost use Rattle.case_tables.specs.BrokenRows.{row_names, rows_seen};
 
 /// One byte of an input set to another, and the fault that this brings about.
-#[derive(Clone, Copy, Debug)]
+#[derive(Clone, Copy)]
 pub struct BrokenRow {
     /// The kind, the place of the byte and its value, parted by `_`.
     pub name: &'static str,
@@ -20,7 +20,7 @@ pub struct BrokenRow {
 }
 
 /// So many rows, no two of which have one name.
-#[derive(Clone, Copy, Debug)]
+#[derive(Clone, Copy)]
 pub struct BrokenTable<const N: usize> {
     pub(crate) rows: &'static [BrokenRow],
     pub ghost distinct: { IsTrue (are_distinct (row_names (rows_seen rows.now))) },

@@ -32,7 +32,7 @@ pub use protocol_words::{formats, message_types, operation_modes, proxy_modes, r
 pub use slice_words::{codes_apart, keywords, symbols};
 
 /// Names in the order of their codes, no two of which are equal, and at most 256.
-#[derive(Clone, Copy, Debug)]
+#[derive(Clone, Copy)]
 pub struct CaseTable<const N: usize> {
     names: &'static [&'static str],
     pub ghost distinct: { IsTrue (are_distinct (names_seen names.now)) },

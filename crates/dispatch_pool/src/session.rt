@@ -22,7 +22,7 @@ use ice_ports::Link;
 use retry_core::{Server, ServerEvent};
 use std::alloc::{AllocError, Global};
 use std::sync::Wait;
-use talking::{End, Heard, hear, say, went_on};
+use talking::{End, Heard, end_behind_reply, hear, say};
 
 /// Handles a message. None where the connection goes on.
 fn serve_message<R: Wait, L: Link, G: Gate>(
@@ -54,7 +54,7 @@ fn serve_message<R: Wait, L: Link, G: Gate>(
                 reply: *id != 0,
             });
             let went = serve_request(service, passes, link, server, *id, call)?;
-            Ok(went_on(went))
+            Ok(end_behind_reply(went))
         }
         Message::Batch { calls } => {
             serve_batch(service, passes, server, calls.as_slice())?;

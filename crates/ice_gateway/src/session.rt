@@ -20,7 +20,7 @@ use crate::gateway::Gateway;
 use ice_messages::{Call, Frames, Message, server_fault};
 use ice_ports::{Link, Net};
 use std::alloc::AllocError;
-use talking::{End, Heard, hear, say, went_on};
+use talking::{End, Heard, end_behind_reply, hear, say};
 
 /// Forwards a request, and writes its answer where one is asked for. False where a write failed.
 fn handle_request<N: Net, L: Link>(
@@ -73,7 +73,7 @@ fn handle<N: Net, L: Link>(
     match message {
         Message::Request { id, call } => {
             let went = handle_request(gateway, net, link, *id, call)?;
-            Ok(went_on(went))
+            Ok(end_behind_reply(went))
         }
         Message::Batch { calls } => {
             forward_batch(gateway, net, calls.as_slice())?;

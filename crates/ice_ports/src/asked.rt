@@ -11,7 +11,7 @@ use std::collections::LinkedList;
 pub const MOST_OF_A_HOST: usize = 8192;
 
 /// What a net was asked for: the first `MOST_OF_A_HOST` bytes of the host, and the port.
-#[derive(Debug, Drop)]
+#[derive(Drop)]
 pub struct Asked {
     pub host: Bytes,
     pub port: u16,

@@ -7,7 +7,7 @@ use ice_types::List;
 
 /// The numbers of the calls that fail, counted from 0, and how many calls and failures there were.
 /// Both counts stand still at the end of u64.
-#[derive(Debug, Drop)]
+#[derive(Drop)]
 pub struct FaultPlan {
     pub fails: List<u64>,
     pub calls: u64,

@@ -10,7 +10,7 @@ use std::alloc::{AllocError, Global};
 use std::marker::Model;
 
 /// Files in memory, of which the first of a name counts. The calls of the given numbers fail.
-#[derive(Debug, Drop)]
+#[derive(Drop)]
 pub struct MemShelf {
     files: List<(Name, Bytes)>,
     plan: FaultPlan,

@@ -15,7 +15,7 @@ use std::marker::Model;
 pub const MOST_ROOM: u32 = 16_777_216;
 
 /// Takes bytes up to its room, which is all of its memory. The calls of the given numbers fail.
-#[derive(Debug, Drop)]
+#[derive(Drop)]
 pub struct MemSink {
     bytes: Vec<u8>,
     room: usize,

@@ -10,7 +10,7 @@ use ice_types::{Bytes, List};
 use std::marker::Model;
 
 /// Bytes in memory that come in pieces. The calls of the given numbers fail.
-#[derive(Debug, Drop)]
+#[derive(Drop)]
 pub struct MemSource {
     bytes: Bytes,
     at: usize,

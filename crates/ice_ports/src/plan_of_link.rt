@@ -10,7 +10,7 @@ use std::marker::Model;
 /// What a link in memory does: it gives `gives` in order, at most `piece` bytes a read, and then the
 /// end. It fails each read after `read_fails_at` bytes were given, and each write after `takes` bytes
 /// were taken. With `refuse` a connect fails in its place.
-#[derive(Debug, Drop)]
+#[derive(Drop)]
 pub struct Plan {
     pub refuse: bool,
     pub gives: Bytes,

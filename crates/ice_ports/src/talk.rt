@@ -9,7 +9,7 @@ use std::collections::LinkedList;
 
 /// What went over a link: the bytes that it gave and took, whether a read answered the end, and
 /// whether a call failed.
-#[derive(Debug, Drop)]
+#[derive(Drop)]
 pub struct Talk {
     pub given: Bytes,
     pub taken: Bytes,

@@ -7,7 +7,7 @@ use std::alloc::{AllocError, Global};
 use std::collections::HashMap;
 
 /// The class of each compact id.
-#[derive(Debug, Drop)]
+#[derive(Drop)]
 pub(crate) struct CompactIds {
     classes: HashMap<u32, u32>,
 }

@@ -8,7 +8,7 @@ use std::alloc::{AllocError, Global};
 use std::collections::BTreeMap;
 
 /// The row of each type id.
-#[derive(Debug, Drop)]
+#[derive(Drop)]
 pub(crate) struct Ids {
     rows: BTreeMap<String, RowRef>,
     alloc: Global,

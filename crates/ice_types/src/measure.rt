@@ -5,7 +5,7 @@ ghost use Rattle.ice_types.specs.Measures.{built_in, container, enumeration, no_
 ghost use Rattle.ice_types.specs.Measures.{with_member};
 
 /// What a schema says of a type.
-#[derive(Clone, Copy, Debug, PartialEq, Eq)]
+#[derive(Clone, Copy, PartialEq, Eq)]
 pub struct Measure {
     /// How deep the type nests: 1 for a built-in type, an enum, a proxy and a class, one more than its
     /// element for a sequence, two more than the deeper of its parts for a dictionary, one more than its

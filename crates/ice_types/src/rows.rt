@@ -86,7 +86,7 @@ impl Row for InterfaceDecl {
 }
 
 /// The rows of a table. Beside each, at the same place, is what the schema says of it.
-#[derive(Debug, Drop)]
+#[derive(Drop)]
 pub(crate) struct Rows<T, S> {
     pub decls: List<T>,
     pub beside: List<S>,
@@ -180,7 +180,7 @@ pub(crate) fn fill_interface(
 }
 
 /// The rows of all tables.
-#[derive(Debug, Drop)]
+#[derive(Drop)]
 pub(crate) struct TableRows {
     pub seqs: Rows<SeqDecl, Measure>,
     pub dicts: Rows<DictDecl, Measure>,

@@ -27,7 +27,7 @@ pub const MOST_BASES: u32 = 1_000;
 pub const MOST_NUMBER: u32 = 2_147_483_647;
 
 /// Which types, exceptions and interfaces a Slice text defines. Contracts see its tables.
-#[derive(Debug, Drop)]
+#[derive(Drop)]
 pub struct Schema {
     pub(crate) rows: TableRows,
     pub(crate) ids: Ids,

@@ -7,7 +7,7 @@ ghost use Rattle.object_adapter.specs.Replies.{CanReply};
 use crate::refusal::Refusal;
 use ice_messages::{Answer, Call};
 use ice_prims::Kind;
-use ice_types::{Identity, Name};
+use ice_types::Name;
 use std::alloc::{AllocError, Global};
 
 /// The answer to a refused call.
@@ -31,10 +31,7 @@ pub fn missed(alloc: Global, status: u8, call: &Call) -> Result<Answer, AllocErr
 {
     Ok(Answer::Missing {
         status,
-        identity: Identity {
-            name: Name::of(alloc, call.identity.name.as_str())?,
-            category: Name::of(alloc, call.identity.category.as_str())?,
-        },
+        identity: call.identity.copied(alloc)?,
         facet: Name::of(alloc, call.facet.as_str())?,
         operation: Name::of(alloc, call.operation.as_str())?,
     })

@@ -110,7 +110,7 @@ fn first_token(bytes: &[u8]) -> (Token<'_>, usize)
 
 /// A text that is read from the left, token by token. Contracts see the place of the first byte that is left and the
 /// bytes that are left. (Ice manual, "Proxy and Endpoint Syntax".)
-#[derive(Debug, Drop)]
+#[derive(Drop)]
 pub struct Words<'a> {
     place: u32,
     rest: &'a [u8],

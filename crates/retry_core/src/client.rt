@@ -10,7 +10,7 @@ use std::marker::Model;
 
 /// The client's end of one message, a call or several that ask for no reply: told what came, it answers what to
 /// do next, and lists how each attempt ended. (Ice manual, "Automatic Retries".)
-#[derive(Debug, Drop)]
+#[derive(Drop)]
 pub struct Client {
     idempotent: bool,
     replies: bool,

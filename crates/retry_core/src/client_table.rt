@@ -6,7 +6,7 @@ ghost use Rattle.retry_core.specs.ClientTable.{client_row, taken_row, whole_row}
 use crate::attempt::Attempt;
 
 /// What a client is told.
-#[derive(Clone, Copy, Debug, PartialEq, Eq)]
+#[derive(Clone, Copy, PartialEq, Eq)]
 pub enum ClientEvent {
     /// The connection is there.
     Connected,
@@ -56,7 +56,7 @@ pub enum ClientAction {
 }
 
 /// Where a client stands in its attempt.
-#[derive(Clone, Copy, Debug, PartialEq, Eq)]
+#[derive(Clone, Copy, PartialEq, Eq)]
 pub enum ClientState {
     Connecting,
     AwaitingValidate,
@@ -67,7 +67,7 @@ pub enum ClientState {
 }
 
 /// Where a state and an event lead.
-#[derive(Clone, Copy, Debug, PartialEq, Eq)]
+#[derive(Clone, Copy, PartialEq, Eq)]
 pub enum ClientNext {
     Goes(ClientState, ClientAction),
     Ends(Attempt),

@@ -6,7 +6,7 @@ ghost use Rattle.retry_core.specs.Server.{server_row, request_row, answered_row}
 use std::marker::Model;
 
 /// What a server is told.
-#[derive(Clone, Copy, Debug, PartialEq, Eq)]
+#[derive(Clone, Copy, PartialEq, Eq)]
 pub enum ServerEvent {
     /// The connection is there.
     Opened,
@@ -56,7 +56,7 @@ pub enum ServerAction {
 }
 
 /// Where a server stands on its connection.
-#[derive(Clone, Copy, Debug, PartialEq, Eq)]
+#[derive(Clone, Copy, PartialEq, Eq)]
 pub enum ServerState {
     New,
     Reading,
@@ -119,7 +119,7 @@ fn after_answer(left: u32, reply: bool) -> (ServerAction, ServerState)
 
 /// The server's end of one connection: told what came, it answers what to do next. It reads on only after
 /// the answers of all that it dispatched, and the reply. (Ice manual, "The Ice Protocol", "Protocol State Diagrams".)
-#[derive(Debug, Drop)]
+#[derive(Drop)]
 pub struct Server {
     state: ServerState,
 }

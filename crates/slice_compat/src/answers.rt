@@ -12,7 +12,7 @@ use std::collections::BTreeMap;
 
 /// Whether a row of the old schema can be read as one of the new one, by their places. Without it, fifty
 /// structs of two members of the struct before would take 2^50 steps.
-#[derive(Debug, Drop)]
+#[derive(Drop)]
 pub(crate) struct Answers {
     pub structs: BTreeMap<(u32, u32), bool>,
     pub enums: BTreeMap<(u32, u32), bool>,

@@ -8,7 +8,7 @@ use ice_types::{ClassDecl, Schema};
 use std::alloc::{AllocError, Global};
 
 /// For each class the last one that extends it, and for each the one before it that extends the same class.
-#[derive(Debug, Drop)]
+#[derive(Drop)]
 pub(crate) struct Children {
     pub first: Vec<Option<u32>>,
     pub next: Vec<Option<u32>>,

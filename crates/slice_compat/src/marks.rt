@@ -9,7 +9,7 @@ use ice_types::{Member, Schema, TypeRef};
 use std::alloc::{AllocError, Global};
 
 /// A flag for each row that can be met, and those that are still to be gone through.
-#[derive(Debug, Drop)]
+#[derive(Drop)]
 pub(crate) struct Marks {
     pub seqs: Vec<bool>,
     pub dicts: Vec<bool>,

@@ -6,7 +6,7 @@ ghost use Rattle.slice_compat.specs.Nodes.{node_of};
 use ice_types::TypeRef;
 
 /// A row of a type, a class place, or a class that is reached.
-#[derive(Clone, Copy, Debug, PartialEq, Eq)]
+#[derive(Clone, Copy, PartialEq, Eq)]
 pub(crate) enum Node {
     Seq(u32),
     Dict(u32),

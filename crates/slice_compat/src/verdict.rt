@@ -1,7 +1,7 @@
 //! What is said of two types of two schemas.
 
 /// Why what was spelled of a class cannot be read by that of its type id. The tests are made in this order.
-#[derive(Clone, Copy, Debug, PartialEq, Eq)]
+#[derive(Clone, Copy, PartialEq, Eq)]
 pub enum Why {
     /// The new schema has no class of its type id.
     Missing,
@@ -18,7 +18,7 @@ pub enum Why {
 }
 
 /// Whether what was spelled of a type under one schema can be read of a type under another.
-#[derive(Clone, Copy, Debug, PartialEq, Eq)]
+#[derive(Clone, Copy, PartialEq, Eq)]
 pub enum Verdict {
     /// It can.
     Yes,

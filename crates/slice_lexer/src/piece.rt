@@ -6,7 +6,7 @@ ghost use Rattle.slice_lexer.specs.Lexing.{length_of};
 use crate::token::TokenKind;
 
 /// A part of a text, with its length in bytes.
-#[derive(Clone, Copy, Debug, PartialEq, Eq)]
+#[derive(Clone, Copy, PartialEq, Eq)]
 pub enum Piece {
     /// A blank or a comment.
     Gap(usize),

@@ -20,7 +20,7 @@ pub enum TokenKind {
 }
 
 /// A token, with its first byte and the byte after its last, counted from 0.
-#[derive(Clone, Copy, Debug, PartialEq, Eq)]
+#[derive(Clone, Copy, PartialEq, Eq)]
 pub struct Token {
     pub kind: TokenKind,
     pub from: u32,
@@ -28,7 +28,7 @@ pub struct Token {
 }
 
 /// The tokens of a text in order.
-#[derive(Debug, Drop)]
+#[derive(Drop)]
 pub struct Tokens {
     items: Vec<Token>,
 }

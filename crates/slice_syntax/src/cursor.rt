@@ -23,7 +23,7 @@ use std::marker::Model;
 
 /// The tokens of a text from one of them on. Each taking call takes the next one and goes on
 /// after it, or refuses it and stays before it.
-#[derive(Debug, Drop)]
+#[derive(Drop)]
 pub(crate) struct Cursor<'a> {
     text: &'a [u8],
     tokens: &'a Tokens,

@@ -7,7 +7,7 @@ use crate::directive::{directive_terminal, if_text};
 use slice_lexer::TokenKind;
 
 /// What a token is to the grammar.
-#[derive(Clone, Copy, Debug, PartialEq, Eq)]
+#[derive(Clone, Copy, PartialEq, Eq)]
 pub(crate) enum Terminal {
     Word,
     /// By its code in the table of keywords.

@@ -5,7 +5,7 @@ ghost use Rattle.std.specs.Prelude.{◌≡◌};
 use ice_types::{List, Name};
 
 /// A name where it is declared. A `\` before it is not part of it.
-#[derive(Debug, Drop)]
+#[derive(Drop)]
 pub struct Word {
     pub name: Name,
     /// Its first byte, a `\` included.
@@ -13,7 +13,7 @@ pub struct Word {
 }
 
 /// A name of one or more words, as `A::B`, where it is used.
-#[derive(Debug, Drop)]
+#[derive(Drop)]
 pub struct Path {
     /// Whether it begins with `::`.
     pub outer: bool,
@@ -23,7 +23,7 @@ pub struct Path {
 }
 
 /// A type where it is used.
-#[derive(Debug, Drop)]
+#[derive(Drop)]
 pub enum TypeWord {
     /// A keyword with its code in the table of keywords, and whether `*` stands after it.
     Built { code: u8, star: bool, place: u32 },
@@ -32,7 +32,7 @@ pub enum TypeWord {
 }
 
 /// What a value is.
-#[derive(Debug, Drop)]
+#[derive(Drop)]
 pub enum Const {
     /// A number by its sign and its size, where no sign counts as `+`.
     Number { negative: bool, size: u64 },
@@ -45,7 +45,7 @@ pub enum Const {
 }
 
 /// A value where it stands.
-#[derive(Debug, Drop)]
+#[derive(Drop)]
 pub struct Constant {
     /// Its first byte, a sign included.
     pub place: u32,
@@ -53,7 +53,7 @@ pub struct Constant {
 }
 
 /// A member of a struct, a class or an exception, or a parameter.
-#[derive(Debug, Drop)]
+#[derive(Drop)]
 pub struct Field {
     /// The tag of an optional one.
     pub tag: Option<Constant>,
@@ -64,14 +64,14 @@ pub struct Field {
 }
 
 /// A parameter of an operation.
-#[derive(Debug, Drop)]
+#[derive(Drop)]
 pub struct Param {
     pub out: bool,
     pub field: Field,
 }
 
 /// An operation of an interface.
-#[derive(Debug, Drop)]
+#[derive(Drop)]
 pub struct OpTree {
     pub idempotent: bool,
     /// The tag of an optional result.
@@ -84,7 +84,7 @@ pub struct OpTree {
 }
 
 /// A declaration, or one end of a module.
-#[derive(Debug, Drop)]
+#[derive(Drop)]
 pub enum Item {
     /// What follows stands in this module, up to its `Exit`.
     Enter(Word),
@@ -135,7 +135,7 @@ pub enum Item {
 
 /// A whole text. It is flat: a module is an `Enter`, what stands in it, and an `Exit`, and `module A::B` is two of
 /// each.
-#[derive(Debug, Drop)]
+#[derive(Drop)]
 pub struct File {
     pub items: List<Item>,
     /// The names in `#include` directives, each with the place of its `#`.

@@ -8,7 +8,7 @@ use Rattle.ice_messages.specs.declared.message.Message.{Message}
 use Rattle.ice_messages.specs.Streams.{Stream}
 use Rattle.talking.specs.declared.end.End.{End}
 use Rattle.talking.specs.declared.end.End.TheVariants as ends
-use Rattle.talking.specs.Ends.{went_on, IsTaken, Shows, WasSaid, IsStill, EndsBy}
+use Rattle.talking.specs.Ends.{end_behind_reply, IsTaken, Shows, WasSaid, IsStill, EndsBy}
 use Rattle.talking.specs.Said.{all_of, IsFine, IsSaid}
 use Rattle.talking.proofs.Said.{steps_said, steps_cut}
 
@@ -27,7 +27,7 @@ taken_append (m ∷ ms) ns a b = (a.0, taken_append ms ns a.1 b)
 
 -- what a message that was handled comes to
 abbrev pub stepped : {E : Type 0} → Result Bool E → Result (Option End) E
-stepped (Ok b) = Ok (went_on b)
+stepped (Ok b) = Ok (end_behind_reply b)
 stepped (Err e) = Err e
 
 -- ---- behind what was read and said before

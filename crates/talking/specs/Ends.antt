@@ -34,9 +34,9 @@ fails_next (Ok None) = false
 fails_next (Err e) = false
 
 -- where a reply could not be written the connection ends
-abbrev pub went_on : Bool → Option End
-went_on true = None
-went_on false = Some LinkFailed
+abbrev pub end_behind_reply : Bool → Option End
+end_behind_reply true = None
+end_behind_reply false = Some LinkFailed
 
 -- ---- what shows an end
 

@@ -1,7 +1,7 @@
 //! How a connection ended.
 
 ghost use Rattle.std.specs.Prelude.{◌≡◌};
-ghost use Rattle.talking.specs.Ends.{went_on};
+ghost use Rattle.talking.specs.Ends.{end_behind_reply};
 
 use ice_prims::Fault;
 
@@ -21,8 +21,8 @@ pub enum End {
 }
 
 /// How a connection ends behind a reply: not, where it was written.
-pub fn went_on(went: bool) -> Option<End>
-    ensures { result ≡ went_on went }
+pub fn end_behind_reply(went: bool) -> Option<End>
+    ensures { result ≡ end_behind_reply went }
 {
     if went { None } else { Some(End::LinkFailed) }
 }

@@ -7,7 +7,7 @@ mod hearing;
 mod saying;
 mod writing;
 
-pub use end::{End, went_on};
+pub use end::{End, end_behind_reply};
 pub use hearing::{Heard, hear};
 pub use saying::say;
 pub use writing::write_bytes;

@@ -20,7 +20,7 @@ use Rattle.talking.specs.Told.{LinkTells, TrayTells, DoorTells}
 use Rattle.worker_pool.specs.declared.ending.Ending.{Ending}
 use Rattle.worker_pool.specs.declared.ending.Ending.TheVariants.{Open, Reached, NoMore, Failed}
 use Rattle.worker_pool.specs.Endings.{has_failed, has_run_out}
-use Rattle.worker_pool.specs.Sessions.{Session, talks, Side, callers, split_off, ServedWith, HasServed, AllServed}
+use Rattle.worker_pool.specs.Sessions.{Session, talks, AllFed, OnlyLastLacks, Side, callers, split_off, ServedWith, HasServed, AllServed}
 use Rattle.talking.proofs.Told.{tray_new, tray_took, door_gathers}
 use Rattle.worker_pool.proofs.Rows.{talks_append, did_append, fed_append, serves, splits, joins}
 
@@ -32,12 +32,17 @@ ended : {E : Type 0} (r : Result End E) (b : Bool) → b ≡ is_err r → b ≡ 
 ended (Ok end) b e f = tt
 ended (Err x) b e f = absurd cc
 
+only_last : (ss : List Session) (s : Session) → AllFed ss → OnlyLastLacks (ss ++ s ∷ [])
+only_last [] s fed = tt
+only_last (x ∷ []) s fed = (fed.0, tt)
+only_last (x ∷ y ∷ ss) s fed = (fed.0, only_last (y ∷ ss) s fed.1)
+
 module _ (lanes : Lanes) (most : ℕ) (first : Option ToldListener) (from : Option LanePasses) where
   -- one link more
   pub link_served : {E : Type 0} (r : Result End E) (side : Side) (tray tray' : Option (List Talk)) (o o' : Option Talk) (t : Talk) (handled : List Handled) (old new : LanePasses) (n : ℕ) (starved failed : Bool)
-      → tray' ≡ taken_behind (one_talk o') tray → o' ≡ adds o t → LinkTells first o → AreOf lanes new → Grew old new (turns_of handled) → ServerDid lanes.keys most t handled (end_of r) → failed ≡ is_err r
+      → tray' ≡ taken_behind (one_talk o') tray → o' ≡ adds o t → LinkTells first o → AreOf lanes new → Grew old new (turns_of handled) → ServerDid lanes.keys most t handled (end_of r) → failed ≡ is_err r → starved ≡ false
       → HasServed side lanes most first from tray old n starved → HasServed side lanes most first from tray' new (n + 1) (starved || failed)
-  link_served r side tray tray' o o' t handled old new n starved failed into is fresh of grew did fails h =
+  link_served r side tray tray' o o' t handled old new n starved failed into is fresh of grew did fails before h =
       let s : Session = record { talk = t; handled = handled; end = end_of r } in record {
         of = of;
         sessions = h.sessions ++ s ∷ [];
@@ -46,6 +51,7 @@ module _ (lanes : Lanes) (most : ℕ) (first : Option ToldListener) (from : Opti
         tells = subst (TrayTells first tray') (sym (talks_append h.sessions (s ∷ []))) (tray_took first tray tray' o o' t (talks h.sessions) into is fresh h.tells);
         count = let c = h.count in let l = length-append h.sessions (s ∷ []) in omega arith;
         fed = λ f. let x = or_false starved failed f in fed_append h.sessions (s ∷ []) (h.fed x.0) (ended r failed fails x.1, tt);
+        lacked = only_last h.sessions s (h.fed before);
       }
 
   -- a thread that begins
@@ -59,6 +65,7 @@ module _ (lanes : Lanes) (most : ℕ) (first : Option ToldListener) (from : Opti
     tells = tray_new first given now tray tells empty;
     count = none;
     fed = λ f. tt;
+    lacked = tt;
   }
 
   -- the caller's own tray is gathered
@@ -98,6 +105,7 @@ module _ (lanes : Lanes) (most : ℕ) (first : Option ToldListener) (from : Opti
     tells = tray_new first given now tray tells empty;
     count = none;
     fed = λ f. tt;
+    lacked = tt;
   }
 
 -- ---- rows of threads

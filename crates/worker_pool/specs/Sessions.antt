@@ -43,6 +43,12 @@ abbrev pub AllFed : List Session → Type 0
 AllFed [] = Unit {0}
 AllFed (s ∷ ss) = HasEnd s.end × AllFed ss
 
+-- none but the last did
+abbrev pub OnlyLastLacks : List Session → Type 0
+OnlyLastLacks [] = Unit {0}
+OnlyLastLacks (s ∷ []) = Unit {0}
+OnlyLastLacks (s ∷ t ∷ ss) = HasEnd s.end × OnlyLastLacks (t ∷ ss)
+
 -- ---- what sessions leave in the passes
 
 -- the entries of a session in the history of the object at this place, in the session's order
@@ -86,7 +92,7 @@ ServedWith side from now ss = IfSome from (λ old. RowServed side old.passes.ite
 
 -- ---- a thread that serves, and all of them
 
--- A thread has served so many sessions: its passes were served with, its tray has their links
+-- A thread has served so many sessions, none more where memory lacked: its passes were served with, its tray has their links
 pub record HasServed (side : Side) (lanes : Lanes) (most : ℕ) (first : Option ToldListener) (from : Option LanePasses) (tray : Option (List Talk)) (passes : LanePasses) (amount : ℕ) (starved : Bool) : Type 0 where
   pub of : AreOf lanes passes
   pub sessions : List Session
@@ -95,6 +101,7 @@ pub record HasServed (side : Side) (lanes : Lanes) (most : ℕ) (first : Option 
   pub tells : TrayTells first tray (talks sessions)
   pub count : amount ≡ length sessions
   pub fed : starved ≡ false → AllFed sessions
+  pub lacked : OnlyLastLacks sessions
 
 -- So many links were served and taken back, and the caller's passes were served with
 pub record AllServed (lanes : Lanes) (most : ℕ) (first : Option ToldListener) (from : Option LanePasses) (given : ℕ) (door : Option ToldListener) (passes : LanePasses) (amount : ℕ) (starved : Bool) : Type 0 where

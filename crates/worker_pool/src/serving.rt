@@ -37,7 +37,7 @@ pub struct Served<D: Listener> {
     pub starved: bool,
 }
 
-/// Workers, each with passes and a tray of its own; and whether memory lacked.
+/// Workers, as many as asked for, each with passes and a tray of its own; and whether memory lacked for so many.
 fn hire<D: Listener, L: Ledger, O: Opening>(
     alloc: Global,
     lanes: &Lanes,
@@ -56,6 +56,7 @@ fn hire<D: Listener, L: Ledger, O: Opening>(
     ensures parts { rest.new.parts + length result.0.items ≡ rest.old.parts }
     ensures amount { rest.new.amount ≡ 0 }
     ensures some { 0 < rest.new.parts }
+    ensures all { result.1 ≡ false → length result.0.items ≡ count }
     ensures shares { (i k : ℕ) → parts_at passes.new i k + all_parts result.0.items (λ w. w.passes) i k
         ≡ parts_at passes.old i k }
     ensures each { (i : ℕ) (d : _) → i < length result.0.items

@@ -38,6 +38,7 @@ impl<D: Listener, L: Ledger> Worker<D, L> {
         messages: u64,
     )
         requires of { AreOf lanes.now self.old.passes }
+        requires fed { self.old.starved ≡ false }
         requires new { LinkTells O.first (D.Link.talk link) }
         ensures parts { self.new.mine.parts ≡ self.old.mine.parts }
         ensures amount { self.new.mine.amount ≡ self.old.mine.amount }

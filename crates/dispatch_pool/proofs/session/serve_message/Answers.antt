@@ -71,7 +71,7 @@ returns-in_ok-went-in-Request-clause-did g c =
       d.0,
       d.1,
       quiet {E = AllocError} _ d.0 (Ok c.in_ok-went-in-Request.went) d.2.says,
-      λ bytes held first is spelled. subst (λ (z : Option End). Next keys ps qs {E = AllocError} d.0 bytes held (Ok z)) (sym c.went_on.ensures)
+      λ bytes held first is spelled. subst (λ (z : Option End). Next keys ps qs {E = AllocError} d.0 bytes held (Ok z)) (sym c.end_behind_reply.ensures)
           (next_handled keys (Ok c.in_ok-went-in-Request.went) ps qs m bytes held first d.0 is (subst (λ (z : Message). SpellsMessage first z) c.in-Request.is spelled) (refl, λ e. cc)
           (subst (λ (z : ℤ). Handling keys ps qs {E = AllocError} (record { id = z; call = c.in-Request.call } ∷ []) d.0 (Ok c.in_ok-went-in-Request.went)) (to_z-of_z fits) d.2)),
     )

@@ -68,7 +68,7 @@ returns-in_ok-went-in-Request-clause-did g c =
       d.2,
       d.3,
       quiet {E = AllocError} _ d.0 (Ok c.in_ok-went-in-Request.went) d.4.says,
-      λ bytes held first is spelled. subst (λ (z : Option End). Next {E = AllocError} gate d.1 d.0 bytes held (Ok z)) (sym c.went_on.ensures)
+      λ bytes held first is spelled. subst (λ (z : Option End). Next {E = AllocError} gate d.1 d.0 bytes held (Ok z)) (sym c.end_behind_reply.ensures)
           (next_handled gate (Ok c.in_ok-went-in-Request.went) d.1 m bytes held first d.0 is (subst (λ (z : Message). SpellsMessage first z) c.in-Request.is spelled) (refl, λ e. cc)
           (subst (λ (z : ℤ). Handling {E = AllocError} gate (Request z c.in-Request.call) d.1 d.0 (Ok c.in_ok-went-in-Request.went)) (to_z-of_z fits) d.4)),
     )
