@@ -1,5 +1,5 @@
 -- What goes through a gateway is a delivery, and what its caller is told is an answer of a server.
-use Rattle.std.proofs.Common.{◌≡◌, ℕ, ℤ, pos, negsuc, zero, suc, Bool, true, false, List, [], ◌∷◌, Option, Some, None, refl, sym, ap, subst, inl, inr, ◌∙◌}
+use Rattle.std.proofs.Common.{◌≡◌, ◌⊎◌, ℕ, ℤ, pos, negsuc, zero, suc, Bool, true, false, List, [], ◌∷◌, Option, Some, None, refl, sym, ap, subst, inl, inr, ◌∙◌}
 use Rattle.std.specs.Prelude.{is_some, nat_le, length, if◌then◌else◌}
 use Rattle.ice_encoding.specs.declared.limits.TheConstants.{LARGEST}
 use Rattle.ice_messages.specs.declared.message.Answer.{Answer}
@@ -11,19 +11,21 @@ use Rattle.ice_messages.specs.Messages.{message_bytes}
 use Rattle.ice_proxy.specs.Usable.{tcp_at}
 use Rattle.ice_client.specs.declared.outcome.Outcome.{Outcome}
 use Rattle.ice_client.specs.declared.outcome.Outcome.TheVariants.{Replied, Sent, NetFailed, Ended, Closed, Broke, NoEndpoint}
-use Rattle.ice_client.specs.ClientDid.{ClientDid, Tried}
+use Rattle.ice_client.specs.ClientDid.{ClientDid, ClientStarved, Tried}
 use Rattle.ice_gateway.specs.declared.admitting.Admitted.TheVariants.{Goes}
 use Rattle.ice_gateway.specs.declared.renewing.Renewed.{Renewed}
 use Rattle.ice_gateway.specs.declared.renewing.Renewed.TheVariants as renewals
 use Rattle.ice_gateway.specs.Anew.{body_anew, exception_anew}
 use Rattle.ice_gateway.specs.Gate.{Gate, Operation, operation_of}
 use Rattle.ice_gateway.specs.Forwarded.{forwarded, placed, request_anew, batch_anew, calls_anew, id_anew, going}
-use Rattle.ice_gateway.specs.Handled.{Handled, Invocation, Answered, WasAnswered, WasForwarded, outcome_of}
+use Rattle.ice_gateway.specs.Handled.{Handled, Invocation, Answered, WasAnswered, WasForwarded, WasStarved, outcome_of}
 use Rattle.ice_gateway.specs.Mapped.{Mapped, ByArguments, ByOperation, IsOutcomes, admitted, admitted_by, given_back, with_arguments, wrapped}
 use Rattle.gate_command.proofs.Arriving.{goes_out}
-use Rattle.once_law.specs.Ends.{Delivery, IsDelivery, IsSent}
+use Rattle.once_law.specs.Ends.{Delivery, IsDelivery, IsStarved, IsSent, tried_of}
+use Rattle.once_law.specs.Laws.{HasTurn, HasSingleTurns}
 use Rattle.once_law.proofs.Turns.{single_turns, own_turns}
-use Rattle.ice_node.specs.Through.{IsThrough, GatedTurnsAreSingle, GatedSuccessesHaveTurns}
+use Rattle.once_law.proofs.Starved.{starved_turns}
+use Rattle.ice_node.specs.Through.{IsThrough, IsLeftThrough, GatedTurnsAreSingle, StarvedGatedTurnsAreSingle, GatedSuccessesHaveTurns}
 
 -- ---- what is forwarded is what clients send
 
@@ -84,6 +86,40 @@ module _ (gate : Gate) (h : Handled) (d : Delivery) (t : IsThrough gate h d) whe
 
 pub gated_turns : GatedTurnsAreSingle
 gated_turns gate h d t = single_turns d (is_delivery gate h d t)
+
+-- ---- memory ran out
+
+first_same : {A : Type 0} (x y : A) → x ∷ [] ≡ y ∷ [] → x ≡ y
+first_same x y e = cc
+
+module _ (gate : Gate) (m : Message) (d : Delivery) (t : IsLeftThrough gate m d) where
+  -- the same message with this outcome
+  ended : Outcome → Delivery
+  ended outcome = record { message = d.message; retries = d.retries; attempts = d.attempts; outcome = Some outcome }
+
+  turn_there : (outcome : Outcome) (n seat : ℕ) (a : Answer) → HasTurn d n seat a → HasTurn (ended outcome) n seat a
+  turn_there outcome n seat a u = record { attempt = u.attempt; at = u.at; session = u.session; served = u.served; gave = u.gave }
+
+  by_starved : (tried : List Tried) → tried ≡ map tried_of d.attempts → ClientStarved d.message gate.retries tried ⊎ ((outcome : Outcome) × ClientDid d.message gate.retries tried (Some outcome)) → HasSingleTurns d
+  by_starved tried is (inl starved) =
+      starved_turns d (record {
+        sent = forwarded_sent gate m d.message t.message_is;
+        client = subst (λ (x : ℕ × List Tried). ClientStarved d.message x.0 x.1) (λ j. (sym t.retries_are j, is j)) starved;
+        ends = t.ends;
+      })
+  by_starved tried is (inr (outcome, did)) seat call asked i j a b u v =
+      single_turns (ended outcome) (record {
+        sent = forwarded_sent gate m d.message t.message_is;
+        client = subst (λ (x : ℕ × List Tried). ClientDid d.message x.0 x.1 (Some outcome)) (λ j. (sym t.retries_are j, is j)) did;
+        ends = t.ends;
+      }) seat call asked i j a b (turn_there outcome i seat a u) (turn_there outcome j seat b v)
+
+  by_was : WasStarved gate d.message (map tried_of d.attempts ∷ []) → HasSingleTurns d
+  by_was (inl none) = absurd cc
+  by_was (inr (tried, runs, uncached, how)) = by_starved tried (sym (first_same (map tried_of d.attempts) tried runs)) how
+
+pub starved_gated_turns : StarvedGatedTurnsAreSingle
+starved_gated_turns gate m d t = by_was gate m d t t.starved
 
 -- ---- what is told
 

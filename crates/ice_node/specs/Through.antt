@@ -1,17 +1,18 @@
 -- WHAT A GATEWAY AND THE SERVERS BEHIND IT SAY, joined. (Ice manual, "At-Most-Once Semantics".)
-use Rattle.std.specs.Prelude.{ℕ, ℤ, ◌≡◌, false, List, [], ◌∷◌, map, Some, slice_get}
+use Rattle.std.specs.Prelude.{ℕ, ℤ, ◌≡◌, List, [], ◌∷◌, map, Some}
 use Rattle.ice_encoding.specs.Parts.{Each}
 use Rattle.ice_messages.specs.declared.message.Answer.{Answer}
 use Rattle.ice_messages.specs.declared.message.Answer.TheVariants.{Done}
 use Rattle.ice_messages.specs.declared.message.Call.{Call}
+use Rattle.ice_messages.specs.declared.message.Message.{Message}
 use Rattle.ice_messages.specs.declared.message.Message.TheVariants.{Request, Reply}
 use Rattle.ice_gateway.specs.declared.renewing.Renewed.TheVariants.{Written}
 use Rattle.ice_gateway.specs.Anew.{body_anew}
 use Rattle.ice_gateway.specs.Gate.{Gate, Operation, operation_of}
-use Rattle.ice_gateway.specs.Handled.{Handled, Invocation, WasHandled}
+use Rattle.ice_gateway.specs.Forwarded.{forwarded}
+use Rattle.ice_gateway.specs.Handled.{Handled, Invocation, WasHandled, WasStarved}
 use Rattle.once_law.specs.Ends.{Delivery, HasOtherEnd, tried_of}
-use Rattle.once_law.specs.Laws.{HasTurn}
-use Rattle.once_law.specs.Shown.{calls_of}
+use Rattle.once_law.specs.Laws.{HasTurn, HasSingleTurns}
 
 -- a message that a gateway handled and forwarded: the attempts at it, with the sessions of servers at their other ends
 pub record IsThrough (gate : Gate) (h : Handled) (d : Delivery) : Type 0 where
@@ -24,11 +25,20 @@ pub record IsThrough (gate : Gate) (h : Handled) (d : Delivery) : Type 0 where
   pub outcome_is : d.outcome ≡ Some invocation.outcome
   pub ends : Each HasOtherEnd d.attempts
 
+-- a message that was due, and that a gateway did not handle since memory ran out: the attempts at it, likewise
+pub record IsLeftThrough (gate : Gate) (m : Message) (d : Delivery) : Type 0 where
+  pub message_is : forwarded gate m ≡ Some d.message
+  pub retries_are : d.retries ≡ gate.retries
+  pub starved : WasStarved gate d.message (map tried_of d.attempts ∷ [])
+  pub ends : Each HasOtherEnd d.attempts
+
 -- over all attempts at what was forwarded a call that is not idempotent has a turn at most once
 abbrev pub GatedTurnsAreSingle : Type 0
-GatedTurnsAreSingle =
-    (gate : Gate) (h : Handled) (d : Delivery) → IsThrough gate h d → (seat : ℕ) (call : Call) → slice_get (calls_of d.message) seat ≡ Some (call, false)
-    → (m n : ℕ) (a b : Answer) → HasTurn d m seat a → HasTurn d n seat b → m ≡ n
+GatedTurnsAreSingle = (gate : Gate) (h : Handled) (d : Delivery) → IsThrough gate h d → HasSingleTurns d
+
+-- also where the gateway ran out of memory
+abbrev pub StarvedGatedTurnsAreSingle : Type 0
+StarvedGatedTurnsAreSingle = (gate : Gate) (m : Message) (d : Delivery) → IsLeftThrough gate m d → HasSingleTurns d
 
 -- a success that the caller is told is that of a turn, with its results written anew
 abbrev pub GatedSuccessesHaveTurns : Type 0

@@ -20,6 +20,7 @@ ghost use Rattle.serve_command.specs.declared.words.TheConstants.{MOST_WORDS};
 ghost use Rattle.serve_command.specs.declared.operands.TheConstants.{MOST_WORKERS, MOST_CONNECTIONS};
 ghost use Rattle.serve_command.specs.declared.serving.TheConstants.{MOST_MESSAGES as MOST_SERVED};
 ghost use Rattle.ice_node.specs.Through.{GatedSuccessesHaveTurns, GatedTurnsAreSingle};
+ghost use Rattle.ice_node.specs.Through.{StarvedGatedTurnsAreSingle};
 
 pub use gate_command::gates_once;
 pub use once_law::{once, successes_have_turns, turns_are_single};
@@ -44,10 +45,11 @@ pub fn limits_numbered()
 {}
 
 /// What a gateway and the servers behind it say, joined: over all attempts at a message that it forwarded, whatever was
-/// lost, closed or tried again, a call that is not idempotent has one turn of an object at most.
-/// (Ice manual, "At-Most-Once Semantics".)
+/// lost, closed or tried again, and wherever the gateway's memory ran out, a call that is not idempotent has one turn of
+/// an object at most. (Ice manual, "At-Most-Once Semantics".)
 pub fn gated_turns_are_single()
-    ensures { GatedTurnsAreSingle }
+    ensures handled { GatedTurnsAreSingle }
+    ensures starved { StarvedGatedTurnsAreSingle }
 {}
 
 /// And a success that its caller is told is the answer of such a turn, with the results written anew.

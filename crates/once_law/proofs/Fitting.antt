@@ -14,12 +14,13 @@ use Rattle.ice_client.specs.declared.outcome.Outcome.TheVariants as outcomes
 use Rattle.ice_client.specs.declared.outgoing.Outgoing.{Outgoing}
 use Rattle.talking.specs.Ends.{Begins}
 use Rattle.ice_client.specs.Sending.{IsOf}
-use Rattle.ice_client.specs.ClientDid.{Tried}
+use Rattle.ice_client.specs.ClientDid.{Tried, IsFollowed}
 use Rattle.object_adapter.specs.Laws.{IsDispatched}
 use Rattle.talking.specs.declared.end.End.TheVariants.{PeerEnded, Enough}
 use Rattle.dispatch_pool.specs.Handled.{had_turn, Handled}
 use Rattle.talking.specs.Said.{bytes_of}
-use Rattle.once_law.specs.Ends.{Session, IsSession, Delivery}
+use Rattle.ice_encoding.specs.Parts.{Each}
+use Rattle.once_law.specs.Ends.{Session, IsSession, Delivery, HasOtherEnd, IsStarved}
 use Rattle.once_law.specs.Shown.{is_repeatable}
 use Rattle.once_law.specs.Laws.{IsExample, EndsCanFit}
 use Rattle.once_law.proofs.Lists.{false_true}
@@ -183,21 +184,8 @@ module _ (call : Call) (answer : Answer) (good : IsDispatched answer) where
     whole : (rest : List ℕ) × (bytes ≡ bytes ++ rest)
     whole = ([], sym (append-nil bytes))
 
-    pub example : IsExample one message (tries.NotWhole ∷ tries.Closed ∷ tries.Replied ∷ []) (false ∷ true ∷ true ∷ []) (outcomes.Replied answer)
-    example = record {
-      message_is = refl;
-      attempts_are = refl;
-      served_are = refl;
-      outcome_is = refl;
-      fits = record {
-        sent = inl (call, refl);
-        client = record {
-          outgoing = outgoing;
-          is_of = is_of;
-          ended = (
-            lost_try ∷ closed_try ∷ [],
-            answered_try,
-            refl,
+    followed : Each (IsFollowed outgoing) (lost_try ∷ closed_try ∷ [])
+    followed =
             (
               (
                 (
@@ -231,7 +219,36 @@ module _ (call : Call) (answer : Answer) (good : IsDispatched answer) where
                 ),
                 tt,
               ),
+            )
+
+    met : Each HasOtherEnd one.attempts
+    met = (
+          refl,
+          (
+            (closed, ([], append-nil bytes), ([], append-nil (bytes_of (Validate ∷ Close ∷ [])))),
+            (
+              (answered, ([], append-nil bytes), ([], append-nil (bytes_of (Validate ∷ Reply (pos 1) answer ∷ [])))),
+              tt,
             ),
+          ),
+        )
+
+    pub example : IsExample one message (tries.NotWhole ∷ tries.Closed ∷ tries.Replied ∷ []) (false ∷ true ∷ true ∷ []) (outcomes.Replied answer)
+    example = record {
+      message_is = refl;
+      attempts_are = refl;
+      served_are = refl;
+      outcome_is = refl;
+      fits = record {
+        sent = inl (call, refl);
+        client = record {
+          outgoing = outgoing;
+          is_of = is_of;
+          ended = (
+            lost_try ∷ closed_try ∷ [],
+            answered_try,
+            refl,
+            followed,
             (
               (
                 answer,
@@ -253,17 +270,26 @@ module _ (call : Call) (answer : Answer) (good : IsDispatched answer) where
             (λ e. absurd (false_true e)),
           );
         };
-        ends = (
-          refl,
-          (
-            (closed, ([], append-nil bytes), ([], append-nil (bytes_of (Validate ∷ Close ∷ [])))),
-            (
-              (answered, ([], append-nil bytes), ([], append-nil (bytes_of (Validate ∷ Reply (pos 1) answer ∷ [])))),
-              tt,
-            ),
-          ),
-        );
+        ends = met;
       };
+    }
+
+    starved : IsStarved one
+    starved = record {
+      sent = inl (call, refl);
+      client = inr (record {
+        outgoing = outgoing;
+        is_of = is_of;
+        cut = record {
+          before = lost_try ∷ closed_try ∷ [];
+          last = answered_try;
+          parts = refl;
+          followed = followed;
+          few = omega arith;
+          cut = (refl, refl, inr (refl, refl, greeted (Reply (pos 1) answer ∷ [])));
+        };
+      });
+      ends = met;
     }
 
   -- ---- a batch of two such calls
@@ -360,4 +386,4 @@ module _ (call : Call) (answer : Answer) (good : IsDispatched answer) where
 
 pub can_fit : EndsCanFit
 can_fit call answer spelled batched replied good =
-    (one call answer good spelled replied, two call answer good batched, example call answer good spelled replied, batch_example call answer good batched)
+    (one call answer good spelled replied, two call answer good batched, example call answer good spelled replied, batch_example call answer good batched, starved call answer good spelled replied)

@@ -12,5 +12,6 @@ pub mod Dispatches
 pub mod Deliveries
 pub mod Matching
 pub mod Turns
+pub mod Starved
 pub mod Fitting
 pub mod Cut

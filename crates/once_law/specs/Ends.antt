@@ -9,7 +9,7 @@ use Rattle.ice_messages.specs.declared.message.Message.TheVariants.{Request}
 use Rattle.retry_core.specs.declared.attempt.Attempt.{Attempt}
 use Rattle.ice_client.specs.declared.outcome.Outcome.{Outcome}
 use Rattle.ice_client.specs.Sending.{IsOneway}
-use Rattle.ice_client.specs.ClientDid.{ClientDid, Tried}
+use Rattle.ice_client.specs.ClientDid.{ClientDid, ClientStarved, Tried}
 use Rattle.talking.specs.declared.end.End.{End}
 use Rattle.dispatch_pool.specs.Handled.{Keys, Handled}
 use Rattle.dispatch_pool.specs.ServerDid.{ServerDid}
@@ -79,4 +79,10 @@ IsSent m = ((call : Call) × (m ≡ Request (pos 1) call)) ⊎ IsOneway m
 pub record IsDelivery (d : Delivery) : Type 0 where
   pub sent : IsSent d.message
   pub client : ClientDid d.message d.retries (map tried_of d.attempts) d.outcome
+  pub ends : Each HasOtherEnd d.attempts
+
+-- the same of a message whose client ran out of memory, before the first attempt or in the last
+pub record IsStarved (d : Delivery) : Type 0 where
+  pub sent : IsSent d.message
+  pub client : ClientStarved d.message d.retries (map tried_of d.attempts)
   pub ends : Each HasOtherEnd d.attempts

@@ -20,7 +20,7 @@ use Rattle.call_world.specs.Step.{IsReached}
 use Rattle.call_world.specs.Laws.{AtMostOnce, OwnReplies}
 use Rattle.call_world.specs.Reached.{IsLogged}
 use Rattle.once_law.specs.Placed.{connections, after_all}
-use Rattle.once_law.specs.Ends.{Session, Attempted, attempt_of, is_served, Delivery, talks, IsDelivery}
+use Rattle.once_law.specs.Ends.{Session, Attempted, attempt_of, is_served, Delivery, talks, IsDelivery, IsStarved}
 use Rattle.once_law.specs.Matched.{Client, Matching, AreMatched, joined}
 use Rattle.once_law.specs.Shown.{CallWorld, calls_of, turn_at, Shows}
 
@@ -107,10 +107,17 @@ MatchedEndsAreOneWorld =
 -- ---- the same in the words of the ends alone
 
 -- over all attempts at a message a call in it that is not idempotent has a turn at most once
-abbrev pub TurnsAreSingle : Type 0
-TurnsAreSingle =
-    (d : Delivery) → IsDelivery d → (seat : ℕ) (call : Call) → slice_get (calls_of d.message) seat ≡ Some (call, false)
+abbrev pub HasSingleTurns : Delivery → Type 0
+HasSingleTurns d =
+    (seat : ℕ) (call : Call) → slice_get (calls_of d.message) seat ≡ Some (call, false)
     → (m n : ℕ) (a b : Answer) → HasTurn d m seat a → HasTurn d n seat b → m ≡ n
+
+abbrev pub TurnsAreSingle : Type 0
+TurnsAreSingle = (d : Delivery) → IsDelivery d → HasSingleTurns d
+
+-- also where the client ran out of memory
+abbrev pub StarvedTurnsAreSingle : Type 0
+StarvedTurnsAreSingle = (d : Delivery) → IsStarved d → HasSingleTurns d
 
 -- a success is the answer of a turn that the call had
 abbrev pub SuccessesHaveTurns : Type 0
@@ -130,7 +137,8 @@ pub record IsExample (d : Delivery) (message : Message) (attempts : List Attempt
   pub fits : IsDelivery d
 
 -- whatever the call and its answer, where they can be written: an attempt whose link was lost before the message was
--- taken, one whose session closed, and one with a session that gave the call its turn; and a batch of two such calls
+-- taken, one whose session closed, and one with a session that gave the call its turn, over which the client may as well
+-- have run out of memory; and a batch of two such calls
 abbrev pub EndsCanFit : Type 0
 EndsCanFit =
     (call : Call) (answer : Answer)
@@ -140,3 +148,4 @@ EndsCanFit =
     → (one two : Delivery)
     × IsExample one (Request (pos 1) call) (NotWhole ∷ Closed ∷ Replied ∷ []) (false ∷ true ∷ true ∷ []) (outcomes.Replied answer)
     × IsExample two (Batch (call ∷ call ∷ [])) (Sent ∷ []) (true ∷ []) outcomes.Sent
+    × IsStarved one

@@ -12,7 +12,7 @@
 #![tactic(auto)]
 
 ghost use Rattle.once_law.specs.Laws.{EndsAreOneWorld, MatchedEndsAreOneWorld, EndsCanFit};
-ghost use Rattle.once_law.specs.Laws.{TurnsAreSingle, SuccessesHaveTurns};
+ghost use Rattle.once_law.specs.Laws.{TurnsAreSingle, StarvedTurnsAreSingle, SuccessesHaveTurns};
 ghost use Rattle.once_law.specs.Cut.{CutCallsAreNone};
 
 /// What clients and servers say, apart and matched, or each session within its attempt: it is one world, in which a
@@ -24,9 +24,10 @@ pub fn once()
 {}
 
 /// The same in the words of both ends alone: over all attempts at a message, whatever was lost, closed or tried
-/// again, a call that is not idempotent has one turn of an object at most.
+/// again, and wherever the client's memory ran out, a call that is not idempotent has one turn of an object at most.
 pub fn turns_are_single()
-    ensures { TurnsAreSingle }
+    ensures ended { TurnsAreSingle }
+    ensures starved { StarvedTurnsAreSingle }
 {}
 
 /// And a success is the answer of such a turn.
