@@ -1,7 +1,0 @@
-//! Tests of the command `serve`, over public calls.
-#![tactic(auto)]
-
-#[cfg(test)]
-mod meeting;
-#[cfg(test)]
-mod workers;
