@@ -94,7 +94,7 @@ first_same x y e = cc
 
 module _ (gate : Gate) (m : Message) (d : Delivery) (t : IsLeftThrough gate m d) where
   -- the same message with this outcome
-  ended : Outcome → Delivery
+  abbrev ended : Outcome → Delivery
   ended outcome = record { message = d.message; retries = d.retries; attempts = d.attempts; outcome = Some outcome }
 
   turn_there : (outcome : Outcome) (n seat : ℕ) (a : Answer) → HasTurn d n seat a → HasTurn (ended outcome) n seat a

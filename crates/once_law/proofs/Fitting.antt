@@ -185,53 +185,52 @@ module _ (call : Call) (answer : Answer) (good : IsDispatched answer) where
     whole = ([], sym (append-nil bytes))
 
     followed : Each (IsFollowed outgoing) (lost_try ∷ closed_try ∷ [])
-    followed =
+    followed = (
+      (
+        (
+          outcomes.NetFailed,
+          (
+            ((let l = message_some bytes message spelled in omega arith), inr nothing_yet, inl (refl, refl)),
+            ((bytes, refl), inl refl),
+          ),
+        ),
+        refl,
+      ),
+      (
+        (
+          (
+            outcomes.Closed,
             (
               (
+                Validate ∷ [],
                 (
-                  outcomes.NetFailed,
-                  (
-                    ((let l = message_some bytes message spelled in omega arith), inr nothing_yet, inl (refl, refl)),
-                    ((bytes, refl), inl refl),
-                  ),
+                  bytes_of (Close ∷ []),
+                  (refl, refl, (refl, tt), omega arith, (message_bytes Validate, bytes_of (Close ∷ []), refl, validate, refl)),
+                  ([], (message_bytes Close, [], refl, close, refl)),
+                  refl,
                 ),
                 refl,
               ),
-              (
-                (
-                  (
-                    outcomes.Closed,
-                    (
-                      (
-                        Validate ∷ [],
-                        (
-                          bytes_of (Close ∷ []),
-                          (refl, refl, (refl, tt), omega arith, (message_bytes Validate, bytes_of (Close ∷ []), refl, validate, refl)),
-                          ([], (message_bytes Close, [], refl, close, refl)),
-                          refl,
-                        ),
-                        refl,
-                      ),
-                      (whole, inr (greeted (Close ∷ []))),
-                    ),
-                  ),
-                  refl,
-                ),
-                tt,
-              ),
-            )
+              (whole, inr (greeted (Close ∷ []))),
+            ),
+          ),
+          refl,
+        ),
+        tt,
+      ),
+    )
 
     met : Each HasOtherEnd one.attempts
     met = (
-          refl,
-          (
-            (closed, ([], append-nil bytes), ([], append-nil (bytes_of (Validate ∷ Close ∷ [])))),
-            (
-              (answered, ([], append-nil bytes), ([], append-nil (bytes_of (Validate ∷ Reply (pos 1) answer ∷ [])))),
-              tt,
-            ),
-          ),
-        )
+      refl,
+      (
+        (closed, ([], append-nil bytes), ([], append-nil (bytes_of (Validate ∷ Close ∷ [])))),
+        (
+          (answered, ([], append-nil bytes), ([], append-nil (bytes_of (Validate ∷ Reply (pos 1) answer ∷ [])))),
+          tt,
+        ),
+      ),
+    )
 
     pub example : IsExample one message (tries.NotWhole ∷ tries.Closed ∷ tries.Replied ∷ []) (false ∷ true ∷ true ∷ []) (outcomes.Replied answer)
     example = record {

@@ -32,7 +32,7 @@ split {A} {B} f (x ∷ xs) (y ∷ ys) z e =
     record {
       front = x ∷ r.front;
       last = r.last;
-      whole = ap (λ (as : List A). x ∷ as) r.whole;
+      whole = ap (λ (zs : List A). x ∷ zs) r.whole;
       mapped = ap (λ (b : B). b ∷ map f r.front) (head_is e) ∙ ap (λ (bs : List B). y ∷ bs) r.mapped;
     }
 
@@ -62,7 +62,7 @@ module _ (d : Delivery) (h : IsStarved d) (cut : ClientCut d.message d.retries (
   parts = split tried_of d.attempts cut.cut.before cut.cut.last cut.cut.parts
 
   -- one of them once more, in front of all of them
-  again : Attempted → Delivery
+  abbrev again : Attempted → Delivery
   again x = record { message = d.message; retries = length (map tried_of (x ∷ parts.front)); attempts = x ∷ parts.front; outcome = None }
 
   is_delivery : (n : ℕ) (x : Attempted) → slice_get parts.front n ≡ Some x → IsDelivery (again x)
