@@ -1,5 +1,5 @@
 -- What goes through a gateway is a delivery, and what its caller is told is an answer of a server.
-use Rattle.std.proofs.Common.{◌≡◌, ◌⊎◌, ℕ, ℤ, pos, negsuc, zero, suc, Bool, true, false, List, [], ◌∷◌, Option, Some, None, refl, sym, ap, subst, inl, inr, ◌∙◌}
+use Rattle.std.proofs.Common.{◌≡◌, ◌⊎◌, map, ℕ, ℤ, pos, negsuc, zero, suc, Bool, true, false, List, [], ◌∷◌, Option, Some, None, refl, sym, ap, subst, inl, inr, ◌∙◌}
 use Rattle.std.specs.Prelude.{is_some, nat_le, length, if◌then◌else◌}
 use Rattle.ice_encoding.specs.declared.limits.TheConstants.{LARGEST}
 use Rattle.ice_messages.specs.declared.message.Answer.{Answer}
@@ -107,8 +107,8 @@ module _ (gate : Gate) (m : Message) (d : Delivery) (t : IsLeftThrough gate m d)
         client = subst (λ (x : ℕ × List Tried). ClientStarved d.message x.0 x.1) (λ j. (sym t.retries_are j, is j)) starved;
         ends = t.ends;
       })
-  by_starved tried is (inr (outcome, did)) seat call asked i j a b u v =
-      single_turns (ended outcome) (record {
+  by_starved tried is (inr (outcome, did)) =
+      λ seat call asked i j a b u v. single_turns (ended outcome) (record {
         sent = forwarded_sent gate m d.message t.message_is;
         client = subst (λ (x : ℕ × List Tried). ClientDid d.message x.0 x.1 (Some outcome)) (λ j. (sym t.retries_are j, is j)) did;
         ends = t.ends;
