@@ -45,8 +45,8 @@ pub fn limits_numbered()
 {}
 
 /// What a gateway and the servers behind it say, joined: over all attempts at a message that it forwarded, whatever was
-/// lost, closed or tried again, and wherever the gateway's memory ran out, a call that is not idempotent has one turn of
-/// an object at most. (Ice manual, "At-Most-Once Semantics".)
+/// lost, closed or tried again, and wherever the gateway's memory ran out, a call that is not idempotent has one turn
+/// of an object at most. (Ice manual, "At-Most-Once Semantics".)
 pub fn gated_turns_are_single()
     ensures handled { GatedTurnsAreSingle }
     ensures starved { StarvedGatedTurnsAreSingle }
