@@ -117,12 +117,10 @@ fn compare_endpoint(a: &Endpoint, b: &Endpoint) -> Ordering
                 minor: minor_b,
                 bytes: bytes_b,
             },
-        ) => kind.cmp(kind_b).then(
-            major.cmp(major_b).then(
-                minor
-                    .cmp(minor_b)
-                    .then(bytes.as_slice().cmp(bytes_b.as_slice())),
-            ),
-        ),
+        ) => {
+            let last = bytes.as_slice().cmp(bytes_b.as_slice());
+            kind.cmp(kind_b)
+                .then(major.cmp(major_b).then(minor.cmp(minor_b).then(last)))
+        }
     }
 }

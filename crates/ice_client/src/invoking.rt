@@ -12,7 +12,7 @@ use crate::outcome::{Invoked, Outcome};
 use crate::outgoing::Outgoing;
 use ice_messages::{Call, Message, WriteFault};
 use ice_ports::Net;
-use ice_proxy::tcp_of;
+use proxy_bytes::tcp_of;
 use ice_types::{List, Proxy};
 use retry_core::{Client, ClientAction};
 use std::alloc::{AllocError, Global};

@@ -3,7 +3,7 @@
 ghost use Rattle.std.specs.Prelude.{◌++◌, [], OnOk, ◌≡◌, pos, IfOk, IsSome, List};
 ghost use Rattle.ice_types.specs.Object.{object_tables};
 ghost use Rattle.ice_encoding.specs.Parts.{Each};
-ghost use Rattle.ice_proxy.specs.Usable.{tcp_at};
+ghost use Rattle.proxy_bytes.specs.Usable.{tcp_at};
 ghost use Rattle.ice_messages.specs.declared.message.Message.TheVariants.{Batch, Request};
 ghost use Rattle.ice_messages.specs.Written.{IsWritable};
 ghost use Rattle.ice_client.specs.ClientDid.{Tried};
@@ -24,7 +24,7 @@ use ice_client::{Outcome, invoke, send};
 use ice_encoding::LARGEST;
 use ice_messages::{Answer, Call, Message, WriteFault, batch_length};
 use ice_ports::Net;
-use ice_proxy::tcp_of;
+use proxy_bytes::tcp_of;
 use ice_types::List;
 use object_adapter::missed;
 use std::alloc::AllocError;

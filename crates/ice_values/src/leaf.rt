@@ -13,7 +13,7 @@ use ice_prims::{
     Cursor, Fault, Kind, ReadFault, put_bool, put_byte, put_int, put_long, put_short, put_size,
     put_str,
 };
-use ice_proxy::{read_proxy, write_proxy};
+use proxy_bytes::{read_proxy, write_proxy};
 use ice_types::{Entry, Name, Proxy, Schema, TypeRef};
 use std::alloc::{AllocError, Global};
 

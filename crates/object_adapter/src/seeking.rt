@@ -20,7 +20,7 @@ use crate::results::Results;
 use class_slices::{Format, UserException, UserExceptionFault, write_exception};
 use graph_arena::{Graph, Members, Slice};
 use ice_messages::Answer;
-use ice_proxy::write_proxy;
+use proxy_bytes::write_proxy;
 use ice_types::{List, Member, Name, Proxy, Schema, Shape, TypeRef};
 use std::alloc::{AllocError, Global};
 

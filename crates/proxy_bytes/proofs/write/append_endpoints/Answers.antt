@@ -1,6 +1,6 @@
 use Rattle.std.proofs.Common.{rules}
-use Rattle.ice_proxy.proofs.Putting.{grows_on}
-use Rattle.ice_proxy.proofs.write.append_endpoints.Goals as goal
+use Rattle.proxy_bytes.proofs.Putting.{grows_on}
+use Rattle.proxy_bytes.proofs.write.append_endpoints.Goals as goal
 
 pub returns-in_err-append_endpoint-clause-err : goal.returns-in_err-append_endpoint-clause-err
 returns-in_err-append_endpoint-clause-err c =

@@ -3,7 +3,7 @@ use Rattle.std.specs.List.{flat_map}
 use Rattle.ice_prims.specs.Bytes.{Grows}
 use Rattle.ice_encoding.specs.Parts.{Each}
 use Rattle.ice_encoding.specs.Endpoint.{endpoint, EndpointHasSize}
-use Rattle.ice_proxy.proofs.write.append_endpoints.Given as goal
+use Rattle.proxy_bytes.proofs.write.append_endpoints.Given as goal
 
 -- what was put, and the bytes of the endpoints that are left
 abbrev pub invariant-loop-endpoint : goal.invariant-loop-endpoint

@@ -1,6 +1,6 @@
 use Rattle.std.proofs.Common.{◌≡◌, ◌+◌, ◌≤◌, length, drop}
-use Rattle.ice_proxy.specs.Usable.{usable}
-use Rattle.ice_proxy.proofs.tcp.usable_count.Given as goal
+use Rattle.proxy_bytes.specs.Usable.{usable}
+use Rattle.proxy_bytes.proofs.tcp.usable_count.Given as goal
 
 abbrev pub invariant-loop-endpoint : goal.invariant-loop-endpoint
 invariant-loop-endpoint l = record {

@@ -1,8 +1,8 @@
 use Rattle.std.proofs.lemmas.Result.{err_from_is_err_and}
 use Rattle.ice_encoding.specs.Parts.{read_times}
 use Rattle.ice_encoding.specs.Endpoint.{endpoint}
-use Rattle.ice_proxy.proofs.Reading.{goes_on, ends}
-use Rattle.ice_proxy.proofs.read.take_endpoints.Goals as goal
+use Rattle.proxy_bytes.proofs.Reading.{goes_on, ends}
+use Rattle.proxy_bytes.proofs.read.take_endpoints.Goals as goal
 
 pub returns-in_err-endpoint : goal.returns-in_err-endpoint
 returns-in_err-endpoint c =

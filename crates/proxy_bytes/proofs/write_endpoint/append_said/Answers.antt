@@ -1,8 +1,8 @@
 use Rattle.std.proofs.Common.{◌≡◌, OnOk, rules, ◌++◌, [], ◌∷◌}
 use Rattle.ice_types.specs.declared.proxy.Endpoint.TheVariants.{Tcp}
 use Rattle.ice_encoding.specs.Endpoint.{tcp}
-use Rattle.ice_proxy.proofs.Putting.{then_put}
-use Rattle.ice_proxy.proofs.write_endpoint.append_said.Goals as goal
+use Rattle.proxy_bytes.proofs.Putting.{then_put}
+use Rattle.proxy_bytes.proofs.write_endpoint.append_said.Goals as goal
 
 pub returns-in_ok-extend_from_slice-in-Tcp-clause-ok : goal.returns-in_ok-extend_from_slice-in-Tcp-clause-ok
 returns-in_ok-extend_from_slice-in-Tcp-clause-ok c =

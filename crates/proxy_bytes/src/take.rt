@@ -2,7 +2,7 @@
 
 ghost use Rattle.ice_prims.specs.Number.{text_at};
 ghost use Rattle.ice_encoding.specs.Parts.{version};
-ghost use Rattle.ice_proxy.specs.Answers.{ReadsPart, Sees};
+ghost use Rattle.proxy_bytes.specs.Answers.{ReadsPart, Sees};
 
 use ice_prims::{Cursor, Fault, ReadFault};
 use ice_types::Name;

@@ -1,7 +1,7 @@
 //! The endpoints of a proxy that can be used.
 
 ghost use Rattle.std.specs.Prelude.{◌≡◌, ℕ, List, Option, length, slice_get, option_map};
-ghost use Rattle.ice_proxy.specs.Usable.{reached, usable, usable_one, tcp_at};
+ghost use Rattle.proxy_bytes.specs.Usable.{reached, usable, usable_one, tcp_at};
 
 use ice_types::{Endpoint, Proxy};
 

@@ -1,5 +1,5 @@
-use Rattle.ice_proxy.proofs.Putting.{grows_on, then_grows}
-use Rattle.ice_proxy.proofs.write.append_details.Goals as goal
+use Rattle.proxy_bytes.proofs.Putting.{grows_on, then_grows}
+use Rattle.proxy_bytes.proofs.write.append_details.Goals as goal
 
 pub returns-clause-err : goal.returns-clause-err
 returns-clause-err c =

@@ -3,7 +3,7 @@
 ghost use Rattle.ice_prims.specs.Taking.{GivesUnlessMemory};
 ghost use Rattle.ice_encoding.specs.Bounds.{filled};
 ghost use Rattle.ice_encoding.specs.Endpoint as form;
-ghost use Rattle.ice_proxy.specs.Answers.{ReadsPart};
+ghost use Rattle.proxy_bytes.specs.Answers.{ReadsPart};
 
 use crate::take::{take_text, take_version};
 use encaps_optionals::{claimed_size, end};

@@ -6,7 +6,7 @@ ghost use Rattle.ice_prims.specs.Taking.{TakesUnlessMemory};
 ghost use Rattle.ice_encoding.specs.Parts.{made, read_times};
 ghost use Rattle.ice_encoding.specs.Endpoint.{endpoint};
 ghost use Rattle.ice_encoding.specs.Proxy as form;
-ghost use Rattle.ice_proxy.specs.Answers.{ReadsPart, Sees, IsThere};
+ghost use Rattle.proxy_bytes.specs.Answers.{ReadsPart, Sees, IsThere};
 
 use crate::read_endpoint::take_endpoint;
 use crate::take::{take_text, take_version};
