@@ -20,7 +20,8 @@ use crate::performing::perform;
 use crate::preparing::{Plan, plan_of};
 use crate::words::CallCommand;
 use ice_ports::{Net, Shelf, Sink, Source};
-use ice_types::{Schema, object_schema};
+use ice_types::Schema;
+use locator_types::object_schema;
 use node_commands::{Outcome, load_schema};
 use std::alloc::Global;
 

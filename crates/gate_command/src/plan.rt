@@ -9,7 +9,8 @@ ghost use Rattle.gate_command.specs.Steps.{FindsUpstream, MakesPlan, SchemaMakes
 use crate::words::GateCommand;
 use call_command::interface_of;
 use ice_ports::Shelf;
-use ice_types::{Proxy, Schema, object_schema};
+use ice_types::{Proxy, Schema};
+use locator_types::object_schema;
 use node_commands::{Outcome, load_schema};
 use proxy_text::{TextFault, parse_text};
 use std::alloc::Global;

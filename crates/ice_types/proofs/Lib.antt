@@ -26,5 +26,3 @@ pub mod Searching
 pub mod Counted
 pub mod RowIdentity
 pub mod Alike
-pub mod Lacked
-pub mod ObjectFits

@@ -36,8 +36,6 @@
 //!   declared has no base.
 //! - `operation` goes by exact names, through the interface's own operations, then its bases in order, each
 //!   before its own bases; a base that is reached by two paths is looked at twice.
-//! - `lacks` compares rows and not whether they are defined: an interface that is only declared is the same as
-//!   one defined without bases and operations. (Classes are all defined where it is asked.)
 //! - A sequence or dictionary whose place is in no table has the format of one whose parts are of no fixed
 //!   length.
 //! - Formats are numbers with names (`FORMAT_F1` ..), since they are what is written into the leading byte of a
@@ -53,19 +51,16 @@ mod identity;
 mod ids;
 mod inheritance;
 mod kind;
-mod lacking;
 mod laws;
 mod list;
 mod look_ups;
 mod measure;
 mod measuring;
 mod name;
-mod object;
 mod optional_format;
 mod own_names;
 mod proxy;
 mod rows;
-mod same_rows;
 mod schema;
 mod slice_ids;
 
@@ -79,13 +74,12 @@ pub use laws::no_type_in_itself;
 pub use list::{Bytes, List};
 pub use measure::Measure;
 pub use name::Name;
-pub use object::object_schema;
 pub use optional_format::{
     FORMAT_CLASS, FORMAT_F1, FORMAT_F2, FORMAT_F4, FORMAT_F8, FORMAT_FSIZE, FORMAT_SIZE,
     FORMAT_VSIZE,
 };
 pub use own_names::have_own_names;
 pub use proxy::{Endpoint, Proxy};
-pub use rows::MOST_ROWS;
+pub use rows::{MOST_ROWS, Row};
 pub use schema::{MOST_BASES, MOST_DEPTH, MOST_NUMBER, MOST_SMALLEST, Schema};
 pub use slice_ids::{is_numbered, number_in, numbered_id};

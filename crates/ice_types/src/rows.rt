@@ -21,7 +21,7 @@ use std::alloc::{AllocError, Global};
 pub const MOST_ROWS: usize = 100_000_000;
 
 /// A row of a table, which has a type id.
-pub(crate) trait Row {
+pub trait Row {
     /// The bytes of its type id.
     ghost id_of: { Self → List ℕ };
 

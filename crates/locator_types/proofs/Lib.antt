@@ -1,1 +1,2 @@
 pub mod LocatorFits
+pub mod ObjectFits

@@ -11,24 +11,8 @@ use Rattle.ice_types.specs.Tables.{is_defined, no_types}
 use Rattle.ice_types.specs.Measures.{measure, built_in, structure, with_member, no_members, proxy}
 use Rattle.ice_types.specs.Fits.{IsOf, AreOf, AreRequired, ShapeFits, OpFits, StructFits, InterfaceFits}
 use Rattle.ice_types.specs.Object.{required}
+use Rattle.locator_types.proofs.ObjectFits.{free, beside, no_tag}
 use Rattle.locator_types.specs.Locator.{identity_decl, locator_declared, finding, find_object, find_adapter, locator_operations}
-
--- ---- names
-
-free : (name : List ℕ) → IsFree [] name
-free name = All-nil (λ other. str_to_ascii_lowercase other ≢ str_to_ascii_lowercase name)
-
--- a name beside one other
-beside : (other name : List ℕ) → bytes_eq (str_to_ascii_lowercase other) (str_to_ascii_lowercase name) ≡ false → IsFree (other ∷ []) name
-beside other name differ = All-cons (λ o. str_to_ascii_lowercase o ≢ str_to_ascii_lowercase name) other [] apart (free name)
-  where
-    apart : str_to_ascii_lowercase other ≢ str_to_ascii_lowercase name
-    apart e = let same : bytes_eq (str_to_ascii_lowercase other) (str_to_ascii_lowercase name) ≡ true = (bytes_eq-Decides (str_to_ascii_lowercase other) (str_to_ascii_lowercase name)).1 e in cc
-
--- ---- members
-
-no_tag : (name : List ℕ) (kind : TypeRef) → AreRequired (required name kind ∷ [])
-no_tag name kind = All-cons (λ m. m.tag ≡ None) (required name kind) [] refl (All-nil (λ m. m.tag ≡ None))
 
 pub identity_fits : StructFits no_types identity_decl.members
 unfolding measure
@@ -37,7 +21,7 @@ identity_fits = (
   refl,
   omega arith,
   λ e. cc,
-  (free (codes "name"), (beside (codes "name") (codes "category") refl, tt)),
+  (free (codes "name"), (beside (codes "name") (codes "category") [] refl (free (codes "category")), tt)),
   All-cons (λ m. m.tag ≡ None) (required (codes "name") kinds.Text) (required (codes "category") kinds.Text ∷ []) refl (no_tag (codes "category") kinds.Text),
 )
 
@@ -65,7 +49,7 @@ finding_fits : (name : List ℕ) (kind : TypeRef) (at : ℕ) → at < 2 → IsOf
 finding_fits name kind at lt is = (
   one_fits (codes "id") kind is,
   one_fits (codes "$return") (kinds.Proxy None) proxy_of,
-  (free (codes "id"), (beside (codes "id") (codes "$return") refl, tt)),
+  (free (codes "id"), (beside (codes "id") (codes "$return") [] refl (free (codes "$return")), tt)),
   All-cons (λ n. n < 2) at [] lt (All-nil (λ n. n < 2)),
 )
 
@@ -77,5 +61,5 @@ operations_fit =
     All-cons (OpFits locator_declared) find_object (find_adapter ∷ []) (finding_fits (codes "findObjectById") (kinds.Struct 0) 0 (omega arith) identity_of) adapter in (
       (All-nil (λ base. IsTrue (is_defined locator_declared.defined_interfaces base)), tt, omega arith),
       all,
-      (free (codes "findObjectById"), (beside (codes "findObjectById") (codes "findAdapterById") refl, tt)),
+      (free (codes "findObjectById"), (beside (codes "findObjectById") (codes "findAdapterById") [] refl (free (codes "findAdapterById")), tt)),
     )

@@ -43,7 +43,7 @@ fn only(alloc: Global, name: &str, kind: TypeRef) -> Result<Shape, AllocError>
 }
 
 /// One member that is always there.
-fn one(alloc: Global, name: &str, kind: TypeRef) -> Result<List<Member>, AllocError>
+pub(crate) fn one(alloc: Global, name: &str, kind: TypeRef) -> Result<List<Member>, AllocError>
     ensures { IfOk result (λ members. members ≡ required name.now kind ∷ []) }
 {
     let name = Name::of(alloc, name)?;

@@ -13,3 +13,4 @@ pub mod Meeting
 pub mod Putting
 pub mod Verdicts
 pub mod Pairs
+pub mod Lacked

@@ -7,9 +7,9 @@ ghost use Rattle.slice_compat.specs.Tests.{ClassFails, ClassPasses, ClassReads, 
 ghost use Rattle.slice_compat.specs.Tests.{KeepsBase, KeepsCompactId, KeepsNumber, ReadsAt, ReadsEach, required_of};
 
 use crate::answers::Answers;
-use crate::ids::is_same_base;
 use crate::options::least_unread;
 use crate::reading::reads;
+use crate::same_rows::is_same_class_base;
 use crate::verdict::Why;
 use ice_types::{ClassDecl, Member, Schema, TypeRef};
 use std::alloc::{AllocError, Global};
@@ -55,7 +55,7 @@ fn fault_of(
         MatchOption why (ClassReads old.now new.now own.now decl.now) (Fails old.now new.now own.now decl.now)) }
     ensures answers { OnOk result (AreAnswers old.now new.now answers.new) }
 {
-    if !is_same_base(old, new, own.base, decl.base) {
+    if !is_same_class_base(old, new, own.base, decl.base) {
         return Ok(Some(Why::Base));
     }
     if !keeps_number(own.compact, decl.compact) {

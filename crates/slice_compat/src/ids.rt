@@ -2,9 +2,7 @@
 
 ghost use Rattle.std.specs.Prelude.{◌↔◌, ℕ, IsTrue, List, MatchOption};
 ghost use Rattle.ice_types.specs.Inherited.{IsA};
-ghost use Rattle.ice_types.specs.Lacking.{SameBase, SameId};
 ghost use Rattle.ice_types.specs.Tables.{HasId, class_ids};
-ghost use Rattle.ice_types.specs.declared.kind.RowRef.TheVariants as rows;
 ghost use Rattle.slice_compat.specs.Reading.{IsBelow, ReadsClass};
 
 use ice_types::Schema;
@@ -47,36 +45,6 @@ fn is_named_below(schema: &Schema, id: &str, base: u32) -> bool
     schema.rules();
     match schema.class(id) {
         Some(class) => schema.is_a(class, base),
-        None => false,
-    }
-}
-
-/// Whether the classes have no base, or bases of one type id.
-pub(crate) fn is_same_base(old: &Schema, new: &Schema, own: Option<u32>, base: Option<u32>) -> bool
-    ensures { IsTrue result ↔ SameBase old.now new.now rows.Class own base }
-{
-    match own {
-        Some(a) => matches!(base, Some(b) if have_one_id(old, new, a, b)),
-        None => base.is_none(),
-    }
-}
-
-/// Whether two classes have one type id.
-fn have_one_id(old: &Schema, new: &Schema, own: u32, class: u32) -> bool
-    ensures { IsTrue result ↔ SameId old.now new.now (rows.Class own) (rows.Class class) }
-{
-    match class_id(old, own) {
-        Some(id) => has_id(new, class, id),
-        None => false,
-    }
-}
-
-/// Whether a class has this type id.
-fn has_id(schema: &Schema, class: u32, id: &str) -> bool
-    ensures { IsTrue result ↔ HasId (class_ids schema.now) id.now class }
-{
-    match class_id(schema, class) {
-        Some(own) => own == id,
         None => false,
     }
 }

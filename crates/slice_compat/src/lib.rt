@@ -1,4 +1,5 @@
-//! Whether what was spelled under one schema can be read under another.
+//! Two schemas side by side: whether what was spelled under one can be read under the other, and whether one is the
+//! other without some classes.
 //!
 //! Forms, and why they are so:
 //!
@@ -15,6 +16,8 @@
 //! - A row of which there is none counts as gone through, so that no test of places stands in the way.
 //! - What is left to do is what is not met and what is pending, together; it falls by one with each that is gone
 //!   through.
+//! - `lacks` compares rows and not whether they are defined: an interface that is only declared is the same as one
+//!   defined without bases and operations. (Classes are all defined where it is asked.)
 #![tactic(auto)]
 
 mod answers;
@@ -23,12 +26,15 @@ mod classes;
 mod compatibility;
 mod enums;
 mod ids;
+mod lacking;
 mod marks;
 mod node;
 mod options;
 mod reached;
 mod reading;
+mod same_rows;
 mod verdict;
 
 pub use compatibility::compatible;
+pub use lacking::lacks;
 pub use verdict::{Verdict, Why};

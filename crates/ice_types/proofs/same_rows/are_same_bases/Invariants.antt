@@ -1,8 +1,0 @@
-use Rattle.std.proofs.Common.{drop}
-use Rattle.std.specs.Prelude.{◌↔◌}
-use Rattle.ice_types.specs.Lacking.{AreSame, SameInterfaceBase}
-use Rattle.ice_types.proofs.same_rows.are_same_bases.Given as goal
-
--- those that are left decide
-abbrev pub invariant-loop-at : goal.invariant-loop-at
-invariant-loop-at l = AreSame (SameInterfaceBase l.one l.other) (drop l.at l.own) (drop l.at l.bases) ↔ AreSame (SameInterfaceBase l.one l.other) l.own l.bases
