@@ -1,7 +1,8 @@
 //! The schema of what every object has.
 
 ghost use Rattle.std.specs.Prelude.{◌≡◌, [], ◌∷◌, IfOk, codes};
-ghost use Rattle.ice_types.specs.Object.{idempotent, object_operations, object_tables, required};
+ghost use Rattle.ice_types.specs.Object.{idempotent, object_operations, object_tables, required, strings_declared};
+ghost use Rattle.ice_types.specs.Tables.{no_types};
 ghost use Rattle.ice_types.specs.declared.kind.TypeRef.TheVariants as kinds;
 
 use crate::operations::one;
@@ -14,15 +15,41 @@ pub fn object_schema(alloc: Global) -> Result<Schema, AllocError>
     ensures { IfOk result (λ schema. schema ≡ object_tables) }
 {
     let mut schema = Schema::new(alloc);
+    declare(alloc, &mut schema)?;
+    Ok(schema)
+}
+
+/// Declares both.
+fn declare(alloc: Global, schema: &mut Schema) -> Result<(), AllocError>
+    requires { schema.old ≡ no_types }
+    ensures { IfOk result (λ _. schema.new ≡ object_tables) }
+{
+    add_strings(alloc, schema)?;
+    add_object(alloc, schema)
+}
+
+/// Declares the sequence.
+fn add_strings(alloc: Global, schema: &mut Schema) -> Result<(), AllocError>
+    requires { schema.old ≡ no_types }
+    ensures { IfOk result (λ _. schema.new ≡ strings_declared) }
+{
     let strings = SeqDecl {
         id: Name::of(alloc, "::Ice::StringSeq")?,
         element: TypeRef::Text,
     };
     schema.add_seq(strings)?;
+    Ok(())
+}
+
+/// Declares the interface.
+fn add_object(alloc: Global, schema: &mut Schema) -> Result<(), AllocError>
+    requires { schema.old ≡ strings_declared }
+    ensures { IfOk result (λ _. schema.new ≡ object_tables) }
+{
     schema.add_interface(Name::of(alloc, "::Ice::Object")?)?;
     let operations = object_operations(alloc)?;
     schema.define_interface(0, List::new(alloc), operations);
-    Ok(schema)
+    Ok(())
 }
 
 /// The four operations.
