@@ -12,8 +12,8 @@ use crate::outcome::{Invoked, Outcome};
 use crate::outgoing::Outgoing;
 use ice_messages::{Call, Message, WriteFault};
 use ice_ports::Net;
-use proxy_bytes::tcp_of;
 use ice_types::{List, Proxy};
+use proxy_bytes::tcp_of;
 use retry_core::{Client, ClientAction};
 use std::alloc::{AllocError, Global};
 

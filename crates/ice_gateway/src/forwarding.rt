@@ -24,9 +24,9 @@ use ice_client::{Outcome, invoke, send};
 use ice_encoding::LARGEST;
 use ice_messages::{Answer, Call, Message, WriteFault, batch_length};
 use ice_ports::Net;
-use proxy_bytes::tcp_of;
 use ice_types::List;
 use object_adapter::missed;
+use proxy_bytes::tcp_of;
 use std::alloc::AllocError;
 
 /// The answer of a request that asks for one, which is forwarded where it is not refused and an endpoint can be used.

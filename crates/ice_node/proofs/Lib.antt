@@ -2,3 +2,4 @@ pub mod Carrying
 pub mod Promising
 pub mod Ending
 pub mod Passing
+pub mod Calling

@@ -1,6 +1,7 @@
 -- What goes through a gateway is a delivery, and what its caller is told is an answer of a server.
 use Rattle.std.proofs.Common.{◌≡◌, ◌⊎◌, map, ℕ, ℤ, pos, negsuc, zero, suc, Bool, true, false, List, [], ◌∷◌, Option, Some, None, refl, sym, ap, subst, inl, inr, ◌∙◌}
 use Rattle.std.specs.Prelude.{is_some, nat_le, length, if◌then◌else◌}
+use Rattle.ice_encoding.specs.Parts.{Each}
 use Rattle.ice_encoding.specs.declared.limits.TheConstants.{LARGEST}
 use Rattle.ice_messages.specs.declared.message.Answer.{Answer}
 use Rattle.ice_messages.specs.declared.message.Answer.TheVariants.{Done, Raised, Missing, Unknown}
@@ -21,10 +22,11 @@ use Rattle.ice_gateway.specs.Forwarded.{forwarded, placed, request_anew, batch_a
 use Rattle.ice_gateway.specs.Handled.{Handled, Invocation, Answered, WasAnswered, WasForwarded, WasStarved, outcome_of}
 use Rattle.ice_gateway.specs.Mapped.{Mapped, ByArguments, ByOperation, IsOutcomes, admitted, admitted_by, given_back, with_arguments, wrapped}
 use Rattle.gate_command.proofs.Arriving.{goes_out}
-use Rattle.once_law.specs.Ends.{Delivery, IsDelivery, IsStarved, IsSent, tried_of}
+use Rattle.once_law.specs.Ends.{Delivery, HasOtherEnd, IsDelivery, IsSent, RunsOut, tried_of}
 use Rattle.once_law.specs.Laws.{HasTurn, HasSingleTurns}
 use Rattle.once_law.proofs.Turns.{single_turns, own_turns}
-use Rattle.once_law.proofs.Starved.{starved_turns}
+use Rattle.once_law.proofs.Lists.{head_is}
+use Rattle.once_law.proofs.Starved.{runs_out, starved_turns}
 use Rattle.ice_node.specs.Through.{IsThrough, IsLeftThrough, GatedTurnsAreSingle, StarvedGatedTurnsAreSingle, GatedSuccessesHaveTurns}
 
 -- ---- what is forwarded is what clients send
@@ -87,36 +89,38 @@ module _ (gate : Gate) (h : Handled) (d : Delivery) (t : IsThrough gate h d) whe
 pub gated_turns : GatedTurnsAreSingle
 gated_turns gate h d t = single_turns d (is_delivery gate h d t)
 
--- ---- memory ran out
+-- ---- a message whatever came of it, or where memory ran out
 
-first_same : {A : Type 0} (x y : A) → x ∷ [] ≡ y ∷ [] → x ≡ y
-first_same x y e = cc
+module _ (d : Delivery) (sent : IsSent d.message) (ends : Each HasOtherEnd d.attempts) where
+  -- the same message with this outcome, or none
+  abbrev ended : Option Outcome → Delivery
+  ended outcome = record { message = d.message; retries = d.retries; attempts = d.attempts; outcome = outcome }
+
+  turn_there : (outcome : Option Outcome) (n seat : ℕ) (a : Answer) → HasTurn d n seat a → HasTurn (ended outcome) n seat a
+  turn_there outcome n seat a u = record { attempt = u.attempt; at = u.at; session = u.session; served = u.served; gave = u.gave }
+
+  pub by_outcome : (outcome : Option Outcome) → ClientDid d.message d.retries (map tried_of d.attempts) outcome → HasSingleTurns d
+  by_outcome outcome did =
+      λ seat call asked i j a b u v. single_turns (ended outcome) (record { sent = sent; client = did; ends = ends })
+      seat call asked i j a b (turn_there outcome i seat a u) (turn_there outcome j seat b v)
+
+  pub by_want : RunsOut d.message d.retries (map tried_of d.attempts) → HasSingleTurns d
+  by_want out = starved_turns d (record { sent = sent; client = out; ends = ends })
 
 module _ (gate : Gate) (m : Message) (d : Delivery) (t : IsLeftThrough gate m d) where
-  -- the same message with this outcome
-  abbrev ended : Outcome → Delivery
-  ended outcome = record { message = d.message; retries = d.retries; attempts = d.attempts; outcome = Some outcome }
-
-  turn_there : (outcome : Outcome) (n seat : ℕ) (a : Answer) → HasTurn d n seat a → HasTurn (ended outcome) n seat a
-  turn_there outcome n seat a u = record { attempt = u.attempt; at = u.at; session = u.session; served = u.served; gave = u.gave }
+  sent_on : IsSent d.message
+  sent_on = forwarded_sent gate m d.message t.message_is
 
   by_starved : (tried : List Tried) → tried ≡ map tried_of d.attempts → ClientStarved d.message gate.retries tried ⊎ ((outcome : Outcome) × ClientDid d.message gate.retries tried (Some outcome)) → HasSingleTurns d
   by_starved tried is (inl starved) =
-      starved_turns d (record {
-        sent = forwarded_sent gate m d.message t.message_is;
-        client = subst (λ (x : ℕ × List Tried). ClientStarved d.message x.0 x.1) (λ j. (sym t.retries_are j, is j)) starved;
-        ends = t.ends;
-      })
+      by_want d sent_on t.ends (runs_out d.message d.retries (map tried_of d.attempts)
+      (subst (λ (x : ℕ × List Tried). ClientStarved d.message x.0 x.1) (λ j. (sym t.retries_are j, is j)) starved))
   by_starved tried is (inr (outcome, did)) =
-      λ seat call asked i j a b u v. single_turns (ended outcome) (record {
-        sent = forwarded_sent gate m d.message t.message_is;
-        client = subst (λ (x : ℕ × List Tried). ClientDid d.message x.0 x.1 (Some outcome)) (λ j. (sym t.retries_are j, is j)) did;
-        ends = t.ends;
-      }) seat call asked i j a b (turn_there outcome i seat a u) (turn_there outcome j seat b v)
+      by_outcome d sent_on t.ends (Some outcome) (subst (λ (x : ℕ × List Tried). ClientDid d.message x.0 x.1 (Some outcome)) (λ j. (sym t.retries_are j, is j)) did)
 
   by_was : WasStarved gate d.message (map tried_of d.attempts ∷ []) → HasSingleTurns d
   by_was (inl none) = absurd cc
-  by_was (inr (tried, runs, uncached, how)) = by_starved tried (sym (first_same (map tried_of d.attempts) tried runs)) how
+  by_was (inr (tried, runs, uncached, how)) = by_starved tried (sym (head_is runs)) how
 
 pub starved_gated_turns : StarvedGatedTurnsAreSingle
 starved_gated_turns gate m d t = by_was gate m d t t.starved

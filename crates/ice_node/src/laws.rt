@@ -20,7 +20,7 @@ ghost use Rattle.serve_command.specs.declared.words.TheConstants.{MOST_WORDS};
 ghost use Rattle.serve_command.specs.declared.operands.TheConstants.{MOST_WORKERS, MOST_CONNECTIONS};
 ghost use Rattle.serve_command.specs.declared.serving.TheConstants.{MOST_MESSAGES as MOST_SERVED};
 ghost use Rattle.ice_node.specs.Through.{GatedSuccessesHaveTurns, GatedTurnsAreSingle};
-ghost use Rattle.ice_node.specs.Through.{StarvedGatedTurnsAreSingle};
+ghost use Rattle.ice_node.specs.Through.{CalledTurnsAreSingle, StarvedGatedTurnsAreSingle};
 
 pub use gate_command::gates_once;
 pub use once_law::{once, successes_have_turns, turns_are_single};
@@ -42,6 +42,13 @@ pub fn limits_numbered()
     ensures word { MOST_OF_A_WORD ≡ 8192 }
     ensures calls { (MOST_RETRIES ≡ 10) × (MOST_TIMES ≡ 1000) × (MOST_OF_ARGUMENTS ≡ 1000000) }
     ensures serving { (MOST_WORDS ≡ 64) × (MOST_WORKERS ≡ 64) × (MOST_CONNECTIONS ≡ 1000000) × (MOST_SERVED ≡ 1000000) }
+{}
+
+/// What `call` and the servers that it calls say, joined: over all attempts at a message, wherever its proxy led before
+/// each of them, whatever was lost, closed or tried again, and wherever memory ran out, a call that is not idempotent
+/// has one turn of an object at most. (Ice manual, "At-Most-Once Semantics" and "Locators".)
+pub fn called_turns_are_single()
+    ensures { CalledTurnsAreSingle }
 {}
 
 /// What a gateway and the servers behind it say, joined: over all attempts at a message that it forwarded, whatever was

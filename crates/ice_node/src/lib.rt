@@ -15,8 +15,8 @@ mod laws;
 mod top_call;
 
 pub use laws::{
-    gated_successes_have_turns, gated_turns_are_single, gates_once, limits_numbered, once,
-    successes_have_turns, turns_are_single,
+    called_turns_are_single, gated_successes_have_turns, gated_turns_are_single, gates_once,
+    limits_numbered, once, successes_have_turns, turns_are_single,
 };
 pub use node_commands::{Outcome, report};
 pub use top_call::node;

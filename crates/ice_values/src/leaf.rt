@@ -13,8 +13,8 @@ use ice_prims::{
     Cursor, Fault, Kind, ReadFault, put_bool, put_byte, put_int, put_long, put_short, put_size,
     put_str,
 };
-use proxy_bytes::{read_proxy, write_proxy};
 use ice_types::{Entry, Name, Proxy, Schema, TypeRef};
+use proxy_bytes::{read_proxy, write_proxy};
 use std::alloc::{AllocError, Global};
 
 /// The value at the front of a type without parts. One of any other type is a fault.

@@ -16,8 +16,8 @@ use crate::key::Key;
 use crate::resolving::{Resolved, resolve};
 use ice_client::{Invoked, Once, Outgoing, attempt_once};
 use ice_ports::Net;
-use proxy_bytes::tcp_of;
 use ice_types::Proxy;
+use proxy_bytes::tcp_of;
 use retry_core::{Attempt, Client};
 use std::alloc::{AllocError, Global};
 

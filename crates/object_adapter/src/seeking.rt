@@ -20,8 +20,8 @@ use crate::results::Results;
 use class_slices::{Format, UserException, UserExceptionFault, write_exception};
 use graph_arena::{Graph, Members, Slice};
 use ice_messages::Answer;
-use proxy_bytes::write_proxy;
 use ice_types::{List, Member, Name, Proxy, Schema, Shape, TypeRef};
+use proxy_bytes::write_proxy;
 use std::alloc::{AllocError, Global};
 
 /// What an operation of a locator seeks.

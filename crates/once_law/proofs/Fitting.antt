@@ -276,18 +276,17 @@ module _ (call : Call) (answer : Answer) (good : IsDispatched answer) where
     starved : IsStarved one
     starved = record {
       sent = inl (call, refl);
-      client = inr (record {
-        outgoing = outgoing;
-        is_of = is_of;
-        cut = record {
-          before = lost_try ∷ closed_try ∷ [];
-          last = answered_try;
-          parts = refl;
-          followed = followed;
-          few = omega arith;
-          cut = (refl, refl, inr (refl, refl, greeted (Reply (pos 1) answer ∷ [])));
-        };
-      });
+      client = inr (
+        lost_try ∷ closed_try ∷ [],
+        answered_try ∷ [],
+        refl,
+        omega arith,
+        record {
+          outgoing = outgoing;
+          is_of = is_of;
+          ended = (followed, omega arith);
+        },
+      );
       ends = met;
     }
 

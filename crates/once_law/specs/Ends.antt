@@ -1,6 +1,6 @@
 -- WHAT BOTH ENDS SAY: a client of its messages, each with its attempts, and a server of its sessions at the other ends of
 -- their connections. (Ice manual, "Automatic Retries" and "At-Most-Once Semantics".)
-use Rattle.std.specs.Prelude.{ℕ, pos, ◌≡◌, ◌⊎◌, Bool, List, [], ◌++◌, map, Option, None, Some, is_some}
+use Rattle.std.specs.Prelude.{ℕ, pos, ◌≡◌, ◌≤◌, ◌⊎◌, Bool, List, [], ◌++◌, length, map, Option, None, Some, is_some}
 use Rattle.ice_encoding.specs.Parts.{Each}
 use Rattle.ice_ports.specs.declared.talk.Talk.{Talk}
 use Rattle.ice_messages.specs.declared.message.Call.{Call}
@@ -9,7 +9,7 @@ use Rattle.ice_messages.specs.declared.message.Message.TheVariants.{Request}
 use Rattle.retry_core.specs.declared.attempt.Attempt.{Attempt}
 use Rattle.ice_client.specs.declared.outcome.Outcome.{Outcome}
 use Rattle.ice_client.specs.Sending.{IsOneway}
-use Rattle.ice_client.specs.ClientDid.{ClientDid, ClientStarved, Tried}
+use Rattle.ice_client.specs.ClientDid.{ClientDid, Tried}
 use Rattle.talking.specs.declared.end.End.{End}
 use Rattle.dispatch_pool.specs.Handled.{Keys, Handled}
 use Rattle.dispatch_pool.specs.ServerDid.{ServerDid}
@@ -81,8 +81,13 @@ pub record IsDelivery (d : Delivery) : Type 0 where
   pub client : ClientDid d.message d.retries (map tried_of d.attempts) d.outcome
   pub ends : Each HasOtherEnd d.attempts
 
--- the same of a message whose client ran out of memory, before the first attempt or in the last
+-- A client's attempts at a message up to where its memory ran out: none; or such as a client makes that has no endpoint for
+-- one more, and one behind them, or none.
+abbrev pub RunsOut : Message → ℕ → List Tried → Type 0
+RunsOut m retries tried = (tried ≡ []) ⊎ ((before rest : List Tried) × (tried ≡ before ++ rest) × (length rest ≤ 1) × ClientDid m retries before None)
+
+-- the same of a message whose client ran out of memory
 pub record IsStarved (d : Delivery) : Type 0 where
   pub sent : IsSent d.message
-  pub client : ClientStarved d.message d.retries (map tried_of d.attempts)
+  pub client : RunsOut d.message d.retries (map tried_of d.attempts)
   pub ends : Each HasOtherEnd d.attempts
