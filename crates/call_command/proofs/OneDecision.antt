@@ -15,7 +15,7 @@ use Rattle.graph_json.proofs.TextsApart.{one_listed, one_reason, never_refused}
 use Rattle.ice_messages.specs.declared.message.Message.{Message}
 use Rattle.ice_messages.specs.Messages.{message_bytes}
 use Rattle.ice_messages.specs.Written.{told}
-use Rattle.proxy_text.specs.Grammar.{proxy_text}
+use Rattle.ice_proxy.specs.Grammar.{proxy_text}
 use Rattle.slice_meaning.proofs.Loads.{one_meaning, one_break, never_both}
 use Rattle.node_commands.specs.Words.{Word}
 use Rattle.node_commands.specs.Outside.{Files, Failures}

@@ -10,7 +10,7 @@ use Rattle.node_commands.specs.Decided.{IsSchema}
 use Rattle.node_commands.specs.Effects.{GetsText}
 use Rattle.node_commands.specs.Outcomes.{GivesNoSchema}
 use Rattle.node_commands.proofs.Keeping.{keeps_itself}
-use Rattle.proxy_text.specs.Grammar.{proxy_text}
+use Rattle.ice_proxy.specs.Grammar.{proxy_text}
 use Rattle.call_command.specs.declared.callee.Callee.{Callee}
 use Rattle.call_command.specs.declared.stop.Stop.{Stop}
 use Rattle.call_command.specs.Words.{CallWords}

@@ -14,7 +14,7 @@ use Rattle.graph_json.specs.Texts.{IsRefused, Lists}
 use Rattle.ice_messages.specs.declared.message.Message.{Message}
 use Rattle.ice_messages.specs.Messages.{message_bytes}
 use Rattle.ice_messages.specs.Written.{told}
-use Rattle.proxy_text.specs.Grammar.{proxy_text}
+use Rattle.ice_proxy.specs.Grammar.{proxy_text}
 use Rattle.slice_meaning.specs.Printed.{LoadBreak}
 use Rattle.node_commands.specs.Words.{Word}
 use Rattle.node_commands.specs.Outside.{Files}

@@ -10,7 +10,7 @@ use Rattle.ice_graphs.specs.Instances.{SpellsNumbered, numbered_at}
 use Rattle.ice_graphs.specs.Typed.{OfType}
 use Rattle.ice_graphs.specs.Exceptions.{UserException, exception_at}
 use Rattle.graph_json.specs.Texts.{graph_text}
-use Rattle.proxy_text.specs.PrintedWords.{quoted_text}
+use Rattle.ice_proxy.specs.PrintedWords.{quoted_text}
 use Rattle.ice_messages.specs.declared.message.Answer.TheVariants as answers
 use Rattle.ice_client.specs.declared.outcome.Outcome.{Outcome}
 use Rattle.ice_client.specs.declared.outcome.Outcome.TheVariants as outcomes

@@ -1,15 +1,15 @@
 //! The object that is called, and the locator that finds it, by their texts.
 
 ghost use Rattle.std.specs.Prelude.{◌≡◌, IfSome, option_copied, option_map};
-ghost use Rattle.proxy_text.specs.Grammar.{proxy_text};
+ghost use Rattle.ice_proxy.specs.Grammar.{proxy_text};
 ghost use Rattle.node_commands.specs.Words.{IsWord};
 ghost use Rattle.call_command.specs.Planning as spec;
 ghost use Rattle.call_command.specs.Steps.{Parses, ParsesListed};
 
 use crate::ending::Ending;
+use ice_proxy::{TextFault, parse_text};
 use ice_types::Proxy;
 use node_commands::Outcome;
-use proxy_text::{TextFault, parse_text};
 use std::alloc::Global;
 
 /// The object that is called, and who is asked for endpoints where its proxy has none.

@@ -1,7 +1,7 @@
 //! `call [--retries R] [--times T] [--compact] [--locator PROXY] FILE INTERFACE PROXY OPERATION`
 
 ghost use Rattle.std.specs.Prelude.{◌≡◌, ◌≤◌, IfSome, ℕ};
-ghost use Rattle.proxy_text.specs.Grammar.{proxy_text};
+ghost use Rattle.ice_proxy.specs.Grammar.{proxy_text};
 ghost use Rattle.node_commands.specs.Outside.{counts, outside};
 ghost use Rattle.call_command.specs.Words.{IsWithin, seen};
 ghost use Rattle.call_command.specs.Operations.{IsDeclared, found_seen, seen as operation_seen};

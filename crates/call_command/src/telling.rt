@@ -23,12 +23,12 @@ use graph_json::to_text;
 use ice_client::Outcome;
 use ice_messages::Answer;
 use ice_prims::ReadFault;
+use ice_proxy::quote;
 use ice_types::{Name, Schema};
 use ice_values::DeclaredMembers;
 use itoa::Buffer;
 use locator::Through;
 use locator_types::locator_schema;
-use proxy_text::quote;
 use std::alloc::{AllocError, Global};
 
 /// The line on a message that succeeded, or what stops the call.

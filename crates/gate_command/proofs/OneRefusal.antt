@@ -3,7 +3,7 @@ use Rattle.std.proofs.Common.{◌≡◌, ℕ, Some, Result, Ok, Err, sym, ap, su
 use Rattle.ice_types.specs.declared.proxy.Proxy.{Proxy}
 use Rattle.ice_types.specs.Tables.{Tables}
 use Rattle.ice_gateway.specs.Gate.{Gate}
-use Rattle.proxy_text.specs.Grammar.{proxy_text}
+use Rattle.ice_proxy.specs.Grammar.{proxy_text}
 use Rattle.slice_meaning.proofs.Loads.{one_meaning, one_break, never_both}
 use Rattle.node_commands.specs.Words.{Word}
 use Rattle.node_commands.specs.Outside.{Files}

@@ -39,12 +39,20 @@ FindsUpstream parsed (Err outcome) = ((IsListed parsed → ⊥) × (answered_by 
 abbrev pub gate_of : Plan → Gate
 gate_of p = record { tables = p.schema; interface = p.interface; endpoints = p.upstream.endpoints; retries = p.retries }
 
--- the plan with this schema; or a step that is left refuses; or memory lacked
+-- a step that is left refuses; or memory lacked
+abbrev pub SchemaRefuses : GateWords → Result Proxy ℕ → Tables → Answer → Type 0
+SchemaRefuses c parsed t answer = WithInterface t c.interface answer (λ at. WithProxy parsed answer (λ p. ⊥)) ⊎ (answer ≡ no_memory)
+
+-- what goes with this schema
+abbrev pub SchemaGives : GateWords → Result Proxy ℕ → Tables → Result (Tables × ℕ × Proxy) Outcome → Type 0
+SchemaGives c parsed t (Ok (object, interface, upstream)) = IsInterface t c.interface interface × (parsed ≡ Ok upstream) × (object ≡ object_tables)
+SchemaGives c parsed t (Err outcome) = SchemaRefuses c parsed t (answered_by outcome)
+
+-- the plan with this schema
 abbrev pub SchemaMakes : GateWords → Result Proxy ℕ → Tables → Result Plan Outcome → Type 0
 SchemaMakes c parsed t (Ok plan) = IsInterface t c.interface plan.interface × (parsed ≡ Ok plan.upstream)
     × (plan.schema ≡ t) × (plan.retries ≡ c.retries) × (plan.object ≡ object_tables)
-SchemaMakes c parsed t (Err outcome) = WithInterface t c.interface (answered_by outcome) (λ at. WithProxy parsed (answered_by outcome) (λ p. ⊥))
-    ⊎ (answered_by outcome ≡ no_memory)
+SchemaMakes c parsed t (Err outcome) = SchemaRefuses c parsed t (answered_by outcome)
 
 -- why there is none: the words are refused; a file could not be read; memory lacked
 abbrev pub MakesNone : GateWords → Option Files → (before after : ℕ) → Answer → Type 0

@@ -1,18 +1,18 @@
 //! All that is decided before the net is asked.
 
 ghost use Rattle.std.specs.Prelude.{Ok};
-ghost use Rattle.proxy_text.specs.Grammar.{proxy_text};
+ghost use Rattle.ice_proxy.specs.Grammar.{proxy_text};
 ghost use Rattle.node_commands.specs.Words.{IsWord};
 ghost use Rattle.gate_command.specs.Words.{IsWithin, seen};
-ghost use Rattle.gate_command.specs.Steps.{FindsUpstream, MakesPlan, SchemaMakes};
+ghost use Rattle.gate_command.specs.Steps.{FindsUpstream, MakesPlan, SchemaGives, SchemaMakes};
 
 use crate::words::GateCommand;
 use call_command::interface_of;
 use ice_ports::Shelf;
+use ice_proxy::{TextFault, parse_text};
 use ice_types::{Proxy, Schema};
 use locator_types::object_schema;
 use node_commands::{Outcome, load_schema};
-use proxy_text::{TextFault, parse_text};
 use std::alloc::Global;
 
 /// What calls are forwarded by.
@@ -75,17 +75,31 @@ fn under<'a>(
 ) -> Result<Plan, Outcome<'a>>
     ensures { SchemaMakes (seen command.entry) upstream schema result }
 {
-    let Some(interface) = interface_of(&schema, command.interface) else {
+    let (object, interface, upstream) = parts_of(alloc, command, upstream, &schema)?;
+    Ok(Plan {
+        object,
+        schema,
+        interface,
+        upstream,
+        retries: command.retries,
+    })
+}
+
+/// What goes with the schema: the operations that every object has, the place of the interface, and where the servers
+/// are.
+fn parts_of<'a>(
+    alloc: Global,
+    command: GateCommand<'a>,
+    upstream: Result<Proxy, u32>,
+    schema: &Schema,
+) -> Result<(Schema, u32, Proxy), Outcome<'a>>
+    ensures { SchemaGives (seen command.entry) upstream schema.now result }
+{
+    let Some(interface) = interface_of(schema, command.interface) else {
         return Err(Outcome::NoSuchName(command.interface));
     };
     match upstream {
-        Ok(upstream) => Ok(Plan {
-            object: object_schema(alloc)?,
-            schema,
-            interface,
-            upstream,
-            retries: command.retries,
-        }),
+        Ok(upstream) => Ok((object_schema(alloc)?, interface, upstream)),
         Err(place) => Err(Outcome::TextRefused(place)),
     }
 }

@@ -29,8 +29,8 @@ use Rattle.ice_encoding.specs.Tree.{Tree, Trees, none, Entries, no_entry}
 use Rattle.ice_encoding.specs.Order.{has_key, insert}
 use Rattle.ice_encoding.proofs.Order.{is_new, has_none}
 use Rattle.ice_encoding.specs.Port.{size_of}
-use Rattle.proxy_text.specs.Looking.{Parsed}
-use Rattle.proxy_text.specs.Grammar.{proxy_text}
+use Rattle.ice_proxy.specs.Looking.{Parsed}
+use Rattle.ice_proxy.specs.Grammar.{proxy_text}
 use Rattle.graph_json.specs.ValueNotation.{Noting, NotesInteger, NotesSigned, NotesEnumerator, NotesProxy, NotesName, NotesReference, NotesEach, NotesMembers, NotesPairs, NotesLevels, Notes, name_noted}
 use Rattle.graph_json.specs.ReadingValues.{Read, where_true, fits, integer_of, some, number_named, enumerator_of, parsed, text_proxy, some_proxy_of, proxy_of, name_from, name_in, name_of, reference_of, signed_of, byte_from, text_from, each_of, members_of, pair_from, pair_of, both_of, where_new, pairs_of, few, whole, value_levels, noted_value}
 use Rattle.graph_json.proofs.Shapes.{then_some, map_some, false_then, true_then, bool_is, number_is, str_is, array_is, object_is, pair_is}

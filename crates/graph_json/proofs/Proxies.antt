@@ -16,11 +16,11 @@ use Rattle.ice_encoding.specs.Parts.{Each, bool, int}
 use Rattle.ice_encoding.specs.Identity.{identity, facet}
 use Rattle.ice_encoding.specs.Endpoint.{endpoint_to, is_tcp, said, EndpointHasSize}
 use Rattle.ice_encoding.specs.Proxy.{Location, located_to, is_empty, named_to, proxy_to, CanBeWritten, ProxySizes}
-use Rattle.proxy_text.specs.Grammar.{proxy_text}
-use Rattle.proxy_text.specs.Printed.{HasText, HasEndpointText, HaveEndpointTexts, printed_proxy}
-use Rattle.proxy_text.proofs.WholeText.{text_read_back}
-use Rattle.proxy_text.proofs.Typed.{whole_text_typed}
-use Rattle.proxy_text.proofs.Sized.{text_sized}
+use Rattle.ice_proxy.specs.Grammar.{proxy_text}
+use Rattle.ice_proxy.specs.Printed.{HasText, HasEndpointText, HaveEndpointTexts, printed_proxy}
+use Rattle.ice_proxy.proofs.WholeText.{text_read_back}
+use Rattle.ice_proxy.proofs.Typed.{whole_text_typed}
+use Rattle.ice_proxy.proofs.Sized.{text_sized}
 
 -- ---- a proxy that there is has a text
 

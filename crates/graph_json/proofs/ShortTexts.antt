@@ -20,9 +20,9 @@ use Rattle.ice_encoding.specs.Identity.{facet}
 use Rattle.ice_encoding.specs.Endpoint.{endpoint}
 use Rattle.ice_encoding.specs.Proxy.{location, named, proxy}
 use Rattle.ice_encoding.proofs.Proxied.{proxy_lawful}
-use Rattle.proxy_text.specs.PrintedWords.{short, octal_escape, escape_of, escape_in_identity, wants_quotes, in_quotes, printed_text, whole_name, identity_escapes, printed_identity}
-use Rattle.proxy_text.specs.Numbers.{printed_timeout, printed_version, printed_bytes}
-use Rattle.proxy_text.specs.Printed.{unless_empty, when, printed_mode, printed_protocol, printed_tcp, printed_opaque, printed_endpoint, printed_endpoints, printed_options, printed_proxy, IsVersion, HasEndpointText, HaveEndpointTexts, HasText}
+use Rattle.ice_proxy.specs.PrintedWords.{short, octal_escape, escape_of, escape_in_identity, wants_quotes, in_quotes, printed_text, whole_name, identity_escapes, printed_identity}
+use Rattle.ice_proxy.specs.Numbers.{printed_timeout, printed_version, printed_bytes}
+use Rattle.ice_proxy.specs.Printed.{unless_empty, when, printed_mode, printed_protocol, printed_tcp, printed_opaque, printed_endpoint, printed_endpoints, printed_options, printed_proxy, IsVersion, HasEndpointText, HaveEndpointTexts, HasText}
 use Rattle.graph_json.specs.TypedValues.{HasShortText}
 use Rattle.graph_json.proofs.Proxies.{has_text}
 

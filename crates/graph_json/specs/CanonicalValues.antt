@@ -11,7 +11,7 @@ use Rattle.ice_types.specs.declared.schema.TheConstants.{MOST_DEPTH}
 use Rattle.ice_types.specs.Tables.{Tables}
 use Rattle.ice_encoding.specs.Tree as tree
 use Rattle.ice_encoding.specs.Tree.{Tree, Trees, none, Entries, no_entry, entry}
-use Rattle.proxy_text.specs.Printed.{printed_proxy}
+use Rattle.ice_proxy.specs.Printed.{printed_proxy}
 use Rattle.graph_json.specs.ValueNotation.{name_noted, pair}
 
 abbrev pub Write : Type 0

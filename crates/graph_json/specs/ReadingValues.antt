@@ -16,8 +16,8 @@ use Rattle.ice_types.specs.Tables.{Tables}
 use Rattle.ice_encoding.specs.Tree as tree
 use Rattle.ice_encoding.specs.Tree.{Tree, Trees, none, Entries, no_entry}
 use Rattle.ice_encoding.specs.Order.{has_key, insert}
-use Rattle.proxy_text.specs.Looking.{Parsed}
-use Rattle.proxy_text.specs.Grammar.{proxy_text}
+use Rattle.ice_proxy.specs.Looking.{Parsed}
+use Rattle.ice_proxy.specs.Grammar.{proxy_text}
 
 abbrev pub Read : Type 0 → Type 0
 Read A = Data → Option A

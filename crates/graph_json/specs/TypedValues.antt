@@ -2,7 +2,7 @@
 use Rattle.std.specs.Prelude.{◌<◌, ◌^◌, length, Option, None, Some}
 use Rattle.ice_types.specs.declared.proxy.Proxy.{Proxy}
 use Rattle.ice_encoding.specs.Tree.{Tree, boolean, byte, short, int, long, text, sequence, dictionary, struct, enumerator, proxy, reference, Everywhere}
-use Rattle.proxy_text.specs.Printed.{printed_proxy}
+use Rattle.ice_proxy.specs.Printed.{printed_proxy}
 
 -- the printed text is shorter than 1,073,741,824 bytes
 abbrev pub HasShortText : Option Proxy → Type 0

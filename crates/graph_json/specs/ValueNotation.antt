@@ -22,7 +22,7 @@ use Rattle.ice_encoding.specs.Tree as tree
 use Rattle.ice_encoding.specs.Tree.{Tree, Trees, none, Entries, no_entry}
 use Rattle.ice_encoding.specs.Order.{LacksKey, insert}
 use Rattle.ice_encoding.specs.Port.{size_of}
-use Rattle.proxy_text.specs.Grammar.{proxy_text}
+use Rattle.ice_proxy.specs.Grammar.{proxy_text}
 
 -- JSON that is to stand for something
 abbrev pub Noting : Type 0 → Type 1

@@ -9,8 +9,8 @@ ghost use Rattle.graph_arena.specs.View.{view};
 ghost use Rattle.graph_json.specs.ReadingValues as spec;
 
 use graph_arena::Value;
+use ice_proxy::{TextFault, parse_text};
 use ice_types::{Entry, Name, Proxy, Schema};
-use proxy_text::{TextFault, parse_text};
 use serde_json::{Map, Value as Json};
 use std::alloc::{AllocError, Global};
 

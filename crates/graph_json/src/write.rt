@@ -13,8 +13,8 @@ ghost use Rattle.graph_json.specs.CanonicalValues.{each_noted, members_noted, no
 ghost use Rattle.graph_json.specs.CanonicalValues.{noted, pairs_noted};
 
 use graph_arena::Value;
+use ice_proxy::print_text;
 use ice_types::{DictDecl, Entry, MOST_DEPTH, Member, Proxy, Schema, TypeRef};
-use proxy_text::print_text;
 use serde_json::{Map, Value as Json};
 use std::alloc::{AllocError, Global};
 use value_checks::is_byte_type;

@@ -1,13 +1,15 @@
 //! A drill: a graph that is drawn from a number, and the line that tells what came of it.
 
-ghost use Rattle.std.specs.Prelude.{◌<◌, ◌≤◌};
+ghost use Rattle.std.specs.Prelude.{◌≡◌, ◌<◌, ◌≤◌};
 ghost use Rattle.ice_relay.specs.declared.drilling.TheConstants.{MOST_NODES};
+ghost use Rattle.ice_relay.specs.Nodes.{drill_tables};
 ghost use Rattle.ice_relay.specs.Telling.{Drills};
 
 use crate::drawing::drawn;
 use crate::drill_fault::DrillFault;
 use crate::node_schema::{node_schema, root};
 use crate::telling::tell;
+use ice_types::Schema;
 use ice_values::DeclaredMembers;
 use std::alloc::Global;
 
@@ -25,11 +27,21 @@ pub fn drill(alloc: Global, start: u32, count: u32) -> Result<String, DrillFault
     ensures { Drills start count result }
 {
     let schema = node_schema(alloc)?;
+    drill_under(alloc, &schema, start, count)
+}
+
+/// The same, by the schema of the nodes.
+fn drill_under(alloc: Global, schema: &Schema, start: u32, count: u32) -> Result<String, DrillFault>
+    requires schema { schema.now ≡ drill_tables }
+    requires some { 0 < count }
+    requires few { count ≤ MOST_NODES }
+    ensures { Drills start count result }
+{
     let root = [root(alloc)?];
     let fields = DeclaredMembers {
         required: &root,
         optional: &[],
     };
     let graph = drawn(alloc, start, count)?;
-    tell(alloc, &schema, fields, count, graph)
+    tell(alloc, schema, fields, count, graph)
 }

@@ -2,6 +2,7 @@
 
 ghost use Rattle.std.specs.Prelude.{◌≡◌, [], ◌∷◌, IfOk};
 ghost use Rattle.ice_types.specs.Object.{required};
+ghost use Rattle.ice_types.specs.Tables.{no_types};
 ghost use Rattle.ice_relay.specs.Nodes.{drill_tables, node_members, root};
 
 use ice_types::{List, Member, Name, Schema, TypeRef};
@@ -12,10 +13,19 @@ pub(crate) fn node_schema(alloc: Global) -> Result<Schema, AllocError>
     ensures { IfOk result (λ schema. schema ≡ drill_tables) }
 {
     let mut schema = Schema::new(alloc);
+    declare(alloc, &mut schema)?;
+    Ok(schema)
+}
+
+/// Declares and defines the class.
+fn declare(alloc: Global, schema: &mut Schema) -> Result<(), AllocError>
+    requires { schema.old ≡ no_types }
+    ensures { IfOk result (λ _. schema.new ≡ drill_tables) }
+{
     schema.add_class(Name::of(alloc, "::D::N")?)?;
     let members = node_members(alloc)?;
     schema.define_class(0, None, None, members);
-    Ok(schema)
+    Ok(())
 }
 
 /// The members of the class.

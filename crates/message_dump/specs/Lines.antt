@@ -5,7 +5,7 @@ use Rattle.ice_messages.specs.declared.message.Call.{Call}
 use Rattle.ice_messages.specs.declared.message.Message.{Message}
 use Rattle.ice_messages.specs.declared.message.Message.TheVariants.{Request, Batch, Reply, Validate, Close}
 use Rattle.ice_messages.specs.Calls.{status_of}
-use Rattle.proxy_text.specs.PrintedWords.{in_quotes, quoted_text, identity_escapes}
+use Rattle.ice_proxy.specs.PrintedWords.{in_quotes, quoted_text, identity_escapes}
 use Rattle.message_dump.specs.declared.lines.TheConstants.{BEFORE_REPLY_BODY}
 
 -- one after the other, with a blank between

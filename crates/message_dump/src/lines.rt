@@ -3,11 +3,11 @@
 ghost use Rattle.std.specs.Prelude.{◌≡◌, ◌++◌, IfOk, codes, string_bytes};
 ghost use Rattle.std.specs.Fmt.{decimal, signed_decimal};
 ghost use Rattle.ice_messages.specs.Calls.{status_of};
-ghost use Rattle.proxy_text.specs.PrintedWords.{identity_escapes, in_quotes, quoted_text};
+ghost use Rattle.ice_proxy.specs.PrintedWords.{identity_escapes, in_quotes, quoted_text};
 ghost use Rattle.message_dump.specs.Lines.{◌&◌, message_line};
 
 use ice_messages::{Answer, Call, Message};
-use proxy_text::{escape_identity, quote};
+use ice_proxy::{escape_identity, quote};
 use std::alloc::{AllocError, Global};
 
 /// How many bytes of a reply stand before its body: header, id and status.

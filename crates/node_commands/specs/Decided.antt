@@ -23,8 +23,8 @@ use Rattle.ice_relay.specs.Telling.{drill_line, CanBeRelayed, IsTooLong}
 use Rattle.ice_types.specs.declared.proxy.Proxy.{Proxy}
 use Rattle.ice_encoding.specs.Proxy as parts
 use Rattle.hex.specs.Hex.{encode_lower}
-use Rattle.proxy_text.specs.Grammar.{proxy_text}
-use Rattle.proxy_text.specs.Printed.{printed_proxy}
+use Rattle.ice_proxy.specs.Grammar.{proxy_text}
+use Rattle.ice_proxy.specs.Printed.{printed_proxy}
 use Rattle.message_dump.specs.Dumps.{IsDump}
 use Rattle.ice_audit.specs.declared.verdict.Verdict.{Verdict}
 use Rattle.ice_audit.specs.declared.verdict.Verdict.TheVariants.{Yes, No}

@@ -12,8 +12,8 @@ use Rattle.ice_relay.specs.declared.drill_fault.DrillFault.TheVariants as drill_
 use Rattle.ice_ports.specs.declared.ports.PortFault.{PortFault}
 use Rattle.ice_ports.specs.declared.ports.PortFault.TheVariants as port_faults
 use Rattle.ice_ports.specs.Failures.{one_more}
-use Rattle.proxy_text.specs.declared.fault.TextFault.{TextFault}
-use Rattle.proxy_text.specs.declared.fault.TextFault.TheVariants as text_faults
+use Rattle.ice_proxy.specs.declared.fault.TextFault.{TextFault}
+use Rattle.ice_proxy.specs.declared.fault.TextFault.TheVariants as text_faults
 use Rattle.message_dump.specs.declared.dump.Dump.{Dump}
 use Rattle.message_dump.specs.declared.dump.Dump.TheVariants as dumps
 use Rattle.ice_audit.specs.declared.verdict.Verdict.{Verdict}

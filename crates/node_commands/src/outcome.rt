@@ -10,11 +10,11 @@ ghost use Rattle.node_commands.specs.Outcomes.{answer_of};
 use graph_json::JsonKind;
 use ice_ports::PortFault;
 use ice_prims::{Fault, Kind, ReadFault};
+use ice_proxy::TextFault;
 use ice_relay::{DrillFault, RelayFault};
 use ice_types::Name;
 use itoa::Buffer;
 use message_dump::Dump;
-use proxy_text::TextFault;
 use slice_check::LoadFault;
 use std::alloc::AllocError;
 

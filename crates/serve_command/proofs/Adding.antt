@@ -7,8 +7,8 @@ use Rattle.std.specs.declared.cmp.Ordering.{Ordering}
 use Rattle.ice_types.specs.declared.identity.Identity.{Identity}
 use Rattle.ice_types.specs.declared.proxy.Proxy.{Proxy}
 use Rattle.ice_types.specs.Tables.{Tables}
-use Rattle.proxy_text.specs.IdentityText.{identity_text}
-use Rattle.proxy_text.specs.Grammar.{proxy_text}
+use Rattle.ice_proxy.specs.IdentityText.{identity_text}
+use Rattle.ice_proxy.specs.Grammar.{proxy_text}
 use Rattle.object_adapter.specs.declared.add_fault.AddFault.{AddFault}
 use Rattle.object_adapter.specs.declared.add_fault.AddFault.TheVariants as add_faults
 use Rattle.object_adapter.specs.declared.keys.TheConstants.{MOST_OBJECTS}

@@ -9,7 +9,7 @@ use Rattle.ice_types.specs.declared.identity.Identity.{Identity}
 use Rattle.ice_types.specs.declared.proxy.Proxy.{Proxy}
 use Rattle.ice_encoding.specs.Proxies.{identity_cmp}
 use Rattle.object_adapter.specs.Places.{Known, AddsPlace, IsKnown}
-use Rattle.proxy_text.specs.IdentityText.{identity_text}
+use Rattle.ice_proxy.specs.IdentityText.{identity_text}
 use Rattle.serve_command.specs.declared.apart.Named.{Named}
 use Rattle.serve_command.specs.declared.apart.Named.TheVariants as names
 use Rattle.serve_command.specs.ObjectWords.{Object, store, echo, locator, place, adapter, named, named_by}

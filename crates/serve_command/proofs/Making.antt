@@ -8,7 +8,7 @@ use Rattle.node_commands.specs.Outside.{Files}
 use Rattle.node_commands.specs.Decided.{IsSchema}
 use Rattle.serve_command.specs.Words.{Serve}
 use Rattle.serve_command.specs.Adapters.{Never, LacksInterface}
-use Rattle.serve_command.specs.Steps.{NamesAll, ReadsAll, MakesNone, answered_by}
+use Rattle.serve_command.specs.Steps.{ChecksAll, NamesAll, ReadsAll, MakesNone, answered_by}
 
 module _ (c : Serve) (files : Option Files) (before after : ℕ) where
   -- memory lacked
@@ -17,10 +17,14 @@ module _ (c : Serve) (files : Option Files) (before after : ℕ) where
 
   module _ (t : Tables) (is : IsSchema files c.file t) (kept : after ≡ before) where
     -- an interface is not there
-    pub no_interface : (outcome : Outcome) → NamesAll t c.objects (Err outcome) → MakesNone c files before after (answered_by outcome)
+    no_interface : (outcome : Outcome) → NamesAll t c.objects (Err outcome) → MakesNone c files before after (answered_by outcome)
     no_interface outcome h = inl (inr (t, is, inl h), kept)
 
     -- a text stands for nothing
-    pub no_text : (outcome : Outcome) → Never (LacksInterface t) c.objects → ReadsAll c.objects (Err outcome) → MakesNone c files before after (answered_by outcome)
+    no_text : (outcome : Outcome) → Never (LacksInterface t) c.objects → ReadsAll c.objects (Err outcome) → MakesNone c files before after (answered_by outcome)
     no_text outcome named (inl (at, first, refused)) = inl (inr (t, is, inr (named, inl (at, first, ap answered_by refused))), kept)
     no_text outcome named (inr lacked) = no_memory_left outcome lacked kept
+
+    pub unchecked : (outcome : Outcome) → ChecksAll t c.objects (Err outcome) → MakesNone c files before after (answered_by outcome)
+    unchecked outcome (inl h) = no_interface outcome h
+    unchecked outcome (inr (named, h)) = no_text outcome named h

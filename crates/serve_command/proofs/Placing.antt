@@ -7,7 +7,7 @@ use Rattle.object_adapter.specs.declared.servant.Servant.{Servant}
 use Rattle.object_adapter.specs.Keys.{Key}
 use Rattle.object_adapter.specs.Objects.{Objects}
 use Rattle.object_adapter.specs.Adapters.{Adds, HasKey}
-use Rattle.proxy_text.specs.IdentityText.{identity_text}
+use Rattle.ice_proxy.specs.IdentityText.{identity_text}
 use Rattle.node_commands.specs.Words.{Word}
 use Rattle.serve_command.specs.declared.apart.Named.TheVariants as names
 use Rattle.serve_command.specs.ObjectWords.{Object, store, echo, locator, place, adapter, named, named_by}

@@ -3,7 +3,7 @@ use Rattle.std.proofs.Common.{◌≡◌, ℕ, List, [], refl, sym, ap, subst}
 use Rattle.std.specs.Prelude.{Result, Ok, Err, Some, OnOk}
 use Rattle.ice_types.specs.declared.identity.Identity.{Identity}
 use Rattle.ice_types.specs.Tables.{Tables}
-use Rattle.proxy_text.specs.IdentityText.{identity_text}
+use Rattle.ice_proxy.specs.IdentityText.{identity_text}
 use Rattle.object_adapter.specs.declared.servant.Servant.{Servant}
 use Rattle.object_adapter.specs.Objects.{Objects}
 use Rattle.object_adapter.specs.Adapters.{HasKey}

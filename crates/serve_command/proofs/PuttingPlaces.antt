@@ -6,8 +6,8 @@ use Rattle.std.specs.Cmp.Lexicographic.{slice_cmp}
 use Rattle.ice_types.specs.declared.identity.Identity.{Identity}
 use Rattle.ice_types.specs.declared.proxy.Proxy.{Proxy}
 use Rattle.ice_encoding.specs.Proxies.{identity_cmp}
-use Rattle.proxy_text.specs.IdentityText.{identity_text}
-use Rattle.proxy_text.specs.Grammar.{proxy_text}
+use Rattle.ice_proxy.specs.IdentityText.{identity_text}
+use Rattle.ice_proxy.specs.Grammar.{proxy_text}
 use Rattle.object_adapter.specs.declared.add_fault.AddFault.{AddFault}
 use Rattle.object_adapter.specs.declared.add_fault.AddFault.TheVariants as add_faults
 use Rattle.object_adapter.specs.declared.places.TheConstants.{MOST_PLACES}

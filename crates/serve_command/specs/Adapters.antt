@@ -6,8 +6,8 @@ use Rattle.ice_types.specs.declared.identity.Identity.{Identity}
 use Rattle.ice_types.specs.declared.proxy.Proxy.{Proxy}
 use Rattle.ice_types.specs.Tables.{Tables, HasId, interface_ids}
 use Rattle.ice_encoding.specs.Proxies.{identity_cmp}
-use Rattle.proxy_text.specs.IdentityText.{identity_text}
-use Rattle.proxy_text.specs.Grammar.{proxy_text}
+use Rattle.ice_proxy.specs.IdentityText.{identity_text}
+use Rattle.ice_proxy.specs.Grammar.{proxy_text}
 use Rattle.object_adapter.specs.declared.servant.Servant.{Servant}
 use Rattle.object_adapter.specs.Objects.{Objects, no_objects}
 use Rattle.object_adapter.specs.Adapters.{Adds}

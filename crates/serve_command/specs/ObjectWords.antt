@@ -2,7 +2,7 @@
 use Rattle.std.specs.Prelude.{ℕ, ◌≡◌, ◌≢◌, ◌<◌, List, ◌++◌, map, codes, slice_get, Option, Some, None, Result, Ok, Err}
 use Rattle.std.specs.List.{AllByRecursion}
 use Rattle.ice_types.specs.declared.identity.Identity.{Identity}
-use Rattle.proxy_text.specs.IdentityText.{identity_text}
+use Rattle.ice_proxy.specs.IdentityText.{identity_text}
 use Rattle.node_commands.specs.Words.{Word, IsWord}
 use Rattle.serve_command.specs.declared.apart.Named.{Named}
 use Rattle.serve_command.specs.declared.apart.Named.TheVariants as names

@@ -70,6 +70,11 @@ abbrev pub ReadsAll : List Object → Result (Unit {0}) Outcome → Type 0
 ReadsAll objects (Ok done) = Never Breaks objects
 ReadsAll objects (Err outcome) = ((at : ℕ) × First Breaks objects at × (outcome ≡ outcomes.TextRefused at)) ⊎ (outcome ≡ outcomes.Memory)
 
+-- the interfaces of all words, and then their texts
+abbrev pub ChecksAll : Tables → List Object → Result (Unit {0}) Outcome → Type 0
+ChecksAll t objects (Ok done) = Never (LacksInterface t) objects × Never Breaks objects
+ChecksAll t objects (Err outcome) = NamesAll t objects (Err outcome) ⊎ (Never (LacksInterface t) objects × ReadsAll objects (Err outcome))
+
 -- ---- the objects
 
 -- words as they are when objects are made: short, few, apart, and their texts are read

@@ -1,9 +1,10 @@
 //! The objects of the words.
 
 ghost use Rattle.std.specs.Prelude.{◌≡◌, ◌<◌, ℕ, List, [], Some, Ok, Err, IfOk, OnOk, length};
+ghost use Rattle.std.specs.List.{AllByRecursion};
 ghost use Rattle.std.specs.Arc.{arc_value};
 ghost use Rattle.ice_types.specs.declared.identity.Identity.{Identity};
-ghost use Rattle.proxy_text.specs.IdentityText.{identity_text};
+ghost use Rattle.ice_proxy.specs.IdentityText.{identity_text};
 ghost use Rattle.object_adapter.specs.Adapters.{HasKey};
 ghost use Rattle.object_adapter.specs.declared.keys.TheConstants.{MOST_OBJECTS};
 ghost use Rattle.node_commands.specs.Words.{IsWord, Word};
@@ -12,7 +13,8 @@ ghost use Rattle.serve_command.specs.ObjectWords.{AreShort, named_by, object_of}
 ghost use Rattle.serve_command.specs.Words.{ServeForm, command_of, objects_of};
 ghost use Rattle.serve_command.specs.Adapters.{AddsOne, Breaks, IsAdapter, LacksInterface, Makes, Never};
 ghost use Rattle.serve_command.specs.Adapters.{IsEchoOf, IsLocatorOf, IsStoreOf};
-ghost use Rattle.serve_command.specs.Steps.{AreSound, IsInterfaced, IsObjectOf, IsStarved, MakesLanes, NamesInterface};
+ghost use Rattle.serve_command.specs.Steps.{AreSound, ChecksAll, IsInterfaced, IsObjectOf, IsStarved, MakesLanes};
+ghost use Rattle.serve_command.specs.Steps.{NamesInterface};
 
 use crate::names::{interface_of, name_all};
 use crate::object_words::ObjectWord;
@@ -39,10 +41,23 @@ pub(crate) fn lanes_of<'a, H: Shelf>(
 {
     let objects = command.objects.as_slice();
     let schema = load_schema(alloc, command.file, shelf)?;
-    name_all(&schema, objects)?;
-    read_all(alloc, objects)?;
+    check_all(alloc, &schema, objects)?;
     let adapter = adapter_of(alloc, schema, objects)?;
     Ok(Lanes::new(alloc, adapter)?)
+}
+
+/// Refuses the first word whose INTERFACE names no interface of the schema, and then the first text that stands for
+/// nothing.
+fn check_all<'a>(
+    alloc: Global,
+    schema: &Schema,
+    objects: &[ObjectWord<'a>],
+) -> Result<(), Outcome<'a>>
+    requires { AllByRecursion AreShort (objects_of objects.now) }
+    ensures { ChecksAll schema.now (objects_of objects.now) result }
+{
+    name_all(schema, objects)?;
+    read_all(alloc, objects)
 }
 
 /// The adapter with the objects of the words.

@@ -1,7 +1,7 @@
 //! Whether the words name each object, and each place, once.
 
 ghost use Rattle.std.specs.Prelude.{◌≡◌, ◌↔◌, IsTrue, IfOk, Some};
-ghost use Rattle.proxy_text.specs.IdentityText.{identity_text};
+ghost use Rattle.ice_proxy.specs.IdentityText.{identity_text};
 ghost use Rattle.std.specs.List.{AllByRecursion};
 ghost use Rattle.node_commands.specs.Words.{IsWord};
 ghost use Rattle.serve_command.specs.declared.apart.Named.TheVariants as names;
@@ -10,8 +10,8 @@ ghost use Rattle.serve_command.specs.Words.{objects_of};
 ghost use Rattle.serve_command.specs.Reading.{Holds, read};
 
 use crate::object_words::ObjectWord;
+use ice_proxy::{TextFault, parse_identity};
 use ice_types::{Identity, Name};
-use proxy_text::{TextFault, parse_identity};
 use std::alloc::{AllocError, Global};
 
 /// What a word names: an object, the place of an object, or the place of an adapter.

@@ -3,17 +3,17 @@
 ghost use Rattle.std.specs.Prelude.{IfOk, Some};
 ghost use Rattle.std.specs.List.{AllByRecursion};
 ghost use Rattle.ice_encoding.specs.Proxy.{HasProxySizes};
-ghost use Rattle.proxy_text.specs.Grammar.{proxy_text};
-ghost use Rattle.proxy_text.specs.IdentityText.{identity_text};
+ghost use Rattle.ice_proxy.specs.Grammar.{proxy_text};
+ghost use Rattle.ice_proxy.specs.IdentityText.{identity_text};
 ghost use Rattle.node_commands.specs.Words.{IsWord};
 ghost use Rattle.serve_command.specs.ObjectWords.{AreShort, object_of};
 ghost use Rattle.serve_command.specs.Words.{objects_of};
 ghost use Rattle.serve_command.specs.Steps.{ReadsAll, ReadsOne, ReadsText};
 
 use crate::object_words::ObjectWord;
+use ice_proxy::{parse_identity, parse_text};
 use ice_types::{Identity, Proxy};
 use node_commands::Outcome;
-use proxy_text::{parse_identity, parse_text};
 use std::alloc::Global;
 
 /// Refuses the first text that stands for no identity or no proxy; in one word the identity comes first.

@@ -1,7 +1,7 @@
-use ice_types::{Identity, Name};
-use proxy_text::{
+use ice_proxy::{
     TextFault, escape_identity, parse_identity, print_identity, print_word, quote, text_of,
 };
+use ice_types::{Identity, Name};
 use std::alloc::{AllocError, Global};
 use std::process::Abort;
 

@@ -1,6 +1,6 @@
 use graph_arena::{Value, is_sorted, sort_pairs};
+use ice_proxy::parse_text;
 use ice_types::{Bytes, List, Name};
-use proxy_text::parse_text;
 use std::alloc::{AllocError, Global};
 use std::test::Fail;
 

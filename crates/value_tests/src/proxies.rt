@@ -1,5 +1,5 @@
+use ice_proxy::{TextFault, parse_text, print_text};
 use ice_types::Name;
-use proxy_text::{TextFault, parse_text, print_text};
 use std::process::Abort;
 
 /// Texts of proxies, and what is printed of the proxy that each is read as.

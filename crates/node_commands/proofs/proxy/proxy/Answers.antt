@@ -1,5 +1,5 @@
 use Rattle.std.proofs.Common.{arith}
-use Rattle.proxy_text.proofs.Sized.{text_sized}
+use Rattle.ice_proxy.proofs.Sized.{text_sized}
 use Rattle.node_commands.proofs.proxy.proxy.Goals as goal
 
 pub lines_of-requires : goal.lines_of-requires

@@ -5,32 +5,24 @@ use Rattle.std.proofs.lemmas.Result.{err_from_is_err_and}
 use Rattle.serve_command.specs.declared.object_words.ObjectWord.{ObjectWord}
 use Rattle.serve_command.specs.ObjectWords.{AreShort}
 use Rattle.serve_command.specs.Words.{command_of, objects_of}
-use Rattle.serve_command.specs.Adapters.{Breaks, LacksInterface, Never}
-use Rattle.serve_command.specs.Steps.{AreSound, NamesAll, ReadsAll}
+use Rattle.serve_command.specs.Adapters.{Breaks, Never}
+use Rattle.serve_command.specs.Steps.{AreSound, ChecksAll}
 use Rattle.serve_command.proofs.Commands.{all_texts_short, sound}
-use Rattle.serve_command.proofs.Making.{no_interface, no_text}
+use Rattle.serve_command.proofs.Making.{unchecked}
 use Rattle.serve_command.proofs.adapters.lanes_of.Goals as goal
 
-pub returns-in_err-name_all : goal.returns-in_err-name_all
-returns-in_err-name_all g c =
-    let failed = err_from_is_err_and c.from_residual-in_err-name_all.result c.from_residual-in_err-name_all.ensures.1 in
-    rw (failed.1, failed.2)
-    (no_interface (command_of c.args.command.now) (g.H.Shelf.files c.args.shelf.now) (g.H.Shelf.failures c.args.shelf.now) (g.H.Shelf.failures c.load_schema.new.shelf) c.in_ok-schema.schema c.in_ok-schema.ensures.found.0 c.in_ok-schema.ensures.found.1 c.in_err-name_all.field-0.0
-    (subst (λ (z : List ObjectWord). NamesAll c.in_ok-schema.schema (objects_of z) (Err c.in_err-name_all.field-0.0)) c.as_slice-objects.ensures.value c.in_err-name_all.ensures))
-
-pub read_all-requires : goal.read_all-requires
-read_all-requires g c =
+pub check_all-requires : goal.check_all-requires
+check_all-requires g c =
     subst (λ (z : List ObjectWord). AllByRecursion AreShort (objects_of z)) (sym c.as_slice-objects.ensures.value) (all_texts_short c.requires.0 (command_of c.args.command.now) c.requires.1)
 
-pub returns-in_err-read_all : goal.returns-in_err-read_all
-returns-in_err-read_all g c =
-    let failed = err_from_is_err_and c.from_residual-in_err-read_all.result c.from_residual-in_err-read_all.ensures.1 in
+pub returns-in_err-check_all : goal.returns-in_err-check_all
+returns-in_err-check_all g c =
+    let failed = err_from_is_err_and c.from_residual-in_err-check_all.result c.from_residual-in_err-check_all.ensures.1 in
     rw (failed.1, failed.2)
-    (no_text (command_of c.args.command.now) (g.H.Shelf.files c.args.shelf.now) (g.H.Shelf.failures c.args.shelf.now) (g.H.Shelf.failures c.load_schema.new.shelf) c.in_ok-schema.schema c.in_ok-schema.ensures.found.0 c.in_ok-schema.ensures.found.1 c.in_err-read_all.field-0.0
-    (subst (λ (z : List ObjectWord). Never (LacksInterface c.in_ok-schema.schema) (objects_of z)) c.as_slice-objects.ensures.value c.in_ok-name_all.ensures)
-    (subst (λ (z : List ObjectWord). ReadsAll (objects_of z) (Err c.in_err-read_all.field-0.0)) c.as_slice-objects.ensures.value c.in_err-read_all.ensures))
+    (unchecked (command_of c.args.command.now) (g.H.Shelf.files c.args.shelf.now) (g.H.Shelf.failures c.args.shelf.now) (g.H.Shelf.failures c.load_schema.new.shelf) c.in_ok-schema.schema c.in_ok-schema.ensures.found.0 c.in_ok-schema.ensures.found.1 c.in_err-check_all.field-0.0
+    (subst (λ (z : List ObjectWord). ChecksAll c.in_ok-schema.schema (objects_of z) (Err c.in_err-check_all.field-0.0)) c.as_slice-objects.ensures.value c.in_err-check_all.ensures))
 
 pub adapter_of-requires-clause-words : goal.adapter_of-requires-clause-words
 adapter_of-requires-clause-words g c =
     subst (λ (z : List ObjectWord). AreSound (objects_of z)) (sym c.as_slice-objects.ensures.value)
-    (sound c.requires.0 (command_of c.args.command.now) c.requires.1 (subst (λ (z : List ObjectWord). Never Breaks (objects_of z)) c.as_slice-objects.ensures.value c.in_ok-read_all.ensures))
+    (sound c.requires.0 (command_of c.args.command.now) c.requires.1 (subst (λ (z : List ObjectWord). Never Breaks (objects_of z)) c.as_slice-objects.ensures.value c.in_ok-check_all.ensures.1))

@@ -1,7 +1,7 @@
 use Rattle.std.proofs.Common.{ap}
 use Rattle.std.proofs.lemmas.Result.{err_from_is_err_and}
-use Rattle.proxy_text.specs.IdentityText.{identity_text}
-use Rattle.proxy_text.specs.Grammar.{proxy_text}
+use Rattle.ice_proxy.specs.IdentityText.{identity_text}
+use Rattle.ice_proxy.specs.Grammar.{proxy_text}
 use Rattle.serve_command.specs.ObjectWords.{object_of}
 use Rattle.serve_command.proofs.Breaking.{only_memory}
 use Rattle.serve_command.proofs.PuttingPlaces.{place_first, place_second, place_added, adapter_reads, adapter_added, adapter_put}

@@ -1,5 +1,5 @@
 use Rattle.std.proofs.Common.{arith}
-use Rattle.proxy_text.proofs.Sized.{text_sized}
+use Rattle.ice_proxy.proofs.Sized.{text_sized}
 use Rattle.serve_command.proofs.texts.proxy_of.Goals as goal
 
 pub returns-clause-sizes : goal.returns-clause-sizes

@@ -1,5 +1,0 @@
-use Rattle.proxy_text.proofs.PieceKinds.{breaks_kind, kind_breaks}
-use Rattle.proxy_text.proofs.laws.kinds_of_breaks.Goals as goal
-
-pub returns : goal.returns
-returns c = λ text ps before left has. (breaks_kind text ps before left has, λ h. kind_breaks ps before left h.0 h.1)
