@@ -11,7 +11,7 @@ ghost use Rattle.ice_graphs.specs.Steps.{given};
 ghost use Rattle.graph_arena.specs.Seen.{view_present};
 ghost use Rattle.ice_values.specs.Shapes.{with_tag};
 ghost use Rattle.ice_values.specs.Entering.{Begun, entered_at};
-ghost use Rattle.ice_values.specs.Unread.{left_options, from_item, option_behind, options_behind, options_work};
+ghost use Rattle.ice_values.specs.Unread.{left_options, option_behind, options_behind, options_work};
 ghost use Rattle.ice_values.specs.Advancing.{fresh_options};
 ghost use Rattle.ice_values.specs.Pauses.{GoesOnReading, StepsReading, NarrowsOnPause, NarrowsOnStep, LessOnStep};
 
@@ -25,7 +25,6 @@ use graph_arena::Value;
 use ice_prims::{Cursor, Fault, Kind, ReadFault};
 use ice_types::{List, Member, Schema, TypeRef};
 use std::alloc::Global;
-use std::mem;
 
 /// An optional member that has begun and is not read whole.
 #[derive(Drop)]
@@ -114,40 +113,17 @@ impl<'a> OptionsReader<'a> {
         ensures room { NarrowsOnStep result (P.room port.old) (P.room port.new) }
         ensures less { LessOnStep result (options_work self.old) (options_work self.new) }
     {
-        match mem::replace(&mut self.item, None) {
-            Some(item) => self.go_in_item(alloc, schema, item, cursor, port),
+        match &mut self.item {
+            Some(item) => match item.reader.go(alloc, schema, cursor, port)? {
+                Paused::Done(value) => {
+                    leave(item.behind.take(), cursor)?;
+                    self.done.push((item.tag, value))?;
+                    self.item = None;
+                    Ok(Step::On)
+                }
+                Paused::Begins(name) => Ok(Step::Begins(name)),
+            },
             None => self.next(alloc, schema, marked, members, cursor, port),
-        }
-    }
-
-    /// Reads on in this member.
-    fn go_in_item<P: RefPort>(
-        &mut self,
-        alloc: Global,
-        schema: &Schema,
-        mut item: Item<'a>,
-        cursor: &mut Cursor<'a>,
-        port: &mut P,
-    ) -> Result<Step<()>, ReadFault>
-        requires { self.old.item ≡ None }
-        ensures advances { (inside : Inside P) (marked : Bool) (members : List Declared)
-            → StepsReading inside (left_options P.take schema.now inside marked members self.new)
-            (λ _. view_present self.new.done) result
-            (from_item P.take schema.now inside marked members (Some item.entry)
-            (view_present self.old.done) self.old.steps self.old.last port.old cursor.old) port.new cursor.new }
-        ensures room { NarrowsOnStep result (P.room port.old) (P.room port.new) }
-        ensures less { LessOnStep result (suc (options_work self.old)) (options_work self.new) }
-    {
-        match item.reader.go(alloc, schema, cursor, port)? {
-            Paused::Done(value) => {
-                leave(item.behind, cursor)?;
-                self.done.push((item.tag, value))?;
-                Ok(Step::On)
-            }
-            Paused::Begins(name) => {
-                self.item = Some(item);
-                Ok(Step::Begins(name))
-            }
         }
     }
 

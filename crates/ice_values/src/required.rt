@@ -14,7 +14,6 @@ use graph_arena::Value;
 use ice_prims::{Cursor, ReadFault};
 use ice_types::{List, Member, Schema};
 use std::alloc::Global;
-use std::mem;
 
 /// Required members of which some are read.
 #[derive(Drop)]
@@ -80,16 +79,14 @@ impl RequiredReader {
         ensures room { NarrowsOnStep result (P.room port.old) (P.room port.new) }
         ensures less { LessOnStep result (required_work members.now self.old) (required_work members.now self.new) }
     {
-        match mem::replace(&mut self.reader, None) {
-            Some(mut reader) => match reader.go(alloc, schema, cursor, port)? {
+        match &mut self.reader {
+            Some(reader) => match reader.go(alloc, schema, cursor, port)? {
                 Paused::Done(value) => {
+                    self.reader = None;
                     self.done.push(value)?;
                     Ok(Step::On)
                 }
-                Paused::Begins(name) => {
-                    self.reader = Some(reader);
-                    Ok(Step::Begins(name))
-                }
+                Paused::Begins(name) => Ok(Step::Begins(name)),
             },
             None => match self.next_member(members) {
                 Some(member) => {
