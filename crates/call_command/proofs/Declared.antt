@@ -19,17 +19,7 @@ use Rattle.ice_types.specs.Inherited.{ops_in, bases_by_path, operations, first_n
 use Rattle.ice_values.specs.Shapes.{without_tag, with_tag, told_apart}
 use Rattle.graph_json.specs.Contents.{HasOwnNames}
 use Rattle.call_command.specs.Operations.{Operation, IsDeclared}
-use Rattle.call_command.specs.Steps.{FindsInterface}
-
--- ---- the interface
-
--- no two interfaces of a schema have one type id
-pub found_interface : (t : Tables) (id : List ℕ) (found : Option ℕ) → IsSchema t → Finds (HasId (interface_ids t) id) found → FindsInterface t id found
-found_interface t id (Some at) rules has = (has, λ other is. same_place other at (rules.apart id (rows.Interface other) (rows.Interface at) is has))
-  where
-    same_place : (a b : ℕ) → rows.Interface a ≡ rows.Interface b → a ≡ b
-    same_place a b e = cc e
-found_interface t id None rules none = none
+use Rattle.net_commands.specs.Interfaces.{FindsInterface}
 
 -- ---- the first that is found
 

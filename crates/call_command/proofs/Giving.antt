@@ -13,42 +13,6 @@ use Rattle.node_commands.specs.Words.{Word, IsWord, words_of}
 use Rattle.call_command.specs.declared.words.Options.{Options}
 use Rattle.call_command.specs.Words.{Given, Gives, Gathers, Takes, IsCompacted, IsNumbered, IsValued, given_of}
 
--- ---- words where they lie in memory
-
-abbrev pub rest_of : List (String Global) → List (String Global)
-rest_of words = take (length words - 1) (drop 1 words)
-
--- the first word, and those behind it
-pub first_word : (words : List (String Global)) (first : String Global) → 1 ≤ length words → first ≡ get_or words 0 first → words_of words ≡ string_bytes first ∷ words_of (rest_of words)
-first_word [] first le is = absurd (omega (arith, le))
-first_word (v ∷ vs) first le is = ap₂ (λ (a : Word) (b : List (String Global)). a ∷ words_of b) (ap string_bytes (sym is)) (sym (take_all (length (v ∷ vs) - 1) vs (omega arith)))
-
-pub two_words : (words : List (String Global)) (first second : String Global) → 1 ≤ length words → first ≡ get_or words 0 first → 1 ≤ length (rest_of words) → second ≡ get_or (rest_of words) 0 second
-    → words_of words ≡ string_bytes first ∷ string_bytes second ∷ words_of (rest_of (rest_of words))
-two_words words first second le is more also = first_word words first le is ∙ ap (λ (l : List Word). string_bytes first ∷ l) (first_word (rest_of words) second more also)
-
--- as many
-pub as_many : (words : List (String Global)) → length (words_of words) ≡ length words
-as_many [] = refl
-as_many (v ∷ vs) = ap suc (as_many vs)
-
--- those behind the first so many
-pub behind : (n : ℕ) (words : List (String Global)) → words_of (take (length words - n) (drop n words)) ≡ drop n (words_of words)
-behind n words = ap words_of (take_all (length words - n) (drop n words) (omega (arith, length-drop n words))) ∙ sym (drop-map string_bytes n words)
-
-pub same_word : (x y : Word) (b : Bool) → b ≡ bytes_eq x y → b ≡ true → x ≡ y
-same_word x y b is on = (bytes_eq-Decides x y).0 (sym is ∙ on)
-
-pub other_word : (x y : Word) (b : Bool) → b ≡ bytes_eq x y → b ≡ false → x ≡ y → ⊥
-other_word x y b is off e = false≢true (sym off ∙ (is ∙ (bytes_eq-Decides x y).1 e))
-
-pub no_other_word : (x y : Word) (b : Bool) → b ≡ not (bytes_eq x y) → b ≡ false → x ≡ y
-no_other_word x y b is off = (bytes_eq-Decides x y).0 (turned (bytes_eq x y) (sym is ∙ off))
-  where
-    turned : (c : Bool) → not c ≡ false → c ≡ true
-    turned true e = refl
-    turned false e = absurd (false≢true (sym e))
-
 -- ---- words that are not too long
 
 -- one more of them

@@ -20,6 +20,7 @@ use Rattle.node_commands.specs.Words.{Word}
 use Rattle.node_commands.specs.Outside.{Files}
 use Rattle.node_commands.specs.Answers.{usage, no_such_name, slice_refused, text_refused, json_refused, too_long, needs_sliced}
 use Rattle.node_commands.specs.Decided.{IsSchema, IsFault}
+use Rattle.net_commands.specs.Interfaces.{IsInterface}
 use Rattle.call_command.specs.declared.arguments.TheConstants.{MOST_OF_ARGUMENTS}
 use Rattle.call_command.specs.declared.callee.Callee.{Callee}
 use Rattle.call_command.specs.Words.{CallWords}
@@ -47,10 +48,6 @@ abbrev pub WithSchema : Option Files → Word → Ended → (Tables → Type 0) 
 WithSchema files file came Next =
     ((broken : LoadBreak) × IsFault files file broken × (came ≡ refused (slice_refused broken)))
     ⊎ ((t : Tables) × IsSchema files file t × Next t)
-
--- the word is the type id of this interface, and of no other
-abbrev pub IsInterface : Tables → Word → ℕ → Type 0
-IsInterface t word at = HasId (interface_ids t) word at × ((other : ℕ) → HasId (interface_ids t) word other → other ≡ at)
 
 -- INTERFACE names none, or an interface, from which it goes on
 abbrev pub WithInterface : Tables → Word → Ended → (ℕ → Type 0) → Type 0

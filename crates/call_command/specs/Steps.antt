@@ -4,7 +4,7 @@ use Rattle.std.specs.declared.alloc.Global.{Global}
 use Rattle.std.specs.Io.KnownBytes.{Keeps, Appends}
 use Rattle.ice_types.specs.declared.proxy.Proxy.{Proxy}
 use Rattle.ice_types.specs.declared.declarations.Shape.{Shape}
-use Rattle.ice_types.specs.Tables.{Tables, HasId, interface_ids}
+use Rattle.ice_types.specs.Tables.{Tables}
 use Rattle.ice_types.specs.Fits.{ShapeFits}
 use Rattle.ice_prims.specs.declared.fault.ReadFault.{ReadFault}
 use Rattle.ice_prims.specs.declared.fault.ReadFault.TheVariants as read_faults
@@ -49,7 +49,7 @@ use Rattle.call_command.specs.Operations.{Operation}
 use Rattle.call_command.specs.Planning.{Expected, Plan, of_locator, seen, target_of}
 use Rattle.call_command.specs.Replies.{HasLine, HasReason, IsLine, IsReason}
 use Rattle.call_command.specs.Endings.{Ended, finished, refused, twoway_only, stopped, ending_seen}
-use Rattle.call_command.specs.Decided.{IsListed, IsInterface, WithInterface, WithFound, WithOperation, WithCallee, WithReply, Plans}
+use Rattle.call_command.specs.Decided.{IsListed, WithInterface, WithFound, WithOperation, WithCallee, WithReply, Plans}
 use Rattle.call_command.specs.Rounds.{Delivered, Finishes, IsUsed, NetSeen, SinkSeen, Stops}
 
 -- ---- the proxies
@@ -63,13 +63,6 @@ Parses said (Err ending) = ending_seen ending ≡ refused no_memory
 abbrev pub ParsesListed : {X : Type 0} → Result Proxy ℕ → X → Result X Ending → Type 0
 ParsesListed parsed said (Ok found) = (said ≡ found) × IsListed parsed
 ParsesListed parsed said (Err ending) = ((IsListed parsed → ⊥) × (ending_seen ending ≡ refused usage)) ⊎ (ending_seen ending ≡ refused no_memory)
-
--- ---- the interface
-
--- the one of this type id, or there is none
-abbrev pub FindsInterface : Tables → Word → Option ℕ → Type 0
-FindsInterface t id (Some at) = IsInterface t id at
-FindsInterface t id None = (at : ℕ) → HasId (interface_ids t) id at → ⊥
 
 -- ---- the steps that are left
 

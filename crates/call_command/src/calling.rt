@@ -15,13 +15,14 @@ ghost use Rattle.call_command.specs.Steps.{KnownDecides, KnownWants, SchemaDecid
 
 use crate::callee::{Callee, callee_of};
 use crate::ending::{Ending, report};
-use crate::known::{Known, interface_of, known_of};
+use crate::known::{Known, known_of};
 use crate::performing::perform;
 use crate::preparing::{Plan, plan_of};
 use crate::words::CallCommand;
 use ice_ports::{Net, Shelf, Sink, Source};
 use ice_types::Schema;
 use locator_types::object_schema;
+use net_commands::interface_of;
 use node_commands::{Outcome, load_schema};
 use std::alloc::Global;
 

@@ -3,7 +3,6 @@
 ghost use Rattle.std.specs.Prelude.{◌≡◌, ◌↔◌, IfSome, IsTrue, option_map};
 ghost use Rattle.ice_types.specs.Object.{object_tables};
 ghost use Rattle.call_command.specs.Operations.{IsDeclared, WantsReply, operation_of, seen};
-ghost use Rattle.call_command.specs.Steps.{FindsInterface};
 
 use ice_types::{OpDecl, Schema};
 
@@ -13,14 +12,6 @@ pub(crate) struct Known<'a> {
     pub schema: &'a Schema,
     pub operation: &'a OpDecl,
     pub mode: u8,
-}
-
-/// The interface of this type id.
-pub fn interface_of(schema: &Schema, id: &str) -> Option<u32>
-    ensures { FindsInterface schema.now id.now result }
-{
-    schema.rules();
-    schema.interface(id)
 }
 
 /// The operation of this name that each object has, with mode 1; else that of the interface, with mode 2 where it

@@ -28,7 +28,6 @@ mod words;
 pub use arguments::MOST_OF_ARGUMENTS;
 pub use calling::call;
 pub use ending::Ending;
-pub use known::interface_of;
 pub use laws::{decided_once, ends_as_decided, stops_for_cause};
 pub use stop::{Reason, Stop};
-pub use words::{CallCommand, MOST_RETRIES, MOST_TIMES, call_of, calls_apart, one_form};
+pub use words::{CallCommand, MOST_TIMES, call_of, calls_apart, one_form};

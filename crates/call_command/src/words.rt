@@ -7,10 +7,8 @@ ghost use Rattle.call_command.specs.Words.{IsOption, IsWithin, Takes, given_of, 
 ghost use Rattle.std.specs.List.{All};
 
 use class_slices::Format;
+use net_commands::MOST_RETRIES;
 use node_commands::{MOST_OF_A_WORD, number_of};
-
-/// The most retries of a message.
-pub const MOST_RETRIES: u32 = 10;
 
 /// The most invocations of one command.
 pub const MOST_TIMES: u32 = 1000;

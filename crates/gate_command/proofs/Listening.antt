@@ -8,13 +8,13 @@ use Rattle.ice_ports.specs.Writing.{AppendsPrefix}
 use Rattle.ice_gateway.specs.Gate.{Gate}
 use Rattle.ice_gateway.specs.Runs.{NetSeen, net_seen}
 use Rattle.ice_gateway.specs.Sessions.{AllServed}
-use Rattle.serve_command.specs.declared.serving.TheConstants.{MOST_MESSAGES}
-use Rattle.serve_command.specs.declared.ending.Ending.{Ending}
-use Rattle.serve_command.specs.declared.ending.Ending.TheVariants as endings
+use Rattle.net_commands.specs.declared.limits.TheConstants.{MOST_MESSAGES}
+use Rattle.net_commands.specs.declared.ending.Ending.{Ending}
+use Rattle.net_commands.specs.declared.ending.Ending.TheVariants as endings
 use Rattle.node_commands.specs.declared.outcome.Outcome.TheVariants as outcomes
-use Rattle.serve_command.specs.Served.{listening}
-use Rattle.serve_command.specs.Steps.{Tells}
-use Rattle.serve_command.proofs.Endings.{retired, retired_unused, why_ended}
+use Rattle.net_commands.specs.Lines.{listening}
+use Rattle.net_commands.specs.Lines.{Tells}
+use Rattle.net_commands.proofs.Counts.{retired, retired_unused, why_ended}
 use Rattle.talking.specs.Told.{NoneToCome}
 use Rattle.gate_command.specs.Words.{GateWords}
 use Rattle.gate_command.specs.Gated.{Heard, IsPort, asked}

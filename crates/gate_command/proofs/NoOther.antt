@@ -1,12 +1,11 @@
--- A form of `gate` is none of another command, and none of `serve`.
-use Rattle.std.proofs.Common.{◌≡◌, ◌≤◌, ℕ, List, [], ◌∷◌, ◌++◌, length, get_or, sym, ap, ◌∙◌, arith}
+-- A form of `gate` is none of another command.
+use Rattle.std.proofs.Common.{◌≤◌, List, [], ◌∷◌, ◌++◌, length, ap, arith}
 use Rattle.std.proofs.lemmas.List.{length-append}
 use Rattle.instance_writing.specs.declared.format.Format.TheVariants as formats
 use Rattle.node_commands.specs.declared.words.Task.{Task}
 use Rattle.node_commands.specs.declared.words.Task.TheVariants as tasks
 use Rattle.node_commands.specs.Words.{Word, Command, values, check, proxy, audit, compat, drill, messages, help, version, task_words, Form}
 use Rattle.node_commands.proofs.CommandForms.{page_few}
-use Rattle.serve_command.specs.Words.{Serve, ServeForm}
 use Rattle.gate_command.specs.Words.{GateWords, GateForm, IsNoOther}
 
 -- there are six words or more
@@ -33,11 +32,5 @@ few words messages p = omega (arith, ap length p)
 few words (help page) p = omega (arith, ap length p, page_few page)
 few words version p = omega (arith, ap length p)
 
-abbrev first_letter : List Word → ℕ
-first_letter words = get_or (get_or words 0 []) 0 0
-
-pub no_serve : (words : List Word) (c : GateWords) → GateForm words c → (other : Serve) → ServeForm words other → ⊥
-no_serve words c form other serves = let e : 103 ≡ 115 = ap first_letter (sym form.words_are ∙ serves.form.1) in omega (arith, e)
-
 pub no_other : IsNoOther
-no_other words c form = (λ other p. omega (arith, long words c form, few words other p), no_serve words c form)
+no_other words c form other p = omega (arith, long words c form, few words other p)

@@ -3,9 +3,8 @@ use Rattle.std.specs.Prelude.{ℕ, ◌≡◌, ◌≤◌, ◌⊎◌, List, [], �
 use Rattle.std.specs.Fmt.{decimal}
 use Rattle.std.specs.List.{AllByRecursion}
 use Rattle.node_commands.specs.Words.{Word, Command, IsWord, Form, SpellsWithin}
-use Rattle.call_command.specs.declared.words.TheConstants.{MOST_RETRIES}
-use Rattle.serve_command.specs.declared.operands.TheConstants.{MOST_CONNECTIONS, MOST_PORT}
-use Rattle.serve_command.specs.Words.{Serve, ServeForm}
+use Rattle.net_commands.specs.declared.limits.TheConstants.{MOST_RETRIES}
+use Rattle.net_commands.specs.declared.limits.TheConstants.{MOST_CONNECTIONS, MOST_PORT}
 use Rattle.gate_command.specs.declared.words.GateCommand.{GateCommand}
 use Rattle.gate_command.specs.declared.words.Options.{Options}
 
@@ -88,10 +87,9 @@ pub record GateForm (words : List Word) (c : GateWords) : Type 0 where
   pub set_by : IsSetBy given c
   pub names : AreNamed named c
 
--- no form of `gate` is one of another command, or of `serve`
+-- no form of `gate` is one of another command
 abbrev pub IsNoOther : Type 0
-IsNoOther = (words : List Word) (c : GateWords) → GateForm words c
-    → ((other : Command) → Form words other → ⊥) × ((other : Serve) → ServeForm words other → ⊥)
+IsNoOther = (words : List Word) (c : GateWords) → GateForm words c → (other : Command) → Form words other → ⊥
 
 -- within the limits of words, ports, connections and retries
 pub record IsWithin (c : GateWords) : Type 0 where

@@ -7,11 +7,11 @@ ghost use Rattle.gate_command.specs.Words.{IsWithin, seen};
 ghost use Rattle.gate_command.specs.Steps.{FindsUpstream, MakesPlan, SchemaGives, SchemaMakes};
 
 use crate::words::GateCommand;
-use call_command::interface_of;
 use ice_ports::Shelf;
 use ice_proxy::{TextFault, parse_text};
 use ice_types::{Proxy, Schema};
 use locator_types::object_schema;
+use net_commands::interface_of;
 use node_commands::{Outcome, load_schema};
 use std::alloc::Global;
 

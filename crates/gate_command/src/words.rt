@@ -3,13 +3,12 @@
 ghost use Rattle.std.specs.Prelude.{◌↔◌, IfSome, IsTrue};
 ghost use Rattle.std.specs.List.{AllByRecursion};
 ghost use Rattle.node_commands.specs.Words.{IsWord, words_of};
-ghost use Rattle.serve_command.specs.Words.{Exactly};
+ghost use Rattle.net_commands.specs.Once.{Exactly};
 ghost use Rattle.gate_command.specs.Words.{Gathers, GateForm, IsNamed, IsNoOther};
 ghost use Rattle.gate_command.specs.Words.{IsOption, IsWithin, Takes, asked_of, no_options, seen};
 
-use call_command::MOST_RETRIES;
+use net_commands::{MOST_CONNECTIONS, MOST_PORT, MOST_RETRIES};
 use node_commands::{MOST_OF_A_WORD, number_of};
-use serve_command::{MOST_CONNECTIONS, MOST_PORT};
 
 /// The option for how many connections are accepted.
 const CONNECTIONS: &str = "--connections";
@@ -127,7 +126,8 @@ fn with_value(name: &str, value: &str, given: Options) -> Option<Options>
     }
 }
 
-/// Words of a form of `gate` are no form of another command, and not of `serve`.
+/// Words of a form of `gate` are no form of another command. (Of `call` and `serve` neither, `net_forms_apart` of
+/// `ice_node`.)
 pub fn gate_is_no_other()
     ensures { IsNoOther }
 {}

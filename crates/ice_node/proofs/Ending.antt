@@ -9,7 +9,8 @@ use Rattle.call_command.proofs.OneForm.{one_form}
 use Rattle.gate_command.specs.Words.{GateWords, GateForm}
 use Rattle.gate_command.specs.Gated.{Gated}
 use Rattle.gate_command.proofs.NoOther.{no_serve}
-use Rattle.serve_command.specs.Words.{Serve, ServeForm, IsServe, Exactly}
+use Rattle.net_commands.specs.Once.{Exactly}
+use Rattle.serve_command.specs.Words.{Serve, ServeForm, IsServe}
 use Rattle.serve_command.specs.Served.{Served}
 use Rattle.ice_node.specs.Promises.{KeepsLocally, KeepsPromises, Starves, gated, listened}
 

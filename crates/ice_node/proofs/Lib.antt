@@ -3,3 +3,4 @@ pub mod Promising
 pub mod Ending
 pub mod Passing
 pub mod Calling
+pub mod Forms

@@ -62,3 +62,10 @@ pub record KeepsPromises (words : List Word) (before after : Outside) (net later
   -- and `serve`
   pub served : (c : Serve) → ServeForm words c
       → Served c before after (listened net) (listened later) status ⊎ (Starves words before after status × (later ≡ net))
+
+-- words are a form of one of `call`, `serve` and `gate` at most
+abbrev pub NetFormsApart : Type 0
+NetFormsApart = (words : List Word)
+    → ((c : CallWords) (s : Serve) → CallForm words c → ServeForm words s → ⊥)
+    × ((c : CallWords) (g : GateWords) → CallForm words c → GateForm words g → ⊥)
+    × ((g : GateWords) (s : Serve) → GateForm words g → ServeForm words s → ⊥)

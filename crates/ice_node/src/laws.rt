@@ -14,11 +14,14 @@ ghost use Rattle.ice_relay.specs.declared.drilling.TheConstants.{MOST_NODES};
 ghost use Rattle.message_dump.specs.declared.dump.TheConstants.{MOST_MESSAGES};
 ghost use Rattle.ice_audit.specs.declared.verdict.TheConstants.{MOST_BYTES as MOST_CAPTURED};
 ghost use Rattle.node_commands.specs.declared.words.TheConstants.{MOST_OF_A_WORD};
-ghost use Rattle.call_command.specs.declared.words.TheConstants.{MOST_RETRIES, MOST_TIMES};
+ghost use Rattle.net_commands.specs.declared.limits.TheConstants.{MOST_RETRIES};
+ghost use Rattle.call_command.specs.declared.words.TheConstants.{MOST_TIMES};
 ghost use Rattle.call_command.specs.declared.arguments.TheConstants.{MOST_OF_ARGUMENTS};
 ghost use Rattle.serve_command.specs.declared.words.TheConstants.{MOST_WORDS};
-ghost use Rattle.serve_command.specs.declared.operands.TheConstants.{MOST_WORKERS, MOST_CONNECTIONS};
-ghost use Rattle.serve_command.specs.declared.serving.TheConstants.{MOST_MESSAGES as MOST_SERVED};
+ghost use Rattle.net_commands.specs.declared.limits.TheConstants.{MOST_CONNECTIONS};
+ghost use Rattle.serve_command.specs.declared.operands.TheConstants.{MOST_WORKERS};
+ghost use Rattle.net_commands.specs.declared.limits.TheConstants.{MOST_MESSAGES as MOST_SERVED};
+ghost use Rattle.ice_node.specs.Promises.{NetFormsApart};
 ghost use Rattle.ice_node.specs.Through.{GatedSuccessesHaveTurns, GatedTurnsAreSingle};
 ghost use Rattle.ice_node.specs.Through.{CalledTurnsAreSingle, StarvedGatedTurnsAreSingle};
 
@@ -42,6 +45,11 @@ pub fn limits_numbered()
     ensures word { MOST_OF_A_WORD ≡ 8192 }
     ensures calls { (MOST_RETRIES ≡ 10) × (MOST_TIMES ≡ 1000) × (MOST_OF_ARGUMENTS ≡ 1000000) }
     ensures serving { (MOST_WORDS ≡ 64) × (MOST_WORKERS ≡ 64) × (MOST_CONNECTIONS ≡ 1000000) × (MOST_SERVED ≡ 1000000) }
+{}
+
+/// Words are a form of one of `call`, `serve` and `gate` at most.
+pub fn net_forms_apart()
+    ensures { NetFormsApart }
 {}
 
 /// What `call` and the servers that it calls say, joined: over all attempts at a message, wherever its proxy led before

@@ -16,7 +16,7 @@ mod top_call;
 
 pub use laws::{
     called_turns_are_single, gated_successes_have_turns, gated_turns_are_single, gates_once,
-    limits_numbered, once, successes_have_turns, turns_are_single,
+    limits_numbered, net_forms_apart, once, successes_have_turns, turns_are_single,
 };
 pub use node_commands::{Outcome, report};
 pub use top_call::node;

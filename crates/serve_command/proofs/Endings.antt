@@ -10,28 +10,13 @@ use Rattle.dispatch_pool.specs.declared.lanes.Lanes.{Lanes}
 use Rattle.dispatch_pool.specs.declared.lanes.LanePasses.{LanePasses}
 use Rattle.node_commands.specs.declared.outcome.Outcome.{Outcome}
 use Rattle.node_commands.specs.Outside.{Outside, Files, outside, counts}
-use Rattle.serve_command.specs.declared.ending.Ending.{Ending}
-use Rattle.serve_command.specs.declared.ending.Ending.TheVariants as endings
+use Rattle.net_commands.specs.declared.ending.Ending.{Ending}
+use Rattle.net_commands.specs.declared.ending.Ending.TheVariants as endings
 use Rattle.serve_command.specs.Words.{Serve}
-use Rattle.serve_command.specs.Ends.{answered, end_of}
-use Rattle.serve_command.specs.Served.{Network, network, Sets, IsPort, asked, listening, served, WritesEnd, Comes, refused, unread, starved, unheard, untold, ended}
-use Rattle.serve_command.specs.Steps.{AreLanes, MakesNone, Serves, Listens, Asks, EndsWith, answered_by}
-
--- ---- counts of a net
-
--- a listener whose accepts did not fail came back
-pub retired_unused : (old new n : ℕ) → new ≡ count_after old (nat_lt 0 n) → n ≡ 0 → new ≡ old
-retired_unused old new n is none = is ∙ ap (λ (z : ℕ). count_after old (nat_lt 0 z)) none
-
--- one came back whose accept failed, or not
-pub retired : (old new n first : ℕ) (failed : Bool) → new ≡ count_after old (nat_lt 0 n) → n ≡ count_after first failed → first ≡ 0 → new ≡ count_after old failed
-retired old new n first true is counted none = is ∙ ap (λ (z : ℕ). count_after old (nat_lt 0 z)) (counted ∙ ap (λ (z : ℕ). count_after z true) none)
-retired old new n first false is counted none = is ∙ ap (λ (z : ℕ). count_after old (nat_lt 0 z)) (counted ∙ ap (λ (z : ℕ). count_after z false) none)
-
--- as many as were asked for, or none is to come
-pub why_ended : {A B C D : Type 0} → (A × B) ⊎ (C × D) → A ⊎ D
-why_ended (inl h) = inl h.0
-why_ended (inr h) = inr h.1
+use Rattle.net_commands.specs.Ends.{answered, end_of}
+use Rattle.net_commands.specs.Lines.{EndsWith, WritesEnd, listening, served}
+use Rattle.serve_command.specs.Served.{Network, network, Sets, IsPort, asked, Comes, refused, unread, starved, unheard, untold, ended}
+use Rattle.serve_command.specs.Steps.{AreLanes, MakesNone, Serves, Listens, Asks, answered_by}
 
 keeps : (o : Option (List ℕ)) → Keeps o o
 keeps None = tt

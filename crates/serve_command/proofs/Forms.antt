@@ -8,8 +8,10 @@ use Rattle.std.proofs.lemmas.List.{take_all}
 use Rattle.std.proofs.lemmas.Slice.Eq.{bytes_eq-Decides}
 use Rattle.std.proofs.lemmas.Fmt.{decimal_injective}
 use Rattle.node_commands.specs.Words.{Word, words_of}
-use Rattle.serve_command.specs.declared.operands.TheConstants.{MOST_WORKERS, MOST_CONNECTIONS}
-use Rattle.serve_command.specs.Words.{Plain, operand_words, Finds, Exactly, IsCount, Behind, WithNumber, BehindWorkers, BehindConnections, BehindServe, PlainForm}
+use Rattle.net_commands.specs.declared.limits.TheConstants.{MOST_CONNECTIONS}
+use Rattle.serve_command.specs.declared.operands.TheConstants.{MOST_WORKERS}
+use Rattle.net_commands.specs.Once.{Exactly}
+use Rattle.serve_command.specs.Words.{Plain, operand_words, Finds, IsCount, Behind, WithNumber, BehindWorkers, BehindConnections, BehindServe, PlainForm}
 
 -- ---- lists
 
@@ -19,12 +21,6 @@ rest_of (w ∷ ws) = ws
 
 abbrev first_of : List Word → Word
 first_of ws = get_or ws 0 []
-
--- ---- from one to the other
-
-pub exactly_by : {A : Type 0} {F G : A → Type 0} → ((x : A) → F x → G x) → ((x : A) → G x → F x) → (o : Option A) → Exactly F o → Exactly G o
-exactly_by to from None e = λ x g. e x (from x g)
-exactly_by to from (Some x) e = (to x e.0, λ y g. e.1 y (from y g))
 
 -- ---- operands
 

@@ -8,10 +8,10 @@ use Rattle.dispatch_pool.specs.declared.lanes.LanePasses.{LanePasses}
 use Rattle.dispatch_pool.specs.Lanes.{AreWhole}
 use Rattle.worker_pool.specs.Sessions.{AllServed}
 use Rattle.talking.specs.Told.{NoneToCome}
-use Rattle.serve_command.specs.declared.serving.TheConstants.{MOST_MESSAGES}
+use Rattle.net_commands.specs.declared.limits.TheConstants.{MOST_MESSAGES}
 use Rattle.serve_command.specs.Words.{Serve}
 use Rattle.serve_command.specs.Served.{network, Heard}
-use Rattle.serve_command.proofs.Endings.{retired, why_ended}
+use Rattle.net_commands.proofs.Counts.{retired, why_ended}
 
 module _ (c : Serve) (lanes : Lanes) (begun : LanePasses) where
   -- sessions were served

@@ -9,11 +9,12 @@ use Rattle.std.proofs.lemmas.List.{length-map}
 use Rattle.node_commands.specs.Words.{Word, IsWord, words_of}
 use Rattle.node_commands.specs.declared.words.TheConstants.{MOST_OF_A_WORD}
 use Rattle.serve_command.specs.ObjectWords.{Object, object_word, IsCut, AreShort, AreApart}
-use Rattle.serve_command.specs.Words.{Plain, Serve, plain, PlainForm, Completes, ServeForm, Exactly, asked_of}
+use Rattle.net_commands.specs.Once.{Exactly}
+use Rattle.serve_command.specs.Words.{Plain, Serve, plain, PlainForm, Completes, ServeForm, asked_of}
 use Rattle.serve_command.specs.declared.words.TheConstants.{MOST_WORDS}
 use Rattle.serve_command.specs.declared.words.ServeCommand.{ServeCommand}
 use Rattle.serve_command.proofs.Cuts.{object_once}
-use Rattle.serve_command.proofs.Forms.{exactly_by}
+use Rattle.net_commands.proofs.Words.{exactly_by}
 use Rattle.serve_command.proofs.Commands.{all_short}
 
 abbrev behind_first : List Word → List Word
@@ -116,22 +117,7 @@ if_form_of words p r few short form = IfOk-weaker r (λ asked. Exactly (Complete
 
 -- ---- how long words are
 
--- no word is longer than a word may be, or one is
-pub words_short : (words : List (String Global)) (r : Bool) → MatchBool r (AllWithin (λ x. length (string_bytes x) ≤ MOST_OF_A_WORD) words 0 (length words)) ((k : ℕ) × (k < length words) × HoldsAt (λ x. MOST_OF_A_WORD < length (string_bytes x)) words k)
-    → (IsTrue r → AllByRecursion IsWord (words_of words)) × (AllByRecursion IsWord (words_of words) → IsTrue r)
-words_short words true h = (λ on. all_of words (λ k d lt. h k d (omega arith) lt), λ all. refl)
-  where
-    all_of : (ws : List (String Global)) → ((k : ℕ) (d : String Global) → k < length ws → length (string_bytes (get_or ws k d)) ≤ MOST_OF_A_WORD) → AllByRecursion IsWord (words_of ws)
-    all_of [] each = tt
-    all_of (w ∷ ws) each = (each 0 w (omega arith), all_of ws (λ k d lt. each (suc k) d (omega (arith, lt))))
-words_short words false h = (λ on. absurd (false≢true on), λ all. absurd (long words h.0 h.1 h.2 all))
-  where
-    long : (ws : List (String Global)) (k : ℕ) → k < length ws → HoldsAt (λ x. MOST_OF_A_WORD < length (string_bytes x)) ws k → AllByRecursion IsWord (words_of ws) → ⊥
-    long [] k lt at all = omega (arith, lt)
-    long (w ∷ ws) zero lt at all = omega (arith, at w, all.0)
-    long (w ∷ ws) (suc k) lt at all = long ws k (omega (arith, lt)) at all.1
-
--- nor is a text in one of them
+-- where no word is too long, no text in one of them is
 pub spelled_short : (words : List Word) (objects : List Object) → words ≡ map object_word objects → AllByRecursion IsWord words → AllByRecursion AreShort objects
 spelled_short words objects are short = all_short objects (subst (AllByRecursion IsWord) are short)
 

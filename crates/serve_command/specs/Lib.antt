@@ -2,7 +2,6 @@ pub mod ObjectWords
 pub mod Words
 pub mod Reading
 pub mod Adapters
-pub mod Ends
 pub mod Served
 pub mod Steps
 pub mod Laws

@@ -1,6 +1,5 @@
 -- What `serve` does, from its words and what is outside before and after it.
 use Rattle.std.specs.Prelude.{ℕ, ◌≡◌, ◌<◌, ◌≤◌, ◌⊎◌, Bool, true, false, List, ◌++◌, codes, Option, Some}
-use Rattle.std.specs.Fmt.{decimal}
 use Rattle.std.specs.Io.KnownBytes.{Keeps, Appends}
 use Rattle.ice_types.specs.Tables.{Tables}
 use Rattle.ice_ports.specs.Failures.{one_more, count_after}
@@ -17,10 +16,11 @@ use Rattle.node_commands.specs.Answers.{Answer, done, no_such_name, text_refused
 use Rattle.node_commands.specs.Decided.{IsSchema, WithSchema}
 use Rattle.node_commands.specs.Effects.{GetsText}
 use Rattle.talking.specs.Told.{NoneToCome}
-use Rattle.serve_command.specs.declared.serving.TheConstants.{MOST_MESSAGES}
+use Rattle.net_commands.specs.declared.limits.TheConstants.{MOST_MESSAGES}
 use Rattle.serve_command.specs.Words.{Serve}
 use Rattle.serve_command.specs.Adapters.{IsAdapter, First, Never, LacksInterface, Breaks}
-use Rattle.serve_command.specs.Ends.{End, answered, network_failed, end_status, end_line}
+use Rattle.net_commands.specs.Ends.{End, answered, network_failed, end_status, end_line}
+use Rattle.net_commands.specs.Lines.{WritesEnd, listening, served}
 
 -- what the net tells, and how many calls of `listen` and `retire` counted a failure
 pub record Network : Type 0 where
@@ -50,13 +50,7 @@ Refuses c files answer = WithSchema files c.file answer (λ t. WithInterfaces t 
 abbrev pub Sets : Serve → Option Files → Objects → Type 0
 Sets c files o = (t : Tables) × IsSchema files c.file t × Never (LacksInterface t) c.objects × Never Breaks c.objects × IsAdapter t c.objects o
 
--- ---- what is written
-
-abbrev pub listening : ℕ → List ℕ
-listening port = codes "listening " ++ (decimal port ++ codes "\n")
-
-abbrev pub served : ℕ → List ℕ
-served count = codes "served " ++ (decimal count ++ codes "\n")
+-- ---- listening
 
 -- it is the port asked for; the net has chosen it where 0 was asked
 abbrev pub IsPort : Serve → ℕ → Type 0
@@ -102,14 +96,6 @@ pub record Unused (c : Serve) (before after : Network) : Type 0 where
   pub fresh : IsNewListener before.told first
   pub told : after.told ≡ came_back (gathered_of first) (asked c before.told)
   pub counted : after.failures ≡ before.failures
-
--- what the sink got of serving: both lines, or a prefix of them after a failed write; the first alone, where an accept failed or memory lacked
-abbrev pub WritesEnd : (before after : Outside) → (lines first : List ℕ) → (failed starved : Bool) → End → Type 0
-WritesEnd before after lines first failed true end = (end ≡ answered no_memory) × NoneFailed before.failures after.failures × Appends before.output after.output first
-WritesEnd before after lines first true false end = (end ≡ network_failed) × NoneFailed before.failures after.failures × Appends before.output after.output first
-WritesEnd before after lines first false false end =
-    ((end ≡ answered (done lines)) × NoneFailed before.failures after.failures × Appends before.output after.output lines)
-    ⊎ ((end ≡ answered (write_failed lines)) × SinkFailed before.failures after.failures × AppendsPrefix before.output after.output lines)
 
 -- ---- each end, with its cause and what the sink got
 

@@ -15,8 +15,8 @@ use Rattle.dispatch_pool.specs.Lanes.{AreOf, Opens, AreNew, AreWhole}
 use Rattle.node_commands.specs.declared.outcome.Outcome.{Outcome}
 use Rattle.node_commands.specs.declared.outcome.Outcome.TheVariants as outcomes
 use Rattle.node_commands.specs.Words.{Word}
-use Rattle.serve_command.specs.declared.ending.Ending.{Ending}
-use Rattle.serve_command.specs.declared.ending.Ending.TheVariants as endings
+use Rattle.net_commands.specs.declared.ending.Ending.{Ending}
+use Rattle.net_commands.specs.declared.ending.Ending.TheVariants as endings
 use Rattle.node_commands.specs.Outside.{Files}
 use Rattle.node_commands.specs.Answers.{Answer, no_such_name, no_memory, read_failed}
 use Rattle.node_commands.specs.Outcomes.{answer_of}
@@ -26,7 +26,8 @@ use Rattle.serve_command.specs.declared.apart.Named.TheVariants as names
 use Rattle.serve_command.specs.declared.words.TheConstants.{MOST_WORDS}
 use Rattle.serve_command.specs.ObjectWords.{Object, AreShort, AreApart}
 use Rattle.serve_command.specs.Adapters.{First, Never, LacksInterface, Breaks}
-use Rattle.serve_command.specs.Served.{Refuses, Sets, Network, network, Heard, IsPort, asked, listening, served}
+use Rattle.serve_command.specs.Served.{Refuses, Sets, Network, network, Heard, IsPort, asked}
+use Rattle.net_commands.specs.Lines.{EndsWith, listening, served}
 
 -- the answer of an outcome for which nothing was written
 abbrev pub answered_by : Outcome → Answer
@@ -121,19 +122,7 @@ abbrev pub MakesLanes : Serve → Option Files → (before after : ℕ) → Resu
 MakesLanes c files before after (Ok made) = (o : Objects) × Sets c files o × AreLanes o made.0 made.1 × (after ≡ before)
 MakesLanes c files before after (Err outcome) = MakesNone c files before after (answered_by outcome)
 
--- ---- lines
-
--- the line was written, or a prefix of it before a write failed
-abbrev pub Tells : (old new : Option (List ℕ)) → (before after : ℕ) → Bool → List ℕ → Type 0
-Tells old new before after true line = Appends old new line × (after ≡ before)
-Tells old new before after false line = AppendsPrefix old new line × (after ≡ one_more before)
-
--- the last line was written, or a prefix of it; or there is none, because an accept failed or memory lacked
-abbrev pub EndsWith : (old new : Option (List ℕ)) → (before after : ℕ) → List ℕ → (failed starved : Bool) → Ending → Type 0
-EndsWith old new before after line failed true ending = (ending ≡ endings.Known outcomes.Memory) × (new ≡ old) × (after ≡ before)
-EndsWith old new before after line true false ending = (ending ≡ endings.NetworkFailed) × (new ≡ old) × (after ≡ before)
-EndsWith old new before after line false false ending = ((ending ≡ endings.Known outcomes.Done) × Appends old new line × (after ≡ before))
-    ⊎ ((ending ≡ endings.Known outcomes.WriteFailed) × AppendsPrefix old new line × (after ≡ one_more before))
+-- ---- listening and serving
 
 -- sessions were served, and then it ended so
 abbrev pub Serves : Serve → Lanes → LanePasses → Option ToldListener → (old new : Option (List ℕ)) → (before after : ℕ) → (net later : Network) → Ending → Type 0

@@ -3,7 +3,8 @@ use Rattle.std.specs.Prelude.{ℕ, ◌≡◌, ◌≢◌, ◌<◌, ◌≤◌, ◌
 use Rattle.std.specs.Fmt.{decimal}
 use Rattle.std.specs.List.{AllByRecursion}
 use Rattle.node_commands.specs.Words.{Word, IsWord, Command, Form, words_of}
-use Rattle.serve_command.specs.declared.operands.TheConstants.{MOST_WORKERS, MOST_CONNECTIONS, MOST_PORT}
+use Rattle.net_commands.specs.declared.limits.TheConstants.{MOST_CONNECTIONS, MOST_PORT}
+use Rattle.serve_command.specs.declared.operands.TheConstants.{MOST_WORKERS}
 use Rattle.serve_command.specs.declared.operands.Operands.{Operands as ReadOperands}
 use Rattle.serve_command.specs.declared.words.TheConstants.{MOST_WORDS}
 use Rattle.serve_command.specs.declared.words.ServeCommand.{ServeCommand}
@@ -111,11 +112,6 @@ IsNoOther = (words : List Word) (c : Serve) (other : Command) → ServeForm word
 abbrev pub Finds : {A : Type 0} → (A → Type 0) → Option A → Type 0
 Finds {A = A} Is None = (x : A) → Is x → ⊥
 Finds Is (Some x) = Is x
-
--- the same, and it holds of nothing else
-abbrev pub Exactly : {A : Type 0} → (A → Type 0) → Option A → Type 0
-Exactly {A = A} Is None = (x : A) → Is x → ⊥
-Exactly {A = A} Is (Some x) = Is x × ((y : A) → Is y → y ≡ x)
 
 abbrev pub plain_from : ReadOperands → Plain
 plain_from o = record {

@@ -11,12 +11,10 @@
 //!   words, so the order of refusals is the order of the steps. Texts are at most 64 and are read anew in each step,
 //!   so that no step has to hand on what the next one wants.
 //! - All memory that the objects take is taken before the net is asked to listen.
-//! - What failed in the net has no outcome in `node_commands`, so the ends of this command are a type of their own.
 #![tactic(auto)]
 
 mod adapters;
 mod apart;
-mod ending;
 mod laws;
 mod names;
 mod object_words;
@@ -27,9 +25,7 @@ mod serving;
 mod texts;
 mod words;
 
-pub use ending::{Ending, report};
 pub use laws::{refusals_are_single, serve_ends_as_refused, serve_ends_for_cause, serve_first};
 pub use object_words::ObjectWord;
-pub use operands::{MOST_CONNECTIONS, MOST_PORT};
-pub use serving::{MOST_MESSAGES, end_with, serve, tell};
+pub use serving::serve;
 pub use words::{MOST_WORDS, ServeCommand, serve_is_no_other, serve_of};

@@ -3,20 +3,16 @@
 ghost use Rattle.std.specs.Prelude.{◌≡◌, ◌∷◌, ◌≤◌, ℕ, List};
 ghost use Rattle.node_commands.specs.Words.{Word, words_of};
 ghost use Rattle.serve_command.specs.Words.{Behind, BehindConnections, BehindServe, BehindWorkers};
-ghost use Rattle.serve_command.specs.Words.{Exactly, Finds, PlainForm};
+ghost use Rattle.net_commands.specs.Once.{Exactly};
+ghost use Rattle.serve_command.specs.Words.{Finds, PlainForm};
 ghost use Rattle.serve_command.specs.Words.{plain_of};
 ghost use Rattle.serve_command.specs.Reading.{FindsNumber, FindsWord};
 
+use net_commands::{MOST_CONNECTIONS, MOST_PORT};
 use node_commands::number_of;
 
 /// The most workers.
 pub const MOST_WORKERS: u32 = 64;
-
-/// The most connections, and how many where none are named.
-pub const MOST_CONNECTIONS: u32 = 1_000_000;
-
-/// The greatest port.
-pub const MOST_PORT: u32 = 65_535;
 
 /// The option for how many workers serve.
 const WORKERS: &str = "--workers";

@@ -5,25 +5,21 @@ ghost use Rattle.std.specs.Fmt.{decimal};
 ghost use Rattle.dispatch_pool.specs.Lanes.{AreOf, AreWhole};
 ghost use Rattle.node_commands.specs.Outside.{counts, outside};
 ghost use Rattle.node_commands.specs.Words.{Word};
-ghost use Rattle.serve_command.specs.Ends.{end_of};
-ghost use Rattle.serve_command.specs.Served.{Comes, Served, network, served};
-ghost use Rattle.serve_command.specs.Steps.{Asks, EndsWith, Listens, Serves, Tells};
+ghost use Rattle.net_commands.specs.Ends.{end_of};
+ghost use Rattle.serve_command.specs.Served.{Comes, Served, network};
+ghost use Rattle.serve_command.specs.Steps.{Asks, Listens, Serves};
 ghost use Rattle.serve_command.specs.Words.{ServeForm, command_of};
 
 use crate::adapters::lanes_of;
-use crate::ending::{Ending, report};
 use crate::words::ServeCommand;
 use dispatch_pool::{LanePasses, Lanes, OpenGate};
-use ice_ports::{Failed, Listener, Net, Shelf, Sink, write_pieces};
-use itoa::Buffer;
+use ice_ports::{Failed, Listener, Net, Shelf, Sink};
+use net_commands::{Ending, MOST_MESSAGES, end_with, report, tell};
 use node_commands::Outcome;
 use std::alloc::Global;
 use std::sync::Wait;
 use std::thread::Threads;
 use worker_pool::serve_all;
-
-/// The most messages of one connection.
-pub const MOST_MESSAGES: u64 = 1_000_000;
 
 /// Serves the objects of the words, and answers the status to end with.
 pub fn serve<R: Threads + Wait + Sync, H: Shelf, K: Sink, E: Sink, N: Net>(
@@ -164,36 +160,4 @@ fn serve_links<R: Threads + Wait + Sync, K: Sink, N: Net>(
     } = served;
     net.retire(door);
     end_with(accepted, failed, starved, sink)
-}
-
-/// Tells how many links were served, where nothing failed and memory did not lack.
-pub fn end_with<K: Sink>(
-    accepted: u64,
-    failed: bool,
-    starved: bool,
-    sink: &mut K,
-) -> Ending<'static>
-    ensures { EndsWith (K.taken sink.old) (K.taken sink.new) (K.failures sink.old) (K.failures sink.new)
-        (served accepted) failed starved result }
-{
-    if starved {
-        return Ending::Known(Outcome::Memory);
-    }
-    if failed {
-        return Ending::NetworkFailed;
-    }
-    if tell(sink, "served ", accepted) {
-        Ending::Known(Outcome::Done)
-    } else {
-        Ending::Known(Outcome::WriteFailed)
-    }
-}
-
-/// Writes a line: the words and a number. False where a write failed.
-pub fn tell<K: Sink>(sink: &mut K, words: &str, number: u64) -> bool
-    ensures { Tells (K.taken sink.old) (K.taken sink.new) (K.failures sink.old) (K.failures sink.new) result
-        (words.now ++ (decimal number ++ codes "\n")) }
-{
-    let mut digits = Buffer::new();
-    write_pieces(sink, &[words, digits.format(number), "\n"]).is_ok()
 }

@@ -1,4 +1,4 @@
-use Rattle.serve_command.specs.Ends.{end_of}
+use Rattle.net_commands.specs.Ends.{end_of}
 use Rattle.gate_command.proofs.gating.gate.Goals as goal
 
 pub returns : goal.returns

@@ -1,4 +1,4 @@
-use Rattle.serve_command.specs.Ends.{end_of}
+use Rattle.net_commands.specs.Ends.{end_of}
 use Rattle.serve_command.proofs.serving.serve.Goals as goal
 
 pub returns : goal.returns

@@ -1,13 +1,13 @@
-//! How serving ended.
+//! How connections were served or forwarded, at the end.
 
 ghost use Rattle.std.specs.Prelude.{◌≡◌, ℕ, List};
 ghost use Rattle.node_commands.specs.Effects.{GetsText};
-ghost use Rattle.serve_command.specs.Ends.{end_line, end_of, end_status};
+ghost use Rattle.net_commands.specs.Ends.{end_line, end_of, end_status};
 
 use ice_ports::{Sink, write_all};
 use node_commands::{Outcome, report as report_outcome};
 
-/// How serving ended.
+/// How it ended.
 #[derive(Drop)]
 pub enum Ending<'a> {
     /// With an outcome that other commands have too.

@@ -1,7 +1,7 @@
--- How `serve` ends: the statuses, with the line of each.
+-- How connections that were served or forwarded end: the statuses, with the line of each.
 use Rattle.std.specs.Prelude.{ℕ, List, codes}
-use Rattle.serve_command.specs.declared.ending.Ending.{Ending}
-use Rattle.serve_command.specs.declared.ending.Ending.TheVariants as endings
+use Rattle.net_commands.specs.declared.ending.Ending.{Ending}
+use Rattle.net_commands.specs.declared.ending.Ending.TheVariants as endings
 use Rattle.node_commands.specs.Answers.{Answer, status, error_line}
 use Rattle.node_commands.specs.Outcomes.{answer_of}
 

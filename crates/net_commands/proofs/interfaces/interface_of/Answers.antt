@@ -1,5 +1,5 @@
-use Rattle.call_command.proofs.Declared.{found_interface}
-use Rattle.call_command.proofs.known.interface_of.Goals as goal
+use Rattle.net_commands.proofs.Interfaces.{found_interface}
+use Rattle.net_commands.proofs.interfaces.interface_of.Goals as goal
 
 pub returns : goal.returns
 returns c = found_interface c.args.schema.now c.args.id.now c.interface.result c.rules.ensures c.interface.ensures

@@ -1,0 +1,4 @@
+pub mod Ends
+pub mod Lines
+pub mod Interfaces
+pub mod Once
