@@ -2,9 +2,11 @@
 
 ghost use Rattle.std.specs.Prelude.{◌≡◌};
 ghost use Rattle.ice_graphs.specs.Flags.{all_slices};
-ghost use Rattle.ice_graphs.specs.Instances.{graph_at};
-ghost use Rattle.ice_values.specs.Shapes.{shape_seen};
-ghost use Rattle.instance_reading.specs.Stacked.{ReadsGraph, ReadsRoots, roots_at};
+ghost use Rattle.ice_graphs.specs.Instances.{graph_at, most_instances};
+ghost use Rattle.ice_graphs.specs.References.{inline_at};
+ghost use Rattle.ice_values.specs.Shapes.{handed, shape_seen};
+ghost use Rattle.ice_values.specs.Unread.{left_of_members};
+ghost use Rattle.instance_reading.specs.Stacked.{ReadsGraph, ReadsRoots, instance_within, roots_at};
 
 use crate::arena::Arena;
 use crate::nesting::read_instance;
@@ -59,6 +61,22 @@ fn read_roots<'a>(
         (roots_at schema.now (shape_seen fields.entry) arena.old cursor.old) arena.new cursor.new }
 {
     let mut reader = MembersReader::new(alloc, Optionals::ToEnd);
+    read_through(alloc, schema, fields, &mut reader, cursor, arena)
+}
+
+/// Reads on to the end of the members, with the instances that begin in them.
+fn read_through<'a>(
+    alloc: Global,
+    schema: &Schema,
+    fields: DeclaredMembers<'_>,
+    reader: &mut MembersReader<'a>,
+    cursor: &mut Cursor<'a>,
+    arena: &mut Arena<'a>,
+) -> Result<Members, ReadFault>
+    ensures { ReadsRoots result
+        (left_of_members (inline_at most_instances) schema.now (instance_within schema.now most_instances)
+        (handed fields.entry) reader.old arena.old cursor.old) arena.new cursor.new }
+{
     loop {
         match reader.go(alloc, schema, fields, cursor, arena) {
             Ok(Paused::Done(members)) => return Ok(members),

@@ -1,3 +1,3 @@
 pub mod Counts
 pub mod Words
-pub mod Interfaces
+pub mod OneInterface

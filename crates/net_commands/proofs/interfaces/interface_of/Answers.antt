@@ -1,4 +1,4 @@
-use Rattle.net_commands.proofs.Interfaces.{found_interface}
+use Rattle.net_commands.proofs.OneInterface.{found_interface}
 use Rattle.net_commands.proofs.interfaces.interface_of.Goals as goal
 
 pub returns : goal.returns

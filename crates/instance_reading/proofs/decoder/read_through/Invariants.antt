@@ -1,15 +1,15 @@
 use Rattle.std.proofs.Common.{◌≡◌}
 use Rattle.ice_graphs.specs.Instances.{most_instances}
 use Rattle.ice_graphs.specs.References.{inline_at}
-use Rattle.ice_values.specs.Shapes.{handed, shape_seen}
+use Rattle.ice_values.specs.Shapes.{handed}
 use Rattle.ice_values.specs.Unread.{left_of_members}
-use Rattle.instance_reading.specs.Stacked.{instance_within, roots_at}
+use Rattle.instance_reading.specs.Stacked.{instance_within}
 use Rattle.instance_reading.specs.Unfinished.{room}
-use Rattle.instance_reading.proofs.decoder.read_roots.Given as goal
+use Rattle.instance_reading.proofs.decoder.read_through.Given as goal
 
 abbrev pub invariant-loop-members : goal.invariant-loop-members
 invariant-loop-members l = record {
-  left : roots_at l.schema (shape_seen l.fields) l.fn.arena l.fn.cursor
+  left : left_of_members (inline_at most_instances) l.schema (instance_within l.schema most_instances) (handed l.fields) l.fn.reader l.fn.arena l.fn.cursor
       ≡ left_of_members (inline_at most_instances) l.schema (instance_within l.schema most_instances) (handed l.fields) l.reader l.arena l.cursor;
 }
 
