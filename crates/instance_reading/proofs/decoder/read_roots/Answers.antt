@@ -1,4 +1,3 @@
-use Rattle.std.proofs.Common.{sym}
 use Rattle.ice_values.specs.Shapes.{handed}
 use Rattle.instance_reading.proofs.Wholes.{content-fresh}
 use Rattle.instance_reading.proofs.decoder.read_roots.Goals as goal
