@@ -15,6 +15,20 @@ use test_outside::shelf;
 const COUNTER: &str =
     "module T { interface Counter { int add(int n); idempotent int total(); }; };\n";
 
+/// How many links meet, the words, and what these write.
+const MEETINGS: [(u64, &str, &str); 2] = [
+    (
+        2,
+        "serve --workers 2 --connections 2 t.ice localhost 4100 store=c=::T::Counter",
+        "listening 4100\nserved 2\n",
+    ),
+    (
+        4,
+        "serve --workers 4 --connections 4 t.ice localhost 4100 store=c=::T::Counter",
+        "listening 4100\nserved 4\n",
+    ),
+];
+
 /// The words, parted by blanks.
 fn words_of(alloc: Global, text: &str) -> Result<Vec<String>, Fail> {
     let mut words = Vec::new(alloc);
@@ -86,17 +100,12 @@ fn all_meet<R: Threads + Wait + Sync>(
 }
 
 #[test]
-fn two_workers_serve_two_links_at_once(rt: HostRuntime) -> Result<(), Fail> {
-    let words = "serve --workers 2 --connections 2 t.ice localhost 4100 store=c=::T::Counter";
-    let wanted = "listening 4100\nserved 2\n";
-    assert!(rt; all_meet(&rt, rt.alloc(), 2, words, wanted)?);
-    Ok(())
-}
-
-#[test]
-fn four_workers_serve_four_links_at_once(rt: HostRuntime) -> Result<(), Fail> {
-    let words = "serve --workers 4 --connections 4 t.ice localhost 4100 store=c=::T::Counter";
-    let wanted = "listening 4100\nserved 4\n";
-    assert!(rt; all_meet(&rt, rt.alloc(), 4, words, wanted)?);
+fn as_many_links_are_served_at_once_as_there_are_workers(rt: HostRuntime) -> Result<(), Fail> {
+    for (count, words, wanted) in MEETINGS {
+        assert!(rt;
+            all_meet(&rt, rt.alloc(), count, words, wanted)?,
+            "of {count}"
+        );
+    }
     Ok(())
 }
