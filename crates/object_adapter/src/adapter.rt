@@ -68,10 +68,13 @@ impl Adapter {
         ensures adds { Adds self.old (identity, facet) servant result self.new }
         ensures err { OnErr result (self.new ≡ self.old) }
     {
+        // An object is let go by a call: in place each of its many parts is let go on each way out.
         let Err(at) = self.keys.search(&identity, facet.as_str()) else {
+            drop(servant);
             return Err(AddFault::Twice);
         };
         if self.keys.len() == MOST_OBJECTS {
+            drop(servant);
             return Err(AddFault::Full);
         }
         insert_both(
@@ -138,7 +141,7 @@ fn insert_both(
         return Err(AddFault::Memory);
     }
     if keys.insert(at, key).is_err() {
-        servants.remove(at);
+        drop(servants.remove(at));
         return Err(AddFault::Memory);
     }
     Ok(())
