@@ -102,7 +102,9 @@ fn with_callee<'a, H: Shelf, S: Source, K: Sink, N: Net>(
         (S.left source.old) (S.left source.new) }
 {
     let schema = load_schema(alloc, command.file, shelf)?;
-    under(alloc, command, callee, &schema, source, sink, net)
+    let came = under(alloc, command, callee, &schema, source, sink, net);
+    drop(schema);
+    came
 }
 
 /// Goes on where FILE means this schema.
@@ -133,7 +135,9 @@ fn under<'a, S: Source, K: Sink, N: Net>(
     };
     let object = object_schema(alloc)?;
     let found = known_of(&object, schema, interface, command.operation);
-    with_found(alloc, command, found, callee, source, sink, net)
+    let came = with_found(alloc, command, found, callee, source, sink, net);
+    drop(object);
+    came
 }
 
 /// Goes on where the interface and the object have this operation, or none of the name.

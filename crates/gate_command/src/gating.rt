@@ -59,7 +59,11 @@ fn end_of<'a, H: Shelf, K: Sink, N: Net>(
         (net_seen (N.told net.new) (N.failures net.new) (N.listen_failures net.new)) (end_of result bytes) }
 {
     match plan_of(alloc, command, shelf) {
-        Ok(plan) => listen(alloc, command, &plan, sink, net),
+        Ok(plan) => {
+            let ending = listen(alloc, command, &plan, sink, net);
+            drop(plan);
+            ending
+        }
         Err(outcome) => Ending::Known(outcome),
     }
 }

@@ -27,7 +27,9 @@ pub fn drill(alloc: Global, start: u32, count: u32) -> Result<String, DrillFault
     ensures { Drills start count result }
 {
     let schema = node_schema(alloc)?;
-    drill_under(alloc, &schema, start, count)
+    let line = drill_under(alloc, &schema, start, count);
+    drop(schema);
+    line
 }
 
 /// The same, by the schema of the nodes.

@@ -31,7 +31,9 @@ pub fn compat<'a, H: Shelf>(
         (counts (H.failures shelf.new) source sink) result }
 {
     let spelled = load_schema(alloc, old, shelf)?;
-    behind_old(alloc, &spelled, new, word, shelf)
+    let found = behind_old(alloc, &spelled, new, word, shelf);
+    drop(spelled);
+    found
 }
 
 /// The same, once the old file has given its schema.
@@ -48,7 +50,9 @@ fn behind_old<'a, H: Shelf>(
         (counts before source sink) (counts (H.failures shelf.new) source sink) result }
 {
     let reading = load_schema(alloc, new, shelf)?;
-    behind_both(alloc, spelled, &reading, word)
+    let found = behind_both(alloc, spelled, &reading, word);
+    drop(reading);
+    found
 }
 
 /// The same, once both files have.

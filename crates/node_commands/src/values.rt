@@ -37,7 +37,9 @@ pub fn found_of<'a, H: Shelf, S: Source>(
 {
     let schema = load_schema(alloc, file, shelf)?;
     let kind = named_type(&schema, word)?;
-    found_with(alloc, task, &schema, kind, source)
+    let found = found_with(alloc, task, &schema, kind, source);
+    drop(schema);
+    found
 }
 
 /// The type that the word names.

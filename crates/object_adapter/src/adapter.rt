@@ -68,7 +68,6 @@ impl Adapter {
         ensures adds { Adds self.old (identity, facet) servant result self.new }
         ensures err { OnErr result (self.new ≡ self.old) }
     {
-        // An object is let go by a call: in place each of its many parts is let go on each way out.
         let Err(at) = self.keys.search(&identity, facet.as_str()) else {
             drop(servant);
             return Err(AddFault::Twice);

@@ -23,7 +23,7 @@ use crate::texts::{identity_of, read_all};
 use crate::words::ServeCommand;
 use dispatch_pool::{LanePasses, Lanes};
 use ice_ports::Shelf;
-use ice_types::{Name, Schema};
+use ice_types::{Identity, Name, Schema};
 use node_commands::{Outcome, load_schema};
 use object_adapter::{Adapter, Servant};
 use std::alloc::Global;
@@ -172,7 +172,22 @@ fn add_one(
     ensures ok { OnOk result (AddsOne text.now (λ s. s ≡ servant) adapter.old adapter.new) }
     ensures err { IsStarved result }
 {
+    match key_of(alloc, text) {
+        Ok((identity, facet)) => added(adapter.add(identity, facet, servant)),
+        Err(outcome) => {
+            drop(servant);
+            Err(outcome)
+        }
+    }
+}
+
+/// The identity that the text stands for, and no facet.
+fn key_of(alloc: Global, text: &str) -> Result<(Identity, Name), Outcome<'static>>
+    requires short { IsWord text.now }
+    requires reads { (at : ℕ) → identity_text text.now ≡ Err at → ⊥ }
+    ensures ok { IfOk result (λ key. (identity_text text.now ≡ Ok key.0) × (key.1 ≡ [])) }
+    ensures err { IsStarved result }
+{
     let identity = identity_of(alloc, text)?;
-    let facet = Name::of(alloc, "")?;
-    added(adapter.add(identity, facet, servant))
+    Ok((identity, Name::of(alloc, "")?))
 }
