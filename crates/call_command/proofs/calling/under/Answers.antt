@@ -37,9 +37,9 @@ returns-clause-comes g c = λ shelf.
     comes_so (FoundDecides command input found parsed) (SchemaDecides command input parsed t) (FoundWants command found parsed) (SchemaWants command parsed t)
     (schema_decides command input parsed t c.in-Some.interface c.in-Some.ensures found c.known_of-found.ensures.found)
     (schema_wants command input parsed t c.in-Some.interface c.in-Some.ensures found c.known_of-found.ensures.found)
-    (counts shelf (g.S.Source.failures c.args.source.now) (g.K.Sink.failures c.args.sink.now)) (counts shelf (g.S.Source.failures c.with_found.new.source) (g.K.Sink.failures c.with_found.new.sink))
-    (g.K.Sink.taken c.args.sink.now) (g.K.Sink.taken c.with_found.new.sink) (net_seen (g.N.Net.told c.args.net.now) (g.N.Net.failures c.args.net.now) (g.N.Net.listen_failures c.args.net.now))
-    (net_seen (g.N.Net.told c.with_found.new.net) (g.N.Net.failures c.with_found.new.net) (g.N.Net.listen_failures c.with_found.new.net)) (ended_of c.with_found.result) (c.with_found.ensures.comes shelf)
+    (counts shelf (g.S.Source.failures c.args.source.now) (g.K.Sink.failures c.args.sink.now)) (counts shelf (g.S.Source.failures c.with_found-came.new.source) (g.K.Sink.failures c.with_found-came.new.sink))
+    (g.K.Sink.taken c.args.sink.now) (g.K.Sink.taken c.with_found-came.new.sink) (net_seen (g.N.Net.told c.args.net.now) (g.N.Net.failures c.args.net.now) (g.N.Net.listen_failures c.args.net.now))
+    (net_seen (g.N.Net.told c.with_found-came.new.net) (g.N.Net.failures c.with_found-came.new.net) (g.N.Net.listen_failures c.with_found-came.new.net)) (ended_of c.with_found-came.result) (c.with_found-came.ensures.comes shelf)
 
 pub returns-clause-taken : goal.returns-clause-taken
 returns-clause-taken g c =
@@ -50,4 +50,4 @@ returns-clause-taken g c =
     let found = found_seen c.known_of-found.result in
     takes_so (FoundWants command found parsed) (SchemaWants command parsed t)
     (schema_wants command input parsed t c.in-Some.interface c.in-Some.ensures found c.known_of-found.ensures.found)
-    input (g.S.Source.left c.with_found.new.source) c.with_found.ensures.taken
+    input (g.S.Source.left c.with_found-came.new.source) c.with_found-came.ensures.taken

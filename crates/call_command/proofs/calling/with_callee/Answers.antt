@@ -33,15 +33,15 @@ returns-clause-comes g c =
     let parsed = c.args.callee.now in
     let before = counts (g.H.Shelf.failures c.args.shelf.now) (g.S.Source.failures c.args.source.now) (g.K.Sink.failures c.args.sink.now) in
     let net = net_seen (g.N.Net.told c.args.net.now) (g.N.Net.failures c.args.net.now) (g.N.Net.listen_failures c.args.net.now) in
-    let later = net_seen (g.N.Net.told c.under.new.net) (g.N.Net.failures c.under.new.net) (g.N.Net.listen_failures c.under.new.net) in
+    let later = net_seen (g.N.Net.told c.under-came.new.net) (g.N.Net.failures c.under-came.new.net) (g.N.Net.listen_failures c.under-came.new.net) in
     let same = c.in_ok-schema.ensures.found.1 in
     let came = comes_so (SchemaDecides command input parsed t) (Decides command files input) (SchemaWants command parsed t) (WantsInput command files)
     (all_decide command files input parsed t c.requires.named c.requires.listed c.in_ok-schema.ensures.found.0)
     (all_want command files input parsed t c.requires.named c.requires.listed c.in_ok-schema.ensures.found.0)
-    before (counts (g.H.Shelf.failures c.args.shelf.now) (g.S.Source.failures c.under.new.source) (g.K.Sink.failures c.under.new.sink))
-    (g.K.Sink.taken c.args.sink.now) (g.K.Sink.taken c.under.new.sink) net later (ended_of c.under.result) (c.under.ensures.comes (g.H.Shelf.failures c.args.shelf.now)) in
-    subst (λ (n : ℕ). Comes (Decides command files input) (WantsInput command files) before (counts n (g.S.Source.failures c.under.new.source) (g.K.Sink.failures c.under.new.sink))
-    (g.K.Sink.taken c.args.sink.now) (g.K.Sink.taken c.under.new.sink) net later (ended_of c.under.result)) (sym same) came
+    before (counts (g.H.Shelf.failures c.args.shelf.now) (g.S.Source.failures c.under-came.new.source) (g.K.Sink.failures c.under-came.new.sink))
+    (g.K.Sink.taken c.args.sink.now) (g.K.Sink.taken c.under-came.new.sink) net later (ended_of c.under-came.result) (c.under-came.ensures.comes (g.H.Shelf.failures c.args.shelf.now)) in
+    subst (λ (n : ℕ). Comes (Decides command files input) (WantsInput command files) before (counts n (g.S.Source.failures c.under-came.new.source) (g.K.Sink.failures c.under-came.new.sink))
+    (g.K.Sink.taken c.args.sink.now) (g.K.Sink.taken c.under-came.new.sink) net later (ended_of c.under-came.result)) (sym same) came
 
 pub returns-clause-taken : goal.returns-clause-taken
 returns-clause-taken g c =
@@ -52,4 +52,4 @@ returns-clause-taken g c =
     let parsed = c.args.callee.now in
     takes_so (SchemaWants command parsed t) (WantsInput command files)
     (all_want command files input parsed t c.requires.named c.requires.listed c.in_ok-schema.ensures.found.0)
-    input (g.S.Source.left c.under.new.source) c.under.ensures.taken
+    input (g.S.Source.left c.under-came.new.source) c.under-came.ensures.taken

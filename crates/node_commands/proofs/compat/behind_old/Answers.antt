@@ -14,5 +14,5 @@ returns-in_err-reading g c = λ old files input before source sink loads kept sa
 
 pub returns : goal.returns
 returns g c = λ old files input before source sink loads kept same.
-    c.behind_both.ensures old c.args.new.now files input (counts before source sink) (counts (g.H.Shelf.failures c.load_schema.new.shelf) source sink) loads
+    c.behind_both-found.ensures old c.args.new.now files input (counts before source sink) (counts (g.H.Shelf.failures c.load_schema.new.shelf) source sink) loads
     (subst (λ (x : Option Files). IsSchema x c.args.new.now c.in_ok-reading.reading) kept c.in_ok-reading.ensures.found.0) (c.in_ok-reading.ensures.found.1 ∙ same, refl, refl)

@@ -11,4 +11,4 @@ returns-in_err-spelled g c = λ input source sink.
 
 pub returns : goal.returns
 returns g c = λ input source sink.
-    c.behind_old.ensures c.args.old.now (g.H.Shelf.files c.args.shelf.now) input (g.H.Shelf.failures c.args.shelf.now) source sink c.in_ok-spelled.ensures.found.0 c.in_ok-spelled.ensures.kept c.in_ok-spelled.ensures.found.1
+    c.behind_old-found.ensures c.args.old.now (g.H.Shelf.files c.args.shelf.now) input (g.H.Shelf.failures c.args.shelf.now) source sink c.in_ok-spelled.ensures.found.0 c.in_ok-spelled.ensures.kept c.in_ok-spelled.ensures.found.1

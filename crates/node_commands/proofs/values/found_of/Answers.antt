@@ -8,12 +8,12 @@ use Rattle.node_commands.proofs.values.found_of.Goals as goal
 pub returns-clause-found : goal.returns-clause-found
 returns-clause-found g c = λ sink.
     let before = counts (g.H.Shelf.failures c.args.shelf.now) (g.S.Source.failures c.args.source.now) sink in
-    let after = counts (g.H.Shelf.failures c.load_schema.new.shelf) (g.S.Source.failures c.found_with.new.source) sink in
-    task_finds (g.H.Shelf.files c.args.shelf.now) (g.S.Source.left c.args.source.now) c.args.task c.args.file.now c.args.word.now c.in_ok-schema.schema c.in_ok-kind.kind before after c.in_ok-schema.ensures.found.0 c.in_ok-kind.ensures c.in_ok-schema.ensures.found.1 refl c.found_with.result c.found_with.ensures.found
+    let after = counts (g.H.Shelf.failures c.load_schema.new.shelf) (g.S.Source.failures c.found_with-found.new.source) sink in
+    task_finds (g.H.Shelf.files c.args.shelf.now) (g.S.Source.left c.args.source.now) c.args.task c.args.file.now c.args.word.now c.in_ok-schema.schema c.in_ok-kind.kind before after c.in_ok-schema.ensures.found.0 c.in_ok-kind.ensures c.in_ok-schema.ensures.found.1 refl c.found_with-found.result c.found_with-found.ensures.found
 
 pub returns-clause-taken : goal.returns-clause-taken
 returns-clause-taken g c =
-    task_takes (g.S.Source.left c.args.source.now) c.args.task c.args.file.now c.args.word.now c.in_ok-schema.schema c.in_ok-kind.kind (g.S.Source.failures c.args.source.now) (g.S.Source.failures c.found_with.new.source) (g.S.Source.left c.args.source.now) (g.S.Source.left c.found_with.new.source) c.found_with.ensures.taken c.found_with.result c.found_with.ensures.found
+    task_takes (g.S.Source.left c.args.source.now) c.args.task c.args.file.now c.args.word.now c.in_ok-schema.schema c.in_ok-kind.kind (g.S.Source.failures c.args.source.now) (g.S.Source.failures c.found_with-found.new.source) (g.S.Source.left c.args.source.now) (g.S.Source.left c.found_with-found.new.source) c.found_with-found.ensures.taken c.found_with-found.result c.found_with-found.ensures.found
 
 pub returns-in_err-kind-clause-found : goal.returns-in_err-kind-clause-found
 returns-in_err-kind-clause-found g c = λ sink.
