@@ -21,8 +21,8 @@ returns-in_err-schema-clause-comes g c =
 pub returns-in_err-schema-clause-taken : goal.returns-in_err-schema-clause-taken
 returns-in_err-schema-clause-taken g c = inl (keeps_itself (g.S.Source.left c.args.source.now))
 
-pub under-requires-clause-listed : goal.under-requires-clause-listed
-under-requires-clause-listed g c κs within = listed_callee (seen c.args.command) c.args.callee.now c.requires.named c.requires.listed
+pub under-came-requires-clause-listed : goal.under-came-requires-clause-listed
+under-came-requires-clause-listed g c κs within = listed_callee (seen c.args.command) c.args.callee.now c.requires.named c.requires.listed
 
 pub returns-clause-comes : goal.returns-clause-comes
 returns-clause-comes g c =
