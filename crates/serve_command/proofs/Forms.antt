@@ -11,6 +11,7 @@ use Rattle.node_commands.specs.Words.{Word, words_of}
 use Rattle.net_commands.specs.declared.limits.TheConstants.{MOST_CONNECTIONS}
 use Rattle.serve_command.specs.declared.operands.TheConstants.{MOST_WORKERS}
 use Rattle.net_commands.specs.Once.{Exactly}
+use Rattle.net_commands.proofs.Words.{exactly_by}
 use Rattle.serve_command.specs.Words.{Plain, operand_words, Finds, IsCount, Behind, WithNumber, BehindWorkers, BehindConnections, BehindServe, PlainForm}
 
 -- ---- lists
