@@ -18,7 +18,7 @@ use Rattle.ice_node.proofs.Passing.{by_outcome, by_want}
 
 cut_short : (t : Target) (number : ℕ) (old : Kept) (rest : List Round) (new : Kept) (end : Starves t number old rest new) → length (cut_by t number old rest new end) ≤ 1
 cut_short t number old rest new (inl resolved) = omega arith
-cut_short t number old rest new (inr (asked, place, cached, cut, tail)) = omega arith
+cut_short t number old rest new (inr (asked, place, cached, cut, tail, resolved)) = omega arith
 
 -- what the attempts are: with an outcome or none, or up to where memory ran out
 Is : Message → ℕ → List Tried → Type 0

@@ -8,10 +8,10 @@ use Rattle.call_command.specs.Called.{Called}
 use Rattle.call_command.proofs.OneForm.{one_form}
 use Rattle.gate_command.specs.Words.{GateWords, GateForm}
 use Rattle.gate_command.specs.Gated.{Gated}
-use Rattle.gate_command.proofs.NoOther.{no_serve}
 use Rattle.net_commands.specs.Once.{Exactly}
 use Rattle.serve_command.specs.Words.{Serve, ServeForm, IsServe}
 use Rattle.serve_command.specs.Served.{Served}
+use Rattle.ice_node.proofs.Forms.{forms_apart}
 use Rattle.ice_node.specs.Promises.{KeepsLocally, KeepsPromises, Starves, gated, listened}
 
 -- the first word
@@ -50,7 +50,7 @@ of_gate words c before after net later status none (form, alone) came = record {
   locally = λ call other serve. absurd (other c form);
   called = λ d other. absurd (none d other);
   gates = λ d other. subst (λ (x : GateWords). Gated x before after (gated net) (gated later) status) (sym (alone d other)) came;
-  served = λ d other. absurd (no_serve words c form d other);
+  served = λ d other. absurd ((forms_apart words).2 c d form other);
 }
 
 pub of_serve : (words : List Word) (c : Serve) (before after : Outside) (net later : NetSeen) (status : ℕ)

@@ -1,5 +1,6 @@
 -- WHAT A GATEWAY, OR `call`, AND THE SERVERS BEHIND IT SAY, joined. (Ice manual, "At-Most-Once Semantics".)
 use Rattle.std.specs.Prelude.{ℕ, ℤ, ◌≡◌, ◌⊎◌, List, [], ◌∷◌, ◌++◌, length, map, Some, Result, Ok, Err}
+use Rattle.std.proofs.Common.{inl, inr}
 use Rattle.ice_encoding.specs.Parts.{Each}
 use Rattle.ice_messages.specs.declared.message.Answer.{Answer}
 use Rattle.ice_messages.specs.declared.message.Answer.TheVariants.{Done}
@@ -61,7 +62,7 @@ GatedSuccessesHaveTurns =
 -- the attempt that memory cut off, if it was one
 abbrev pub cut_by : (t : Target) (number : ℕ) (old : Kept) (rest : List Round) (new : Kept) → Starves t number old rest new → List Tried
 cut_by t number old rest new (inl resolved) = []
-cut_by t number old rest new (inr (asked, place, cached, cut, tail)) = cut ∷ []
+cut_by t number old rest new (inr (asked, place, cached, cut, tail, resolved)) = cut ∷ []
 
 -- the attempts at a message that went wherever its proxy leads
 abbrev pub tries : (m : Message) (t : Target) (old : Kept) (rounds : List Round) (new : Kept) (came : Result Through WriteFault) → GoesThrough m t old rounds new came → List Tried
