@@ -11,7 +11,7 @@ use Rattle.ice_types.specs.declared.declarations.OpDecl.{OpDecl}
 use Rattle.ice_types.specs.declared.declarations.Shape.{Shape}
 use Rattle.ice_types.specs.declared.schema.TheConstants.{MOST_NUMBER}
 use Rattle.ice_types.specs.declared.kind.RowRef.TheVariants as rows
-use Rattle.ice_types.specs.Tables.{Tables, HasId, interface_ids, Finds}
+use Rattle.ice_types.specs.Tables.{Tables}
 use Rattle.ice_types.specs.Rules.{IsSchema}
 use Rattle.ice_types.specs.Names.{AreNew}
 use Rattle.ice_types.specs.Fits.{names_of, tags_of, AreRequired, AreRising, DifferFrom, ShapeFits, OpFits}
@@ -19,7 +19,6 @@ use Rattle.ice_types.specs.Inherited.{ops_in, bases_by_path, operations, first_n
 use Rattle.ice_values.specs.Shapes.{without_tag, with_tag, told_apart}
 use Rattle.graph_json.specs.Contents.{HasOwnNames}
 use Rattle.call_command.specs.Operations.{Operation, IsDeclared}
-use Rattle.net_commands.specs.Interfaces.{FindsInterface}
 
 -- ---- the first that is found
 

@@ -1,14 +1,11 @@
 -- Options that are gathered from the words.
-use Rattle.std.proofs.Common.{◌≡◌, ◌≤◌, ◌<◌, ◌+◌, ◌-◌, ℕ, zero, suc, Bool, true, false, List, [], ◌∷◌, length, take, drop, get_or, String, string_bytes, Option, Some, None, refl, sym, ap, ap₂, subst, inl, inr, ◌∙◌, codes, arith, length-drop}
+use Rattle.std.proofs.Common.{◌≡◌, ◌≤◌, ◌<◌, ◌+◌, ◌-◌, ℕ, zero, suc, true, false, List, [], ◌∷◌, length, take, get_or, String, string_bytes, Option, Some, None, refl, sym, ap, subst, inl, inr, ◌∙◌, codes, arith}
 use Rattle.std.specs.declared.alloc.Global.{Global}
 use Rattle.std.specs.List.{All}
-use Rattle.std.specs.Str.{bytes_eq}
 use Rattle.std.proofs.Math.Bool.{not}
-use Rattle.std.proofs.lemmas.Bool.{false≢true}
 use Rattle.std.proofs.lemmas.Fmt.{decimal_injective}
-use Rattle.std.proofs.lemmas.List.{drop-map, map_more, take_all}
+use Rattle.std.proofs.lemmas.List.{map_more, take_all}
 use Rattle.std.proofs.lemmas.List.Elements.{All-nil, All-cons, All-head, All-tail, All-append}
-use Rattle.std.proofs.lemmas.Slice.Eq.{bytes_eq-Decides}
 use Rattle.node_commands.specs.Words.{Word, IsWord, words_of}
 use Rattle.call_command.specs.declared.words.Options.{Options}
 use Rattle.call_command.specs.Words.{Given, Gives, Gathers, Takes, IsCompacted, IsNumbered, IsValued, given_of}

@@ -34,7 +34,6 @@ use Rattle.locator.specs.Through.{GoesThrough, IsFailure}
 use Rattle.ice_relay.specs.TextStreams.{TakesText}
 use Rattle.ice_relay.specs.declared.fault.RelayFault.{RelayFault}
 use Rattle.ice_relay.specs.declared.fault.RelayFault.TheVariants as faults
-use Rattle.node_commands.specs.Words.{Word}
 use Rattle.node_commands.specs.Answers.{usage, read_failed, no_memory}
 use Rattle.call_command.specs.declared.arguments.TheConstants.{MOST_OF_ARGUMENTS}
 use Rattle.call_command.specs.declared.callee.Callee.{Callee}

@@ -1,5 +1,5 @@
 -- What `call` sends to wherever a proxy leads is what a client does, also where memory ran out.
-use Rattle.std.proofs.Common.{◌≡◌, ◌≤◌, ◌⊎◌, ℕ, List, [], ◌∷◌, ◌++◌, length, map, Option, Some, None, Result, Ok, Err, refl, sym, subst, inl, inr, arith}
+use Rattle.std.proofs.Common.{◌≤◌, ◌⊎◌, ℕ, List, length, map, Option, None, Result, Ok, Err, refl, sym, subst, inl, inr, arith}
 use Rattle.ice_messages.specs.declared.fault.WriteFault.{WriteFault}
 use Rattle.ice_messages.specs.declared.fault.WriteFault.TheVariants.{TooLong, Memory}
 use Rattle.ice_messages.specs.declared.message.Message.{Message}

@@ -1,8 +1,7 @@
 -- WHAT A GATEWAY, OR `call`, AND THE SERVERS BEHIND IT SAY, joined. (Ice manual, "At-Most-Once Semantics".)
-use Rattle.std.specs.Prelude.{ℕ, ℤ, ◌≡◌, ◌⊎◌, List, [], ◌∷◌, ◌++◌, length, map, Some, Result, Ok, Err}
+use Rattle.std.specs.Prelude.{ℕ, ℤ, ◌≡◌, List, [], ◌∷◌, ◌++◌, length, map, Some, Result, Ok, Err}
 use Rattle.std.proofs.Common.{inl, inr}
 use Rattle.ice_encoding.specs.Parts.{Each}
-use Rattle.ice_messages.specs.declared.message.Answer.{Answer}
 use Rattle.ice_messages.specs.declared.message.Answer.TheVariants.{Done}
 use Rattle.ice_messages.specs.declared.message.Call.{Call}
 use Rattle.ice_messages.specs.declared.message.Message.{Message}

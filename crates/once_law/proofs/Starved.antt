@@ -1,6 +1,6 @@
 -- A client that ran out of memory: each attempt but the last may be followed, and one that may be followed gave a call
 -- that is not idempotent no turn, or two such attempts would give it two.
-use Rattle.std.proofs.Common.{◌≡◌, ◌⊎◌, inl, inr, ℕ, zero, suc, ◌+◌, ◌≤◌, false, List, [], ◌∷◌, ◌++◌, length, map, Option, None, Some, refl, ap, sym, ◌∙◌, subst, arith}
+use Rattle.std.proofs.Common.{◌≡◌, ◌⊎◌, inl, inr, ℕ, zero, suc, ◌+◌, ◌≤◌, false, List, [], ◌∷◌, ◌++◌, length, map, None, Some, refl, ap, sym, ◌∙◌, subst, arith}
 use Rattle.std.specs.Prelude.{slice_get}
 use Rattle.std.proofs.lemmas.List.{length-map}
 use Rattle.std.proofs.lemmas.Option.{slice_get_within}
@@ -8,7 +8,6 @@ use Rattle.ice_encoding.specs.Parts.{Each}
 use Rattle.ice_messages.specs.declared.message.Call.{Call}
 use Rattle.ice_messages.specs.declared.message.Answer.{Answer}
 use Rattle.ice_messages.specs.declared.message.Message.{Message}
-use Rattle.ice_client.specs.declared.outgoing.Outgoing.{Outgoing}
 use Rattle.ice_client.specs.ClientDid.{Tried, IsFollowed, ClientDid, ClientStarved}
 use Rattle.once_law.specs.Ends.{Attempted, tried_of, HasOtherEnd, Delivery, IsDelivery, IsStarved, RunsOut}
 use Rattle.once_law.specs.Shown.{calls_of}

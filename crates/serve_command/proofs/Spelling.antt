@@ -1,13 +1,12 @@
 -- The words of objects, one by one, and what all of them ask for.
-use Rattle.std.proofs.Common.{◌≡◌, ◌<◌, ◌≤◌, ℕ, suc, zero, List, [], ◌∷◌, length, map, refl, sym, ap, ap₂, ◌∙◌, subst, arith, get_or, Bool, true, false, MatchBool, Option, Some, String, string_bytes}
-use Rattle.std.specs.Prelude.{◌==◌, IsTrue, IfOk, Result}
-use Rattle.std.specs.List.{AllByRecursion, AllWithin, HoldsAt}
+use Rattle.std.proofs.Common.{◌≡◌, ◌<◌, ◌≤◌, ℕ, suc, zero, List, [], ◌∷◌, length, map, refl, sym, ap, ap₂, ◌∙◌, subst, arith, get_or, Bool, true, false, Option, Some, String, string_bytes}
+use Rattle.std.specs.Prelude.{◌==◌, IfOk, Result}
+use Rattle.std.specs.List.{AllByRecursion}
 use Rattle.std.proofs.lemmas.Bool.{false≢true}
 use Rattle.std.proofs.lemmas.Result.{IfOk-weaker}
 use Rattle.std.specs.declared.alloc.Global.{Global}
 use Rattle.std.proofs.lemmas.List.{length-map}
 use Rattle.node_commands.specs.Words.{Word, IsWord, words_of}
-use Rattle.node_commands.specs.declared.words.TheConstants.{MOST_OF_A_WORD}
 use Rattle.serve_command.specs.ObjectWords.{Object, object_word, IsCut, AreShort, AreApart}
 use Rattle.net_commands.specs.Once.{Exactly}
 use Rattle.serve_command.specs.Words.{Plain, Serve, plain, PlainForm, Completes, ServeForm, asked_of}

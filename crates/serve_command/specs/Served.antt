@@ -1,6 +1,6 @@
 -- What `serve` does, from its words and what is outside before and after it.
-use Rattle.std.specs.Prelude.{ℕ, ◌≡◌, ◌<◌, ◌≤◌, ◌⊎◌, Bool, true, false, List, ◌++◌, codes, Option, Some}
-use Rattle.std.specs.Io.KnownBytes.{Keeps, Appends}
+use Rattle.std.specs.Prelude.{ℕ, ◌≡◌, ◌<◌, ◌≤◌, ◌⊎◌, Bool, false, ◌++◌, Option, Some}
+use Rattle.std.specs.Io.KnownBytes.{Keeps}
 use Rattle.ice_types.specs.Tables.{Tables}
 use Rattle.ice_ports.specs.Failures.{one_more, count_after}
 use Rattle.ice_ports.specs.Writing.{AppendsPrefix}
@@ -12,7 +12,7 @@ use Rattle.dispatch_pool.specs.Lanes.{Opens, AreNew, AreWhole}
 use Rattle.worker_pool.specs.Sessions.{AllServed}
 use Rattle.node_commands.specs.Words.{Word}
 use Rattle.node_commands.specs.Outside.{Outside, Files, NoneFailed, ShelfFailed, SinkFailed}
-use Rattle.node_commands.specs.Answers.{Answer, done, no_such_name, text_refused, read_failed, write_failed, no_memory}
+use Rattle.node_commands.specs.Answers.{Answer, no_such_name, text_refused, read_failed, write_failed, no_memory}
 use Rattle.node_commands.specs.Decided.{IsSchema, WithSchema}
 use Rattle.node_commands.specs.Effects.{GetsText}
 use Rattle.talking.specs.Told.{NoneToCome}

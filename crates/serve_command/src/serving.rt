@@ -1,7 +1,6 @@
 //! Listening, and serving.
 
-ghost use Rattle.std.specs.Prelude.{ℕ, ◌≡◌, ◌<◌, ◌++◌, List, Option, codes};
-ghost use Rattle.std.specs.Fmt.{decimal};
+ghost use Rattle.std.specs.Prelude.{ℕ, ◌≡◌, ◌<◌, List, Option};
 ghost use Rattle.dispatch_pool.specs.Lanes.{AreOf, AreWhole};
 ghost use Rattle.node_commands.specs.Outside.{counts, outside};
 ghost use Rattle.node_commands.specs.Words.{Word};
