@@ -1,5 +1,5 @@
 -- Ends that fit together: a call that is tried three times, and a batch.
-use Rattle.std.proofs.Common.{◌≡◌, ℕ, pos, ◌<◌, inl, inr, true, false, List, [], ◌∷◌, ◌++◌, None, Some, refl, sym, arith, append-nil}
+use Rattle.std.proofs.Common.{map, ◌≡◌, ℕ, pos, ◌<◌, inl, inr, true, false, List, [], ◌∷◌, ◌++◌, None, Some, refl, sym, arith, append-nil}
 use Rattle.std.specs.Prelude.{nat_le}
 use Rattle.std.proofs.lemmas.Bool.{lt-ltb, ltb-true}
 use Rattle.ice_ports.specs.declared.talk.Talk.{Talk}
@@ -14,16 +14,17 @@ use Rattle.ice_client.specs.declared.outcome.Outcome.TheVariants as outcomes
 use Rattle.ice_client.specs.declared.outgoing.Outgoing.{Outgoing}
 use Rattle.talking.specs.Ends.{Begins}
 use Rattle.ice_client.specs.Sending.{IsOf}
-use Rattle.ice_client.specs.ClientDid.{Tried, IsFollowed}
+use Rattle.ice_client.specs.ClientDid.{Tried, IsFollowed, ClientStarved}
 use Rattle.object_adapter.specs.Laws.{IsDispatched}
 use Rattle.talking.specs.declared.end.End.TheVariants.{PeerEnded, Enough}
 use Rattle.dispatch_pool.specs.Handled.{had_turn, Handled}
 use Rattle.talking.specs.Said.{bytes_of}
 use Rattle.ice_encoding.specs.Parts.{Each}
-use Rattle.once_law.specs.Ends.{Session, IsSession, Delivery, HasOtherEnd, IsStarved}
+use Rattle.once_law.specs.Ends.{Session, IsSession, Delivery, HasOtherEnd, IsStarved, tried_of}
 use Rattle.once_law.specs.Shown.{is_repeatable}
 use Rattle.once_law.specs.Laws.{IsExample, EndsCanFit}
 use Rattle.once_law.proofs.Lists.{false_true}
+use Rattle.once_law.proofs.Starved.{runs_out}
 use Rattle.once_law.proofs.Streams.{message_some}
 
 -- ---- messages without a body
@@ -273,20 +274,25 @@ module _ (call : Call) (answer : Answer) (good : IsDispatched answer) where
       };
     }
 
+    -- memory cut off the last attempt
+    cut_off : ClientStarved one.message one.retries (map tried_of one.attempts)
+    cut_off = inr (record {
+      outgoing = outgoing;
+      is_of = is_of;
+      cut = record {
+        before = lost_try ∷ closed_try ∷ [];
+        last = answered_try;
+        parts = refl;
+        followed = followed;
+        few = omega arith;
+        cut = (refl, refl, inr (refl, refl, greeted (Reply (pos 1) answer ∷ [])));
+      };
+    })
+
     starved : IsStarved one
     starved = record {
       sent = inl (call, refl);
-      client = inr (
-        lost_try ∷ closed_try ∷ [],
-        answered_try ∷ [],
-        refl,
-        omega arith,
-        record {
-          outgoing = outgoing;
-          is_of = is_of;
-          ended = (followed, omega arith);
-        },
-      );
+      client = runs_out one.message one.retries (map tried_of one.attempts) cut_off;
       ends = met;
     }
 
@@ -384,4 +390,4 @@ module _ (call : Call) (answer : Answer) (good : IsDispatched answer) where
 
 pub can_fit : EndsCanFit
 can_fit call answer spelled batched replied good =
-    (one call answer good spelled replied, two call answer good batched, example call answer good spelled replied, batch_example call answer good batched, starved call answer good spelled replied)
+    (one call answer good spelled replied, two call answer good batched, example call answer good spelled replied, batch_example call answer good batched, starved call answer good spelled replied, cut_off call answer good spelled replied)

@@ -20,7 +20,8 @@ use Rattle.call_world.specs.Step.{IsReached}
 use Rattle.call_world.specs.Laws.{AtMostOnce, OwnReplies}
 use Rattle.call_world.specs.Reached.{IsLogged}
 use Rattle.once_law.specs.Placed.{connections, after_all}
-use Rattle.once_law.specs.Ends.{Session, Attempted, attempt_of, is_served, Delivery, talks, IsDelivery, IsStarved}
+use Rattle.ice_client.specs.ClientDid.{ClientStarved}
+use Rattle.once_law.specs.Ends.{Session, Attempted, attempt_of, is_served, Delivery, talks, IsDelivery, IsStarved, tried_of}
 use Rattle.once_law.specs.Matched.{Client, Matching, AreMatched, joined}
 use Rattle.once_law.specs.Shown.{CallWorld, calls_of, turn_at, Shows}
 
@@ -148,4 +149,4 @@ EndsCanFit =
     → (one two : Delivery)
     × IsExample one (Request (pos 1) call) (NotWhole ∷ Closed ∷ Replied ∷ []) (false ∷ true ∷ true ∷ []) (outcomes.Replied answer)
     × IsExample two (Batch (call ∷ call ∷ [])) (Sent ∷ []) (true ∷ []) outcomes.Sent
-    × IsStarved one
+    × IsStarved one × ClientStarved one.message one.retries (map tried_of one.attempts)
