@@ -16,7 +16,7 @@ use Rattle.ice_graphs.specs.Visiting.{most}
 use Rattle.ice_graphs.specs.Same.{form}
 use Rattle.ice_values.specs.declared.fields.DeclaredMembers.{DeclaredMembers}
 use Rattle.ice_values.specs.Shapes.{shape_seen}
-use Rattle.ice_values.proofs.WritingSteps.{options-of-tagged}
+use Rattle.value_writing.proofs.WritingSteps.{options-of-tagged}
 use Rattle.instance_writing.specs.Remains.{with_options}
 use Rattle.class_slices.specs.declared.write_fault.WriteFault.TheVariants.{TooLong}
 use Rattle.class_slices.specs.Enclosing.{Closes, unsized}

@@ -27,7 +27,7 @@ use Rattle.graph_arena.specs.Arena.{AreBelow, IsSound}
 use Rattle.graph_arena.proofs.Fitting.{most-is}
 use Rattle.graph_arena.proofs.Closed.{order-is}
 use Rattle.graph_arena.proofs.Formed.{order-few}
-use Rattle.ice_values.specs.WritingMembers.{OptionsFit, ContentCanBeWritten}
+use Rattle.value_writing.specs.WritingMembers.{OptionsFit, ContentCanBeWritten}
 use Rattle.instance_writing.specs.Tabling.{KeysNameNothing, HasPlainKeys, AreOptions, HasPlaces}
 use Rattle.instance_writing.specs.Writable.{SliceCanBeWritten, SlicesCanBeWritten, GraphCanBeWritten}
 

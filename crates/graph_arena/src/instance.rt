@@ -9,14 +9,14 @@ use ice_types::{Bytes, List, Name};
 
 /// The values of the required members in order, and of the optional ones that are present, by rising
 /// tag. (Ice manual, "Data Encoding for Class and Exception Types".)
-#[derive(Debug, Drop)]
+#[derive(Drop)]
 pub struct Members {
     pub required: List<Value>,
     pub optional: List<(u32, Value)>,
 }
 
 /// What one class adds to an instance.
-#[derive(Debug, Drop)]
+#[derive(Drop)]
 pub enum Slice {
     /// A class by its place in the schema's table, and the values of its own members.
     Known {
@@ -34,7 +34,7 @@ pub enum Slice {
 }
 
 /// An instance of a class.
-#[derive(Debug, Drop)]
+#[derive(Drop)]
 pub struct Instance {
     /// From the most derived class on.
     pub slices: List<Slice>,

@@ -3,7 +3,7 @@
 use ice_types::{Bytes, List, Name, Proxy};
 
 /// A value, by the form that its type gives it. It holds no name of its type.
-#[derive(Debug, Drop)]
+#[derive(Drop)]
 pub enum Value {
     Bool(bool),
     Byte(u8),

@@ -21,7 +21,7 @@ use Rattle.ice_graphs.specs.OptionalMembers.{with_optional}
 use Rattle.graph_arena.specs.declared.value.Value.{Value}
 use Rattle.graph_arena.specs.View.{view, view_all}
 use Rattle.graph_arena.specs.Seen.{view_present}
-use Rattle.ice_values.proofs.Levels.{count_all}
+use Rattle.graph_arena.proofs.Shapes.{count_all}
 use Rattle.ice_values.specs.Shapes.{without_tag, with_tag}
 use Rattle.graph_json.specs.ReadingValues.{Read, members_of, noted_value}
 use Rattle.graph_json.specs.Contents.{put_at, options_of, noted_content}

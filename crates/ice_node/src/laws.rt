@@ -7,7 +7,7 @@ ghost use Rattle.ice_types.specs.declared.schema.TheConstants.{MOST_DEPTH, MOST_
 ghost use Rattle.ice_ports.specs.declared.ports.TheConstants.{MOST_OF_A_READ};
 ghost use Rattle.slice_lexer.specs.declared.lexer.TheConstants.{MOST_BYTES};
 ghost use Rattle.slice_meaning.specs.declared.limits.TheConstants.{MOST_FILES};
-ghost use Rattle.instance_reading.specs.declared.arena.TheConstants.{MOST_INSTANCES};
+ghost use Rattle.slice_heads.specs.declared.arena.TheConstants.{MOST_INSTANCES};
 ghost use Rattle.graph_json.specs.declared.text.TheConstants.{MOST_TEXT};
 ghost use Rattle.ice_relay.specs.declared.comparing.TheConstants.{MOST_COMPARED};
 ghost use Rattle.ice_relay.specs.declared.drilling.TheConstants.{MOST_NODES};

@@ -27,7 +27,7 @@ pub enum Optionals {
 
 impl Optionals {
     /// Whether a marker ends them.
-    pub(crate) fn is_marked(self) -> bool
+    pub fn is_marked(self) -> bool
         ensures { result ≡ spec.is_marked self }
     {
         match self {

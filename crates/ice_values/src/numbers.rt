@@ -2,12 +2,10 @@
 
 ghost use Rattle.std.specs.Prelude.{◌≡◌};
 ghost use Rattle.ice_encoding.specs.Port.{number_of};
-ghost use Rattle.ice_values.specs.Numbering.{number_taken, number_put};
+ghost use Rattle.ice_values.specs.Numbering.{number_taken};
 
 use crate::port::{Met, RefPort};
-use crate::put_port::PutPort;
-use ice_prims::{Cursor, ReadFault, put_size};
-use std::alloc::AllocError;
+use ice_prims::{Cursor, ReadFault};
 use std::marker::Model;
 
 /// Each reference is its number: 0 for null, else one more than the number. No instance begins.
@@ -31,20 +29,6 @@ impl RefPort for Numbers {
         cursor: &mut Cursor<'_>,
     ) -> Result<Met, ReadFault> {
         Ok(Met::Known(number_of(cursor.take_size()?)))
-    }
-}
-
-impl PutPort for Numbers {
-    ghost put = { number_put };
-
-    ghost room = { λ s. 0 };
-
-    fn put_ref(&mut self, out: &mut Vec<u8>, name: Option<u32>) -> Result<Option<u32>, AllocError> {
-        match name {
-            Some(number) => put_size(out, number + 1)?,
-            None => put_size(out, 0)?,
-        }
-        Ok(None)
     }
 }
 

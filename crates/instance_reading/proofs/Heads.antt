@@ -23,17 +23,17 @@ use Rattle.ice_graphs.specs.Instances.{most_instances}
 use Rattle.ice_graphs.specs.References.{State, Reference, inline_at, entry_at, entries_at, table_at, resolved, with_met}
 use Rattle.ice_graphs.specs.Slices.{slice_size, unknown_at, one_more, body_at, next_slices, from_id, slices_at}
 use Rattle.ice_values.specs.declared.fields.Optionals.{Optionals}
-use Rattle.ice_values.specs.Advancing.{fresh_members}
+use Rattle.value_reading.specs.Advancing.{fresh_members}
 use Rattle.ice_values.specs.Shapes.{told_apart}
-use Rattle.ice_values.specs.Unread.{left_of_members}
-use Rattle.ice_values.proofs.Stages.{left-slice, left-bare}
+use Rattle.value_reading.specs.Unread.{left_of_members}
+use Rattle.value_reading.proofs.Stages.{left-slice, left-bare}
 use Rattle.ice_values.specs.SlicedType.{own_fields, rows_of}
 use Rattle.ice_values.specs.declared.sliced_type.SlicedType.{SlicedType}
 use Rattle.ice_values.specs.declared.sliced_type.SlicedType.TheVariants as sorts
-use Rattle.instance_reading.specs.Seen.{by_flag, view_next}
+use Rattle.slice_heads.specs.Seen.{by_flag, view_next}
 use Rattle.instance_reading.specs.Slices.{Front, members_of, bytes_of, slice_with, uses_of, Open, refer_by, left_table, left_next, left_open, left_members, left_compact, behind_tests, OpensKnown, OpensSlice, BeginsSlice}
-use Rattle.instance_reading.specs.Sorts.{may_begin, id_by, class_by, ends_by, is_over, behind_base, behind_unknown, behind_slice, port_by, unless_over, slices_by}
-use Rattle.instance_reading.specs.declared.slice.Before as code
+use Rattle.slice_heads.specs.Sorts.{may_begin, id_by, class_by, ends_by, is_over, behind_base, behind_unknown, behind_slice, port_by, unless_over, slices_by}
+use Rattle.slice_heads.specs.declared.before.Before as code
 use Rattle.instance_reading.specs.declared.slice.CompactSlice.{CompactSlice}
 use Rattle.instance_reading.specs.declared.slice.Stage.{Stage}
 use Rattle.instance_reading.proofs.Places.{rows_read, fault_along}

@@ -1,9 +1,6 @@
-pub mod Arenas
 pub mod Places
-pub mod TypeIds
 pub mod Heads
 pub mod Reopened
 pub mod Stages
 pub mod Stack
 pub mod Wholes
-pub mod Chains

@@ -17,11 +17,11 @@ use Rattle.ice_graphs.proofs.Agreeing.{read_same}
 use Rattle.ice_values.specs.SlicedType.{rows_of}
 use Rattle.ice_values.specs.declared.sliced_type.SlicedType.{SlicedType}
 use Rattle.ice_values.specs.declared.sliced_type.SlicedType.TheVariants as sorts
-use Rattle.instance_reading.specs.Seen.{by_flag, entry_met, is_known}
+use Rattle.slice_heads.specs.Seen.{by_flag, entry_met, is_known}
 use Rattle.instance_reading.specs.Slices.{ReadsPlaces, first_outside}
 use Rattle.instance_reading.specs.declared.sized.SizedMembers.{SizedMembers}
 use Rattle.ice_values.specs.declared.fields.Optionals.{Optionals}
-use Rattle.ice_values.specs.Advancing.{members_at, ReadsMembers}
+use Rattle.value_reading.specs.Advancing.{members_at, ReadsMembers}
 use Rattle.graph_arena.specs.declared.instance.Members as stored
 
 abbrev pub nothing : Inside (List (Reference ℕ))

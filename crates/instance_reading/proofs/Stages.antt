@@ -22,17 +22,17 @@ use Rattle.graph_arena.specs.declared.instance.Members as stored_members
 use Rattle.graph_arena.specs.declared.instance.Slice as stored
 use Rattle.graph_arena.specs.declared.instance.Slice.TheVariants.{Known}
 use Rattle.graph_arena.specs.Seen.{view_content, view_slice, view_slices}
-use Rattle.ice_values.specs.declared.members_reader.MembersReader.{MembersReader}
+use Rattle.value_reading.specs.declared.members_reader.MembersReader.{MembersReader}
 use Rattle.ice_values.specs.declared.paused.Step.{Step}
-use Rattle.ice_values.specs.Unread.{left_of_members}
+use Rattle.value_reading.specs.Unread.{left_of_members}
 use Rattle.ice_values.specs.SlicedType.{own_fields, rows_of}
 use Rattle.ice_values.specs.declared.sliced_type.SlicedType.{SlicedType}
 use Rattle.ice_values.specs.declared.sliced_type.SlicedType.TheVariants as sorts
-use Rattle.instance_reading.specs.declared.slice.Before as code
+use Rattle.slice_heads.specs.declared.before.Before as code
 use Rattle.instance_reading.specs.declared.slice.CompactSlice.{CompactSlice}
-use Rattle.instance_reading.specs.Seen.{view_before, view_next}
+use Rattle.slice_heads.specs.Seen.{view_before, view_next}
 use Rattle.instance_reading.specs.Slices.{Open, BeginsSlice, refer_by, opened, slice_with, uses_of, view_body, with_entries, left_table, left_next, left_open, left_members, left_compact, left_stage}
-use Rattle.instance_reading.specs.Sorts.{is_over, unless_over, slices_by}
+use Rattle.slice_heads.specs.Sorts.{is_over, unless_over, slices_by}
 use Rattle.instance_reading.specs.declared.sized.OpenSlice.{OpenSlice}
 use Rattle.instance_reading.specs.declared.slice.Stage.{Stage}
 use Rattle.instance_reading.specs.declared.slice.Stage.TheVariants as stages

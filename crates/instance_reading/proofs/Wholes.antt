@@ -22,13 +22,13 @@ use Rattle.ice_graphs.specs.References.{State, inline_at, opening}
 use Rattle.ice_graphs.specs.Slices.{from_id}
 use Rattle.ice_graphs.specs.TypeIds.{type_id_at, before_next}
 use Rattle.ice_values.specs.declared.fields.Optionals.TheVariants.{ToEnd}
-use Rattle.ice_values.specs.Advancing.{fresh_members}
+use Rattle.value_reading.specs.Advancing.{fresh_members}
 use Rattle.ice_values.specs.Shapes.{told_apart}
-use Rattle.ice_values.specs.Unread.{left_of_members}
-use Rattle.ice_values.proofs.Stages.{left-content}
+use Rattle.value_reading.specs.Unread.{left_of_members}
+use Rattle.value_reading.proofs.Stages.{left-content}
 use Rattle.ice_values.specs.declared.sliced_type.SlicedType.TheVariants as sorts
 use Rattle.instance_reading.specs.Slices.{refer_by}
-use Rattle.instance_reading.specs.Sorts.{port_by}
+use Rattle.slice_heads.specs.Sorts.{port_by}
 use Rattle.instance_reading.specs.Unfinished.{begun, left_slices}
 use Rattle.instance_reading.specs.Stacked.{instance_within, roots_at, exception_slices}
 use Rattle.instance_reading.proofs.Heads.{fails_then}

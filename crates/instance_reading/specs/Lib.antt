@@ -1,5 +1,3 @@
-pub mod Seen
-pub mod Sorts
 pub mod Slices
 pub mod Reopened
 pub mod Unfinished

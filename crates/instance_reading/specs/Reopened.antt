@@ -16,7 +16,7 @@ use Rattle.ice_graphs.specs.Slices.{by_table}
 use Rattle.graph_arena.specs.declared.instance.Slice as stored
 use Rattle.graph_arena.specs.Seen.{view_content, view_slice}
 use Rattle.instance_reading.specs.declared.sized.SizedMembers.{SizedMembers}
-use Rattle.instance_reading.specs.Seen.{view_references}
+use Rattle.slice_heads.specs.Seen.{view_references}
 
 -- one that is known is what it is
 abbrev pub reopened_slice : Tables → ℕ → Slice → Result Slice Fault

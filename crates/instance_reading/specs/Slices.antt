@@ -1,42 +1,38 @@
 -- A slice that has begun, and what the calls that begin one answer.
-use Rattle.std.specs.Prelude.{ℕ, suc, ◌≡◌, ◌+◌, Bool, true, false, List, [], ◌∷◌, ◌++◌, Option, None, Some, Result, Ok, Err, nat_lt, slice_get, if◌then◌else◌}
-use Rattle.std.specs.Borrow.{Bor}
+use Rattle.std.specs.Prelude.{ℕ, suc, ◌≡◌, ◌+◌, Bool, true, false, List, [], ◌∷◌, ◌++◌, Option, None, Some, Result, Ok, Err, nat_lt, if◌then◌else◌}
 use Rattle.ice_types.specs.Tables.{Tables}
 use Rattle.ice_prims.specs.declared.fault.Fault.{Fault}
-use Rattle.ice_prims.specs.declared.fault.Kind.TheVariants.{UnknownClass, WrongBase, BadLast, BadTypeId}
 use Rattle.ice_prims.specs.declared.fault.ReadFault.{ReadFault}
-use Rattle.ice_prims.specs.declared.fault.ReadFault.TheVariants as faults
-use Rattle.ice_prims.specs.Rest.{Rest, fault, ◌>>=◌}
+use Rattle.ice_prims.specs.Rest.{Rest, ◌>>=◌}
 use Rattle.ice_prims.specs.Taking.{Fails}
 use Rattle.ice_encoding.specs.Port.{Reader}
 use Rattle.ice_encoding.specs.Pausing.{Inside, in_place}
 use Rattle.ice_encoding.specs.Reading.{made}
-use Rattle.ice_graphs.specs.Steps.{followed, given, tested}
+use Rattle.ice_graphs.specs.Steps.{followed, given}
 use Rattle.ice_graphs.specs.Prefixes.{prefixed}
 use Rattle.ice_graphs.specs.OptionalMembers.{slice_members_at}
 use Rattle.ice_graphs.specs.OptionalMembers as defs
 use Rattle.ice_graphs.specs.Classes.{own_members}
 use Rattle.ice_graphs.specs.Graph.{known, unknown}
 use Rattle.ice_graphs.specs.Graph as graphs
-use Rattle.ice_graphs.specs.Flags.{Flags, flags_of, all_slices, flags_at}
+use Rattle.ice_graphs.specs.Flags.{Flags, all_slices}
 use Rattle.ice_graphs.specs.Flags as flags
-use Rattle.ice_graphs.specs.TypeIds.{type_id_at, id_indexed, is_base, can_be_read}
+use Rattle.ice_graphs.specs.TypeIds.{can_be_read}
 use Rattle.ice_graphs.specs.Instances.{most_instances}
 use Rattle.ice_graphs.specs.References.{State, inline_at, entry_at, entries_at, table_at, resolved, with_met}
 use Rattle.ice_graphs.specs.References as refs
 use Rattle.ice_graphs.specs.Slices.{slice_size, by_table, one_more, body_at}
 use Rattle.graph_arena.specs.Seen.{view_content}
-use Rattle.ice_values.specs.Unread.{left_of_members}
+use Rattle.value_reading.specs.Unread.{left_of_members}
 use Rattle.ice_values.specs.SlicedType.{own_fields, rows_of}
 use Rattle.ice_values.specs.declared.sliced_type.SlicedType.{SlicedType}
 use Rattle.ice_values.specs.SliceIds.{id_of}
-use Rattle.instance_reading.specs.Seen.{view_before, view_next, view_references}
-use Rattle.instance_reading.specs.Sorts.{may_begin, id_by, ends_by, behind_slice, slices_by, slices_from}
+use Rattle.slice_heads.specs.Seen.{view_before, view_next, view_references}
+use Rattle.slice_heads.specs.Sorts.{behind_slice, slices_by, slices_from}
 use Rattle.instance_reading.specs.declared.sized.SizedMembers.{SizedMembers}
 use Rattle.instance_reading.specs.declared.sized.Body.{Body}
 use Rattle.instance_reading.specs.declared.sized.Body.TheVariants as bodies
 use Rattle.instance_reading.specs.declared.sized.OpenSlice.{OpenSlice}
-use Rattle.ice_values.specs.declared.slice_id.SliceId.{SliceId}
 use Rattle.instance_reading.specs.declared.slice.CompactSlice.{CompactSlice}
 use Rattle.instance_reading.specs.declared.slice.Stage.{Stage}
 use Rattle.instance_reading.specs.declared.slice.Stage.TheVariants as stages
@@ -121,30 +117,6 @@ stage_work (stages.Open o) = 1 + o.left
 stage_work (stages.Compact c) = 1
 
 -- ---- what calls answer
-
--- flags that may stand
-abbrev pub SeesFlags : SlicedType → flags.Before → Result ℕ Fault → Rest → Rest → Type 0
-SeesFlags sort before (Ok b) r r' = flags_at (may_begin sort before) r ≡ Ok (flags_of b, r')
-SeesFlags sort before (Err e) r r' = flags_at (may_begin sort before) r ≡ Err e
-
-abbrev pub ReadsId : SlicedType → ℕ → Result SliceId ReadFault → State ℕ → Rest → State ℕ → Rest → Type 0
-ReadsId sort b (Ok id) s r s' r' = id_by sort (flags_of b).id s r ≡ Ok (id_of id, s', r')
-ReadsId sort b (Err e) s r s' r' = Fails e (id_by sort (flags_of b).id s r)
-
--- a type id as a text, with the same fault
-abbrev pub TakesTypeId : Result (Bor (List ℕ)) Fault → Rest → Rest → Type 0
-TakesTypeId (Ok id) r r' = type_id_at r ≡ Ok (id.now, r')
-TakesTypeId (Err e) r r' = type_id_at r ≡ Err e
-
-abbrev pub FindsId : Fault → ℕ → List (List ℕ) → Result (Bor (List ℕ)) ReadFault → Type 0
-FindsId wrong index ids (Ok id) = (i : ℕ) × (index ≡ suc i) × (slice_get ids i ≡ Some id.now)
-FindsId wrong index ids (Err e) = (e ≡ faults.Broken wrong) × ((s : State ℕ) (r : Rest) → s.ids ≡ ids → id_indexed wrong.place index s r ≡ fault wrong.place BadTypeId)
-
--- the class passes the tests behind a type id, or the first that fails is the fault
-abbrev pub Tests : {X : Type 0} → SlicedType → Tables → flags.Before → Flags → ℕ → ℕ → Option ℕ → Result X Fault → Type 0
-Tests sort t before f flags_place id_place class (Ok x) = (is_base before class ≡ true) × (can_be_read all_slices class f ≡ true) × (ends_by sort (rows_of sort t) class f ≡ true)
-Tests sort t before f flags_place id_place class (Err e) = (read : Reader (State ℕ) (List graphs.Slice)) (s : State ℕ) (r : Rest)
-    → tested (is_base before class) id_place WrongBase (tested (can_be_read all_slices class f) id_place UnknownClass (tested (ends_by sort (rows_of sort t) class f) flags_place BadLast read)) s r ≡ Err e
 
 -- without a table nothing is met
 abbrev pub uses_in : Bool → List (refs.Reference ℕ) → Type 0

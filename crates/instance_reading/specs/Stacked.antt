@@ -1,10 +1,9 @@
 -- What is still read where instances have begun in one another, and what reading a whole content or exception answers.
-use Rattle.std.specs.Prelude.{ℕ, zero, suc, ◌≡◌, ◌+◌, ◌*◌, ◌≤◌, List, [], ◌∷◌, length, map, Option, None, Some, Result, Ok, Err}
+use Rattle.std.specs.Prelude.{ℕ, zero, suc, ◌≡◌, ◌+◌, ◌*◌, ◌≤◌, List, [], ◌∷◌, length, map, Option, Result, Ok, Err}
 use Rattle.ice_types.specs.declared.declarations.Shape.{Shape}
 use Rattle.ice_types.specs.Tables.{Tables}
 use Rattle.ice_prims.specs.declared.fault.Fault.{Fault}
 use Rattle.ice_prims.specs.declared.fault.ReadFault.{ReadFault}
-use Rattle.ice_prims.specs.declared.fault.Kind.TheVariants.{WrongClass}
 use Rattle.ice_prims.specs.Rest.{Rest, ◌>>=◌}
 use Rattle.ice_prims.specs.Taking.{Fails}
 use Rattle.ice_encoding.specs.Port.{Reader, nowhere}
@@ -14,7 +13,7 @@ use Rattle.ice_graphs.specs.Exceptions.{UserException, of_exceptions, user_excep
 use Rattle.ice_graphs.specs.Graph as graphs
 use Rattle.ice_graphs.specs.Flags.{first, all_slices}
 use Rattle.ice_graphs.specs.References.{State, instance_by, with_ended}
-use Rattle.ice_graphs.specs.Instances.{most_instances, instances, misfit, references}
+use Rattle.ice_graphs.specs.Instances.{most_instances, instances, references}
 use Rattle.ice_graphs.specs.Slices.{instance_at}
 use Rattle.graph_arena.specs.declared.instance.Members.{Members}
 use Rattle.graph_arena.specs.declared.instance.Slice.{Slice}
@@ -102,10 +101,3 @@ view_user_exception c = record { slices = view_slices c.slices; instances = map 
 abbrev pub ReadsUserException : Result UserExceptionContent ReadFault → Result (UserException × Rest) Fault → Rest → Type 0
 ReadsUserException (Ok c) read r = read ≡ Ok (view_user_exception c, r)
 ReadsUserException (Err e) read r = Fails e read
-
--- ---- classes that fit
-
--- each class fits where it is named, or the first place where one does not has the fault
-abbrev pub Fits : {X : Type 0} → Tables → State ℕ → Result X Fault → Type 0
-Fits t s (Ok x) = misfit t s.instances s.met ≡ None
-Fits t s (Err e) = (place : ℕ) × (misfit t s.instances s.met ≡ Some place) × (e ≡ record { place = place; kind = WrongClass })

@@ -17,8 +17,8 @@ use Rattle.graph_arena.specs.Seen.{view_slices}
 use Rattle.ice_values.specs.declared.paused.Paused.{Paused}
 use Rattle.ice_values.specs.declared.paused.Step.{Step}
 use Rattle.ice_values.specs.declared.sliced_type.SlicedType.{SlicedType}
-use Rattle.ice_values.specs.Pauses.{GoesOnReading, StepsReading}
-use Rattle.instance_reading.specs.declared.slice.Before.TheVariants as befores
+use Rattle.value_reading.specs.Pauses.{GoesOnReading, StepsReading}
+use Rattle.slice_heads.specs.declared.before.Before.TheVariants as befores
 use Rattle.instance_reading.specs.declared.slice.CompactSlice.{CompactSlice}
 use Rattle.instance_reading.specs.declared.slice.Stage.{Stage}
 use Rattle.instance_reading.specs.declared.slice.Stage.TheVariants as stages

@@ -1,12 +1,13 @@
 //! A user exception with the instances that begin in it.
 //! (Ice manual, "Data Encoding for Class and Exception Types".)
 
-ghost use Rattle.std.specs.Prelude.{◌≡◌};
 ghost use Rattle.ice_graphs.specs.Exceptions.{user_exception_at};
 ghost use Rattle.ice_graphs.specs.Flags.{all_slices};
-ghost use Rattle.instance_reading.specs.Stacked.{ReadsUserException, ReadsSlices, exception_slices};
+ghost use Rattle.ice_graphs.specs.Instances.{most_instances};
+ghost use Rattle.ice_values.specs.declared.sliced_type.SlicedType.TheVariants as sorts;
+ghost use Rattle.instance_reading.specs.Stacked.{ReadsUserException, ReadsSlices, exception_slices, instance_within};
+ghost use Rattle.instance_reading.specs.Unfinished.{left_slices};
 
-use crate::arena::Arena;
 use crate::nesting::read_instance;
 use crate::unfinished::Unfinished;
 use encaps_optionals::end;
@@ -14,7 +15,9 @@ use graph_arena::{Instance, Slice};
 use ice_prims::{Cursor, ReadFault};
 use ice_types::{List, Schema};
 use ice_values::{Paused, SlicedType};
+use slice_heads::Arena;
 use std::alloc::Global;
+use std::mem;
 
 /// The slices of a user exception, in which a known one names an exception of the schema by its place, and
 /// the instances that begin in them, each named by its place.
@@ -63,9 +66,28 @@ fn read_slices<'a>(
     ensures { ReadsSlices result (exception_slices schema.now arena.old cursor.old) arena.new cursor.new }
 {
     let mut user_exception = Unfinished::new(alloc, 0, cursor);
+    let result = read_through(alloc, schema, &mut user_exception, cursor, arena);
+    drop(user_exception);
+    result
+}
+
+/// Reads on to the end of the slices, with the instances that begin in them.
+fn read_through<'a>(
+    alloc: Global,
+    schema: &Schema,
+    user_exception: &mut Unfinished<'a>,
+    cursor: &mut Cursor<'a>,
+    arena: &mut Arena<'a>,
+) -> Result<List<Slice>, ReadFault>
+    ensures { ReadsSlices result
+        (left_slices (instance_within schema.now most_instances) sorts.Exception schema.now user_exception.old
+        arena.old cursor.old) arena.new cursor.new }
+{
     loop {
         match user_exception.go(alloc, SlicedType::Exception, schema, cursor, arena) {
-            Ok(Paused::Done(())) => return Ok(user_exception.slices),
+            Ok(Paused::Done(())) => {
+                return Ok(mem::replace(&mut user_exception.slices, List::new(alloc)));
+            }
             Ok(Paused::Begins(name)) => {
                 read_instance(alloc, schema, name, cursor, arena)?;
             }

@@ -19,19 +19,14 @@
 //!   chain of 100,000 instances of nine bytes would pay for with 35 MiB.
 #![tactic(auto)]
 
-mod arena;
 mod decoder;
 mod exception;
-mod fitting;
-mod flags;
 mod nesting;
 mod reopening;
 mod sized;
 mod slice;
-mod table_port;
 mod unfinished;
 
-pub use arena::MOST_INSTANCES;
 pub use decoder::{Content, read_content};
 pub use exception::{UserExceptionContent, read_user_exception};
 pub use reopening::reopen;

@@ -1,17 +1,18 @@
 //! An instance with those that begin in it, over an explicit stack of those that are not read whole.
 
-ghost use Rattle.std.specs.Prelude.{◌≡◌, ◌<◌, ◌≤◌, ◌++◌, ◌∷◌, [], OnOk};
+ghost use Rattle.std.specs.Prelude.{◌<◌, ◌≤◌, ◌++◌, ◌∷◌, [], OnOk};
 ghost use Rattle.ice_graphs.specs.Instances.{most_instances};
 ghost use Rattle.instance_reading.specs.Stacked.{ReadsInstance, StepsNesting, instance_within, is_within, stack_left};
 ghost use Rattle.instance_reading.specs.Stacked.{steps_left};
 ghost use Rattle.instance_reading.specs.Unfinished.{room};
 
-use crate::arena::Arena;
 use crate::unfinished::Unfinished;
 use ice_prims::{Cursor, ReadFault};
 use ice_types::{List, Schema};
 use ice_values::{Paused, SlicedType};
+use slice_heads::Arena;
 use std::alloc::Global;
+use std::mem;
 
 /// Reads the instance of this name, which begins here, whole, with those that begin in it.
 pub(crate) fn read_instance<'a>(
@@ -51,9 +52,14 @@ fn read_on<'a>(
     ensures less { OnOk result (steps_left stack.new arena.new < steps_left (stack.old ++ top.entry ∷ []) arena.old) }
 {
     match top.go(alloc, SlicedType::Class, schema, cursor, arena) {
-        Err(fault) => Err(fault),
+        Err(fault) => {
+            drop(top);
+            Err(fault)
+        }
         Ok(Paused::Done(())) => {
-            arena.end(top.name, top.slices);
+            let slices = mem::replace(&mut top.slices, List::new(alloc));
+            arena.end(top.name, slices);
+            drop(top);
             Ok(())
         }
         Ok(Paused::Begins(name)) => {

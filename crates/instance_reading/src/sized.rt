@@ -8,25 +8,23 @@ ghost use Rattle.ice_graphs.specs.OptionalMembers.{slice_members_at};
 ghost use Rattle.ice_graphs.specs.Classes.{own_members};
 ghost use Rattle.ice_graphs.specs.Classes as classes;
 ghost use Rattle.ice_graphs.specs.Flags.{flags_of};
-ghost use Rattle.ice_values.specs.Advancing.{ReadsMembers};
+ghost use Rattle.value_reading.specs.Advancing.{ReadsMembers};
 ghost use Rattle.ice_values.specs.SlicedType.{rows_of};
-ghost use Rattle.instance_reading.specs.Seen.{view_next, view_references};
+ghost use Rattle.slice_heads.specs.Seen.{view_next, view_references};
 ghost use Rattle.ice_values.specs.SliceIds.{id_of};
 ghost use Rattle.instance_reading.specs.Slices.{OpensUnknown, OpensSized, ReadsPlaces, ReadsSized};
 ghost use Rattle.instance_reading.specs.Slices.{SeesTable, first_outside};
-ghost use Rattle.instance_reading.specs.Sorts as sorts;
+ghost use Rattle.slice_heads.specs.Sorts as sorts;
 
-use crate::arena::Reference;
-use crate::flags::{is_odd, optionals};
-use crate::slice::Before;
-use crate::table_port::{InTable, Untabled};
 use encaps_optionals::end;
 use graph_arena::Members;
 use ice_prims::{Cursor, Fault, Kind, ReadFault};
 use ice_types::{List, Schema};
-use ice_values::{RefPort, SliceId, SlicedType, read_members};
+use ice_values::{RefPort, SliceId, SlicedType};
 use preserved::{UnknownPart, skip_slice, slice_bound};
+use slice_heads::{Before, InTable, Reference, Untabled, is_odd, optionals};
 use std::alloc::Global;
+use value_reading::read_members;
 
 /// The members of a slice, and the references that were met in them, all of which are places in the
 /// slice's table.

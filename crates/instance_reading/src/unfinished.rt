@@ -4,19 +4,19 @@ ghost use Rattle.std.specs.Prelude.{ℕ, ◌≡◌, ◌<◌, ◌≤◌, ◌+◌,
 ghost use Rattle.ice_graphs.specs.References.{resolved, with_met};
 ghost use Rattle.graph_arena.specs.Seen.{view_slice};
 ghost use Rattle.ice_values.specs.Pauses.{LessOnStep, NarrowsOnPause, NarrowsOnStep};
-ghost use Rattle.instance_reading.specs.Seen.{view_next};
+ghost use Rattle.slice_heads.specs.Seen.{view_next};
 ghost use Rattle.instance_reading.specs.Slices.{opened, slice_with, uses_of, view_body};
 ghost use Rattle.instance_reading.specs.Unfinished.{Completes, Keeps, Pauses, ReadsOn, StepsOn, begun, room, work_left};
 ghost use Rattle.instance_reading.specs.declared.slice.Stage.TheVariants as stages;
 
-use crate::arena::Arena;
 use crate::sized::{Body, OpenSlice};
-use crate::slice::{Before, CompactSlice, Stage, begin_slice, is_over};
+use crate::slice::{CompactSlice, Stage, begin_slice};
 use graph_arena::{Slice, resolve_members};
 use ice_prims::{Cursor, Kind, ReadFault};
 use ice_types::{List, Schema};
 use ice_values::{Met, Paused, RefPort, SlicedType, Step};
 use preserved::keep;
+use slice_heads::{Arena, Before, is_over};
 use std::alloc::{AllocError, Global};
 use std::mem;
 
@@ -121,7 +121,7 @@ impl<'a> Unfinished<'a> {
             Ok(stage) => {
                 stage.is_bounded();
                 self.steps -= 1;
-                self.stage = stage;
+                self.set_stage(stage);
                 Ok(Step::On)
             }
             Err(fault) => Err(fault),
@@ -156,8 +156,14 @@ impl<'a> Unfinished<'a> {
                 self.keep_entry(slice, name)?;
                 Ok(Step::Begins(name))
             }
-            Ok(Met::Known(None)) => Err(ReadFault::Broken(no_such)),
-            Err(fault) => Err(fault),
+            Ok(Met::Known(None)) => {
+                drop(slice);
+                Err(ReadFault::Broken(no_such))
+            }
+            Err(fault) => {
+                drop(slice);
+                Err(fault)
+            }
         }
     }
 
@@ -167,10 +173,17 @@ impl<'a> Unfinished<'a> {
         ensures keeps { OnOk result (Keeps self.old self.new (opened slice.entry) name) }
         ensures name { self.new.name ≡ self.old.name }
     {
-        slice.table.push(name)?;
-        slice.left -= 1;
-        self.stage = Stage::Open(slice);
-        Ok(())
+        match slice.table.push(name) {
+            Ok(()) => {
+                slice.left -= 1;
+                self.set_stage(Stage::Open(slice));
+                Ok(())
+            }
+            Err(error) => {
+                drop(slice);
+                Err(error)
+            }
+        }
     }
 
     /// The table is read, and so the slice is.
@@ -216,14 +229,18 @@ impl<'a> Unfinished<'a> {
         let fields = sort.own_fields(schema, slice.class);
         match slice.members.go(alloc, schema, fields, cursor, arena) {
             Ok(Paused::Done(members)) => {
-                let class = slice.class;
-                self.complete(alloc, sort, Slice::Known { class, members }, slice.next)
+                let (class, next) = (slice.class, slice.next);
+                drop(slice);
+                self.complete(alloc, sort, Slice::Known { class, members }, next)
             }
             Ok(Paused::Begins(name)) => {
                 self.pause(alloc, slice)?;
                 Ok(Step::Begins(name))
             }
-            Err(fault) => Err(fault),
+            Err(fault) => {
+                drop(slice);
+                Err(fault)
+            }
         }
     }
 
@@ -232,8 +249,21 @@ impl<'a> Unfinished<'a> {
         ensures pauses { OnOk result (Pauses self.old self.new slice.entry) }
         ensures name { self.new.name ≡ self.old.name }
     {
-        self.stage = Stage::Compact(Box::new(alloc, slice)?);
+        let slice = Box::new(alloc, slice)?;
+        self.set_stage(Stage::Compact(slice));
         Ok(())
+    }
+
+    /// Reading stands at another stage. The one before is let go.
+    fn set_stage(&mut self, stage: Stage<'a>)
+        ensures { self.new ≡ record {
+          name = self.old.name;
+          steps = self.old.steps;
+          slices = self.old.slices;
+          stage = stage.entry;
+        } }
+    {
+        drop(mem::replace(&mut self.stage, stage));
     }
 
     /// A slice is read whole, and the next one follows this, None behind the last.
@@ -252,7 +282,7 @@ impl<'a> Unfinished<'a> {
         push_slice(alloc, &mut self.slices, slice, next.is_none())?;
         match next {
             Some(before) => {
-                self.stage = Stage::Next(before);
+                self.set_stage(Stage::Next(before));
                 Ok(Step::On)
             }
             None => Ok(Step::Done(())),

@@ -13,8 +13,8 @@ use Rattle.ice_graphs.specs.Graph.{known}
 use Rattle.ice_graphs.specs.Names.{names_of}
 use Rattle.ice_graphs.specs.Canonical.{table_of, sized_bytes}
 use Rattle.graph_arena.specs.Arena.{AreBelow}
-use Rattle.ice_values.specs.Putting.{InsideWritten}
-use Rattle.ice_values.specs.WritingMembers.{WritesPiece}
+use Rattle.value_writing.specs.Putting.{InsideWritten}
+use Rattle.value_writing.specs.WritingMembers.{WritesPiece}
 use Rattle.ice_values.specs.declared.sliced_type.SlicedType.{SlicedType}
 use Rattle.ice_values.specs.SlicedType.{rows_of}
 use Rattle.instance_writing.specs.Tabling.{Listed, no_names, place_put, HasPlaces}

@@ -27,7 +27,7 @@ use Rattle.ice_graphs.specs.Graph.{known}
 use Rattle.ice_graphs.specs.Canonical.{each_once, by_size, table_of, sized_bytes}
 use Rattle.graph_arena.specs.Arena.{AreBelow}
 use Rattle.graph_arena.proofs.Listed.{listed-cons, listed-new, listed-other}
-use Rattle.ice_values.specs.Putting.{InsideWritten}
+use Rattle.value_writing.specs.Putting.{InsideWritten}
 use Rattle.instance_writing.specs.Tabling.{Listed, no_names, with_name, place_put, name_put, null_put, KeysNameNothing, HasPlainKeys, AreOptions, HasPlaces}
 use Rattle.instance_writing.proofs.Tables.{place-stays}
 

@@ -17,10 +17,10 @@ use Rattle.ice_graphs.specs.UserExceptionWritten.{graph_of, user_exception_as, u
 use Rattle.ice_graphs.specs.Names.{instance_names}
 use Rattle.graph_arena.specs.Arena.{AreBelow}
 use Rattle.graph_arena.specs.Seen.{view_slices}
-use Rattle.ice_values.specs.Putting.{InsideWritten, Written, onto}
-use Rattle.ice_values.proofs.WritingSteps.{options-of-tagged, all-left, stands-grown, grows-longer}
-use Rattle.ice_values.specs.declared.ending.Ending.TheVariants.{Bound}
-use Rattle.ice_values.specs.WritingMembers.{Remaining, all_of, members_left, RemainingFits}
+use Rattle.value_writing.specs.Putting.{InsideWritten, Written, onto}
+use Rattle.value_writing.proofs.WritingSteps.{options-of-tagged, all-left, stands-grown, grows-longer}
+use Rattle.value_writing.specs.declared.ending.Ending.TheVariants.{Bound}
+use Rattle.value_writing.specs.WritingMembers.{Remaining, all_of, members_left, RemainingFits}
 use Rattle.ice_values.specs.declared.sliced_type.SlicedType.TheVariants.{Class, Exception}
 use Rattle.instance_writing.specs.declared.open_slice.OpenSlice.{OpenSlice}
 use Rattle.instance_writing.specs.declared.open_slice.OpenSlice.TheVariants as opens

@@ -27,11 +27,11 @@ use Rattle.graph_arena.specs.Seen.{view_slices}
 use Rattle.ice_graphs.specs.OptionalMembers.{Members, shape_of}
 use Rattle.ice_graphs.specs.Members.{written_slice_members}
 use Rattle.ice_graphs.specs.Classes.{members_in, own_members}
-use Rattle.ice_values.proofs.WritingSteps.{fits-grown, all-left}
-use Rattle.ice_values.specs.declared.ending.Ending.TheVariants.{Marked}
-use Rattle.ice_values.specs.WritingMembers.{Remaining, remaining, all_of, members_left}
-use Rattle.ice_values.specs.Putting.{InsideWritten, Written, onto}
-use Rattle.ice_values.proofs.Levels.{onto-then, onto-nothing}
+use Rattle.value_writing.proofs.WritingSteps.{fits-grown, all-left}
+use Rattle.value_writing.specs.declared.ending.Ending.TheVariants.{Marked}
+use Rattle.value_writing.specs.WritingMembers.{Remaining, remaining, all_of, members_left}
+use Rattle.value_writing.specs.Putting.{InsideWritten, Written, onto}
+use Rattle.value_writing.proofs.Levels.{onto-then, onto-nothing}
 use Rattle.ice_values.specs.declared.sliced_type.SlicedType.{SlicedType}
 use Rattle.ice_values.specs.declared.sliced_type.SlicedType.TheVariants.{Class, Exception}
 use Rattle.ice_values.specs.SlicedType.{rows_of}

@@ -15,7 +15,7 @@ use Rattle.ice_graphs.specs.Canonical as spec
 use Rattle.ice_graphs.specs.Canonical.{Pen, id_in, row_id, head_under}
 use Rattle.ice_graphs.specs.Exceptions.{of_exceptions}
 use Rattle.ice_graphs.specs.Graph.{Slice, known, unknown}
-use Rattle.ice_values.specs.WritingMembers.{WritesPiece}
+use Rattle.value_writing.specs.WritingMembers.{WritesPiece}
 use Rattle.ice_values.specs.SlicedType.{compact_in, rows_of}
 use Rattle.ice_values.specs.declared.sliced_type.SlicedType.{SlicedType}
 use Rattle.ice_values.specs.declared.sliced_type.SlicedType.TheVariants.{Class, Exception}

@@ -5,8 +5,8 @@ use Rattle.ice_encoding.specs.Writing.{Piece}
 use Rattle.ice_encoding.specs.Pausing.{written_in_place}
 use Rattle.ice_graphs.specs.Canonical.{Pen, written_names}
 use Rattle.graph_arena.specs.Arena.{AreBelow}
-use Rattle.ice_values.specs.Putting.{InsideWritten, Written, onto}
-use Rattle.ice_values.specs.WritingMembers.{remaining, members_left, RemainingFits}
+use Rattle.value_writing.specs.Putting.{InsideWritten, Written, onto}
+use Rattle.value_writing.specs.WritingMembers.{remaining, members_left, RemainingFits}
 use Rattle.instance_writing.specs.declared.open_slice.OpenMembers.{OpenMembers}
 use Rattle.instance_writing.specs.declared.open_slice.OpenSlice.{OpenSlice}
 use Rattle.instance_writing.specs.declared.open_slice.OpenSlice.TheVariants.{Nothing, Found, Lent, Members}

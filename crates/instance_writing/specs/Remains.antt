@@ -15,7 +15,7 @@ use Rattle.ice_graphs.specs.Canonical.{Pen, Format, sliced, compact, table_of, s
 use Rattle.ice_graphs.specs.UserExceptionWritten.{user_exception_as}
 use Rattle.graph_arena.specs.Arena.{AreBelow}
 use Rattle.graph_arena.specs.Seen.{view_slices}
-use Rattle.ice_values.specs.Putting.{InsideWritten, Written, onto}
+use Rattle.value_writing.specs.Putting.{InsideWritten, Written, onto}
 use Rattle.ice_values.specs.declared.sliced_type.SlicedType.{SlicedType}
 use Rattle.ice_values.specs.declared.sliced_type.SlicedType.TheVariants.{Class, Exception}
 use Rattle.ice_values.specs.SlicedType.{rows_of}

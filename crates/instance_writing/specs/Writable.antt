@@ -7,7 +7,7 @@ use Rattle.ice_graphs.specs.Instances.{slices_of}
 use Rattle.ice_graphs.specs.Names.{instance_names}
 use Rattle.ice_graphs.specs.Exceptions.{of_exceptions, UserException}
 use Rattle.graph_arena.specs.Arena.{AreBelow}
-use Rattle.ice_values.specs.WritingMembers.{ContentCanBeWritten}
+use Rattle.value_writing.specs.WritingMembers.{ContentCanBeWritten}
 use Rattle.instance_writing.specs.Tabling.{HasPlaces}
 
 -- sizes and tags are at most the greatest int, no key has a reference, and each tag is that of a member of the class

@@ -7,7 +7,7 @@ ghost use Rattle.ice_graphs.specs.Visiting.{most};
 ghost use Rattle.ice_graphs.specs.Canonical.{bytes_of};
 ghost use Rattle.graph_arena.specs.Arena.{AreBelow};
 ghost use Rattle.graph_arena.specs.Seen.{view_slices};
-ghost use Rattle.ice_values.specs.Putting.{onto};
+ghost use Rattle.value_writing.specs.Putting.{onto};
 ghost use Rattle.instance_writing.specs.Formats.{view_format};
 ghost use Rattle.instance_writing.specs.Pens.{room};
 ghost use Rattle.instance_writing.specs.Tabling.{no_names};
@@ -21,8 +21,9 @@ use crate::slice::Desk;
 use crate::unfinished::Unfinished;
 use graph_arena::{Graph, Slice};
 use ice_types::{List, Member, Schema};
-use ice_values::{Ending, MembersWriter, Paused, SlicedType};
+use ice_values::{Paused, SlicedType};
 use std::alloc::{AllocError, Global};
+use value_writing::{Ending, MembersWriter};
 
 /// Puts the canonical bytes, in the format, of a graph whose instances are named by the order of their
 /// first visits at the end of the output. Of the shape of its roots the optional members are told. Out of

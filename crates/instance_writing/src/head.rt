@@ -5,7 +5,7 @@ ghost use Rattle.ice_prims.specs.Bytes.{size_bytes, text_bytes};
 ghost use Rattle.ice_types.specs.declared.schema.TheConstants.{MOST_NUMBER};
 ghost use Rattle.ice_graphs.specs.Flags.{as_number, no_id};
 ghost use Rattle.ice_graphs.specs.Canonical.{flags_byte};
-ghost use Rattle.ice_values.specs.WritingMembers.{WritesPiece};
+ghost use Rattle.value_writing.specs.WritingMembers.{WritesPiece};
 ghost use Rattle.ice_values.specs.SliceIds.{id_of};
 ghost use Rattle.instance_writing.specs.Ids.{IsTold};
 ghost use Rattle.instance_writing.specs.Sorts.{head_of, text_head};

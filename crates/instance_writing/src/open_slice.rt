@@ -4,17 +4,19 @@ ghost use Rattle.std.specs.Prelude.{◌≡◌, ◌∷◌, ◌≤◌, ℕ, [], le
 ghost use Rattle.ice_types.specs.Tables.{Tables};
 ghost use Rattle.ice_graphs.specs.Visiting.{most};
 ghost use Rattle.ice_graphs.specs.Canonical.{Pen};
-ghost use Rattle.ice_values.specs.Pauses.{GoesOnWriting, NarrowsOnPause};
-ghost use Rattle.ice_values.specs.Putting.{InsideWritten};
-ghost use Rattle.ice_values.specs.WritingMembers.{RemainingFits, remaining};
+ghost use Rattle.ice_values.specs.Pauses.{NarrowsOnPause};
+ghost use Rattle.value_writing.specs.Pauses.{GoesOnWriting};
+ghost use Rattle.value_writing.specs.Putting.{InsideWritten};
+ghost use Rattle.value_writing.specs.WritingMembers.{RemainingFits, remaining};
 ghost use Rattle.instance_writing.specs.Pens.{room};
 ghost use Rattle.instance_writing.specs.Opened.{IsTabled, OpenFits, entries_in, members_of, open_left};
 ghost use Rattle.instance_writing.specs.Opened as spec;
 
 use crate::pen::Pen;
 use ice_types::{List, Member, Schema};
-use ice_values::{MembersWriter, Paused, PutPort};
+use ice_values::Paused;
 use std::alloc::{AllocError, Global};
+use value_writing::{MembersWriter, PutPort};
 
 /// Members of a known class that are being written with references in place.
 #[derive(Drop)]

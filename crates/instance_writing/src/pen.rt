@@ -12,9 +12,9 @@ use crate::id_places::IdPlaces;
 use graph_arena::MOST_PLACES;
 use ice_prims::put_size;
 use ice_types::MOST_NUMBER;
-use ice_values::PutPort;
 use std::alloc::{AllocError, Global};
 use std::marker::Model;
+use value_writing::PutPort;
 
 /// How many instances have begun, and the type ids that were written as texts. As a port it puts
 /// references in place: at one to an instance that has not begun, the instance begins. More of them

@@ -10,8 +10,8 @@ ghost use Rattle.ice_graphs.specs.Canonical.{is_there, sized_bytes, table_of};
 ghost use Rattle.ice_graphs.specs.Canonical as spec;
 ghost use Rattle.graph_arena.specs.Arena.{AreBelow};
 ghost use Rattle.graph_arena.specs.Seen.{view_content, view_slice};
-ghost use Rattle.ice_values.specs.Putting.{onto};
-ghost use Rattle.ice_values.specs.WritingMembers.{ContentCanBeWritten};
+ghost use Rattle.value_writing.specs.Putting.{onto};
+ghost use Rattle.value_writing.specs.WritingMembers.{ContentCanBeWritten};
 ghost use Rattle.ice_values.specs.SlicedType.{rows_of};
 ghost use Rattle.instance_writing.specs.Tabling.{HasPlaces, no_names};
 ghost use Rattle.instance_writing.specs.Opened.{HasEntries};
@@ -28,9 +28,10 @@ use crate::written_id::written_id;
 use graph_arena::{Members, Slice};
 use ice_prims::put_size;
 use ice_types::MOST_NUMBER;
-use ice_values::{Ending, SlicedType, write_members};
+use ice_values::SlicedType;
 use preserved::{put_slice_size, write_unknown};
 use std::alloc::{AllocError, Global};
+use value_writing::{Ending, write_members};
 
 /// Where the members of a slice are written first, since their size stands before them.
 #[derive(Drop)]

@@ -6,10 +6,10 @@ ghost use Rattle.instance_writing.specs.Tabling.{also, no_names, place_at, place
 
 use ice_prims::put_size;
 use ice_types::List;
-use ice_values::PutPort;
 use std::alloc::{AllocError, Global};
 use std::marker::Model;
 use std::mem::replace;
+use value_writing::PutPort;
 
 /// The instances that the members of a slice name, each once, in order of first occurrence. As a port
 /// for these members it puts each reference as a place in the table.

@@ -1,13 +1,14 @@
 //! Instances and exceptions that are being written.
 
-ghost use Rattle.std.specs.Prelude.{◌≡◌, ◌≤◌, false, [], length, OnOk, ℕ, IfOk};
+ghost use Rattle.std.specs.Prelude.{◌≡◌, ◌≤◌, false, [], length, OnOk, IfOk};
 ghost use Rattle.ice_graphs.specs.Visiting.{most};
 ghost use Rattle.ice_graphs.specs.Names.{slice_names};
 ghost use Rattle.ice_graphs.specs.Canonical.{Pen};
 ghost use Rattle.graph_arena.specs.Arena.{AreBelow};
 ghost use Rattle.graph_arena.specs.Seen.{view_slice};
-ghost use Rattle.ice_values.specs.Pauses.{GoesOnWriting, NarrowsOnPause};
-ghost use Rattle.ice_values.specs.Putting.{InsideWritten, onto};
+ghost use Rattle.ice_values.specs.Pauses.{NarrowsOnPause};
+ghost use Rattle.value_writing.specs.Pauses.{GoesOnWriting};
+ghost use Rattle.value_writing.specs.Putting.{InsideWritten, onto};
 ghost use Rattle.ice_values.specs.SlicedType.{rows_of};
 ghost use Rattle.instance_writing.specs.declared.open_slice.OpenSlice.TheVariants as opens;
 ghost use Rattle.instance_writing.specs.Formats.{view_format};

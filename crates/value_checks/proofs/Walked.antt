@@ -18,7 +18,7 @@ use Rattle.graph_arena.specs.declared.value.Value.{Value}
 use Rattle.graph_arena.specs.declared.value.Value.TheVariants as variants
 use Rattle.graph_arena.proofs.Shapes.{view_bytes}
 use Rattle.graph_arena.specs.View.{byte_trees, view, view_all, view_pairs}
-use Rattle.ice_values.proofs.Levels.{count_all, count_pairs}
+use Rattle.graph_arena.proofs.Shapes.{count_all, count_pairs}
 use Rattle.value_checks.specs.Forms.{HasForm, IsEnumerator}
 use Rattle.value_checks.proofs.Formed.{to_form, from_form}
 

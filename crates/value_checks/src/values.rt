@@ -149,7 +149,7 @@ fn is_reference(
 }
 
 #[cycle(walk)]
-#[tactic(auto, using(ice_values::proofs::Levels::count_all))]
+#[tactic(auto, using(graph_arena::proofs::Shapes::count_all))]
 fn is_sequence(
     schema: &Schema,
     references: References<'_>,
@@ -210,7 +210,7 @@ fn are_of(
 }
 
 #[cycle(walk)]
-#[tactic(auto, using(ice_values::proofs::Levels::count_pairs))]
+#[tactic(auto, using(graph_arena::proofs::Shapes::count_pairs))]
 fn is_dictionary(
     schema: &Schema,
     references: References<'_>,

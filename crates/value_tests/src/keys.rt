@@ -179,28 +179,26 @@ fn nested(alloc: Global, keys: &[Key]) -> Result<Value, AllocError> {
     Ok(Value::Seq(listed(alloc, members)?))
 }
 
-/// How a value is written.
-fn written(alloc: Global, value: &Value) -> Result<String, AllocError> {
-    format!(in alloc; "{value:?}")
-}
-
-/// How the dictionary of these keys is written.
-fn written_of(alloc: Global, keys: &[Key]) -> Result<String, AllocError> {
-    let value = nested(alloc, keys)?;
-    written(alloc, &value)
-}
-
-/// Whether it is sorted, and what sorting answers and leaves.
-fn sorted(alloc: Global, value: &mut Value) -> Result<(bool, bool, String), AllocError> {
+/// Whether it is sorted, what sorting answers, and whether it leaves the other value.
+fn sorted(
+    alloc: Global,
+    value: &mut Value,
+    wanted: &Value,
+) -> Result<(bool, bool, bool), AllocError> {
     let before = is_sorted(value);
     let sorted = sort_pairs(alloc, value)?;
-    Ok((before, sorted, written(alloc, value)?))
+    Ok((before, sorted, value == wanted))
 }
 
 /// The same of the dictionary of these keys.
-fn sorted_of(alloc: Global, keys: &[Key]) -> Result<(bool, bool, String), AllocError> {
+fn sorted_of(
+    alloc: Global,
+    keys: &[Key],
+    wanted: &[Key],
+) -> Result<(bool, bool, bool), AllocError> {
     let mut value = nested(alloc, keys)?;
-    sorted(alloc, &mut value)
+    let wanted = nested(alloc, wanted)?;
+    sorted(alloc, &mut value, &wanted)
 }
 
 /// Whether the value is sorted so, or is as it was where two keys are equal.
@@ -209,10 +207,8 @@ fn is_put_in_order(
     keys: &[Key],
     rising: Option<&[Key]>,
 ) -> Result<bool, AllocError> {
-    let wanted = written_of(alloc, rising.unwrap_or(keys))?;
-    let (before, sorted, found) = sorted_of(alloc, keys)?;
-    let answers = (before == keys.is_empty()) & (sorted == rising.is_some());
-    Ok(answers & (found.as_str() == wanted.as_str()))
+    let (before, sorted, found) = sorted_of(alloc, keys, rising.unwrap_or(keys))?;
+    Ok((before == keys.is_empty()) & (sorted == rising.is_some()) & found)
 }
 
 #[test]

@@ -1,9 +1,10 @@
 use graph_arena::{Members, Value};
 use ice_prims::{Cursor, Kind, ReadFault};
 use ice_types::{Member, Name, Schema, TypeRef};
-use ice_values::{DeclaredMembers, Numbers, Optionals, read_members};
+use ice_values::{DeclaredMembers, Numbers, Optionals};
 use std::alloc::{AllocError, Global};
 use value_checks::fits;
+use value_reading::read_members;
 
 /// Where the optional members stand, the bytes, and how many optional ones are read.
 const READ: &[(Optionals, &[u8], usize)] = &[

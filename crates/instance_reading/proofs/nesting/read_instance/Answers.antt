@@ -2,7 +2,7 @@ use Rattle.std.proofs.Common.{◌≡◌, ◌<◌, ◌++◌, ◌∷◌, [], ◌�
 use Rattle.ice_graphs.specs.Instances.{most_instances}
 use Rattle.instance_reading.specs.declared.unfinished.Unfinished.{Unfinished}
 use Rattle.instance_reading.specs.Stacked.{stack_left}
-use Rattle.instance_reading.proofs.Arenas.{most_is}
+use Rattle.slice_heads.proofs.Arenas.{most_is}
 use Rattle.instance_reading.proofs.Stack.{stack-begun, stack-empty}
 use Rattle.instance_reading.proofs.nesting.read_instance.Goals as goal
 

@@ -1,4 +1,4 @@
-use Rattle.instance_reading.specs.Seen.{view_references}
+use Rattle.slice_heads.specs.Seen.{view_references}
 use Rattle.graph_arena.specs.Seen.{view_content}
 use Rattle.instance_reading.proofs.Reopened.{members_refused, bytes_left, resolves}
 use Rattle.instance_reading.proofs.reopening.reopen_members.Goals as goal

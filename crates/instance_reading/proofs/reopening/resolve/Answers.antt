@@ -1,8 +1,8 @@
 use Rattle.std.proofs.Common.{List, Ok, length, sym, ap, ◌∙◌}
 use Rattle.ice_graphs.specs.Graph.{known}
-use Rattle.instance_reading.specs.Seen.{view_references}
+use Rattle.slice_heads.specs.Seen.{view_references}
 use Rattle.instance_reading.specs.Slices.{first_outside}
-use Rattle.instance_reading.specs.declared.arena.Reference.{Reference}
+use Rattle.slice_heads.specs.declared.arena.Reference.{Reference}
 use Rattle.instance_reading.proofs.Places.{all_inside, one_outside}
 use Rattle.instance_reading.proofs.reopening.resolve.Goals as goal
 

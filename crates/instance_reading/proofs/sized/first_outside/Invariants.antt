@@ -1,5 +1,5 @@
 use Rattle.std.proofs.Common.{◌≡◌, drop}
-use Rattle.instance_reading.specs.Seen.{view_references}
+use Rattle.slice_heads.specs.Seen.{view_references}
 use Rattle.instance_reading.specs.Slices.{first_outside}
 use Rattle.instance_reading.proofs.sized.first_outside.Given as goal
 

@@ -2,7 +2,7 @@ use Rattle.std.proofs.Common.{◌≡◌, Ok, false, [], sym, ap, ◌∙◌}
 use Rattle.ice_graphs.specs.Classes.{own_members}
 use Rattle.graph_arena.specs.Seen.{view_content}
 use Rattle.ice_values.specs.SlicedType.{rows_of}
-use Rattle.instance_reading.specs.Seen.{view_references}
+use Rattle.slice_heads.specs.Seen.{view_references}
 use Rattle.instance_reading.proofs.Places.{nothing, members_read, fault_along}
 use Rattle.instance_reading.proofs.sized.read_untabled.Goals as goal
 

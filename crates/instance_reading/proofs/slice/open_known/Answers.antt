@@ -1,7 +1,7 @@
 use Rattle.std.proofs.Common.{◌∙◌, ap, sym}
 use Rattle.ice_graphs.specs.Flags.{flags_of}
-use Rattle.ice_values.specs.declared.members_reader.MembersReader.{MembersReader}
-use Rattle.instance_reading.specs.Seen.{by_flag}
+use Rattle.value_reading.specs.declared.members_reader.MembersReader.{MembersReader}
+use Rattle.slice_heads.specs.Seen.{by_flag}
 use Rattle.instance_reading.specs.Slices.{left_compact}
 use Rattle.instance_reading.specs.declared.slice.CompactSlice.{CompactSlice}
 use Rattle.instance_reading.proofs.Heads.{compact_opened}

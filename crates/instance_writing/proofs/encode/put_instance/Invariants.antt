@@ -1,6 +1,6 @@
 use Rattle.std.proofs.Common.{◌≡◌, ◌+◌, ◌≤◌, ◌-◌, length}
 use Rattle.ice_graphs.specs.Visiting.{most}
-use Rattle.ice_values.specs.Putting.{onto}
+use Rattle.value_writing.specs.Putting.{onto}
 use Rattle.instance_writing.specs.Formats.{view_format}
 use Rattle.instance_writing.specs.Pens.{room}
 use Rattle.instance_writing.specs.Remains.{AllFit, inside_at, stack_left, steps_left}

@@ -2,8 +2,8 @@ use Rattle.std.proofs.Common.{List, ℕ, ◌++◌, sym, ap, ◌∙◌}
 use Rattle.ice_graphs.specs.Visiting.{most}
 use Rattle.ice_graphs.specs.Canonical.{Pen}
 use Rattle.graph_arena.specs.Seen.{view_content}
-use Rattle.ice_values.specs.Putting.{Written}
-use Rattle.ice_values.specs.WritingMembers.{remaining, members_left}
+use Rattle.value_writing.specs.Putting.{Written}
+use Rattle.value_writing.specs.WritingMembers.{remaining, members_left}
 use Rattle.instance_writing.specs.Formats.{view_format}
 use Rattle.instance_writing.specs.Pens.{put_counted}
 use Rattle.instance_writing.specs.Tabling.{no_names}

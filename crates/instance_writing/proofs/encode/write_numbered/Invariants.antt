@@ -4,8 +4,8 @@ use Rattle.ice_graphs.specs.OptionalMembers.{shape_of}
 use Rattle.ice_graphs.specs.Visiting.{most}
 use Rattle.ice_graphs.specs.Members.{written_content}
 use Rattle.ice_graphs.specs.Canonical.{blank}
-use Rattle.ice_values.specs.Putting.{onto}
-use Rattle.ice_values.specs.WritingMembers.{remaining, members_left, RemainingFits}
+use Rattle.value_writing.specs.Putting.{onto}
+use Rattle.value_writing.specs.WritingMembers.{remaining, members_left, RemainingFits}
 use Rattle.instance_writing.specs.Formats.{view_format}
 use Rattle.instance_writing.specs.Pens.{put_counted, room}
 use Rattle.instance_writing.specs.Tabling.{no_names}

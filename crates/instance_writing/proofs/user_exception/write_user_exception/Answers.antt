@@ -2,7 +2,7 @@ use Rattle.std.proofs.Common.{◌≡◌, List, ℕ, ◌++◌, sym, ap, subst, �
 use Rattle.ice_graphs.specs.Visiting.{most}
 use Rattle.ice_graphs.specs.Exceptions.{of_exceptions}
 use Rattle.graph_arena.specs.Seen.{view_slices}
-use Rattle.ice_values.specs.Putting.{Written}
+use Rattle.value_writing.specs.Putting.{Written}
 use Rattle.ice_graphs.specs.Canonical.{Pen}
 use Rattle.ice_values.specs.declared.sliced_type.SlicedType.TheVariants.{Exception}
 use Rattle.instance_writing.specs.declared.open_slice.OpenSlice.TheVariants as opens

@@ -4,7 +4,7 @@ use Rattle.ice_graphs.specs.Canonical.{blank}
 use Rattle.ice_graphs.specs.Exceptions.{of_exceptions}
 use Rattle.ice_graphs.specs.UserExceptionWritten.{user_exception_as}
 use Rattle.graph_arena.specs.Seen.{view_slices}
-use Rattle.ice_values.specs.Putting.{onto}
+use Rattle.value_writing.specs.Putting.{onto}
 use Rattle.ice_values.specs.declared.sliced_type.SlicedType.TheVariants.{Exception}
 use Rattle.instance_writing.specs.Formats.{view_format}
 use Rattle.instance_writing.specs.Opened.{refer_to}

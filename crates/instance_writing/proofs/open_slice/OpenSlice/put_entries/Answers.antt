@@ -1,7 +1,7 @@
 use Rattle.std.proofs.Common.{sym, subst, ◌∙◌, arith}
 use Rattle.ice_graphs.specs.Visiting.{most}
 use Rattle.graph_arena.specs.Arena.{AreBelow}
-use Rattle.ice_values.proofs.WritingSteps.{grows-longer}
+use Rattle.value_writing.proofs.WritingSteps.{grows-longer}
 use Rattle.instance_writing.specs.declared.open_slice.OpenSlice.{OpenSlice}
 use Rattle.instance_writing.specs.Opened.{entries_in}
 use Rattle.instance_writing.proofs.Steps.{most-few, entries-below, below-fits, entry-put, entry-goes, entries-end}

@@ -2,7 +2,7 @@ use Rattle.std.proofs.Common.{◌≡◌, ◌≤◌, ℕ, length}
 use Rattle.ice_types.specs.Tables.{Tables}
 use Rattle.ice_graphs.specs.Canonical.{Pen}
 use Rattle.graph_arena.specs.Arena.{AreBelow}
-use Rattle.ice_values.specs.Putting.{InsideWritten}
+use Rattle.value_writing.specs.Putting.{InsideWritten}
 use Rattle.instance_writing.specs.Pens.{room}
 use Rattle.instance_writing.specs.Opened.{IsTabled, entries_in, is_first, open_left}
 use Rattle.instance_writing.proofs.open_slice.OpenSlice.put_entries.Given as goal

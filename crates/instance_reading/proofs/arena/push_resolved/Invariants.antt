@@ -1,9 +1,0 @@
-use Rattle.std.proofs.Common.{◌≡◌, ◌++◌, drop}
-use Rattle.ice_graphs.specs.References.{resolved}
-use Rattle.instance_reading.specs.Seen.{view_references}
-use Rattle.instance_reading.proofs.arena.push_resolved.Given as goal
-
-abbrev pub invariant-loop-used : goal.invariant-loop-used
-invariant-loop-used l = record {
-  so_far : view_references l.met.items ++ resolved l.table (view_references (drop l.used-index l.uses)) ≡ view_references l.fn.met.items ++ resolved l.table (view_references l.uses);
-}

@@ -1,0 +1,4 @@
+pub mod Seen
+pub mod Sorts
+pub mod Heads
+pub mod Fitting

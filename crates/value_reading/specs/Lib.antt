@@ -1,0 +1,13 @@
+pub mod Leaves
+pub mod ByteSequence
+pub mod Kept
+pub mod Sorted
+pub mod Frames
+pub mod Rests
+pub mod Numbering
+pub mod Pauses
+pub mod Going
+pub mod Cost
+pub mod Entering
+pub mod Unread
+pub mod Advancing
