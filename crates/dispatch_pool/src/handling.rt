@@ -86,7 +86,7 @@ pub(crate) fn serve_batch<R: Wait, G: Gate>(
         reply: false,
     });
     for call in calls {
-        dispatch(
+        let answer = dispatch(
             service.rt,
             service.alloc,
             service.lanes,
@@ -94,6 +94,7 @@ pub(crate) fn serve_batch<R: Wait, G: Gate>(
             service.gate,
             call,
         )?;
+        drop(answer);
         server.step(ServerEvent::Answered);
     }
     Ok(())

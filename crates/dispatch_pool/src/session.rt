@@ -17,12 +17,13 @@ ghost use Rattle.dispatch_pool.specs.Parts.{Next};
 use crate::gate::Gate;
 use crate::handling::{Service, serve_batch, serve_request};
 use crate::lanes::{LanePasses, Lanes};
+use crate::saying::say;
 use ice_messages::{Frames, Message, server_fault};
 use ice_ports::Link;
 use retry_core::{Server, ServerEvent};
 use std::alloc::{AllocError, Global};
 use std::sync::Wait;
-use talking::{End, Heard, end_behind_reply, hear, say};
+use talking::{End, Heard, end_behind_reply, hear};
 
 /// Handles a message. None where the connection goes on.
 fn serve_message<R: Wait, L: Link, G: Gate>(
@@ -93,7 +94,11 @@ fn serve_next<R: Wait, L: Link, G: Gate>(
     ensures going { IfOk result (λ end. end ≡ None → IsGoing frames.new) }
 {
     match hear(link, frames)? {
-        Heard::Message(message) => serve_message(service, passes, link, server, &message),
+        Heard::Message(message) => {
+            let next = serve_message(service, passes, link, server, &message);
+            drop(message);
+            next
+        }
         Heard::Broken(fault) => {
             server.step(ServerEvent::Broken);
             Ok(Some(End::PeerBroke(fault)))
@@ -126,7 +131,7 @@ fn serve<R: Wait, L: Link, G: Gate>(
     ensures counts { Counts (is_link_failed result) (L.Source.failures link.old, L.Sink.failures link.old)
         (L.Source.failures link.new, L.Sink.failures link.new) }
 {
-    if !say(service.alloc, link, &Message::Validate)? {
+    if !say(service.alloc, link, Message::Validate)? {
         server.step(ServerEvent::Lost);
         return Ok(End::LinkFailed);
     }
@@ -136,8 +141,9 @@ fn serve<R: Wait, L: Link, G: Gate>(
             return Ok(end);
         }
     }
+    drop(frames);
     server.step(ServerEvent::EnoughRead);
-    if say(service.alloc, link, &Message::Close)? {
+    if say(service.alloc, link, Message::Close)? {
         Ok(End::Enough)
     } else {
         Ok(End::LinkFailed)

@@ -1,15 +1,12 @@
 -- The rows of the locator's schema may be added.
-use Rattle.std.proofs.Common.{ℕ, ◌≡◌, ◌≢◌, ◌<◌, true, false, List, [], ◌∷◌, All, None, codes, refl, arith}
+use Rattle.std.proofs.Common.{ℕ, ◌≡◌, ◌<◌, false, List, [], ◌∷◌, All, None, codes, refl, arith}
 use Rattle.std.specs.Prelude.{IsTrue}
-use Rattle.std.specs.Str.{bytes_eq, str_to_ascii_lowercase}
-use Rattle.std.proofs.lemmas.Slice.Eq.{bytes_eq-Decides}
 use Rattle.std.proofs.lemmas.List.Elements.{All-nil, All-cons}
 use Rattle.ice_types.specs.declared.kind.TypeRef.{TypeRef}
 use Rattle.ice_types.specs.declared.kind.TypeRef.TheVariants as kinds
-use Rattle.ice_types.specs.Names.{IsFree}
 use Rattle.ice_types.specs.Tables.{is_defined, no_types}
 use Rattle.ice_types.specs.Measures.{measure, built_in, structure, with_member, no_members, proxy}
-use Rattle.ice_types.specs.Fits.{IsOf, AreOf, AreRequired, ShapeFits, OpFits, StructFits, InterfaceFits}
+use Rattle.ice_types.specs.Fits.{IsOf, AreOf, ShapeFits, OpFits, StructFits, InterfaceFits}
 use Rattle.ice_types.specs.Object.{required}
 use Rattle.locator_types.proofs.ObjectFits.{free, beside, no_tag}
 use Rattle.locator_types.specs.Locator.{identity_decl, locator_declared, finding, find_object, find_adapter, locator_operations}

@@ -1,12 +1,11 @@
 //! The schema of what every object has.
 
-ghost use Rattle.std.specs.Prelude.{◌≡◌, [], ◌∷◌, IfOk, codes};
-ghost use Rattle.ice_types.specs.Object.{idempotent, object_operations, object_tables, required, strings_declared};
+ghost use Rattle.std.specs.Prelude.{◌≡◌, [], IfOk, OnOk};
+ghost use Rattle.ice_types.specs.Object.{is_a, object_operations, object_tables, strings_declared};
 ghost use Rattle.ice_types.specs.Tables.{no_types};
-ghost use Rattle.ice_types.specs.declared.kind.TypeRef.TheVariants as kinds;
 
-use crate::operations::one;
-use ice_types::{List, Member, Name, OpDecl, Schema, SeqDecl, Shape, TypeRef};
+use crate::operations::{add_member, idempotent, returning};
+use ice_types::{List, Name, OpDecl, Schema, SeqDecl, TypeRef};
 use std::alloc::{AllocError, Global};
 
 /// The sequence of strings `::Ice::StringSeq` and the interface `::Ice::Object` with the four
@@ -15,8 +14,13 @@ pub fn object_schema(alloc: Global) -> Result<Schema, AllocError>
     ensures { IfOk result (λ schema. schema ≡ object_tables) }
 {
     let mut schema = Schema::new(alloc);
-    declare(alloc, &mut schema)?;
-    Ok(schema)
+    match declare(alloc, &mut schema) {
+        Ok(()) => Ok(schema),
+        Err(error) => {
+            drop(schema);
+            Err(error)
+        }
+    }
 }
 
 /// Declares both.
@@ -56,52 +60,37 @@ fn add_object(alloc: Global, schema: &mut Schema) -> Result<(), AllocError>
 fn object_operations(alloc: Global) -> Result<List<OpDecl>, AllocError>
     ensures { IfOk result (λ operations. operations ≡ object_operations) }
 {
-    let id = one(alloc, "id", TypeRef::Text)?;
     let mut operations = List::new(alloc);
-    operations.push(idempotent(alloc, "ice_ping", List::new(alloc), List::new(alloc))?)?;
-    operations.push(idempotent(alloc, "ice_isA", id, returned(alloc, TypeRef::Bool)?)?)?;
-    operations.push(idempotent(
-        alloc,
-        "ice_id",
-        List::new(alloc),
-        returned(alloc, TypeRef::Text)?,
-    )?)?;
-    operations.push(idempotent(
-        alloc,
-        "ice_ids",
-        List::new(alloc),
-        returned(alloc, TypeRef::Seq(0))?,
-    )?)?;
+    add_operations(alloc, &mut operations)?;
     Ok(operations)
 }
 
-/// An operation that may be called again, and throws nothing.
-fn idempotent(
-    alloc: Global,
-    name: &str,
-    arguments: List<Member>,
-    results: List<Member>,
-) -> Result<OpDecl, AllocError>
-    ensures { IfOk result (λ operation. operation ≡ idempotent name.now arguments results) }
+/// Adds the four to no operations.
+fn add_operations(alloc: Global, operations: &mut List<OpDecl>) -> Result<(), AllocError>
+    requires { operations.old ≡ [] }
+    ensures { OnOk result (operations.new ≡ object_operations) }
 {
-    Ok(OpDecl {
-        name: Name::of(alloc, name)?,
-        idempotent: true,
-        arguments: Shape {
-            required: arguments,
-            optional: List::new(alloc),
-        },
-        results: Shape {
-            required: results,
-            optional: List::new(alloc),
-        },
-        throws: List::new(alloc),
-    })
+    operations.push(idempotent(alloc, "ice_ping")?)?;
+    operations.push(is_a(alloc)?)?;
+    operations.push(returning(alloc, "ice_id", TypeRef::Text)?)?;
+    operations.push(returning(alloc, "ice_ids", TypeRef::Seq(0))?)
 }
 
-/// The value that an operation returns, as its only result.
-fn returned(alloc: Global, kind: TypeRef) -> Result<List<Member>, AllocError>
-    ensures { IfOk result (λ members. members ≡ required (codes "$return") kind ∷ []) }
+/// `bool ice_isA(string id);`
+fn is_a(alloc: Global) -> Result<OpDecl, AllocError>
+    ensures { IfOk result (λ operation. operation ≡ is_a) }
 {
-    one(alloc, "$return", kind)
+    let mut operation = returning(alloc, "ice_isA", TypeRef::Bool)?;
+    match add_member(
+        alloc,
+        &mut operation.arguments.required,
+        "id",
+        TypeRef::Text,
+    ) {
+        Ok(()) => Ok(operation),
+        Err(error) => {
+            drop(operation);
+            Err(error)
+        }
+    }
 }

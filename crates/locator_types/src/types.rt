@@ -1,13 +1,11 @@
 //! The schema of locators.
 
-ghost use Rattle.std.specs.Prelude.{◌≡◌, IfOk};
-ghost use Rattle.ice_types.specs.Object.{required};
+ghost use Rattle.std.specs.Prelude.{◌≡◌, [], IfOk, OnOk};
 ghost use Rattle.ice_types.specs.Tables.{no_types};
-ghost use Rattle.ice_types.specs.declared.kind.TypeRef.TheVariants as kinds;
 ghost use Rattle.locator_types.specs.Locator.{identity_decl, identity_declared, locator_tables, object_declared};
 ghost use Rattle.locator_types.specs.Locator.{types_declared, without_members};
 
-use crate::operations::locator_operations;
+use crate::operations::{add_member, locator_operations};
 use ice_types::{ExceptionDecl, List, Member, Name, Schema, StructDecl, TypeRef};
 use std::alloc::{AllocError, Global};
 
@@ -17,8 +15,13 @@ pub fn locator_schema(alloc: Global) -> Result<Schema, AllocError>
     ensures { IfOk result (λ schema. schema ≡ locator_tables) }
 {
     let mut schema = Schema::new(alloc);
-    declare(alloc, &mut schema)?;
-    Ok(schema)
+    match declare(alloc, &mut schema) {
+        Ok(()) => Ok(schema),
+        Err(error) => {
+            drop(schema);
+            Err(error)
+        }
+    }
 }
 
 /// Declares all of them.
@@ -70,30 +73,30 @@ fn add_locator(alloc: Global, schema: &mut Schema) -> Result<(), AllocError>
     Ok(())
 }
 
-/// A name, and a category.
+/// The struct, of a name and a category.
 fn identity_decl(alloc: Global) -> Result<StructDecl, AllocError>
     ensures { IfOk result (λ decl. decl ≡ identity_decl) }
 {
-    let name = Name::of(alloc, "name")?;
-    let category = Name::of(alloc, "category")?;
-    let mut members = List::new(alloc);
-    members.push(text_member(name))?;
-    members.push(text_member(category))?;
-    Ok(StructDecl {
+    let mut decl = StructDecl {
         id: Name::of(alloc, "::Ice::Identity")?,
-        members,
-    })
+        members: List::new(alloc),
+    };
+    match add_texts(alloc, &mut decl.members) {
+        Ok(()) => Ok(decl),
+        Err(error) => {
+            drop(decl);
+            Err(error)
+        }
+    }
 }
 
-/// A text of this name that is always there.
-fn text_member(name: Name) -> Member
-    ensures { result ≡ required name kinds.Text }
+/// Adds both to no members.
+fn add_texts(alloc: Global, members: &mut List<Member>) -> Result<(), AllocError>
+    requires { members.old ≡ [] }
+    ensures { OnOk result (members.new ≡ identity_decl.members) }
 {
-    Member {
-        name,
-        kind: TypeRef::Text,
-        tag: None,
-    }
+    add_member(alloc, members, "name", TypeRef::Text)?;
+    add_member(alloc, members, "category", TypeRef::Text)
 }
 
 /// An exception of this id without a base and without members.

@@ -21,7 +21,9 @@ pub fn check<H: Shelf>(alloc: Global, file: &str, shelf: &mut H) -> Result<Strin
         (counts (H.failures shelf.new) source sink) (text_found result) }
 {
     let schema = load_schema(alloc, file, shelf)?;
-    Ok(summary(alloc, &schema)?)
+    let text = summary(alloc, &schema);
+    drop(schema);
+    Ok(text?)
 }
 
 /// How many rows the tables of the schema have.

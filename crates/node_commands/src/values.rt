@@ -36,8 +36,10 @@ pub fn found_of<'a, H: Shelf, S: Source>(
     ensures taken { TakesFound (values task file.now word.now) (S.left source.old) (S.left source.new) result }
 {
     let schema = load_schema(alloc, file, shelf)?;
-    let kind = named_type(&schema, word)?;
-    let found = found_with(alloc, task, &schema, kind, source);
+    let found = match named_type(&schema, word) {
+        Ok(kind) => found_with(alloc, task, &schema, kind, source),
+        Err(outcome) => Err(outcome),
+    };
     drop(schema);
     found
 }

@@ -1,15 +1,15 @@
--- Keys of which one is new, and lists from which an item is taken again.
-use Rattle.std.proofs.Common.{ℕ, zero, suc, ◌≡◌, ◌<◌, ◌≤◌, Bool, true, false, List, [], ◌∷◌, length, refl, sym, ap, subst, arith}
-use Rattle.std.specs.Prelude.{if◌then◌else◌, OnOk, IfErr, Result, Ok, Err}
-use Rattle.std.specs.List.{insert, remove}
+-- Keys of which one is new.
+use Rattle.std.proofs.Common.{ℕ, ◌≡◌, ◌<◌, Bool, true, false, List, length, refl, sym, subst, arith}
+use Rattle.std.specs.Prelude.{if◌then◌else◌, is_ok, OnOk, OnErr, IfErr, Result, Ok, Err}
+use Rattle.std.specs.List.{insert}
 use Rattle.std.proofs.lemmas.List.Edits.{length-insert}
 use Rattle.object_adapter.specs.declared.keys.TheConstants.{MOST_OBJECTS}
 use Rattle.object_adapter.specs.Keys.{Key, AreKeys, IsGapFor, itself, key_cmp}
 use Rattle.object_adapter.specs.declared.add_fault.AddFault.{AddFault}
-use Rattle.object_adapter.specs.declared.add_fault.AddFault.TheVariants.{Memory}
+use Rattle.object_adapter.specs.declared.add_fault.AddFault.TheVariants.{Twice, Full, Memory}
 use Rattle.object_adapter.specs.declared.servant.Servant.{Servant}
 use Rattle.object_adapter.specs.Objects.{Objects}
-use Rattle.object_adapter.specs.Adapters.{Adds, HasKey}
+use Rattle.object_adapter.specs.Adapters.{Adds, Declines, HasKey}
 use Rattle.object_adapter.proofs.Rising.{inserted, not_there}
 use Rattle.object_adapter.proofs.Ordered.{keys_total}
 
@@ -35,8 +35,17 @@ pub added : (o : Objects) (keys : List Key) (servants : List Servant) (key : Key
 added o keys servants key at s (Ok done) gap room a b c = (no_such_key o.keys key at gap, room, at, gap, rw (a, b) refl)
 added o keys servants key at s (Err fault) gap room a b c = subst (λ (f : AddFault). Adds o key s (Err f) (record { keys = keys; servants = servants })) (sym c) tt
 
--- the new one is taken again
-pub taken_again : {A : Type 0} (xs : List A) (at : ℕ) (x : A) → at ≤ length xs → remove (insert xs at x) at ≡ xs
-taken_again xs zero x le = refl
-taken_again [] (suc at) x le = absurd (omega (arith, le))
-taken_again (y ∷ xs) (suc at) x le = ap (λ ys. y ∷ ys) (taken_again xs at x (omega (arith, le)))
+-- what comes of adding none
+pub declined : (o : Objects) (key : Key) (s : Servant) (fault : AddFault) (new : Objects) → Declines o.keys key fault → Adds o key s (Err fault) new
+declined o key s Twice new why = why
+declined o key s Full new why = why
+declined o key s Memory new why = tt
+
+-- what was tried to put in, was put in or not
+pub put_in : {E : Type 0} (result : Result (Unit {0}) E) (new put old : List Key) → new ≡ (if is_ok result then put else old) → OnOk result (new ≡ put)
+put_in (Ok done) new put old is = is
+put_in (Err e) new put old is = tt
+
+pub left_out : {E : Type 0} (result : Result (Unit {0}) E) (new put old : List Key) → new ≡ (if is_ok result then put else old) → OnErr result (new ≡ old)
+left_out (Ok done) new put old is = tt
+left_out (Err e) new put old is = is

@@ -12,3 +12,4 @@ pub mod Listed
 pub mod Known
 pub mod Looked
 pub mod Dispatched
+pub mod OwnGiven

@@ -22,6 +22,12 @@ HasKey keys key = (at : ℕ) × (slice_get keys at ≡ Some key)
 abbrev pub with_object : Objects → ℕ → Key → Servant → Objects
 with_object o at key s = record { keys = insert o.keys at key; servants = insert o.servants at s }
 
+-- why no object may be added under a key, whatever memory there is
+abbrev pub Declines : List Key → Key → AddFault → Type 0
+Declines keys key add_faults.Twice = HasKey keys key
+Declines keys key add_faults.Full = (HasKey keys key → ⊥) × (length keys ≡ MOST_OBJECTS)
+Declines keys key add_faults.Memory = ⊥
+
 -- what comes of adding an object
 abbrev pub Adds : Objects → Key → Servant → Result (Unit {0}) AddFault → Objects → Type 0
 Adds old key s (Ok done) new = (HasKey old.keys key → ⊥) × (length old.keys < MOST_OBJECTS) × (at : ℕ) × IsGapFor old.keys key at × (new ≡ with_object old at key s)

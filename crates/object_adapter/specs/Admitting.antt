@@ -1,5 +1,7 @@
 -- The steps before an object acts: the mode is one that the operation takes, and the arguments are what it takes. (Ice manual, "Request Message".)
-use Rattle.std.specs.Prelude.{ℕ, ◌≡◌, ◌≤◌, ◌<◌, Bool, true, false, List, length, Result, Ok, Err}
+use Rattle.std.specs.Prelude.{ℕ, ◌≡◌, ◌≤◌, ◌<◌, Bool, true, false, List, [], ◌∷◌, codes, length, Result, Ok, Err}
+use Rattle.ice_types.specs.declared.kind.TypeRef.{TypeRef}
+use Rattle.ice_types.specs.Object.{required}
 use Rattle.ice_types.specs.declared.declarations.Shape.{Shape}
 use Rattle.ice_types.specs.Tables.{Tables}
 use Rattle.ice_prims.specs.declared.fault.Fault.{Fault}
@@ -33,6 +35,10 @@ Stops t again shape call NoOperation = ⊥
 Stops t again shape call BadMode = ModeFits again call.mode → ⊥
 Stops t again shape call (BadArguments fault) = ModeFits again call.mode × (arguments_in t shape call ≡ Err fault)
 Stops t again shape call TooLong = ⊥
+
+-- one argument of this type, which is an id
+abbrev pub only_id : TypeRef → Shape
+only_id kind = record { required = required (codes "id") kind ∷ []; optional = [] }
 
 -- the results with this content
 abbrev pub IsEnclosed : List ℕ → List ℕ → Type 0

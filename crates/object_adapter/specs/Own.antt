@@ -67,6 +67,10 @@ module _ (t : Tables) (interface : ℕ) where
   OwnGives Id g content = content ≡ text_bytes (id_in (slice_get t.interfaces interface))
   OwnGives Ids g content = (ids : List (List ℕ)) × AreIds ids × (content ≡ texts_bytes ids)
 
+  -- the results with what they hold
+  abbrev pub OwnGivesIn : Own → Graph → List ℕ → Type 0
+  OwnGivesIn own g results = (content : List ℕ) × OwnGives own g content × IsEnclosed content results
+
   -- it is refused: the results would be too long
   abbrev pub OwnOverflows : Own → Graph → Refusal → Type 0
   OwnOverflows own g refusal = (refusal ≡ TooLong) × ((content : List ℕ) × OwnGives own g content × (LONGEST < length (encapsulated_bytes content)))

@@ -10,7 +10,8 @@ ghost use Rattle.object_adapter.specs.Keys.{IsFound, IsGapFor};
 ghost use Rattle.object_adapter.specs.Replies.{CanReply};
 
 use crate::add_fault::AddFault;
-use crate::keys::{Found, Keys, MOST_OBJECTS};
+use crate::inserting::insert_at;
+use crate::keys::{Found, Keys};
 use crate::servant::Servant;
 use crate::telling::missed;
 use ice_messages::{Answer, Call};
@@ -68,21 +69,20 @@ impl Adapter {
         ensures adds { Adds self.old (identity, facet) servant result self.new }
         ensures err { OnErr result (self.new ≡ self.old) }
     {
-        let Err(at) = self.keys.search(&identity, facet.as_str()) else {
-            drop(servant);
-            return Err(AddFault::Twice);
-        };
-        if self.keys.len() == MOST_OBJECTS {
-            drop(servant);
-            return Err(AddFault::Full);
+        match self.keys.gap_for(&identity, facet.as_str()) {
+            Ok(at) => insert_both(
+                &mut self.keys,
+                &mut self.servants,
+                at,
+                (identity, facet),
+                servant,
+            ),
+            Err(fault) => {
+                drop((identity, facet));
+                drop(servant);
+                Err(fault)
+            }
         }
-        insert_both(
-            &mut self.keys,
-            &mut self.servants,
-            at,
-            (identity, facet),
-            servant,
-        )
     }
 
     /// What the objects answer to a call: the one that it names answers, and no other changes. A reply with the answer
@@ -120,12 +120,12 @@ impl Adapter {
 }
 
 /// Puts a key where it would stand, and its object at the same place. Out of memory leaves both as they were.
-fn insert_both(
+fn insert_both<S: Drop>(
     keys: &mut Keys,
-    servants: &mut Vec<Servant>,
+    servants: &mut Vec<S>,
     at: usize,
     key: (Identity, Name),
-    servant: Servant,
+    servant: S,
 ) -> Result<(), AddFault>
     requires room { length keys.old < MOST_OBJECTS }
     requires gap { IsGapFor keys.old key at }
@@ -136,7 +136,8 @@ fn insert_both(
     ensures err_keys { OnErr result (keys.new ≡ keys.old) }
     ensures err_servants { OnErr result (servants.new.items ≡ servants.old.items) }
 {
-    if servants.insert(at, servant).is_err() {
+    if insert_at(servants, at, servant).is_err() {
+        drop(key);
         return Err(AddFault::Memory);
     }
     if keys.insert(at, key).is_err() {

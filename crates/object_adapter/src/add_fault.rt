@@ -6,7 +6,7 @@ ghost use Rattle.object_adapter.specs.declared.add_fault.AddFault.TheVariants as
 use std::alloc::AllocError;
 
 /// Why an object or a place is not added.
-#[derive(Clone, Copy, Debug, PartialEq, Eq)]
+#[derive(Clone, Copy)]
 pub enum AddFault {
     /// One has its key already.
     Twice,

@@ -1,18 +1,18 @@
 //! What is tried of a call before an object acts.
 
-ghost use Rattle.std.specs.Prelude.{◌↔◌, IsTrue, IfOk};
+ghost use Rattle.std.specs.Prelude.{◌≡◌, ◌↔◌, IsTrue, IfOk};
 ghost use Rattle.ice_graphs.specs.Typed.{OfType};
 ghost use Rattle.ice_values.specs.Shapes.{told_apart};
 ghost use Rattle.object_adapter.specs.Refusals.{Outcome};
-ghost use Rattle.object_adapter.specs.Admitting.{Comes, ModeFits, Stops};
+ghost use Rattle.object_adapter.specs.Admitting.{Comes, ModeFits, Stops, only_id};
 
 use crate::refusal::{Refusal, Unanswered};
 use class_slices::decode;
 use graph_arena::Graph;
 use ice_messages::Call;
-use ice_types::{Schema, Shape};
+use ice_types::{List, Member, Name, Schema, Shape, TypeRef};
 use ice_values::DeclaredMembers;
-use std::alloc::Global;
+use std::alloc::{AllocError, Global};
 
 /// The arguments of a call of an operation that takes these, and that may be called again or not; or that
 /// the mode is none for it, or else the first fault of the arguments. (Ice manual, "Request Message".)
@@ -35,6 +35,23 @@ pub(crate) fn admit(
         optional: shape.optional.as_slice(),
     };
     Ok(decode(alloc, schema, fields, call.body.as_slice())?)
+}
+
+/// One argument of this type, which is an id.
+pub(crate) fn only_id(alloc: Global, kind: TypeRef) -> Result<Shape, AllocError>
+    ensures { IfOk result (λ shape. shape ≡ only_id kind) }
+{
+    let name = Name::of(alloc, "id")?;
+    let mut required = List::new(alloc);
+    required.push(Member {
+        name,
+        kind,
+        tag: None,
+    })?;
+    Ok(Shape {
+        required,
+        optional: List::new(alloc),
+    })
 }
 
 /// Whether an operation that may be called again, or not, takes this mode.

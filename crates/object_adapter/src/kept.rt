@@ -47,22 +47,30 @@ impl Kept {
         ensures err { OnErr result (self.new ≡ self.old) }
     {
         match deed {
-            Deed::Add => Ok(self.add(alloc, &arguments)?),
-            Deed::Total => Ok(number_results(alloc, self.number)?),
+            Deed::Add => Ok(self.add(alloc, arguments)?),
+            Deed::Total => {
+                drop(arguments);
+                Ok(number_results(alloc, self.number)?)
+            }
             Deed::Put => Ok(self.put(alloc, schema, shape, arguments)?),
-            Deed::Get => given(alloc, &self.value),
+            Deed::Get => {
+                drop(arguments);
+                given(alloc, &self.value)
+            }
         }
     }
 
     /// Adds the argument to the number, and gives it.
-    fn add(&mut self, alloc: Global, arguments: &Graph) -> Result<Results, AllocError>
+    fn add(&mut self, alloc: Global, arguments: Graph) -> Result<Results, AllocError>
         ensures ok { IfOk result (λ results.
-            results ≡ number_results (plus self.old (sole_number arguments.now.roots.required))) }
+            results ≡ number_results (plus self.old (sole_number arguments.roots.required))) }
         ensures added { OnOk result
-            (self.new ≡ record self.old { number = plus self.old (sole_number arguments.now.roots.required) }) }
+            (self.new ≡ record self.old { number = plus self.old (sole_number arguments.roots.required) }) }
         ensures err { OnErr result (self.new ≡ self.old) }
     {
-        let number = self.number.wrapping_add(sole_number(arguments));
+        let more = sole_number(&arguments);
+        drop(arguments);
+        let number = self.number.wrapping_add(more);
         let results = number_results(alloc, number)?;
         self.number = number;
         Ok(results)

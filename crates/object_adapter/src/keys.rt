@@ -1,11 +1,14 @@
 //! The keys of a server's objects, in order.
 
-ghost use Rattle.std.specs.Prelude.{◌≡◌, ◌≤◌, ◌<◌, ◌↔◌, [], IsTrue, OnOk, OnErr, length};
+ghost use Rattle.std.specs.Prelude.{◌≡◌, ◌≤◌, ◌<◌, ◌↔◌, [], IfErr, IfOk, IsTrue, OnOk, OnErr, length};
 ghost use Rattle.std.specs.List.{insert};
 ghost use Rattle.ice_encoding.specs.Proxies.{identity_cmp};
+ghost use Rattle.object_adapter.specs.Adapters.{Declines};
 ghost use Rattle.object_adapter.specs.Rising.{IsSearched};
 ghost use Rattle.object_adapter.specs.Keys.{AreKeys, HasIdentity, IsFound, IsGapFor, KeysRise, itself, key_cmp};
 
+use crate::add_fault::AddFault;
+use crate::inserting::insert_at;
 use ice_types::{Identity, Name};
 use std::alloc::{AllocError, Global};
 use std::cmp::Ordering;
@@ -15,7 +18,7 @@ use std::marker::Model;
 pub const MOST_OBJECTS: u32 = 1_000;
 
 /// Which object a call names.
-#[derive(Clone, Copy, PartialEq, Eq)]
+#[derive(Clone, Copy)]
 pub enum Found {
     /// The one at this place.
     At(u32),
@@ -83,10 +86,25 @@ impl Keys {
     }
 
     /// Where the key stands, or would stand.
-    pub(crate) fn search(&self, identity: &Identity, facet: &str) -> Result<usize, usize>
+    fn search(&self, identity: &Identity, facet: &str) -> Result<usize, usize>
         ensures { IsSearched key_cmp itself self.now (identity.now, facet.now) result }
     {
         place_of(self.keys.as_slice(), identity, facet)
+    }
+
+    /// Where an object of this identity and facet would stand, or why none may be added.
+    pub(crate) fn gap_for(&self, identity: &Identity, facet: &str) -> Result<usize, AddFault>
+        ensures ok { IfOk result (λ at.
+            IsGapFor self.now (identity.now, facet.now) at × (length self.now < MOST_OBJECTS)) }
+        ensures err { IfErr result (Declines self.now (identity.now, facet.now)) }
+    {
+        let Err(at) = self.search(identity, facet) else {
+            return Err(AddFault::Twice);
+        };
+        if self.len() == MOST_OBJECTS {
+            return Err(AddFault::Full);
+        }
+        Ok(at)
     }
 
     /// Whether a key has this identity.
@@ -103,10 +121,7 @@ impl Keys {
         ensures ok { OnOk result (self.new ≡ insert self.old at key) }
         ensures err { OnErr result (self.new ≡ self.old) }
     {
-        if self.keys.insert(at, key).is_err() {
-            return Err(AllocError);
-        }
-        Ok(())
+        insert_at(&mut self.keys, at, key)
     }
 }
 

@@ -9,6 +9,7 @@ mod echo;
 mod enclosing;
 mod first_value;
 mod ids;
+mod inserting;
 mod kept;
 mod keys;
 mod laws;

@@ -10,7 +10,7 @@ use crate::refusal::{Refusal, Unanswered};
 use crate::seeking::{Sought, not_found_answer, proxy_answer, sought_of, sought_shape};
 use graph_arena::Graph;
 use ice_messages::{Answer, Call};
-use ice_types::{Proxy, Schema};
+use ice_types::{Proxy, Schema, Shape};
 use locator_types::locator_schema;
 use std::alloc::{AllocError, Global};
 
@@ -30,7 +30,8 @@ impl Locator {
     ghost use Rattle.ice_values.specs.Shapes.{told_apart};
     ghost use Rattle.object_adapter.specs.Refusals.{Outcome};
     ghost use Rattle.object_adapter.specs.Replies.{IsReply};
-    ghost use Rattle.object_adapter.specs.Locators.{Acts, Gives, IsSought, Overflows, Refuses, sought_shape};
+    ghost use Rattle.object_adapter.specs.Locators.{Acts, Gives, IsNamed, IsSought, Overflows, Refuses};
+    ghost use Rattle.object_adapter.specs.Locators.{sought_shape};
 
     /// A locator that knows these places.
     pub fn new(alloc: Global, places: Places) -> Result<Locator, AllocError>
@@ -51,7 +52,23 @@ impl Locator {
             return Err(Unanswered::Refused(Refusal::NoOperation));
         };
         let shape = sought_shape(alloc, sought)?;
-        let arguments = admit(alloc, &self.schema, true, &shape, call)?;
+        self.find(alloc, sought, &shape, call)
+    }
+
+    /// What a locator gives at a call that seeks this, or why the call is refused.
+    fn find(
+        &self,
+        alloc: Global,
+        sought: Sought,
+        shape: &Shape,
+        call: &Call,
+    ) -> Result<Answer, Unanswered>
+        requires named { IsNamed call.now.operation sought }
+        requires shape { shape.now ≡ sought_shape sought }
+        ensures acts { Outcome (Acts self.now.places call.now) (Refuses self.now.places call.now) result }
+        ensures writable { IfOk result IsReply }
+    {
+        let arguments = admit(alloc, &self.schema, true, shape, call)?;
         self.give(alloc, sought, &arguments)
     }
 

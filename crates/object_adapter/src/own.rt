@@ -7,10 +7,10 @@ ghost use Rattle.ice_graphs.specs.Typed.{OfType};
 ghost use Rattle.ice_values.specs.Shapes.{told_apart};
 ghost use Rattle.object_adapter.specs.declared.refusal.Refusal.TheVariants as refusals;
 ghost use Rattle.object_adapter.specs.Refusals.{Outcome};
-ghost use Rattle.object_adapter.specs.Own.{HasObjectId, IsNamed, OwnActs, OwnGives, OwnOverflows, OwnRefuses, id_in};
-ghost use Rattle.object_adapter.specs.Own.{own_shape};
+ghost use Rattle.object_adapter.specs.Own.{HasObjectId, IsNamed, OwnActs, OwnGives, OwnGivesIn, OwnOverflows};
+ghost use Rattle.object_adapter.specs.Own.{OwnRefuses, id_in, own_shape};
 
-use crate::admitting::admit;
+use crate::admitting::{admit, only_id};
 use crate::arguments::sole_text;
 use crate::enclosing::enclose;
 use crate::ids::ids_content;
@@ -19,7 +19,7 @@ use crate::results::Results;
 use graph_arena::Graph;
 use ice_messages::Call;
 use ice_prims::{put_bool, put_str};
-use ice_types::{List, Member, Name, Schema, Shape, TypeRef};
+use ice_types::{List, Schema, Shape, TypeRef};
 use std::alloc::{AllocError, Global};
 
 /// An operation that every object has.
@@ -60,8 +60,39 @@ pub(crate) fn act_own(
         (OwnRefuses schema.now interface own call.now) result }
 {
     let shape = own_shape(alloc, own)?;
-    let arguments = admit(alloc, schema, true, &shape, call)?;
-    let content = own_content(alloc, schema, interface, own, &arguments)?;
+    act_by(alloc, schema, interface, own, &shape, call)
+}
+
+/// The same, with the arguments that it takes.
+fn act_by(
+    alloc: Global,
+    schema: &Schema,
+    interface: u32,
+    own: Own,
+    shape: &Shape,
+    call: &Call,
+) -> Result<Results, Unanswered>
+    requires { shape.now ≡ own_shape own }
+    ensures { Outcome (OwnActs schema.now interface own call.now)
+        (OwnRefuses schema.now interface own call.now) result }
+{
+    let arguments = admit(alloc, schema, true, shape, call)?;
+    give(alloc, schema, interface, own, &arguments)
+}
+
+/// The results with these arguments.
+fn give(
+    alloc: Global,
+    schema: &Schema,
+    interface: u32,
+    own: Own,
+    arguments: &Graph,
+) -> Result<Results, Unanswered>
+    requires { OfType schema.now (told_apart (own_shape own)) arguments.now }
+    ensures { Outcome (OwnGivesIn schema.now interface own arguments.now)
+        (OwnOverflows schema.now interface own arguments.now) result }
+{
+    let content = own_content(alloc, schema, interface, own, arguments)?;
     enclose(alloc, content.as_slice())
 }
 
@@ -69,16 +100,11 @@ pub(crate) fn act_own(
 fn own_shape(alloc: Global, own: Own) -> Result<Shape, AllocError>
     ensures { IfOk result (λ shape. shape ≡ own_shape own) }
 {
-    let mut required = List::new(alloc);
     if own == Own::IsA {
-        required.push(Member {
-            name: Name::of(alloc, "id")?,
-            kind: TypeRef::Text,
-            tag: None,
-        })?;
+        return only_id(alloc, TypeRef::Text);
     }
     Ok(Shape {
-        required,
+        required: List::new(alloc),
         optional: List::new(alloc),
     })
 }

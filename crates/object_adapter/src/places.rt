@@ -11,6 +11,7 @@ ghost use Rattle.object_adapter.specs.Rising.{IsSearched, Rises};
 ghost use Rattle.object_adapter.specs.Places.{AddsPlace, ArePlacesBy, IsAt, by_id, by_identity, no_places};
 
 use crate::add_fault::AddFault;
+use crate::inserting::insert_at;
 use crate::keys::identity_order;
 use ice_types::{Identity, Name, Proxy};
 use std::alloc::Global;
@@ -112,12 +113,14 @@ fn add_place<K: Drop>(
     ensures err { OnErr result (places.new.items ≡ places.old.items) }
 {
     let Err(at) = searched else {
+        drop(proxy);
         return Err(AddFault::Twice);
     };
     if places.len() == MOST_PLACES {
+        drop(proxy);
         return Err(AddFault::Full);
     }
-    if places.insert(at, (key, proxy)).is_err() {
+    if insert_at(places, at, (key, proxy)).is_err() {
         return Err(AddFault::Memory);
     }
     Ok(())

@@ -14,18 +14,19 @@ ghost use Rattle.object_adapter.specs.Refusals.{Outcome};
 ghost use Rattle.object_adapter.specs.Locators as spec;
 ghost use Rattle.object_adapter.specs.Locators.{GivesNotFound, GivesProxy, IsNamed, not_found_bytes};
 
+use crate::admitting::only_id;
 use crate::enclosing::enclose;
 use crate::refusal::{LONGEST, Refusal, Unanswered};
 use crate::results::Results;
 use class_slices::{Format, UserException, UserExceptionFault, write_exception};
 use graph_arena::{Graph, Members, Slice};
 use ice_messages::Answer;
-use ice_types::{List, Member, Name, Proxy, Schema, Shape, TypeRef};
+use ice_types::{List, Proxy, Schema, Shape, TypeRef};
 use proxy_bytes::write_proxy;
 use std::alloc::{AllocError, Global};
 
 /// What an operation of a locator seeks.
-#[derive(Clone, Copy, PartialEq, Eq)]
+#[derive(Clone, Copy)]
 pub enum Sought {
     /// An object, by its identity.
     Object,
@@ -48,16 +49,7 @@ pub(crate) fn sought_of(name: &str) -> Option<Sought>
 pub(crate) fn sought_shape(alloc: Global, sought: Sought) -> Result<Shape, AllocError>
     ensures { IfOk result (λ shape. shape ≡ spec.sought_shape sought) }
 {
-    let mut required = List::new(alloc);
-    required.push(Member {
-        name: Name::of(alloc, "id")?,
-        kind: id_type(sought),
-        tag: None,
-    })?;
-    Ok(Shape {
-        required,
-        optional: List::new(alloc),
-    })
+    only_id(alloc, id_type(sought))
 }
 
 /// The type of the id: `::Ice::Identity`, or a string.

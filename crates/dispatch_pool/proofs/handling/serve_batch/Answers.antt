@@ -15,10 +15,10 @@ loop-call-init g c = record {
   did = batch_begun c.args.service.now.lanes.now.keys c.args.passes.now.passes.items c.args.calls.now;
 }
 
-pub returns-in_err-dispatch-clause-did : goal.returns-in_err-dispatch-clause-did
-returns-in_err-dispatch-clause-did g c =
+pub returns-in_err-answer-clause-did : goal.returns-in_err-answer-clause-did
+returns-in_err-answer-clause-did g c =
     let failed = err_from_is_err_and c.from_residual.result c.from_residual.ensures.1 in
-    rw failed.1 (batch_starved c.args.service.now.lanes.now.keys AllocError _ c.args.passes.now.passes.items c.loop-call.passes.passes.items c.dispatch.new.passes.passes.items c.args.calls.now (drop c.loop-call.call-index c.args.calls.now) c.loop-call.invariant.did c.in_err-dispatch.ensures.err)
+    rw failed.1 (batch_starved c.args.service.now.lanes.now.keys AllocError _ c.args.passes.now.passes.items c.loop-call.passes.passes.items c.dispatch.new.passes.passes.items c.args.calls.now (drop c.loop-call.call-index c.args.calls.now) c.loop-call.invariant.did c.in_err-answer.ensures.err)
 
 pub loop-call-preserved : goal.loop-call-preserved
 loop-call-preserved g c =
@@ -28,6 +28,6 @@ loop-call-preserved g c =
       of = c.dispatch.ensures.of;
       state = batch_stepped call (drop (at + 1) calls) c.step-in-loop-call.result c.step-in-loop-call.new.self
           (subst (λ (s : ServerState). server_row s events.Answered ≡ Some (c.step-in-loop-call.result, c.step-in-loop-call.new.self)) (i.state ∙ ap batch_state cut) c.step-in-loop-call.ensures);
-      did = batch_more c.args.service.now.lanes.now.keys c.args.passes.now.passes.items c.loop-call.passes.passes.items c.dispatch.new.passes.passes.items calls (drop at calls) (drop (at + 1) calls) call c.in_ok-dispatch.field-0 cut i.did
-          (called c.args.service.now.lanes.now c.loop-call.passes c.dispatch.new.passes call c.in_ok-dispatch.field-0 c.in_ok-dispatch.ensures.ok);
+      did = batch_more c.args.service.now.lanes.now.keys c.args.passes.now.passes.items c.loop-call.passes.passes.items c.dispatch.new.passes.passes.items calls (drop at calls) (drop (at + 1) calls) call c.in_ok-answer.answer cut i.did
+          (called c.args.service.now.lanes.now c.loop-call.passes c.dispatch.new.passes call c.in_ok-answer.answer c.in_ok-answer.ensures.ok);
     }

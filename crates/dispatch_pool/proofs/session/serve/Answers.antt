@@ -99,8 +99,8 @@ returns-then-branch-clause-did g c =
     let x = enough c.args.service.now.lanes.now.keys c.args.messages c.args.passes.now.passes.items c.loop-taken.passes.passes.items i.did.0 d.0 c.loop-taken.frames.bytes p AllocError said in
     (and_then i.did.0 d.0, x.0, adds_then (g.L.Link.talk c.args.link.now) (g.L.Link.talk c.loop-taken.link) _ i.did.0 d.0 i.did.1 d.1, x.1, x.2)
 
-pub returns-clause-did : goal.returns-clause-did
-returns-clause-did g c =
+pub returns-else-branch-clause-did : goal.returns-else-branch-clause-did
+returns-else-branch-clause-did g c =
     let i = c.loop-taken.invariant in let d = c.in_ok-say-2.ensures.did in
     let all : c.loop-taken.taken ≡ c.args.messages = (let a = c.loop-taken-test.false in let b = c.loop-taken.auto.taken-end in omega arith) in
     let p = subst (λ (n : ℕ). Part c.args.service.now.lanes.now.keys c.args.passes.now.passes.items c.loop-taken.passes.passes.items i.did.0 c.loop-taken.frames.bytes n) all i.did.2 in

@@ -18,20 +18,20 @@ returns-in_err-message-clause-did g c =
     let e = c.in_err-message.field-0.0 in let d = c.in_err-message.ensures.heard in
     rw failed.1 (heard_part {E = AllocError} d.0 (Err e), d.1, next_starved c.args.service.now.lanes.now.keys _ c.args.passes.now.passes.items (heard_part {E = AllocError} d.0 (Err e)) _ _ refl (refl, refl))
 
-pub serve_message-requires-clause-spelled : goal.serve_message-requires-clause-spelled
-serve_message-requires-clause-spelled g c = λ κs lives.
+pub serve_message-next-requires-clause-spelled : goal.serve_message-next-requires-clause-spelled
+serve_message-next-requires-clause-spelled g c = λ κs lives.
     let d = c.in_ok-message.ensures.heard in
     let h = subst (λ (z : Heard). Hears {E = AllocError} (c.args.frames.now.bytes ++ d.0) c.hear.new.frames (Ok z)) c.in-Message.is d.2 in
     (h.0, h.2)
 
 pub returns-in-Message-clause-did : goal.returns-in-Message-clause-did
 returns-in-Message-clause-did g c =
-    let d = c.in_ok-message.ensures.heard in let s = c.serve_message.ensures.did in
+    let d = c.in_ok-message.ensures.heard in let s = c.serve_message-next.ensures.did in
     let h = subst (λ (z : Heard). Hears {E = AllocError} (c.args.frames.now.bytes ++ d.0) c.hear.new.frames (Ok z)) c.in-Message.is d.2 in
     let one = subst (λ (z : Heard). g.L.Link.talk c.hear.new.link ≡ adds (g.L.Link.talk c.args.link.now) (heard_part {E = AllocError} d.0 (Ok z))) c.in-Message.is d.1 in (
       and_then (gives d.0) s.0,
-      adds_then (g.L.Link.talk c.args.link.now) (g.L.Link.talk c.hear.new.link) (g.L.Link.talk c.serve_message.new.link) (gives d.0) s.0 one s.1,
-      next_behind c.args.service.now.lanes.now.keys c.args.passes.now.passes.items c.serve_message.new.passes.passes.items c.serve_message.result c.args.frames.now.bytes d.0 c.hear.new.frames.bytes s.0 s.2
+      adds_then (g.L.Link.talk c.args.link.now) (g.L.Link.talk c.hear.new.link) (g.L.Link.talk c.serve_message-next.new.link) (gives d.0) s.0 one s.1,
+      next_behind c.args.service.now.lanes.now.keys c.args.passes.now.passes.items c.serve_message-next.new.passes.passes.items c.serve_message-next.result c.args.frames.now.bytes d.0 c.hear.new.frames.bytes s.0 s.2
           (s.3 (c.args.frames.now.bytes ++ d.0) c.hear.new.frames.bytes h.0 h.1 h.2),
     )
 
@@ -39,7 +39,7 @@ pub returns-in-Message-clause-going : goal.returns-in-Message-clause-going
 returns-in-Message-clause-going g c =
     let d = c.in_ok-message.ensures.heard in
     let h = subst (λ (z : Heard). Hears {E = AllocError} (c.args.frames.now.bytes ++ d.0) c.hear.new.frames (Ok z)) c.in-Message.is d.2 in
-    ok_either c.serve_message.result _ (λ end none. h.3)
+    ok_either c.serve_message-next.result _ (λ end none. h.3)
 
 pub returns-in-Broken-clause-did : goal.returns-in-Broken-clause-did
 returns-in-Broken-clause-did g c =

@@ -27,7 +27,7 @@ returns-clause-adds g c cmp total is =
       room,
       c.in-Err.at,
       gap,
-      c.insert.ensures.items ∙ ap (λ (b : Bool). if b then insert items c.in-Err.at (c.args.key, c.args.proxy) else items) put,
+      c.insert_at.ensures ∙ ap (λ (b : Bool). if b then insert items c.in-Err.at (c.args.key, c.args.proxy) else items) put,
     )
 
 pub returns-clause-kept : goal.returns-clause-kept
@@ -35,4 +35,4 @@ returns-clause-kept g c cmp total is sized are =
     let items = c.args.places.now.items in
     let gap : IsGap cmp (λ p. p.0) items c.args.key c.in-Err.at = subst (λ (r : Result ℕ ℕ). IsSearched cmp (λ p. p.0) items c.args.key r) c.in-Err.is is in
     let room : length items < 1000 = omega (arith, c.args.places.now.ok, c.len.ensures, c.requires.room, c.if-len-eq-MOST_PLACES.false) in
-    kept_places cmp total items c.insert.new.self.items c.in-Err.at (c.args.key, c.args.proxy) (is_ok c.insert.result) c.insert.ensures.items are gap room sized
+    kept_places cmp total items c.insert_at.new.items.items c.in-Err.at (c.args.key, c.args.proxy) (is_ok c.insert_at.result) c.insert_at.ensures are gap room sized

@@ -1,18 +1,6 @@
-use Rattle.std.proofs.Common.{List, ℕ, true, subst}
-use Rattle.ice_types.specs.declared.declarations.Shape.{Shape}
-use Rattle.ice_types.specs.Tables.{Tables}
-use Rattle.object_adapter.specs.Admitting.{Comes}
-use Rattle.object_adapter.specs.Locators.{IsNamed, sought_shape}
-use Rattle.object_adapter.proofs.Looked.{acted}
+use Rattle.std.proofs.Common.{List, ℕ, subst}
+use Rattle.object_adapter.specs.Locators.{IsNamed}
 use Rattle.object_adapter.proofs.locator.Locator.act.Goals as goal
 
-pub returns-clause-acts : goal.returns-clause-acts
-returns-clause-acts c =
-    let self = c.args.self.now in
-    let call = c.args.call.now in
-    let sought = c.in-Some.sought in
-    let g = c.in_ok-arguments.arguments in
-    acted self.places call sought g c.give.result (subst (λ (name : List ℕ). IsNamed name sought) c.as_str.ensures c.in-Some.ensures)
-    (subst (λ (t : Tables). Comes t true (sought_shape sought) call g) self.declared
-    (subst (λ (s : Shape). Comes self.schema true s call g) c.in_ok-shape.ensures c.in_ok-arguments.ensures.admits))
-    c.give.ensures.gives
+pub find-requires-clause-named : goal.find-requires-clause-named
+find-requires-clause-named c = subst (λ (name : List ℕ). IsNamed name c.in-Some.sought) c.as_str.ensures c.in-Some.ensures
