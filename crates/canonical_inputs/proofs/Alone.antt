@@ -20,7 +20,7 @@ use Rattle.ice_graphs.specs.Instances.{most_instances, SpellsNumbered}
 use Rattle.ice_graphs.specs.Members.{written_content}
 use Rattle.ice_graphs.specs.Names.{names_of}
 use Rattle.ice_graphs.specs.Same.{form}
-use Rattle.ice_graphs.specs.Typed.{IsHeldIn, RefersIn, OfType}
+use Rattle.ice_graphs.specs.Typed.{IsHeldIn, RefersIn}
 use Rattle.ice_graphs.specs.Visiting.{order, visit_each, visit_at, most, place}
 use Rattle.ice_graphs.specs.Canonical.{Pen, sliced, put_inline, written_instance, blank, canonical_graph, graph_bytes}
 use Rattle.graph_laws.proofs.Canonicity.{same_bytes}
@@ -28,7 +28,8 @@ use Rattle.graph_laws.proofs.Schemas.{canonical_spelled}
 use Rattle.canonical_values.specs.Standing.{only_null, IsCanonical}
 use Rattle.canonical_inputs.specs.Inputs.{IsOwnForm, one_member}
 use Rattle.ice_encoding.proofs.Wider.{typed_wider}
-use Rattle.canonical_inputs.proofs.Plain.{NullAlone, value_plain}
+use Rattle.canonical_graphs.specs.Written.{IsWritten}
+use Rattle.canonical_graphs.proofs.Plain.{NullAlone, value_plain}
 
 -- the graph of a value without instances
 abbrev pub alone : Tree → Graph
@@ -65,39 +66,22 @@ written_alone t name kind v typed =
     let p = value_plain (inline t g) (null_inline t g) (place (order (alone v))) t only_null null_alone 100 kind v typed in
     ap (λ (w : Tree). (written_content (inline t g) t (one_member name kind) (with_optional (tree w none) []) blank).0) p.same ∙ content_of t name kind (inline t g) v blank (p.bytes blank)
 
--- The bytes are those that are written for some graph of the type. No way of reading is spoken of.
-record AreWritten (t : Tables) (shape : Shape) (bytes : List ℕ) : Type 0 where
-  graph : Graph
-  typed : OfType t shape graph
-  few : length (order graph) ≤ most_instances
-  short : length bytes ≤ LARGEST
-  are : bytes ≡ graph_bytes t shape sliced graph
-
-value_written : (t : Tables) (name : List ℕ) (kind : TypeRef) (content : List ℕ) → IsCanonical t kind content → length (encapsulated_bytes content) ≤ LARGEST → AreWritten t (one_member name kind) (encapsulated_bytes content)
+-- a value without instances is written for the graph whose only member it is
+pub value_written : (t : Tables) (name : List ℕ) (kind : TypeRef) (content : List ℕ) → IsCanonical t kind content → IsWritten t (one_member name kind) content
 unfolding IsCanonical
-value_written t name kind content (v, typed, is) short =
+value_written t name kind content (v, typed, is) =
     let p = value_plain (inline t (alone v)) (null_inline t (alone v)) (λ n. n) t only_null null_alone 100 kind v typed in
     let free : names_of (alone v).roots ≡ [] = append-nil _ ∙ append-nil _ ∙ p.free in
     record {
       graph = alone v;
       typed = record { roots = record { required = (v, none, refl, typed_wider t only_null (RefersIn t []) (omega arith) (may_refer t) 100 kind v typed, refl); optional = tt }; instances = λ n lt. absurd (omega (arith, lt)) };
       few = few_listed (order (alone v)) (no_order v free);
-      short = short;
-      are = ap encapsulated_bytes (is ∙ sym (written_alone t name kind v typed));
+      are = is ∙ sym (written_alone t name kind v typed);
     }
 
 -- what is written for some graph is read as a graph whose canonical bytes they are
-stays : (t : Tables) (shape : Shape) (bytes : List ℕ) → IsSchema t → AreWritten t shape bytes → IsOwnForm t shape bytes
-stays t shape bytes rules w =
-    let read = canonical_spelled t shape sliced w.graph rules w.typed (λ n lt. tt) w.few (subst (λ (l : List ℕ). length l ≤ LARGEST) w.are w.short) in (
-      read.0,
-      subst (λ (l : List ℕ). SpellsNumbered t all_slices shape l read.0) (sym w.are) read.1,
-      w.are ∙ sym (same_bytes t shape sliced read.0 w.graph read.2),
-      w.short,
-    )
-
-pub canonical_stays : (t : Tables) (name : List ℕ) (kind : TypeRef) (input content : List ℕ) → IsSchema t → input ≡ encapsulated_bytes content → length input ≤ LARGEST → IsCanonical t kind content
-    → IsOwnForm t (one_member name kind) input
-canonical_stays t name kind input content rules is short canonical =
-    subst (λ (l : List ℕ). IsOwnForm t (one_member name kind) l) (sym is)
-    (stays t (one_member name kind) (encapsulated_bytes content) rules (value_written t name kind content canonical (subst (λ (l : List ℕ). length l ≤ LARGEST) is short)))
+pub written_stays : (t : Tables) (shape : Shape) (input content : List ℕ) → IsSchema t → input ≡ encapsulated_bytes content → length input ≤ LARGEST → IsWritten t shape content → IsOwnForm t shape input
+written_stays t shape input content rules is short w =
+    let are : input ≡ graph_bytes t shape sliced w.graph = is ∙ ap encapsulated_bytes w.are in
+    let read = canonical_spelled t shape sliced w.graph rules w.typed (λ n lt. tt) w.few (subst (λ (l : List ℕ). length l ≤ LARGEST) are short) in
+    (read.0, subst (λ (l : List ℕ). SpellsNumbered t all_slices shape l read.0) (sym are) read.1, are ∙ sym (same_bytes t shape sliced read.0 w.graph read.2), short)

@@ -6,21 +6,24 @@
 //! - Of what is written for some graph it is a law that it is read as that graph but for names, and that the same
 //!   graphs have the same bytes. So no code here reads, and no contract of `canonical_values` speaks of reading.
 //! - A value without instances is the graph whose only member it is; its bytes are those of the value by itself.
+//! - A reference to an instance is passed over with all instances that begin in it, by `canonical_graphs`.
 //! - The member may have any name: bytes tell none.
 #![tactic(auto)]
 
 ghost use Rattle.std.specs.Prelude.{◌≡◌, ◌≤◌, ℕ, List, IsTrue, IfSome, length};
 ghost use Rattle.ice_encoding.specs.Opening.{encapsulated_bytes};
+ghost use Rattle.canonical_graphs.specs.Written.{IsWritten};
 ghost use Rattle.canonical_inputs.specs.Inputs.{IsOwnForm, one_member};
 
+use canonical_graphs::is_canonical_instance;
 use canonical_values::is_canonical;
 use ice_encoding::{LARGEST, SMALLEST};
 use ice_prims::Cursor;
 use ice_types::{Schema, TypeRef};
 use std::alloc::Global;
 
-/// Whether the whole input is the canonical encapsulation, in sliced format, of a value of the type that leads to no
-/// instance. Where the answer is `false`, it may be so all the same.
+/// Whether the whole input is the canonical encapsulation, in sliced format, of a value of the type: one that leads to
+/// no instance, or a reference to one. Where the answer is `false`, it may be so all the same.
 /// (Ice manual, "Basic Data Encoding", "Encapsulations".)
 pub fn is_canonical_input(alloc: Global, schema: &Schema, kind: TypeRef, input: &[u8]) -> bool
     ensures { IsTrue result → (name : List ℕ) → IsOwnForm schema.now (one_member name kind) input.now }
@@ -28,8 +31,21 @@ pub fn is_canonical_input(alloc: Global, schema: &Schema, kind: TypeRef, input: 
     // Its contract says what every schema keeps.
     schema.rules();
     match content_of(input) {
-        Some(content) => is_canonical(alloc, schema, kind, content),
+        Some(content) => is_canonical_content(alloc, schema, kind, content),
         None => false,
+    }
+}
+
+/// Whether the content is the canonical one of a value of the type, and not told where that leads to an instance from
+/// within.
+fn is_canonical_content(alloc: Global, schema: &Schema, kind: TypeRef, content: &[u8]) -> bool
+    ensures { IsTrue result → (name : List ℕ) → IsWritten schema.now (one_member name kind) content.now }
+{
+    match kind {
+        TypeRef::Class(declared) if content.first() != Some(&0) => {
+            is_canonical_instance(alloc, schema, declared, content)
+        }
+        _ => is_canonical(alloc, schema, kind, content),
     }
 }
 

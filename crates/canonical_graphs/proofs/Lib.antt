@@ -1,0 +1,13 @@
+pub mod Tables
+pub mod Slices
+pub mod Visits
+pub mod Nested
+pub mod Plain
+pub mod Fronts
+pub mod Places
+pub mod Heads
+pub mod Sliced
+pub mod Found
+pub mod Looked
+pub mod Walked
+pub mod Assembled
