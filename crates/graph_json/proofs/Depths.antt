@@ -1,9 +1,9 @@
 -- How deep the notation of a graph nests: at most six levels around values, which nest at most as deep as their types.
-use Rattle.std.proofs.Common.{◌≡◌, ◌≤◌, ℕ, zero, suc, max, true, false, List, [], ◌∷◌, Option, None, Some, refl, arith}
+use Rattle.std.proofs.Common.{◌≡◌, ◌≤◌, ℕ, zero, suc, max, true, false, List, [], ◌∷◌, Option, None, Some, Ordering, Less, Equal, Greater, refl, arith}
 use Rattle.std.specs.Prelude.{slice_get, nat_eq, ◌&&◌}
 use Rattle.std.specs.List.{AllByRecursion}
 use Rattle.std.specs.Option.{is_none, is_some}
-use Rattle.std.specs.Ordering.{nat_cmp}
+use Rattle.std.specs.Ordering.{nat_cmp, match_ordering}
 use Rattle.std.specs.Cmp.Lexicographic.{slice_cmp}
 use Rattle.std.proofs.lemmas.Option.{none-some}
 use Rattle.std.proofs.lemmas.List.Elements.{All-nil, All-filter, recursion_from_All}
@@ -33,12 +33,18 @@ use Rattle.graph_json.specs.CanonicalValues.{Write, name_numbered, each_noted, p
 use Rattle.graph_json.specs.Contents.{member_tagged, put_member, options_noted, content_noted}
 use Rattle.graph_json.specs.Canonical.{list_noted, slice_noted, instance_noted, graph_noted, canonical_noted}
 use Rattle.graph_json.specs.Texts.{AreNotable}
-use Rattle.graph_json.proofs.Floats.{whichever}
 
 -- ---- parts of a value
 
 flat_deep : (n : ℕ) → 0 ≤ n
 flat_deep n = omega arith
+
+-- what holds of all three holds of the one that is taken
+whichever : (P : json.Members → Type 0) (o : Ordering) (a b c : json.Members) → P a → P b → P c
+    → P (match_ordering o a b c)
+whichever P Less a b c p q r = p
+whichever P Equal a b c p q r = q
+whichever P Greater a b c p q r = r
 
 put_deep : (n : ℕ) (name : List ℕ) (d : Data) (ms : json.Members) → depth d ≤ n → members_depth ms ≤ n → members_depth (put name d ms) ≤ n
 put_deep n name d no_members one all = omega arith

@@ -7,7 +7,6 @@ pub mod Noted
 pub mod Values
 pub mod Samples
 pub mod Walking
-pub mod Floats
 pub mod Depths
 pub mod Objects
 pub mod Sound
@@ -15,6 +14,7 @@ pub mod TextsApart
 pub mod Texts
 pub mod Shapes
 pub mod Names
+pub mod AtNumber
 pub mod Proxies
 pub mod NotedValues
 pub mod Canon
@@ -22,6 +22,8 @@ pub mod OfType
 pub mod WalkingValues
 pub mod Sizes
 pub mod WritingValues
+pub mod Printing
+pub mod RisingNames
 pub mod ContentNoted
 pub mod ContentWalking
 pub mod ContentCanon

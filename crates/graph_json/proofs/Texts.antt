@@ -1,12 +1,10 @@
 -- What comes of a text, step by step.
-use Rattle.std.proofs.Common.{◌≡◌, ◌≤◌, ◌↔◌, ℕ, List, length, Result, Some, None, Ok, Err, IfOk, IsTrue, Bool, true, false, sym, ap, ◌∙◌, subst, arith}
+use Rattle.std.proofs.Common.{◌≡◌, ◌≤◌, ◌↔◌, ℕ, List, length, Result, Some, None, Ok, Err, IfOk, IsTrue, Bool, true, false, sym, ◌∙◌, subst}
 use Rattle.std.specs.Prelude.{String, string_bytes}
 use Rattle.std.specs.declared.alloc.Global.{Global}
 use Rattle.std.specs.declared.alloc.AllocError.{AllocError}
 use Rattle.std.proofs.lemmas.Option.{none-some, same_Some}
-use Rattle.serde_json.specs.Data.{Data, depth}
-use Rattle.serde_json.specs.Read.{max_depth}
-use Rattle.serde_json.specs.Written.{has_float, compact_text}
+use Rattle.serde_json.specs.Data.{Data}
 use Rattle.ice_types.specs.declared.declarations.Shape.{Shape}
 use Rattle.ice_types.specs.Tables.{Tables}
 use Rattle.ice_types.specs.Rules.{IsSchema}
@@ -22,10 +20,9 @@ use Rattle.graph_json.specs.Notation.{NotesGraph}
 use Rattle.graph_json.specs.Reading.{listed_graph}
 use Rattle.graph_json.specs.Canonical.{canonical_noted, graph_noted}
 use Rattle.graph_json.specs.Listed.{CanBeNamed}
-use Rattle.graph_json.specs.Texts.{AreNotable, IsJson, IsRefused, Lists, ListsTooMany, NotesText, Parses, ReadsJson, graph_text}
+use Rattle.graph_json.specs.Texts.{AreNotable, IsJson, IsRefused, IsText, Lists, ListsTooMany, NotesText, Parses, ReadsJson, graph_text}
 use Rattle.graph_json.proofs.Noted.{read_found, read_only}
 use Rattle.graph_json.proofs.Depths.{graph_deep}
-use Rattle.graph_json.proofs.Floats.{graph_whole}
 use Rattle.graph_json.proofs.Sound.{listed_within, typed_sound}
 use Rattle.graph_json.proofs.TextsApart.{one_json}
 
@@ -80,15 +77,15 @@ parsed_misfit t shape text r rules h is = misfit_notes t shape text rules (subst
 
 -- ---- written
 
-module _ (t : Tables) (shape : Shape) (g k : Graph) (d : Data) (is : k ≡ form g) (noted : d ≡ graph_noted t shape k) where
-  noted_is : d ≡ canonical_noted t shape g
-  noted_is = noted ∙ ap (graph_noted t shape) is
+module _ (t : Tables) (shape : Shape) (g k : Graph) (is : k ≡ form g) where
+  text_here : (text : List ℕ) → IsText text (graph_noted t shape k) → IsText text (canonical_noted t shape g)
+  text_here text h = subst (λ (x : Graph). IsText text (graph_noted t shape x)) is h
 
-  pub text_is : (r : Result (String Global) AllocError) → IfOk r (λ s. has_float d ≡ false → string_bytes s ≡ compact_text d) → IfOk r (λ s. string_bytes s ≡ graph_text t shape g)
-  text_is (Ok s) h = h (ap has_float noted_is ∙ graph_whole t shape g) ∙ ap compact_text noted_is
+  pub text_is : (r : Result (String Global) AllocError) → IfOk r (λ s. IsText (string_bytes s) (graph_noted t shape k)) → IfOk r (λ s. string_bytes s ≡ graph_text t shape g)
+  text_is (Ok s) h = let here = text_here (string_bytes s) h in here.is
   text_is (Err e) h = tt
 
-  pub text_reads : (r : Result (String Global) AllocError) → IsSchema t → IfOk r (λ s. depth d ≤ max_depth → IsJson (string_bytes s) d)
+  pub text_reads : (r : Result (String Global) AllocError) → IsSchema t → IfOk r (λ s. IsText (string_bytes s) (graph_noted t shape k))
       → IfOk r (λ s. AreNotable t shape → IsJson (string_bytes s) (canonical_noted t shape g))
-  text_reads (Ok s) rules h = λ fit. subst (IsJson (string_bytes s)) noted_is (h (omega (arith, ap depth noted_is, graph_deep t shape g rules fit.0 fit.1)))
+  text_reads (Ok s) rules h = λ fit. let here = text_here (string_bytes s) h in (here.utf8, here.reads (graph_deep t shape g rules fit.0 fit.1))
   text_reads (Err e) rules h = tt

@@ -7,5 +7,6 @@ pub mod Texts
 pub mod ValueNotation
 pub mod ReadingValues
 pub mod CanonicalValues
+pub mod Printing
 pub mod Contents
 pub mod TypedValues

@@ -1,10 +1,10 @@
 -- Texts of graphs: the one that is written for a graph, and what comes of one that is read.
 use Rattle.std.specs.Prelude.{ℕ, ◌≡◌, ◌<◌, ◌≤◌, List, length, codes, Option, Some, Result, Ok, Err, option_and_then}
 use Rattle.std.specs.Str.{IsUtf8}
-use Rattle.serde_json.specs.Data.{Data, Items}
+use Rattle.serde_json.specs.Data.{Data, Items, depth}
 use Rattle.serde_json.specs.Find.{as_array, as_object, get_member}
 use Rattle.serde_json.specs.Events.{items_len}
-use Rattle.serde_json.specs.Read.{read}
+use Rattle.serde_json.specs.Read.{max_depth, read}
 use Rattle.serde_json.specs.View.{view}
 use Rattle.serde_json.specs.Written.{compact_text}
 use Rattle.serde_json.specs.declared.value.Value.{Value as Json}
@@ -35,6 +35,12 @@ kind_name kinds.Misfit = codes "Misfit"
 -- the text of a graph, without blanks
 abbrev pub graph_text : Tables → Shape → Graph → List ℕ
 graph_text t shape g = compact_text (canonical_noted t shape g)
+
+-- the text is that of the data, without blanks, and reads as it where it does not nest too deep
+pub record IsText (text : List ℕ) (d : Data) : Type 0 where
+  pub is : text ≡ compact_text d
+  pub utf8 : IsUtf8 text
+  pub reads : depth d ≤ max_depth → read text ≡ Some d
 
 -- each of the members is of a type of the tables, which nests at most a hundred deep
 abbrev pub AreNotable : Tables → Shape → Type 0

@@ -25,6 +25,9 @@
 //!   is written.
 //! - Why a text is refused is a sort of its own (`JsonKind`) beside want of memory, as `Kind` is beside
 //!   `ReadFault`: so an answer of the program cannot say that a text is refused for want of memory.
+//! - A text is written token by token, and no tree of JSON is made of a graph: what is written of the parts is said
+//!   as the tokens behind those that stand there, and that they read as the part (`Prints`). The members of one
+//!   object at a time stand in a map by their names, since an object is written in rising order of them.
 //! - `to_text` takes the graph, as `encode_typed` does: its instances are named anew without copying what they
 //!   hold. It asks nothing of the graph, since what is not of its type is noted as null.
 //! - `from_text` asks that the members have names and tags of their own (`HasOwnNames`): one value has, and the
@@ -37,20 +40,20 @@
 #![tactic(auto)]
 
 mod content_read;
-mod content_write;
 mod fault;
 mod laws;
 mod leaves;
 mod listing;
 mod read;
+mod rows;
 mod slices;
 mod text;
 mod value_laws;
 mod write;
+mod write_leaves;
 mod writing;
 
 pub use content_read::content_of;
-pub use content_write::content_json;
 pub use fault::{JsonFault, JsonKind};
 pub use laws::{
     canonical_read, dumped_graphs, graphs_noted, graphs_read, listed_apart, listed_found,
@@ -63,4 +66,3 @@ pub use value_laws::{
     content_apart, content_canonical, content_found, content_only, content_typed, noted_apart,
     noted_canonical, noted_found, noted_only, noted_typed,
 };
-pub use write::{json_of, name_json};

@@ -1,11 +1,8 @@
 //! Texts of graphs.
 
-ghost use Rattle.std.specs.Prelude.{◌≡◌, ◌≤◌, ◌↔◌, false, IsTrue, IfOk, IfSome, Err, map, option_map, string_bytes};
+ghost use Rattle.std.specs.Prelude.{◌≡◌, ◌↔◌, IsTrue, IfOk, IfSome, Err, map, option_map, string_bytes};
 ghost use Rattle.std.specs.Option.{is_some};
-ghost use Rattle.serde_json.specs.Data.{depth};
-ghost use Rattle.serde_json.specs.Read.{max_depth};
 ghost use Rattle.serde_json.specs.View.{view as json_view, items_view};
-ghost use Rattle.serde_json.specs.Written.{compact_text, has_float};
 ghost use Rattle.ice_graphs.specs.Graph.{Graph};
 ghost use Rattle.ice_graphs.specs.Names.{instance_names, names_of};
 ghost use Rattle.graph_arena.specs.Arena.{AreBelow};
@@ -13,19 +10,20 @@ ghost use Rattle.graph_arena.specs.Seen.{view_content, view_instance, view_slice
 ghost use Rattle.ice_values.specs.Shapes.{shape_seen};
 ghost use Rattle.graph_json.specs.Contents.{HasOwnNames};
 ghost use Rattle.graph_json.specs.Listed.{AreNamed, CanBeNamed, MembersOf, Names, view_listed};
-ghost use Rattle.graph_json.specs.Canonical.{canonical_noted};
+ghost use Rattle.graph_json.specs.Canonical.{canonical_noted, graph_noted};
 ghost use Rattle.graph_json.specs.Texts.{AreNotable, IsJson, ListsTooMany, NotesText, Parses, ReadsJson, graph_text};
-ghost use Rattle.graph_json.specs.Texts.{listed_in};
+ghost use Rattle.graph_json.specs.Texts.{IsText, listed_in};
 ghost use Rattle.graph_json.specs.declared.fault.JsonFault.TheVariants as faults;
 ghost use Rattle.graph_json.specs.declared.fault.JsonKind.TheVariants as kinds;
 
 use crate::fault::{JsonFault, JsonKind};
 use crate::listing::{Listed, listed_of};
 use crate::slices::named;
-use crate::writing::graph_json;
+use crate::writing::write_graph;
 use graph_arena::{Graph, Instance, Members, Slice, push_slices};
 use ice_types::{List, Schema};
 use ice_values::DeclaredMembers;
+use json::Writer;
 use serde_json::Value as Json;
 use std::alloc::{AllocError, Global};
 use value_checks::first_ill_typed;
@@ -52,21 +50,25 @@ pub fn to_text(
 {
     schema.rules();
     let graph = graph.renumbered()?;
-    let json = graph_json(alloc, schema, fields, &graph)?;
-    compact_text(alloc, &json)
+    printed(alloc, schema, fields, &graph)
 }
 
-/// The JSON without blanks.
-fn compact_text(alloc: Global, json: &Json) -> Result<String, AllocError>
-    ensures text { IfOk result (λ text. has_float (json_view json.now) ≡ false
-        → string_bytes text ≡ compact_text (json_view json.now)) }
-    ensures reads_back { IfOk result (λ text. depth (json_view json.now) ≤ max_depth
-        → IsJson (string_bytes text) (json_view json.now)) }
+/// The text of the graph, with its instances as they stand.
+fn printed(
+    alloc: Global,
+    schema: &Schema,
+    fields: DeclaredMembers<'_>,
+    graph: &Graph,
+) -> Result<String, AllocError>
+    ensures { IfOk result (λ text. IsText (string_bytes text)
+        (graph_noted schema.now (shape_seen fields.entry) graph.now)) }
 {
-    let text = json.to_string(alloc)?;
-    // It is UTF-8, as each text is.
-    let _ = text.as_str();
-    Ok(text)
+    let mut out = Writer::new(Vec::new(alloc));
+    write_graph(&mut out, alloc, schema, fields, graph)?;
+    match String::from_utf8(out.into_inner()) {
+        Ok(text) => Ok(text),
+        Err(_) => unreachable!(),
+    }
 }
 
 /// The graph that the text notes, with roots of these members; or why there is none.

@@ -1,315 +1,246 @@
-//! The canonical notation of a value.
+//! The canonical notation of a value, token by token.
 
-ghost use Rattle.std.specs.Prelude.{◌≡◌, IfOk, if◌then◌else◌, map, option_map, slice_get};
-ghost use Rattle.serde_json.specs.Data.{no_members, null, number, string, unsigned};
-ghost use Rattle.serde_json.specs.View.{view as json_view, items_view, members_view};
+ghost use Rattle.std.specs.Prelude.{OnOk, if◌then◌else◌, map};
+ghost use Rattle.serde_json.specs.Data.{object, number, unsigned, null};
+ghost use Rattle.serde_json.specs.View.{items_of};
 ghost use Rattle.ice_types.specs.declared.kind.TypeRef.TheVariants as kinds;
 ghost use Rattle.ice_encoding.specs.Tree.{dictionary, sequence, struct};
-ghost use Rattle.graph_arena.specs.View.{byte_trees, unboxed, view, view_all, view_pairs};
-ghost use Rattle.graph_json.specs.ValueNotation.{pair};
-ghost use Rattle.graph_json.specs.ValueNotation as notes;
-ghost use Rattle.graph_json.specs.CanonicalValues as spec;
-ghost use Rattle.graph_json.specs.CanonicalValues.{each_noted, members_noted, notation, notation_levels, notation_step};
-ghost use Rattle.graph_json.specs.CanonicalValues.{noted, pairs_noted};
+ghost use Rattle.graph_arena.specs.View.{byte_trees, view, view_all, view_pairs};
+ghost use Rattle.graph_json.specs.CanonicalValues.{each_noted, notation, notation_levels, notation_step, pairs_noted};
+ghost use Rattle.graph_json.specs.Printing.{Prints, PrintsItems, row_noted};
 
+use crate::rows::{Row, put_members};
+use crate::write_leaves::{
+    write_bool, write_byte, write_enumerator, write_integer, write_null, write_proxy,
+    write_reference, write_text, write_unsigned,
+};
 use graph_arena::Value;
-use ice_proxy::print_text;
-use ice_types::{DictDecl, Entry, MOST_DEPTH, Member, Proxy, Schema, TypeRef};
-use serde_json::{Map, Value as Json};
+use ice_types::{DictDecl, MOST_DEPTH, Schema, TypeRef};
+use json::Writer;
 use std::alloc::{AllocError, Global};
 use value_checks::is_byte_type;
 
-/// The canonical notation of a value of the type: dictionaries in rising order of their keys. Null
-/// stands in the place of a part that is not of its type. Want of memory is the only refusal.
-pub fn json_of(
+/// An object of the canonical notations of the values, each at its name: dictionaries in rising order of
+/// their keys, and null in the place of a part that is not of its type. Want of memory is the only
+/// refusal.
+pub(crate) fn write_object(
+    out: &mut Writer,
     alloc: Global,
     schema: &Schema,
-    kind: TypeRef,
-    value: &Value,
-) -> Result<Json, AllocError>
-    ensures { IfOk result (λ j. json_view j ≡ notation schema.now kind (view value.now)) }
+    row: &Row<'_>,
+) -> Result<(), AllocError>
+    ensures { OnOk result (Prints (object (row_noted (notation schema.now) row.now.entries)) out.old out.new) }
 {
-    write_level(alloc, schema, MOST_DEPTH, kind, value)
+    write_row(out, alloc, schema, MOST_DEPTH, row)
 }
 
 #[cycle(notes)]
 fn write_level(
+    out: &mut Writer,
     alloc: Global,
     schema: &Schema,
     levels: u32,
     kind: TypeRef,
     value: &Value,
-) -> Result<Json, AllocError>
-    ensures { IfOk result (λ j. json_view j ≡ notation_levels schema.now levels kind (view value.now)) }
+) -> Result<(), AllocError>
+    ensures { OnOk result (Prints (notation_levels schema.now levels kind (view value.now)) out.old out.new) }
 {
     if levels == 0 {
-        return Ok(Json::Null);
+        return write_null(out);
     }
-    write_parts(alloc, schema, levels - 1, kind, value)
+    write_parts(out, alloc, schema, levels - 1, kind, value)
 }
 
 #[cycle(notes)]
 fn write_parts(
+    out: &mut Writer,
     alloc: Global,
     schema: &Schema,
     levels: u32,
     kind: TypeRef,
     value: &Value,
-) -> Result<Json, AllocError>
-    ensures { IfOk result (λ j. json_view j
-        ≡ notation_step schema.now (notation_levels schema.now levels) kind (view value.now)) }
+) -> Result<(), AllocError>
+    ensures { OnOk result (Prints
+        (notation_step schema.now (notation_levels schema.now levels) kind (view value.now)) out.old out.new) }
 {
     match (kind, value) {
-        (TypeRef::Bool, Value::Bool(b)) => Ok(Json::from(*b)),
-        (TypeRef::Byte, Value::Byte(n)) => Ok(Json::from(*n)),
-        (TypeRef::Short, Value::Short(n)) => Ok(Json::from(*n)),
-        (TypeRef::Int, Value::Int(n)) => Ok(Json::from(*n)),
-        (TypeRef::Long, Value::Long(n)) => Ok(Json::from(*n)),
-        (TypeRef::Text, Value::Text(text)) => Json::try_from_str(alloc, text.as_str()),
+        (TypeRef::Bool, Value::Bool(b)) => write_bool(out, *b),
+        (TypeRef::Byte, Value::Byte(n)) => write_unsigned(out, u64::from(*n)),
+        (TypeRef::Short, Value::Short(n)) => write_integer(out, i64::from(*n)),
+        (TypeRef::Int, Value::Int(n)) => write_integer(out, i64::from(*n)),
+        (TypeRef::Long, Value::Long(n)) => write_integer(out, *n),
+        (TypeRef::Text, Value::Text(text)) => write_text(out, text.as_str()),
         (TypeRef::Seq(at), Value::Seq(items)) => {
-            write_sequence(alloc, schema, levels, at, items.as_slice())
+            write_sequence(out, alloc, schema, levels, at, items.as_slice())
         }
         (TypeRef::Seq(at), Value::Bytes(bytes)) => {
-            write_bytes(alloc, schema, levels, at, bytes.as_slice())
+            write_bytes(out, schema, levels, at, bytes.as_slice())
         }
         (TypeRef::Dict(at), Value::Pairs(pairs)) => {
-            write_dictionary(alloc, schema, levels, at, pairs.as_slice())
+            write_dictionary(out, alloc, schema, levels, at, pairs.as_slice())
         }
         (TypeRef::Struct(at), Value::Members(items)) => {
-            write_struct(alloc, schema, levels, at, items.as_slice())
+            write_struct(out, alloc, schema, levels, at, items.as_slice())
         }
-        (TypeRef::Enum(at), Value::Enum(number)) => enumerator_json(alloc, schema, at, *number),
-        (TypeRef::Proxy(_), Value::Proxy(proxy)) => proxy_json(alloc, proxy),
-        (TypeRef::Class(_), Value::Reference(number)) => reference_json(alloc, *number),
-        _ => Ok(Json::Null),
+        (TypeRef::Enum(at), Value::Enum(number)) => write_enumerator(out, schema, at, *number),
+        (TypeRef::Proxy(_), Value::Proxy(proxy)) => write_proxy(out, alloc, proxy),
+        (TypeRef::Class(_), Value::Reference(number)) => write_reference(out, *number),
+        _ => write_null(out),
     }
 }
 
 #[cycle(notes)]
 fn write_sequence(
+    out: &mut Writer,
     alloc: Global,
     schema: &Schema,
     levels: u32,
     at: u32,
     items: &[Value],
-) -> Result<Json, AllocError>
-    ensures { IfOk result (λ j. json_view j
-        ≡ notation_step schema.now (notation_levels schema.now levels) (kinds.Seq at) (sequence (view_all items.now))) }
+) -> Result<(), AllocError>
+    ensures { OnOk result (Prints (notation_step schema.now (notation_levels schema.now levels) (kinds.Seq at)
+        (sequence (view_all items.now))) out.old out.new) }
 {
     match schema.seqs().get(at as usize) {
         Some(decl) => {
-            let items = write_each(alloc, schema, levels, decl.element, items)?;
-            Ok(Json::from(items))
+            out.begin_array()?;
+            write_each(out, alloc, schema, levels, decl.element, items)
         }
-        None => Ok(Json::Null),
+        None => write_null(out),
     }
 }
 
 /// The same of bytes.
 fn write_bytes(
-    alloc: Global,
+    out: &mut Writer,
     schema: &Schema,
     levels: u32,
     at: u32,
     bytes: &[u8],
-) -> Result<Json, AllocError>
-    ensures { IfOk result (λ j. json_view j
-        ≡ notation_step schema.now (notation_levels schema.now levels) (kinds.Seq at)
-        (sequence (byte_trees bytes.now))) }
+) -> Result<(), AllocError>
+    ensures { OnOk result (Prints (notation_step schema.now (notation_levels schema.now levels) (kinds.Seq at)
+        (sequence (byte_trees bytes.now))) out.old out.new) }
 {
     match schema.seqs().get(at as usize) {
         Some(decl) => {
-            let items = write_each_byte(alloc, is_byte_type(levels, decl.element), bytes)?;
-            Ok(Json::from(items))
+            out.begin_array()?;
+            write_each_byte(out, is_byte_type(levels, decl.element), bytes)
         }
-        None => Ok(Json::Null),
+        None => write_null(out),
     }
 }
 
-/// The bytes one after the other, each as `byte_json` has it.
-fn write_each_byte(alloc: Global, are_of: bool, bytes: &[u8]) -> Result<Vec<Json>, AllocError>
-    ensures { IfOk result (λ l. map json_view l.items
-        ≡ map (λ n. if are_of then number (unsigned n) else null) bytes.now) }
+/// The bytes one after the other, each as `write_byte` has it, and the end of their array.
+fn write_each_byte(out: &mut Writer, are_of: bool, bytes: &[u8]) -> Result<(), AllocError>
+    ensures { OnOk result (PrintsItems
+        (items_of (map (λ n. if are_of then number (unsigned n) else null) bytes.now)) out.old out.new) }
 {
-    let mut items = Vec::new(alloc);
     for byte in bytes {
-        items.push(byte_json(are_of, *byte))?;
+        write_byte(out, are_of, *byte)?;
     }
-    Ok(items)
-}
-
-/// A byte as a number, or null where it is not of the type.
-fn byte_json(is_of: bool, byte: u8) -> Json
-    ensures { json_view result ≡ (if is_of then number (unsigned byte) else null) }
-{
-    if is_of { Json::from(byte) } else { Json::Null }
+    out.end_array()
 }
 
 #[cycle(notes)]
 fn write_dictionary(
+    out: &mut Writer,
     alloc: Global,
     schema: &Schema,
     levels: u32,
     at: u32,
     pairs: &[(Value, Value)],
-) -> Result<Json, AllocError>
-    ensures { IfOk result (λ j. json_view j
-        ≡ notation_step schema.now (notation_levels schema.now levels) (kinds.Dict at)
-        (dictionary (view_pairs pairs.now))) }
+) -> Result<(), AllocError>
+    ensures { OnOk result (Prints (notation_step schema.now (notation_levels schema.now levels) (kinds.Dict at)
+        (dictionary (view_pairs pairs.now))) out.old out.new) }
 {
     match schema.dicts().get(at as usize) {
         Some(decl) => {
-            let items = write_pairs(alloc, schema, levels, decl, pairs)?;
-            Ok(Json::from(items))
+            out.begin_array()?;
+            write_pairs(out, alloc, schema, levels, decl, pairs)
         }
-        None => Ok(Json::Null),
+        None => write_null(out),
     }
 }
 
 #[cycle(notes)]
 fn write_struct(
+    out: &mut Writer,
     alloc: Global,
     schema: &Schema,
     levels: u32,
     at: u32,
     items: &[Value],
-) -> Result<Json, AllocError>
-    ensures { IfOk result (λ j. json_view j
-        ≡ notation_step schema.now (notation_levels schema.now levels) (kinds.Struct at)
-        (struct (view_all items.now))) }
+) -> Result<(), AllocError>
+    ensures { OnOk result (Prints (notation_step schema.now (notation_levels schema.now levels) (kinds.Struct at)
+        (struct (view_all items.now))) out.old out.new) }
 {
     match schema.structs().get(at as usize) {
         Some(decl) => {
-            let found = write_members(alloc, schema, levels, decl.members.as_slice(), items)?;
-            Ok(Json::from(found))
+            let mut row = Row::new(alloc);
+            put_members(&mut row, decl.members.as_slice(), items)?;
+            write_row(out, alloc, schema, levels, &row)
         }
-        None => Ok(Json::Null),
+        None => write_null(out),
     }
 }
 
+/// The values one after the other, and the end of their array.
 #[cycle(notes)]
 fn write_each(
+    out: &mut Writer,
     alloc: Global,
     schema: &Schema,
     levels: u32,
     kind: TypeRef,
     values: &[Value],
-) -> Result<Vec<Json>, AllocError>
-    ensures { IfOk result (λ l. items_view l.items
-        ≡ each_noted (notation_levels schema.now levels kind) (view_all values.now)) }
+) -> Result<(), AllocError>
+    ensures { OnOk result (PrintsItems
+        (each_noted (notation_levels schema.now levels kind) (view_all values.now)) out.old out.new) }
 {
-    let mut items = Vec::new(alloc);
     for value in values {
-        let item = write_level(alloc, schema, levels, kind, value)?;
-        items.push(item)?;
+        write_level(out, alloc, schema, levels, kind, value)?;
     }
-    Ok(items)
+    out.end_array()
 }
 
+/// The pairs one after the other, and the end of their array.
 #[cycle(notes)]
 fn write_pairs(
+    out: &mut Writer,
     alloc: Global,
     schema: &Schema,
     levels: u32,
     decl: &DictDecl,
     pairs: &[(Value, Value)],
-) -> Result<Vec<Json>, AllocError>
-    ensures { IfOk result (λ l. items_view l.items
-        ≡ pairs_noted (notation_levels schema.now levels decl.now.key)
-        (notation_levels schema.now levels decl.now.value) (view_pairs pairs.now)) }
+) -> Result<(), AllocError>
+    ensures { OnOk result (PrintsItems (pairs_noted (notation_levels schema.now levels decl.now.key)
+        (notation_levels schema.now levels decl.now.value) (view_pairs pairs.now)) out.old out.new) }
 {
-    let mut items = Vec::new(alloc);
     for (key, value) in pairs {
-        let key = write_level(alloc, schema, levels, decl.key, key)?;
-        let value = write_level(alloc, schema, levels, decl.value, value)?;
-        let item = pair_json(alloc, key, value)?;
-        items.push(item)?;
+        out.begin_array()?;
+        write_level(out, alloc, schema, levels, decl.key, key)?;
+        write_level(out, alloc, schema, levels, decl.value, value)?;
+        out.end_array()?;
     }
-    Ok(items)
+    out.end_array()
 }
 
-/// An array of the two.
-fn pair_json(alloc: Global, key: Json, held: Json) -> Result<Json, AllocError>
-    ensures { IfOk result (λ j. json_view j ≡ pair (json_view key) (json_view held)) }
-{
-    let mut both = Vec::new(alloc);
-    both.push(key)?;
-    both.push(held)?;
-    Ok(Json::from(both))
-}
-
+/// An object of the values at their names.
 #[cycle(notes)]
-fn write_members(
+fn write_row(
+    out: &mut Writer,
     alloc: Global,
     schema: &Schema,
     levels: u32,
-    members: &[Member],
-    values: &[Value],
-) -> Result<Map<String, Json>, AllocError>
-    ensures { IfOk result (λ m. members_view m.entries
-        ≡ members_noted (notation_levels schema.now levels) no_members members.now (view_all values.now)) }
+    row: &Row<'_>,
+) -> Result<(), AllocError>
+    ensures { OnOk result (Prints (object (row_noted (notation_levels schema.now levels) row.now.entries))
+        out.old out.new) }
 {
-    let mut found = Map::new(alloc);
-    for (at, member) in members.iter().enumerate() {
-        let Some(value) = values.get(at) else {
-            return Ok(found);
-        };
-        let json = write_level(alloc, schema, levels, member.kind, value)?;
-        serde_json::put(&mut found, alloc, member.name.as_str(), json)?;
+    out.begin_object()?;
+    for (name, field) in row.iter() {
+        out.key(name)?;
+        write_level(out, alloc, schema, levels, field.kind, field.value)?;
     }
-    Ok(found)
-}
-
-/// The name of an enumerator of the enum at this place of the schema's table.
-fn enumerator_json(alloc: Global, schema: &Schema, at: u32, number: u32) -> Result<Json, AllocError>
-    ensures { IfOk result (λ j. json_view j
-        ≡ noted (slice_get schema.now.enums at) (λ e. noted (spec.name_numbered number e.entries) string)) }
-{
-    let Some(decl) = schema.enums().get(at as usize) else {
-        return Ok(Json::Null);
-    };
-    match entry_numbered(decl.entries.as_slice(), number) {
-        Some(entry) => Json::try_from_str(alloc, entry.name.as_str()),
-        None => Ok(Json::Null),
-    }
-}
-
-/// The enumerator with this number, None where there is none.
-fn entry_numbered(entries: &[Entry], number: u32) -> Option<&Entry>
-    ensures { option_map (λ e. e.now.name) result ≡ spec.name_numbered number entries.now }
-{
-    for entry in entries {
-        if entry.number == number {
-            return Some(entry);
-        }
-    }
-    None
-}
-
-/// The text of a proxy, null for the null proxy. (Ice manual, "Proxy and Endpoint Syntax".)
-fn proxy_json(alloc: Global, proxy: &Option<Box<Proxy>>) -> Result<Json, AllocError>
-    ensures { IfOk result (λ j. json_view j ≡ spec.proxy_noted (unboxed proxy.now)) }
-{
-    match proxy {
-        Some(proxy) => Json::try_from_str(alloc, print_text(alloc, proxy)?.as_str()),
-        None => Ok(Json::Null),
-    }
-}
-
-fn reference_json(alloc: Global, reference: Option<u32>) -> Result<Json, AllocError>
-    ensures { IfOk result (λ j. json_view j ≡ spec.reference_noted reference) }
-{
-    match reference {
-        Some(name) => name_json(alloc, name),
-        None => Ok(Json::Null),
-    }
-}
-
-/// What notes the name of an instance, counted from 0: an object with the number that is two more.
-pub fn name_json(alloc: Global, name: u32) -> Result<Json, AllocError>
-    ensures { IfOk result (λ j. json_view j ≡ notes.name_noted name) }
-{
-    let mut found = Map::new(alloc);
-    serde_json::put(&mut found, alloc, "$", Json::from(name as u64 + 2))?;
-    Ok(Json::from(found))
+    out.end_object()
 }

@@ -1,143 +1,192 @@
-//! The notation of a graph, in the order of its instances.
+//! The notation of a graph, in the order of its instances, token by token.
 
-ghost use Rattle.std.specs.Prelude.{◌≡◌, IfOk, slice_get};
+ghost use Rattle.std.specs.Prelude.{OnOk};
+ghost use Rattle.hex.specs.Hex.{encode_lower};
 ghost use Rattle.serde_json.specs.Data.{string};
-ghost use Rattle.serde_json.specs.View.{view as json_view, items_view};
 ghost use Rattle.ice_types.specs.Tables.{Tables};
-ghost use Rattle.ice_graphs.specs.Canonical.{id_in};
 ghost use Rattle.ice_graphs.specs.Graph.{unknown, known};
 ghost use Rattle.graph_arena.specs.Seen.{view_content, view_slice, view_slices};
 ghost use Rattle.ice_values.specs.Shapes.{shape_seen};
 ghost use Rattle.graph_json.specs.ValueNotation.{name_noted};
+ghost use Rattle.graph_json.specs.Contents.{content_noted};
 ghost use Rattle.graph_json.specs.Canonical.{graph_noted, instance_noted, items_noted, slice_noted};
+ghost use Rattle.graph_json.specs.Printing.{Prints, PrintsItems};
 
-use crate::content_write::content_json;
-use crate::write::name_json;
+use crate::rows::{Row, put_optional, put_required};
+use crate::write::write_object;
+use crate::write_leaves::{write_bool, write_name, write_text};
 use graph_arena::{Graph, Members, Slice};
 use ice_types::{Bytes, Name, Schema};
 use ice_values::{DeclaredMembers, SlicedType};
-use serde_json::{Map, Value as Json, put};
+use json::Writer;
 use std::alloc::{AllocError, Global};
 
 /// The notation of a graph whose roots are of these members: its instances as they stand. Want of memory is
 /// the only refusal.
-pub(crate) fn graph_json(
+pub(crate) fn write_graph(
+    out: &mut Writer,
     alloc: Global,
     schema: &Schema,
     fields: DeclaredMembers<'_>,
     graph: &Graph,
-) -> Result<Json, AllocError>
-    ensures { IfOk result (λ j. json_view j ≡ graph_noted schema.now (shape_seen fields.entry) graph.now) }
+) -> Result<(), AllocError>
+    ensures { OnOk result (Prints (graph_noted schema.now (shape_seen fields.entry) graph.now) out.old out.new) }
 {
-    let mut found = Map::new(alloc);
-    let instances = instances_json(alloc, schema, graph)?;
-    put(&mut found, alloc, "instances", Json::from(instances))?;
-    let roots = content_json(alloc, schema, fields, graph.roots())?;
-    put(&mut found, alloc, "roots", roots)?;
-    Ok(Json::from(found))
+    out.begin_object()?;
+    out.key("instances")?;
+    out.begin_array()?;
+    write_instances(out, alloc, schema, graph)?;
+    out.key("roots")?;
+    write_content(out, alloc, schema, fields, graph.roots())?;
+    out.end_object()
 }
 
-fn instances_json(alloc: Global, schema: &Schema, graph: &Graph) -> Result<Vec<Json>, AllocError>
-    ensures { IfOk result (λ l. items_view l.items ≡ items_noted (instance_noted schema.now) graph.now.instances) }
+/// The instances one after the other, and the end of their array.
+fn write_instances(
+    out: &mut Writer,
+    alloc: Global,
+    schema: &Schema,
+    graph: &Graph,
+) -> Result<(), AllocError>
+    ensures { OnOk result (PrintsItems (items_noted (instance_noted schema.now) graph.now.instances) out.old out.new) }
 {
-    let mut items = Vec::new(alloc);
     for at in 0..graph.len() {
-        let slices = graph.instance(at).slices.as_slice();
-        items.push(instance_json(alloc, schema, slices)?)?;
+        write_instance(out, alloc, schema, graph.instance(at).slices.as_slice())?;
     }
-    Ok(items)
+    out.end_array()
 }
 
-fn instance_json(alloc: Global, schema: &Schema, slices: &[Slice]) -> Result<Json, AllocError>
-    ensures { IfOk result (λ j. json_view j ≡ instance_noted schema.now (view_slices slices.now)) }
+fn write_instance(
+    out: &mut Writer,
+    alloc: Global,
+    schema: &Schema,
+    slices: &[Slice],
+) -> Result<(), AllocError>
+    ensures { OnOk result (Prints (instance_noted schema.now (view_slices slices.now)) out.old out.new) }
 {
-    let mut items = Vec::new(alloc);
-    for slice in slices {
-        items.push(slice_json(alloc, schema, slice)?)?;
-    }
-    let mut found = Map::new(alloc);
-    put(&mut found, alloc, "slices", Json::from(items))?;
-    Ok(Json::from(found))
+    out.begin_object()?;
+    out.key("slices")?;
+    out.begin_array()?;
+    write_slices(out, alloc, schema, slices)?;
+    out.end_object()
 }
 
-fn slice_json(alloc: Global, schema: &Schema, slice: &Slice) -> Result<Json, AllocError>
-    ensures { IfOk result (λ j. json_view j ≡ slice_noted schema.now (view_slice slice.now)) }
+/// The slices one after the other, and the end of their array.
+fn write_slices(
+    out: &mut Writer,
+    alloc: Global,
+    schema: &Schema,
+    slices: &[Slice],
+) -> Result<(), AllocError>
+    ensures { OnOk result (PrintsItems (items_noted (slice_noted schema.now) (view_slices slices.now))
+        out.old out.new) }
+{
+    for slice in slices {
+        write_slice(out, alloc, schema, slice)?;
+    }
+    out.end_array()
+}
+
+fn write_slice(
+    out: &mut Writer,
+    alloc: Global,
+    schema: &Schema,
+    slice: &Slice,
+) -> Result<(), AllocError>
+    ensures { OnOk result (Prints (slice_noted schema.now (view_slice slice.now)) out.old out.new) }
 {
     match slice {
-        Slice::Known { class, members } => known_json(alloc, schema, *class, members),
+        Slice::Known { class, members } => write_known(out, alloc, schema, *class, members),
         Slice::Unknown {
             id,
             bytes,
             optionals,
             table,
-        } => unknown_json(alloc, id, bytes, *optionals, table.as_slice()),
+        } => write_unknown(out, alloc, id, bytes, *optionals, table.as_slice()),
     }
 }
 
-/// A slice of a known class: its type id, and the values of its own members by name.
-fn known_json(
+/// A slice of a known class: its type id, none where there is no such class, and the values of its own
+/// members by name.
+fn write_known(
+    out: &mut Writer,
     alloc: Global,
     schema: &Schema,
     class: u32,
     members: &Members,
-) -> Result<Json, AllocError>
-    ensures { IfOk result (λ j. json_view j ≡ slice_noted schema.now (known class (view_content members.now))) }
+) -> Result<(), AllocError>
+    ensures { OnOk result (Prints (slice_noted schema.now (known class (view_content members.now)))
+        out.old out.new) }
 {
     let own = SlicedType::Class.own_members(schema, class);
     let fields = DeclaredMembers {
         required: own,
         optional: own,
     };
-    let mut found = Map::new(alloc);
-    put(&mut found, alloc, "class", id_json(alloc, schema, class)?)?;
-    let inside = content_json(alloc, schema, fields, members)?;
-    put(&mut found, alloc, "members", inside)?;
-    Ok(Json::from(found))
+    out.begin_object()?;
+    out.key("class")?;
+    write_text(out, SlicedType::Class.id_of(schema, class))?;
+    out.key("members")?;
+    write_content(out, alloc, schema, fields, members)?;
+    out.end_object()
 }
 
-/// The type id of a class; none where there is no such class.
-fn id_json(alloc: Global, schema: &Schema, class: u32) -> Result<Json, AllocError>
-    ensures { IfOk result (λ j. json_view j ≡ string (id_in (slice_get schema.now.classes class))) }
+/// The values of these members: an object by the members' names, without those of optional members that are
+/// absent.
+fn write_content(
+    out: &mut Writer,
+    alloc: Global,
+    schema: &Schema,
+    fields: DeclaredMembers<'_>,
+    members: &Members,
+) -> Result<(), AllocError>
+    ensures { OnOk result (Prints
+        (content_noted schema.now (shape_seen fields.entry) (view_content members.now)) out.old out.new) }
 {
-    Json::try_from_str(alloc, SlicedType::Class.id_of(schema, class))
+    let mut row = Row::new(alloc);
+    put_required(&mut row, fields.required, members.required.as_slice())?;
+    put_optional(&mut row, fields.optional, members.optional.as_slice())?;
+    write_object(out, alloc, schema, &row)
 }
 
 /// An unknown slice: its bytes in hexadecimal digits, its type id, and its table.
-fn unknown_json(
+fn write_unknown(
+    out: &mut Writer,
     alloc: Global,
     id: &Name,
     bytes: &Bytes,
     optionals: bool,
     table: &[u32],
-) -> Result<Json, AllocError>
-    ensures { (t : Tables) → IfOk result (λ j. json_view j
-        ≡ slice_noted t (unknown id.now bytes.now optionals table.now)) }
+) -> Result<(), AllocError>
+    ensures { (t : Tables) → OnOk result (Prints
+        (slice_noted t (unknown id.now bytes.now optionals table.now)) out.old out.new) }
 {
-    let mut found = Map::new(alloc);
-    let digits = hex::encode(alloc, bytes.as_slice())?;
-    put(&mut found, alloc, "bytes", Json::from(digits))?;
-    put(
-        &mut found,
-        alloc,
-        "kept",
-        Json::try_from_str(alloc, id.as_str())?,
-    )?;
-    put(&mut found, alloc, "optionals", Json::from(optionals))?;
-    put(
-        &mut found,
-        alloc,
-        "table",
-        Json::from(names_json(alloc, table)?),
-    )?;
-    Ok(Json::from(found))
+    out.begin_object()?;
+    out.key("bytes")?;
+    write_hex(out, alloc, bytes.as_slice())?;
+    out.key("kept")?;
+    write_text(out, id.as_str())?;
+    out.key("optionals")?;
+    write_bool(out, optionals)?;
+    out.key("table")?;
+    out.begin_array()?;
+    write_names(out, table)?;
+    out.end_object()
 }
 
-fn names_json(alloc: Global, names: &[u32]) -> Result<Vec<Json>, AllocError>
-    ensures { IfOk result (λ l. items_view l.items ≡ items_noted name_noted names.now) }
+/// The bytes in hexadecimal digits.
+fn write_hex(out: &mut Writer, alloc: Global, bytes: &[u8]) -> Result<(), AllocError>
+    ensures { OnOk result (Prints (string (encode_lower bytes.now)) out.old out.new) }
 {
-    let mut items = Vec::new(alloc);
+    write_text(out, hex::encode(alloc, bytes)?.as_str())
+}
+
+/// The names one after the other, and the end of their array.
+fn write_names(out: &mut Writer, names: &[u32]) -> Result<(), AllocError>
+    ensures { OnOk result (PrintsItems (items_noted name_noted names.now) out.old out.new) }
+{
     for name in names {
-        items.push(name_json(alloc, *name)?)?;
+        write_name(out, *name)?;
     }
-    Ok(items)
+    out.end_array()
 }

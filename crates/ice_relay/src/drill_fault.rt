@@ -6,7 +6,7 @@ ghost use Rattle.ice_relay.specs.declared.drill_fault.DrillFault.TheVariants as 
 use std::alloc::AllocError;
 
 /// Why a drill has no line.
-#[derive(Clone, Copy, Debug, PartialEq, Eq)]
+#[derive(Clone, Copy)]
 pub enum DrillFault {
     /// An encapsulation of the graph has so many bytes, which is more than 1,048,576.
     TooLong(u64),

@@ -10,7 +10,7 @@ use ice_prims::{Fault, ReadFault};
 use std::alloc::AllocError;
 
 /// Why an input gives no canonical encapsulation. Bytes are `Broken`, a text of JSON is `TextRefused`.
-#[derive(Clone, Copy, Debug, PartialEq, Eq)]
+#[derive(Clone, Copy)]
 pub enum RelayFault {
     /// The input is no encapsulation of a value of the type: its first fault.
     Broken(Fault),

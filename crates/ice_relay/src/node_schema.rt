@@ -13,8 +13,13 @@ pub(crate) fn node_schema(alloc: Global) -> Result<Schema, AllocError>
     ensures { IfOk result (λ schema. schema ≡ drill_tables) }
 {
     let mut schema = Schema::new(alloc);
-    declare(alloc, &mut schema)?;
-    Ok(schema)
+    match declare(alloc, &mut schema) {
+        Ok(()) => Ok(schema),
+        Err(error) => {
+            drop(schema);
+            Err(error)
+        }
+    }
 }
 
 /// Declares and defines the class.

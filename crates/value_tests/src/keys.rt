@@ -187,7 +187,7 @@ fn sorted(
 ) -> Result<(bool, bool, bool), AllocError> {
     let before = is_sorted(value);
     let sorted = sort_pairs(alloc, value)?;
-    Ok((before, sorted, value == wanted))
+    Ok((before, sorted, &*value == wanted))
 }
 
 /// The same of the dictionary of these keys.

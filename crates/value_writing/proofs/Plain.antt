@@ -1,5 +1,5 @@
 -- Values whose references are numbers, as they are written.
-use Rattle.std.proofs.Common.{◌≡◌, List, [], ◌∷◌, Option, sym, ap, ◌∙◌}
+use Rattle.std.proofs.Common.{ℕ, ◌≡◌, List, [], ◌∷◌, Option, sym, ap, ◌∙◌}
 use Rattle.std.proofs.lemmas.List.{append-nil}
 use Rattle.ice_prims.specs.Bytes.{size_bytes}
 use Rattle.ice_encoding.specs.Tree.{Tree, none, tree}

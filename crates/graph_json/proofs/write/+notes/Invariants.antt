@@ -1,9 +1,9 @@
-use Rattle.std.proofs.Common.{◌≡◌, ◌+◌, ◌*◌, drop, take, map}
-use Rattle.serde_json.specs.Data.{no_members}
-use Rattle.serde_json.specs.View.{view as json_view, members_view}
-use Rattle.graph_arena.specs.View.{view, view_all}
-use Rattle.graph_json.specs.ValueNotation.{pair}
-use Rattle.graph_json.specs.CanonicalValues.{members_noted, notation_levels}
+use Rattle.std.proofs.Common.{◌+◌, ◌*◌}
+use Rattle.json.specs.Written.{Written}
+use Rattle.graph_arena.specs.View.{view_all, view_pairs}
+use Rattle.graph_json.specs.CanonicalValues.{each_noted, notation_levels, pairs_noted}
+use Rattle.graph_json.specs.Printing.{PrintsMembers, row_noted}
+use Rattle.graph_json.proofs.Printing.{IsLeft}
 use Rattle.graph_json.proofs.write.+notes.Given as goal
 
 abbrev pub decreases-write_level : goal.decreases-write_level
@@ -27,17 +27,15 @@ decreases-write_each l = 4 * l.levels + 1
 abbrev pub decreases-write_pairs : goal.decreases-write_pairs
 decreases-write_pairs l = 4 * l.levels + 1
 
-abbrev pub decreases-write_members : goal.decreases-write_members
-decreases-write_members l = 4 * l.levels + 1
+abbrev pub decreases-write_row : goal.decreases-write_row
+decreases-write_row l = 4 * l.levels + 1
 
 abbrev pub invariant-write_each-loop-value : goal.invariant-write_each-loop-value
-invariant-write_each-loop-value l = map json_view l.items.items ≡ map (λ v. notation_levels l.schema l.levels l.kind (view v)) (take l.value-index l.values)
+invariant-write_each-loop-value l = IsLeft (λ vs. each_noted (notation_levels l.schema l.levels l.kind) (view_all vs)) l.values l.value-index l.initial.out l.out
 
 abbrev pub invariant-write_pairs-loop-key : goal.invariant-write_pairs-loop-key
 invariant-write_pairs-loop-key l =
-    map json_view l.items.items ≡ map (λ p. pair (notation_levels l.schema l.levels l.decl.key (view p.0)) (notation_levels l.schema l.levels l.decl.value (view p.1))) (take l.key-index l.pairs)
+    IsLeft (λ ps. pairs_noted (notation_levels l.schema l.levels l.decl.key) (notation_levels l.schema l.levels l.decl.value) (view_pairs ps)) l.pairs l.key-index l.initial.out l.out
 
-abbrev pub invariant-write_members-loop-at : goal.invariant-write_members-loop-at
-invariant-write_members-loop-at l =
-    members_noted (notation_levels l.schema l.levels) (members_view l.found.entries) (drop l.at l.members) (view_all (drop l.at l.values))
-    ≡ members_noted (notation_levels l.schema l.levels) no_members l.members (view_all l.values)
+abbrev pub invariant-write_row-loop-name : goal.invariant-write_row-loop-name
+invariant-write_row-loop-name l = (end : Written) → PrintsMembers (row_noted (notation_levels l.schema l.levels) l.name-iterator) l.out end → PrintsMembers (row_noted (notation_levels l.schema l.levels) l.row.entries) l.initial.out end
