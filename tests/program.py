@@ -76,16 +76,8 @@ def built_of(crate, words=(), input_=b""):
     return program if os.path.exists(program) else None
 
 
-def built_reader():
-    """Returns the program that reads Slice files, None where it cannot be built."""
-    return built_of("slice_read")
-
-
-def built_exception_reader():
-    """Returns the program that reads exceptions: what the environment variable EXCEPTION_READ names, else the repository's own. None
-    where there is no such program."""
-    program = os.environ.get("EXCEPTION_READ")
-    if not program:
-        with open(f"{TOP}/crates/exception_read/stdin", "rb") as file:
-            program = built_of("exception_read", ["data/t.ice"], file.read())
+def built_workbench():
+    """Returns the program that reads Slice files and exceptions: what the environment variable WORKBENCH names, else the repository's
+    own. None where there is no such program."""
+    program = os.environ.get("WORKBENCH") or built_of("workbench", ["slice"])
     return os.path.abspath(program) if program and os.path.exists(program) else None

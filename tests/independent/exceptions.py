@@ -1,5 +1,5 @@
 """Reads one encapsulation of a user exception, or finds its first fault, and writes the canonical one, with the sizes of slices or
-without; and the answer that `exception_read [--compact] FILE` has to give.
+without; and the answer that `workbench exception [--compact] FILE` has to give.
 
 An exception has slices as an instance has, by tables of its own, and instances begin in them as in those of an instance. No bits of
 a type id stand in its flags: each slice has its type id as a string, which no index means. Some writers leave out the flag of the

@@ -1,4 +1,4 @@
-"""What `slice_read --tokens` and `slice_read --tree` have to print of a text.
+"""What `workbench slice --tokens` and `workbench slice --tree` have to print of a text.
 
 A token is its sort, where a keyword and a symbol are told by their places in their lists, and its first byte and the one after
 its last. A tree is a line for each item, with `@` before each place. A type is its keyword's place or a name, `tag` stands before

@@ -16,7 +16,7 @@ use Rattle.ice_types.specs.Rules.{IsSchema}
 use Rattle.ice_types.specs.Names.{AreNew}
 use Rattle.ice_types.specs.Fits.{names_of, tags_of, AreRequired, AreRising, DifferFrom, ShapeFits, OpFits}
 use Rattle.ice_types.specs.Inherited.{ops_in, bases_by_path, operations, first_named}
-use Rattle.ice_values.specs.Shapes.{without_tag, with_tag, told_apart}
+use Rattle.value_parts.specs.Shapes.{without_tag, with_tag, told_apart}
 use Rattle.graph_json.specs.Contents.{HasOwnNames}
 use Rattle.call_command.specs.Operations.{Operation, IsDeclared}
 

@@ -5,11 +5,11 @@ use Rattle.ice_types.specs.declared.declarations.Shape.{Shape}
 use Rattle.ice_types.specs.Tables.{Tables}
 use Rattle.ice_prims.specs.Rest.{whole, IsBytes}
 use Rattle.ice_prims.specs.declared.fault.Fault.{Fault}
-use Rattle.ice_graphs.specs.Graph.{Graph}
-use Rattle.ice_graphs.specs.Flags.{all_slices}
-use Rattle.ice_graphs.specs.Canonical.{Format}
-use Rattle.ice_graphs.specs.Instances.{SpellsNumbered, numbered_at}
-use Rattle.ice_graphs.proofs.Graphs.{numbered_found}
+use Rattle.ice_encoding.specs.Graph.{Graph}
+use Rattle.ice_encoding.specs.Flags.{all_slices}
+use Rattle.ice_encoding.specs.CanonicalGraph.{Format}
+use Rattle.ice_encoding.specs.Instances.{SpellsNumbered, numbered_at}
+use Rattle.ice_encoding.proofs.Graphs.{numbered_found}
 use Rattle.class_slices.specs.Encoding.{Writes}
 use Rattle.class_slices.specs.declared.write_fault.WriteFault.{WriteFault}
 use Rattle.class_slices.specs.declared.write_fault.WriteFault.TheVariants as write_faults

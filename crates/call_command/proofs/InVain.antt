@@ -6,11 +6,11 @@ use Rattle.ice_types.specs.declared.kind.TypeRef.TheVariants as kinds
 use Rattle.ice_types.specs.declared.schema.TheConstants.{MOST_DEPTH}
 use Rattle.ice_encoding.specs.Tree.{Trees, none, tree, proxy}
 use Rattle.ice_encoding.specs.Typed.{HasType, EachOf, Refers}
-use Rattle.ice_graphs.specs.Flags.{all_slices}
-use Rattle.ice_graphs.specs.Graph.{Graph}
-use Rattle.ice_graphs.specs.Instances.{SpellsNumbered}
-use Rattle.ice_graphs.specs.Typed.{RefersIn}
-use Rattle.ice_graphs.proofs.Graphs.{numbered_only}
+use Rattle.ice_encoding.specs.Flags.{all_slices}
+use Rattle.ice_encoding.specs.Graph.{Graph}
+use Rattle.ice_encoding.specs.Instances.{SpellsNumbered}
+use Rattle.ice_encoding.specs.TypedGraph.{RefersIn}
+use Rattle.ice_encoding.proofs.Graphs.{numbered_only}
 use Rattle.ice_ports.specs.declared.talk.Talk.{Talk}
 use Rattle.ice_messages.specs.declared.message.Answer.TheVariants as answers
 use Rattle.retry_core.specs.declared.attempt.Attempt.{Attempt}

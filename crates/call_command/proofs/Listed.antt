@@ -5,7 +5,7 @@ use Rattle.ice_types.specs.declared.declarations.Shape.{Shape}
 use Rattle.call_command.specs.declared.callee.Callee.{Callee}
 use Rattle.ice_types.specs.Tables.{Tables}
 use Rattle.ice_encoding.specs.declared.limits.TheConstants.{LARGEST}
-use Rattle.ice_graphs.specs.Graph.{Graph}
+use Rattle.ice_encoding.specs.Graph.{Graph}
 use Rattle.instance_writing.specs.Formats.{view_format}
 use Rattle.graph_json.specs.declared.fault.JsonKind.{JsonKind}
 use Rattle.graph_json.specs.Texts.{IsRefused, Lists}

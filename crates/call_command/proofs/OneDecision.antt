@@ -6,9 +6,9 @@ use Rattle.call_command.specs.declared.callee.Callee.{Callee}
 use Rattle.ice_types.specs.declared.declarations.OpDecl.{OpDecl}
 use Rattle.ice_types.specs.declared.declarations.Shape.{Shape}
 use Rattle.ice_types.specs.Tables.{Tables}
-use Rattle.ice_graphs.specs.Graph.{Graph, Slice, known, unknown}
-use Rattle.ice_graphs.specs.Instances.{slices_of}
-use Rattle.ice_graphs.specs.Canonical.{Format, sliced, compact, Compact, IsWritable, graph_bytes}
+use Rattle.ice_encoding.specs.Graph.{Graph, Slice, known, unknown}
+use Rattle.ice_encoding.specs.Instances.{slices_of}
+use Rattle.ice_encoding.specs.CanonicalGraph.{Format, sliced, compact, Compact, IsWritable, graph_bytes}
 use Rattle.instance_writing.specs.Formats.{view_format}
 use Rattle.class_slices.specs.Encoding.{BeginsUnknown, NeedsSliced}
 use Rattle.graph_json.proofs.TextsApart.{one_listed, one_reason, never_refused}

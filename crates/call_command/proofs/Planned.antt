@@ -10,8 +10,8 @@ use Rattle.ice_prims.specs.Bytes.{signed_bytes}
 use Rattle.ice_prims.specs.Number.{SpellsSigned}
 use Rattle.ice_prims.proofs.Spelled.{int_exact}
 use Rattle.ice_encoding.specs.Opening.{encapsulated_bytes}
-use Rattle.ice_graphs.specs.Graph.{Graph}
-use Rattle.ice_graphs.specs.Canonical.{Format, graph_bytes, canonical_graph}
+use Rattle.ice_encoding.specs.Graph.{Graph}
+use Rattle.ice_encoding.specs.CanonicalGraph.{Format, graph_bytes, canonical_graph}
 use Rattle.ice_messages.specs.declared.message.Call.{Call}
 use Rattle.ice_messages.specs.Calls.{IsEncapsulation}
 use Rattle.ice_messages.specs.Context.{AreRising}

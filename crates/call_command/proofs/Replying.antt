@@ -5,11 +5,11 @@ use Rattle.ice_prims.specs.Rest.{whole, IsBytes}
 use Rattle.ice_prims.specs.Taking.{Fails}
 use Rattle.ice_prims.specs.declared.fault.ReadFault.{ReadFault}
 use Rattle.ice_prims.specs.declared.fault.ReadFault.TheVariants as read_faults
-use Rattle.ice_graphs.specs.Graph.{Graph}
-use Rattle.ice_graphs.specs.Flags.{all_slices}
-use Rattle.ice_graphs.specs.Typed.{OfType}
-use Rattle.ice_graphs.specs.Instances.{numbered_at}
-use Rattle.ice_graphs.proofs.Graphs.{numbered_found}
+use Rattle.ice_encoding.specs.Graph.{Graph}
+use Rattle.ice_encoding.specs.Flags.{all_slices}
+use Rattle.ice_encoding.specs.TypedGraph.{OfType}
+use Rattle.ice_encoding.specs.Instances.{numbered_at}
+use Rattle.ice_encoding.proofs.Graphs.{numbered_found}
 use Rattle.graph_json.specs.Texts.{graph_text}
 use Rattle.ice_messages.specs.declared.message.Answer.TheVariants as answers
 use Rattle.ice_client.specs.declared.outcome.Outcome.TheVariants as outcomes

@@ -17,7 +17,7 @@ use Rattle.call_command.specs.Words.{CallWords}
 use Rattle.call_command.specs.Operations.{Operation, operation_of}
 use Rattle.call_command.specs.Planning.{Plan, callee_of, with_proxy}
 use Rattle.call_command.specs.Endings.{Ended, finished, refused, twoway_only, stopped}
-use Rattle.net_commands.specs.Interfaces.{IsInterface}
+use Rattle.node_commands.specs.Interfaces.{IsInterface}
 use Rattle.call_command.specs.Decided.{IsListed, IsListedCallee, LacksReply, Plans, Decides, callee_named}
 use Rattle.call_command.specs.Rounds.{NetSeen, sink_seen, Finishes, Stops}
 use Rattle.call_command.specs.Called.{Steps, WantsInput, Comes, TakesInput}

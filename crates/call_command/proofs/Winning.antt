@@ -1,8 +1,8 @@
 -- Where the last attempt at a message wins, it does not stop the call.
 use Rattle.std.proofs.Common.{◌≡◌, ◌⊎◌, ℕ, List, [], ◌∷◌, ◌++◌, Bool, true, false, Option, None, Some, Ok, Err, refl, sym, ap, subst, ◌∙◌, inl, inr}
 use Rattle.std.proofs.lemmas.Bool.{false≢true}
-use Rattle.ice_graphs.specs.Flags.{all_slices}
-use Rattle.ice_graphs.proofs.Graphs.{numbered_only}
+use Rattle.ice_encoding.specs.Flags.{all_slices}
+use Rattle.ice_encoding.proofs.Graphs.{numbered_only}
 use Rattle.ice_ports.specs.declared.talk.Talk.{Talk}
 use Rattle.ice_encoding.specs.Parts.{Each}
 use Rattle.ice_messages.specs.declared.message.Answer.{Answer}

@@ -10,7 +10,7 @@ use Rattle.node_commands.specs.Words.{Word, Command, IsWord, values, check, prox
 use Rattle.node_commands.proofs.CommandForms.{page_few}
 use Rattle.call_command.specs.declared.words.CallCommand.{CallCommand}
 use Rattle.std.specs.Prelude.{IfSome, unwrap_or}
-use Rattle.net_commands.specs.declared.limits.TheConstants.{MOST_RETRIES}
+use Rattle.node_commands.specs.declared.limits.TheConstants.{MOST_RETRIES}
 use Rattle.call_command.specs.declared.words.TheConstants.{MOST_TIMES}
 use Rattle.call_command.specs.declared.words.Options.{Options}
 use Rattle.call_command.specs.Words.{CallWords, CallForm, AreNamed, AsksCall, Gathers, Given, Gives, IsNamed, IsNoOption, IsOption, IsValued, IsWithin, given_of, no_options, seen}

@@ -5,8 +5,8 @@ use Rattle.ice_types.specs.declared.declarations.OpDecl.{OpDecl}
 use Rattle.ice_types.specs.declared.declarations.Shape.{Shape}
 use Rattle.ice_types.specs.Tables.{Tables, HasId, interface_ids}
 use Rattle.ice_encoding.specs.declared.limits.TheConstants.{LARGEST}
-use Rattle.ice_graphs.specs.Graph.{Graph}
-use Rattle.ice_graphs.specs.Canonical.{Format, IsWritable, graph_bytes}
+use Rattle.ice_encoding.specs.Graph.{Graph}
+use Rattle.ice_encoding.specs.CanonicalGraph.{Format, IsWritable, graph_bytes}
 use Rattle.instance_writing.specs.Formats.{view_format}
 use Rattle.class_slices.specs.Encoding.{NeedsSliced}
 use Rattle.graph_json.specs.declared.fault.JsonKind.{JsonKind}
@@ -20,7 +20,7 @@ use Rattle.node_commands.specs.Words.{Word}
 use Rattle.node_commands.specs.Outside.{Files}
 use Rattle.node_commands.specs.Answers.{usage, no_such_name, slice_refused, text_refused, json_refused, too_long, needs_sliced}
 use Rattle.node_commands.specs.Decided.{IsSchema, IsFault}
-use Rattle.net_commands.specs.Interfaces.{IsInterface}
+use Rattle.node_commands.specs.Interfaces.{IsInterface}
 use Rattle.call_command.specs.declared.arguments.TheConstants.{MOST_OF_ARGUMENTS}
 use Rattle.call_command.specs.declared.callee.Callee.{Callee}
 use Rattle.call_command.specs.Words.{CallWords}

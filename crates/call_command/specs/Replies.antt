@@ -4,11 +4,11 @@ use Rattle.ice_types.specs.declared.declarations.ExceptionDecl.{ExceptionDecl}
 use Rattle.ice_types.specs.Tables.{Tables}
 use Rattle.ice_prims.specs.declared.fault.Fault.{Fault}
 use Rattle.ice_prims.specs.Rest.{whole}
-use Rattle.ice_graphs.specs.Graph.{Graph, Slice, known, unknown}
-use Rattle.ice_graphs.specs.Flags.{all_slices}
-use Rattle.ice_graphs.specs.Instances.{SpellsNumbered, numbered_at}
-use Rattle.ice_graphs.specs.Typed.{OfType}
-use Rattle.ice_graphs.specs.Exceptions.{UserException, exception_at}
+use Rattle.ice_encoding.specs.Graph.{Graph, Slice, known, unknown}
+use Rattle.ice_encoding.specs.Flags.{all_slices}
+use Rattle.ice_encoding.specs.Instances.{SpellsNumbered, numbered_at}
+use Rattle.ice_encoding.specs.TypedGraph.{OfType}
+use Rattle.ice_encoding.specs.Exceptions.{UserException, exception_at}
 use Rattle.graph_json.specs.Texts.{graph_text}
 use Rattle.ice_proxy.specs.PrintedWords.{quoted_text}
 use Rattle.ice_messages.specs.declared.message.Answer.TheVariants as answers

@@ -11,8 +11,8 @@ use Rattle.ice_prims.specs.declared.fault.ReadFault.TheVariants as read_faults
 use Rattle.ice_encoding.specs.declared.limits.TheConstants.{LARGEST}
 use Rattle.ice_ports.specs.Failures.{one_more}
 use Rattle.ice_ports.specs.Writing.{AppendsPrefix}
-use Rattle.ice_graphs.specs.Graph.{Graph}
-use Rattle.ice_graphs.specs.Canonical.{Format, IsWritable, graph_bytes}
+use Rattle.ice_encoding.specs.Graph.{Graph}
+use Rattle.ice_encoding.specs.CanonicalGraph.{Format, IsWritable, graph_bytes}
 use Rattle.class_slices.specs.Encoding.{NeedsSliced}
 use Rattle.graph_json.specs.Texts.{IsRefused, Lists}
 use Rattle.ice_messages.specs.declared.fault.WriteFault.{WriteFault}

@@ -5,7 +5,7 @@ use Rattle.instance_writing.specs.declared.format.Format.TheVariants.{Sliced, Co
 use Rattle.node_commands.specs.Words.{Word, Command, IsWord, Form, SpellsWithin}
 use Rattle.call_command.specs.declared.words.CallCommand.{CallCommand}
 use Rattle.call_command.specs.declared.words.Options.{Options}
-use Rattle.net_commands.specs.declared.limits.TheConstants.{MOST_RETRIES}
+use Rattle.node_commands.specs.declared.limits.TheConstants.{MOST_RETRIES}
 use Rattle.call_command.specs.declared.words.TheConstants.{MOST_TIMES}
 
 -- what the words ask for

@@ -9,8 +9,8 @@ use class_slices::{Format, encode_typed};
 use graph_json::from_text;
 use ice_relay::RelayFault;
 use ice_types::{Bytes, Schema, Shape};
-use ice_values::DeclaredMembers;
 use std::alloc::Global;
+use value_parts::DeclaredMembers;
 
 /// How many bytes the encapsulation of arguments has at most.
 pub const MOST_OF_ARGUMENTS: u32 = 1_000_000;

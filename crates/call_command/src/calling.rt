@@ -22,8 +22,7 @@ use crate::words::CallCommand;
 use ice_ports::{Net, Shelf, Sink, Source};
 use ice_types::Schema;
 use locator_types::object_schema;
-use net_commands::interface_of;
-use node_commands::{Outcome, load_schema};
+use node_commands::{Outcome, interface_of, load_schema};
 use std::alloc::Global;
 
 /// Calls the operation of the proxy's object with arguments in JSON out of the source, and writes the results in JSON

@@ -3,9 +3,9 @@
 ghost use Rattle.std.specs.Prelude.{◌≡◌, ◌++◌, IfOk, List, Ok, codes, slice_get, ℕ};
 ghost use Rattle.ice_types.specs.Fits.{ShapeFits};
 ghost use Rattle.ice_prims.specs.Rest.{whole};
-ghost use Rattle.ice_graphs.specs.Exceptions.{exception_at};
-ghost use Rattle.ice_graphs.specs.Flags.{all_slices};
-ghost use Rattle.ice_values.specs.Shapes.{shape_seen};
+ghost use Rattle.ice_encoding.specs.Exceptions.{exception_at};
+ghost use Rattle.ice_encoding.specs.Flags.{all_slices};
+ghost use Rattle.value_parts.specs.Shapes.{shape_seen};
 ghost use Rattle.graph_arena.specs.Seen.{view_slices};
 ghost use Rattle.graph_json.specs.Texts.{graph_text};
 ghost use Rattle.class_slices.specs.Seen.{view_user_exception};
@@ -25,11 +25,11 @@ use ice_messages::Answer;
 use ice_prims::ReadFault;
 use ice_proxy::quote;
 use ice_types::{Name, Schema};
-use ice_values::DeclaredMembers;
 use itoa::Buffer;
 use locator::Through;
 use locator_types::locator_schema;
 use std::alloc::{AllocError, Global};
+use value_parts::DeclaredMembers;
 
 /// The line on a message that succeeded, or what stops the call.
 pub(crate) fn line_of(alloc: Global, plan: &Plan<'_>, through: Through) -> Result<Vec<u8>, Stop>

@@ -7,8 +7,7 @@ ghost use Rattle.call_command.specs.Words.{IsOption, IsWithin, Takes, given_of, 
 ghost use Rattle.std.specs.List.{All};
 
 use class_slices::Format;
-use net_commands::MOST_RETRIES;
-use node_commands::{MOST_OF_A_WORD, number_of};
+use node_commands::{MOST_OF_A_WORD, MOST_RETRIES, number_of};
 
 /// The most invocations of one command.
 pub const MOST_TIMES: u32 = 1000;

@@ -5,3 +5,10 @@ pub mod Logs
 pub mod Steps
 pub mod Runs
 pub mod Possible
+pub mod Counted
+pub mod Building
+pub mod Serving
+pub mod Showing
+pub mod Either
+pub mod Ordered
+pub mod Rows

@@ -7,3 +7,7 @@ pub mod Counts
 pub mod Reached
 pub mod Laws
 pub mod Possible
+pub mod Asked
+pub mod Fits
+pub mod Orders
+pub mod CaptureLaws

@@ -13,23 +13,23 @@ use Rattle.ice_encoding.specs.Typed.{HasType}
 use Rattle.ice_encoding.specs.Canonical.{canonical}
 use Rattle.ice_encoding.specs.Writing.{Writer, written}
 use Rattle.ice_encoding.specs.Pausing.{written_in_place}
-use Rattle.ice_graphs.specs.OptionalMembers.{with_optional}
-use Rattle.ice_graphs.specs.Graph.{Graph}
-use Rattle.ice_graphs.specs.Flags.{all_slices}
-use Rattle.ice_graphs.specs.Instances.{most_instances, SpellsNumbered}
-use Rattle.ice_graphs.specs.Members.{written_content}
-use Rattle.ice_graphs.specs.Names.{names_of}
-use Rattle.ice_graphs.specs.Same.{form}
-use Rattle.ice_graphs.specs.Typed.{IsHeldIn, RefersIn}
-use Rattle.ice_graphs.specs.Visiting.{order, visit_each, visit_at, most, place}
-use Rattle.ice_graphs.specs.Canonical.{Pen, sliced, put_inline, written_instance, blank, canonical_graph, graph_bytes}
+use Rattle.ice_encoding.specs.OptionalMembers.{with_optional}
+use Rattle.ice_encoding.specs.Graph.{Graph}
+use Rattle.ice_encoding.specs.Flags.{all_slices}
+use Rattle.ice_encoding.specs.Instances.{most_instances, SpellsNumbered}
+use Rattle.ice_encoding.specs.Members.{written_content}
+use Rattle.ice_encoding.specs.Names.{names_of}
+use Rattle.ice_encoding.specs.SameGraph.{form}
+use Rattle.ice_encoding.specs.TypedGraph.{IsHeldIn, RefersIn}
+use Rattle.ice_encoding.specs.Visiting.{order, visit_each, visit_at, most, place}
+use Rattle.ice_encoding.specs.CanonicalGraph.{Pen, sliced, put_inline, written_instance, blank, canonical_graph, graph_bytes}
 use Rattle.graph_laws.proofs.Canonicity.{same_bytes}
 use Rattle.graph_laws.proofs.Schemas.{canonical_spelled}
 use Rattle.canonical_values.specs.Standing.{only_null, IsCanonical}
-use Rattle.canonical_inputs.specs.Inputs.{IsOwnForm, one_member}
+use Rattle.canonical_inputs.specs.Inputs.{IsOwnForm}
 use Rattle.ice_encoding.proofs.Wider.{typed_wider}
-use Rattle.canonical_graphs.specs.Written.{IsWritten}
-use Rattle.canonical_graphs.proofs.Plain.{NullAlone, value_plain}
+use Rattle.canonical_inputs.specs.Written.{IsWritten, one_member}
+use Rattle.canonical_inputs.proofs.Plain.{NullAlone, value_plain}
 
 -- the graph of a value without instances
 abbrev pub alone : Tree → Graph

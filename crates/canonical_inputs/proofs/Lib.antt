@@ -1,2 +1,15 @@
 pub mod Alone
 pub mod Encapsulated
+pub mod Tables
+pub mod Slices
+pub mod Visits
+pub mod Nested
+pub mod Plain
+pub mod Fronts
+pub mod Places
+pub mod Heads
+pub mod Sliced
+pub mod Found
+pub mod Looked
+pub mod Walked
+pub mod Assembled

@@ -1,64 +1,38 @@
 //! Whether an input is the canonical encapsulation already of the graph that it holds. Then relaying leaves it as it
-//! is, and comparing it with another such input is comparing bytes.
+//! is, and comparing it with another such input is comparing bytes. A value without instances is passed over by
+//! `canonical_values`; a reference to an instance here, with all instances that begin in it: one pass over the bytes goes
+//! by the classes of the slices and builds no graph.
 //!
 //! Forms, and why they are so:
 //!
 //! - Of what is written for some graph it is a law that it is read as that graph but for names, and that the same
 //!   graphs have the same bytes. So no code here reads, and no contract of `canonical_values` speaks of reading.
 //! - A value without instances is the graph whose only member it is; its bytes are those of the value by itself.
-//! - A reference to an instance is passed over with all instances that begin in it, by `canonical_graphs`.
+//! - A reference to an instance is passed over with all instances that begin in it, by `is_canonical_instance`.
 //! - The member may have any name: bytes tell none.
+//! - Of a stretch of bytes it is said which instances begin in it, by number, each whole, and how the pen stands
+//!   before and behind it. No graph is spoken of: whichever graph has these instances is written so, and a visit
+//!   comes to them in the order of their numbers.
+//! - The answer `false` says nothing, and may come at any time: where memory runs out, at a slice that is not known,
+//!   at an optional member, at a part that is not told. Only `true` is a promise.
+//! - The walk keeps a stack of its own, a frame for each instance that is open, and of each instance that has begun
+//!   its class. Its invariant goes backwards over bytes: if what is left of them is what the frames wait for, the
+//!   whole is canonical, whichever classes the instances have that are still to begin.
+//! - The names in a table have to rise. Others may be canonical too, but to tell that none comes twice would take
+//!   memory for each.
 #![tactic(auto)]
 
-ghost use Rattle.std.specs.Prelude.{◌≡◌, ◌≤◌, ℕ, List, IsTrue, IfSome, length};
-ghost use Rattle.ice_encoding.specs.Opening.{encapsulated_bytes};
-ghost use Rattle.canonical_graphs.specs.Written.{IsWritten};
-ghost use Rattle.canonical_inputs.specs.Inputs.{IsOwnForm, one_member};
+mod entry;
+mod frame;
+mod front;
+mod head;
+mod input;
+mod laws;
+mod length;
+mod member;
+mod slice;
+mod walk;
 
-use canonical_graphs::is_canonical_instance;
-use canonical_values::is_canonical;
-use ice_encoding::{LARGEST, SMALLEST};
-use ice_prims::Cursor;
-use ice_types::{Schema, TypeRef};
-use std::alloc::Global;
-
-/// Whether the whole input is the canonical encapsulation, in sliced format, of a value of the type: one that leads to
-/// no instance, or a reference to one. Where the answer is `false`, it may be so all the same.
-/// (Ice manual, "Basic Data Encoding", "Encapsulations".)
-pub fn is_canonical_input(alloc: Global, schema: &Schema, kind: TypeRef, input: &[u8]) -> bool
-    ensures { IsTrue result → (name : List ℕ) → IsOwnForm schema.now (one_member name kind) input.now }
-{
-    // Its contract says what every schema keeps.
-    schema.rules();
-    match content_of(input) {
-        Some(content) => is_canonical_content(alloc, schema, kind, content),
-        None => false,
-    }
-}
-
-/// Whether the content is the canonical one of a value of the type, and not told where that leads to an instance from
-/// within.
-fn is_canonical_content(alloc: Global, schema: &Schema, kind: TypeRef, content: &[u8]) -> bool
-    ensures { IsTrue result → (name : List ℕ) → IsWritten schema.now (one_member name kind) content.now }
-{
-    match kind {
-        TypeRef::Class(declared) if content.first() != Some(&0) => {
-            is_canonical_instance(alloc, schema, declared, content)
-        }
-        _ => is_canonical(alloc, schema, kind, content),
-    }
-}
-
-/// What the encapsulation holds that is the whole input. None where the input is none, or is longer than may be.
-fn content_of(input: &[u8]) -> Option<&[u8]>
-    ensures encapsulated { IfSome result (λ content. input.now ≡ encapsulated_bytes content.now) }
-    ensures short { IfSome result (λ content. length input.now ≤ LARGEST) }
-{
-    if input.len() < SMALLEST || input.len() > LARGEST || input[4] != 1 || input[5] != 1 {
-        return None;
-    }
-    match Cursor::new(input).take_int() {
-        Ok(size) if size == input.len() as i32 => Some(&input[SMALLEST..]),
-        _ => None,
-    }
-}
+pub use input::is_canonical_input;
+pub use laws::{canonical_instances_stay, canonical_references_written, canonical_slices_stay};
+pub use walk::is_canonical_instance;

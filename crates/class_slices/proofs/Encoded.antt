@@ -10,12 +10,12 @@ use Rattle.ice_encoding.specs.declared.limits.TheConstants.{SMALLEST}
 use Rattle.ice_encoding.specs.Opening.{encapsulated_bytes}
 use Rattle.ice_encoding.specs.Writing.{Piece, ◌>>◌, written_each}
 use Rattle.ice_encoding.specs.Pausing.{written_in_place}
-use Rattle.ice_graphs.specs.Graph.{Graph}
-use Rattle.ice_graphs.specs.Canonical.{Pen, Format, put_inline, written_instance, blank, bytes_of, canonical_graph, IsWritable}
-use Rattle.ice_graphs.specs.Visiting.{most}
-use Rattle.ice_graphs.specs.Same.{form}
-use Rattle.ice_values.specs.declared.fields.DeclaredMembers.{DeclaredMembers}
-use Rattle.ice_values.specs.Shapes.{shape_seen}
+use Rattle.ice_encoding.specs.Graph.{Graph}
+use Rattle.ice_encoding.specs.CanonicalGraph.{Pen, Format, put_inline, written_instance, blank, bytes_of, canonical_graph, IsWritable}
+use Rattle.ice_encoding.specs.Visiting.{most}
+use Rattle.ice_encoding.specs.SameGraph.{form}
+use Rattle.value_parts.specs.declared.fields.DeclaredMembers.{DeclaredMembers}
+use Rattle.value_parts.specs.Shapes.{shape_seen}
 use Rattle.value_writing.proofs.WritingSteps.{options-of-tagged}
 use Rattle.instance_writing.specs.Remains.{with_options}
 use Rattle.class_slices.specs.declared.write_fault.WriteFault.TheVariants.{TooLong}

@@ -3,11 +3,11 @@ use Rattle.std.proofs.Common.{◌≡◌, ℕ, ◌<◌, List, [], ◌∷◌, leng
 use Rattle.ice_types.specs.declared.declarations.Shape.{Shape}
 use Rattle.ice_types.specs.Tables.{Tables}
 use Rattle.ice_encoding.specs.Typed.{Refers}
-use Rattle.ice_graphs.specs.Graph.{Graph, Slice, known, unknown}
-use Rattle.ice_graphs.specs.Instances.{slices_of}
-use Rattle.ice_graphs.specs.Canonical.{Format, sliced, compact, Compact, IsWritable}
-use Rattle.ice_graphs.specs.Typed.{IsInstance, RefersIn, OfType}
-use Rattle.ice_graphs.specs.Visiting.{order, place}
+use Rattle.ice_encoding.specs.Graph.{Graph, Slice, known, unknown}
+use Rattle.ice_encoding.specs.Instances.{slices_of}
+use Rattle.ice_encoding.specs.CanonicalGraph.{Format, sliced, compact, Compact, IsWritable}
+use Rattle.ice_encoding.specs.TypedGraph.{IsInstance, RefersIn, OfType}
+use Rattle.ice_encoding.specs.Visiting.{order, place}
 use Rattle.graph_arena.specs.Arena.{IsSound}
 use Rattle.graph_arena.proofs.Closed.{order-is}
 use Rattle.graph_arena.proofs.Taking.{below-at}

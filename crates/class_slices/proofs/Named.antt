@@ -4,16 +4,16 @@ use Rattle.std.proofs.lemmas.List.{take_all}
 use Rattle.ice_types.specs.Tables.{Tables}
 use Rattle.ice_encoding.specs.Tree.{InEach, reference, tree}
 use Rattle.ice_encoding.specs.Order.{KeysRise}
-use Rattle.ice_graphs.specs.OptionalMembers.{Members, with_optional}
-use Rattle.ice_graphs.specs.Exceptions.{of_exceptions, UserException}
-use Rattle.ice_graphs.specs.Graph.{Slice, Graph}
-use Rattle.ice_graphs.specs.Names.{names_of, instance_names, renamed_slice}
-use Rattle.ice_graphs.specs.UserExceptionTyped.{OfUserException}
-use Rattle.ice_graphs.specs.UserExceptionWritten.{references_to, graph_of, numbered_user_exception, form_of}
-use Rattle.ice_graphs.specs.References.{entry_in}
-use Rattle.ice_graphs.specs.Same.{form}
-use Rattle.ice_graphs.specs.Typed.{RefersIn}
-use Rattle.ice_graphs.specs.Visiting.{order, place}
+use Rattle.ice_encoding.specs.OptionalMembers.{Members, with_optional}
+use Rattle.ice_encoding.specs.Exceptions.{of_exceptions, UserException}
+use Rattle.ice_encoding.specs.Graph.{Slice, Graph}
+use Rattle.ice_encoding.specs.Names.{names_of, instance_names, renamed_slice}
+use Rattle.ice_encoding.specs.UserExceptionTyped.{OfUserException}
+use Rattle.ice_encoding.specs.UserExceptionWritten.{references_to, graph_of, numbered_user_exception, form_of}
+use Rattle.ice_encoding.specs.References.{entry_in}
+use Rattle.ice_encoding.specs.SameGraph.{form}
+use Rattle.ice_encoding.specs.TypedGraph.{RefersIn}
+use Rattle.ice_encoding.specs.Visiting.{order, place}
 use Rattle.graph_laws.proofs.Ranged.{instance_below, in_instances}
 use Rattle.graph_arena.specs.Arena.{AreBelow, ContentFits, IsSound}
 use Rattle.graph_arena.specs.Renumbering.{IsIndex}

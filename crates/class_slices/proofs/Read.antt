@@ -8,17 +8,17 @@ use Rattle.ice_prims.proofs.Parts.{then_ok}
 use Rattle.ice_encoding.specs.Bounds.{ended}
 use Rattle.ice_encoding.specs.Opening.{opened_at}
 use Rattle.ice_encoding.specs.Encapsulation.{encapsulated_at}
-use Rattle.ice_graphs.specs.OptionalMembers.{Members}
-use Rattle.ice_graphs.specs.Exceptions.{of_exceptions, UserException, user_exception_slices, user_exception_at, exception_at}
-use Rattle.ice_graphs.specs.Flags.{Reach, first}
-use Rattle.ice_graphs.specs.Graph.{Slice, Graph}
-use Rattle.ice_graphs.specs.Instances.{references, most_instances, misfit, unless_misfit}
-use Rattle.ice_graphs.specs.UserExceptionTyped.{OfUserException}
-use Rattle.ice_graphs.specs.References.{State, opening}
-use Rattle.ice_graphs.specs.Typed.{OfType}
-use Rattle.ice_graphs.proofs.Ending.{ended_ok}
-use Rattle.ice_graphs.proofs.Exceptions.{exception_found}
-use Rattle.ice_graphs.proofs.Graphs.{unless_ok}
+use Rattle.ice_encoding.specs.OptionalMembers.{Members}
+use Rattle.ice_encoding.specs.Exceptions.{of_exceptions, UserException, user_exception_slices, user_exception_at, exception_at}
+use Rattle.ice_encoding.specs.Flags.{Reach, first}
+use Rattle.ice_encoding.specs.Graph.{Slice, Graph}
+use Rattle.ice_encoding.specs.Instances.{references, most_instances, misfit, unless_misfit}
+use Rattle.ice_encoding.specs.UserExceptionTyped.{OfUserException}
+use Rattle.ice_encoding.specs.References.{State, opening}
+use Rattle.ice_encoding.specs.TypedGraph.{OfType}
+use Rattle.ice_encoding.proofs.Ending.{ended_ok}
+use Rattle.ice_encoding.proofs.Exceptions.{exception_found}
+use Rattle.ice_encoding.proofs.Graphs.{unless_ok}
 use Rattle.graph_arena.specs.Arena.{IsSound}
 use Rattle.graph_laws.proofs.SoundExceptions.{user_exception_sound}
 use Rattle.class_slices.proofs.Sound.{typed-sound}

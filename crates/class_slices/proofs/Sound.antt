@@ -8,15 +8,15 @@ use Rattle.ice_prims.proofs.Parts.{Took-fits}
 use Rattle.ice_encoding.specs.Opening.{opened_at}
 use Rattle.ice_encoding.specs.Encapsulation.{encapsulated_at}
 use Rattle.ice_encoding.specs.Order.{KeysRise}
-use Rattle.ice_graphs.specs.Optionals.{Present}
-use Rattle.ice_graphs.specs.OptionalMembers.{Members}
-use Rattle.ice_graphs.specs.Classes.{base_of, own_members}
-use Rattle.ice_graphs.specs.Graph.{Slice, known, unknown, Graph}
-use Rattle.ice_graphs.specs.Flags.{Reach}
-use Rattle.ice_graphs.specs.Instances.{slices_of, most_instances, graph_at}
-use Rattle.ice_graphs.specs.Visiting.{most}
-use Rattle.ice_graphs.specs.Typed.{AreMembers, IsKnown, AreBases, IsInstance, RefersIn, OfType}
-use Rattle.ice_graphs.proofs.Graphs.{next_found}
+use Rattle.ice_encoding.specs.Optionals.{Present}
+use Rattle.ice_encoding.specs.OptionalMembers.{Members}
+use Rattle.ice_encoding.specs.Classes.{base_of, own_members}
+use Rattle.ice_encoding.specs.Graph.{Slice, known, unknown, Graph}
+use Rattle.ice_encoding.specs.Flags.{Reach}
+use Rattle.ice_encoding.specs.Instances.{slices_of, most_instances, graph_at}
+use Rattle.ice_encoding.specs.Visiting.{most}
+use Rattle.ice_encoding.specs.TypedGraph.{AreMembers, IsKnown, AreBases, IsInstance, RefersIn, OfType}
+use Rattle.ice_encoding.proofs.Graphs.{next_found}
 use Rattle.graph_laws.proofs.Fitting.{InPresent, members_ordered}
 use Rattle.graph_laws.proofs.Ranged as ranged
 use Rattle.graph_laws.proofs.Sound.{numbered_typed}

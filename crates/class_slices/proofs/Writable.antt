@@ -11,16 +11,16 @@ use Rattle.ice_encoding.specs.Tree.{Tree, Trees, none, tree, Entries, no_entry, 
 use Rattle.ice_encoding.specs.Canonical.{HasSize, HasSizes}
 use Rattle.ice_encoding.specs.Port.{size_of}
 use Rattle.ice_encoding.specs.Typed.{AllOf, EachOf, PairsOf, Refers, no_reference, by_size, HasType}
-use Rattle.ice_graphs.specs.Optionals.{Present}
-use Rattle.ice_graphs.specs.OptionalMembers.{Members, required_kinds}
-use Rattle.ice_graphs.specs.Classes.{base_of, own_members}
-use Rattle.ice_graphs.specs.Graph.{Slice, known, unknown, Graph}
-use Rattle.ice_graphs.specs.Names.{names, names_each, names_pairs, renamed_name, renamed_members, renamed_slice}
-use Rattle.ice_graphs.specs.Instances.{slices_of}
-use Rattle.ice_graphs.specs.Visiting.{place, order}
-use Rattle.ice_graphs.specs.Same.{form}
-use Rattle.ice_graphs.specs.Typed as typed
-use Rattle.ice_graphs.specs.Typed.{AreMembers, IsKnown, AreBases, IsInstance, IsHeldIn, RefersIn, OfType}
+use Rattle.ice_encoding.specs.Optionals.{Present}
+use Rattle.ice_encoding.specs.OptionalMembers.{Members, required_kinds}
+use Rattle.ice_encoding.specs.Classes.{base_of, own_members}
+use Rattle.ice_encoding.specs.Graph.{Slice, known, unknown, Graph}
+use Rattle.ice_encoding.specs.Names.{names, names_each, names_pairs, renamed_name, renamed_members, renamed_slice}
+use Rattle.ice_encoding.specs.Instances.{slices_of}
+use Rattle.ice_encoding.specs.Visiting.{place, order}
+use Rattle.ice_encoding.specs.SameGraph.{form}
+use Rattle.ice_encoding.specs.TypedGraph as typed
+use Rattle.ice_encoding.specs.TypedGraph.{AreMembers, IsKnown, AreBases, IsInstance, IsHeldIn, RefersIn, OfType}
 use Rattle.graph_laws.proofs.Fitting.{typed_sizes}
 use Rattle.graph_laws.proofs.Renamed.{Moves, members-renamed}
 use Rattle.graph_arena.specs.Arena.{AreBelow, IsSound}

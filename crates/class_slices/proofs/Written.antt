@@ -3,12 +3,12 @@ use Rattle.std.proofs.Common.{◌≡◌, ℕ, List, [], ◌++◌, ◌∙◌, sub
 use Rattle.std.specs.Prelude.{Vec}
 use Rattle.std.specs.declared.alloc.Global.{Global}
 use Rattle.ice_types.specs.Tables.{Tables}
-use Rattle.ice_graphs.specs.Canonical.{Format, sliced, compact}
-use Rattle.ice_graphs.specs.Exceptions.{of_exceptions, UserException}
-use Rattle.ice_graphs.specs.Graph.{Slice, Graph}
-use Rattle.ice_graphs.specs.UserExceptionTyped.{OfUserException}
-use Rattle.ice_graphs.specs.UserExceptionWritten.{graph_of, form_of, user_exception_bytes, canonical_user_exception, CanBeWritten}
-use Rattle.ice_graphs.specs.Typed.{RefersIn}
+use Rattle.ice_encoding.specs.CanonicalGraph.{Format, sliced, compact}
+use Rattle.ice_encoding.specs.Exceptions.{of_exceptions, UserException}
+use Rattle.ice_encoding.specs.Graph.{Slice, Graph}
+use Rattle.ice_encoding.specs.UserExceptionTyped.{OfUserException}
+use Rattle.ice_encoding.specs.UserExceptionWritten.{graph_of, form_of, user_exception_bytes, canonical_user_exception, CanBeWritten}
+use Rattle.ice_encoding.specs.TypedGraph.{RefersIn}
 use Rattle.graph_arena.specs.Arena.{IsSound}
 use Rattle.graph_laws.proofs.UserExceptionForms.{shape_of, graph_typed}
 use Rattle.class_slices.specs.Enclosing.{Closes, unsized}

@@ -3,11 +3,11 @@ use Rattle.std.specs.Prelude.{ℕ, ◌≡◌, ◌<◌, ◌≤◌, List, [], ◌�
 use Rattle.std.specs.declared.alloc.Global.{Global}
 use Rattle.ice_types.specs.declared.declarations.Shape.{Shape}
 use Rattle.ice_types.specs.Tables.{Tables}
-use Rattle.ice_graphs.specs.Graph.{Slice, known, unknown, Graph}
-use Rattle.ice_graphs.specs.Instances.{slices_of}
-use Rattle.ice_graphs.specs.Typed.{AreMembers, OfType, RefersIn}
-use Rattle.ice_graphs.specs.Visiting.{place, order}
-use Rattle.ice_graphs.specs.Canonical.{Format, sliced, compact, graph_bytes, IsWritable}
+use Rattle.ice_encoding.specs.Graph.{Slice, known, unknown, Graph}
+use Rattle.ice_encoding.specs.Instances.{slices_of}
+use Rattle.ice_encoding.specs.TypedGraph.{AreMembers, OfType, RefersIn}
+use Rattle.ice_encoding.specs.Visiting.{place, order}
+use Rattle.ice_encoding.specs.CanonicalGraph.{Format, sliced, compact, graph_bytes, IsWritable}
 use Rattle.value_checks.specs.First.{IsFirstIll}
 use Rattle.class_slices.specs.declared.write_fault.WriteFault.{WriteFault}
 use Rattle.class_slices.specs.declared.write_fault.WriteFault.TheVariants as write_faults

@@ -2,11 +2,11 @@
 use Rattle.std.specs.Prelude.{ℕ, ◌≡◌, ◌<◌, ◌≤◌, length, Option, None, Some, Result, Ok, Err, Vec}
 use Rattle.std.specs.declared.alloc.Global.{Global}
 use Rattle.ice_types.specs.Tables.{Tables}
-use Rattle.ice_graphs.specs.Canonical.{Format, sliced, compact}
-use Rattle.ice_graphs.specs.Exceptions.{of_exceptions, UserException}
-use Rattle.ice_graphs.specs.UserExceptionTyped.{HaveTypeIds, OfUserException}
-use Rattle.ice_graphs.specs.UserExceptionWritten.{graph_of, exception_bytes, CanBeWritten}
-use Rattle.ice_graphs.specs.Typed.{IsInstance, RefersIn}
+use Rattle.ice_encoding.specs.CanonicalGraph.{Format, sliced, compact}
+use Rattle.ice_encoding.specs.Exceptions.{of_exceptions, UserException}
+use Rattle.ice_encoding.specs.UserExceptionTyped.{HaveTypeIds, OfUserException}
+use Rattle.ice_encoding.specs.UserExceptionWritten.{graph_of, exception_bytes, CanBeWritten}
+use Rattle.ice_encoding.specs.TypedGraph.{IsInstance, RefersIn}
 use Rattle.value_checks.specs.First.{IsFirstInstance}
 use Rattle.class_slices.specs.Encoding as graphs
 use Rattle.class_slices.specs.declared.user_exception_fault.UserExceptionFault.{UserExceptionFault}

@@ -1,7 +1,7 @@
 -- Whether the slices of an exception, or an instance that they lead to, begin with an unknown slice.
 use Rattle.std.specs.Prelude.{ℕ, List, Option, None, Some, Result, Ok, Err}
-use Rattle.ice_graphs.specs.Canonical.{Format, sliced, compact}
-use Rattle.ice_graphs.specs.Graph.{Graph, Slice}
+use Rattle.ice_encoding.specs.CanonicalGraph.{Format, sliced, compact}
+use Rattle.ice_encoding.specs.Graph.{Graph, Slice}
 use Rattle.class_slices.specs.Encoding.{BeginsUnknown, ReachesUnknown, IsFirstUnknown}
 use Rattle.class_slices.specs.declared.user_exception_fault.UserExceptionFault.{UserExceptionFault}
 use Rattle.class_slices.specs.declared.user_exception_fault.UserExceptionFault.TheVariants.{IllTyped, UnknownNeedsSliced, TooLong, Memory}

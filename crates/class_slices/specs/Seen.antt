@@ -1,9 +1,9 @@
 -- Exceptions without where they lie in memory.
 use Rattle.std.specs.Prelude.{◌≡◌, []}
 use Rattle.ice_encoding.specs.Tree.{none}
-use Rattle.ice_graphs.specs.OptionalMembers.{Members, with_optional}
-use Rattle.ice_graphs.specs.Exceptions as exceptions
-use Rattle.ice_graphs.specs.UserExceptionWritten.{graph_of}
+use Rattle.ice_encoding.specs.OptionalMembers.{Members, with_optional}
+use Rattle.ice_encoding.specs.Exceptions as exceptions
+use Rattle.ice_encoding.specs.UserExceptionWritten.{graph_of}
 use Rattle.graph_arena.specs.Seen.{view_slices}
 use Rattle.class_slices.specs.declared.user_exception.UserException.{UserException}
 

@@ -1,8 +1,8 @@
 -- Whether some instance begins with an unknown slice. (Ice manual, "Data Encoding for Class and Exception Types".)
 use Rattle.std.specs.Prelude.{ℕ, ◌<◌, ◌≡◌, List, length, Option, None, Some, Result, Ok, Err, slice_index}
-use Rattle.ice_graphs.specs.Graph.{Graph}
-use Rattle.ice_graphs.specs.Instances.{slices_of}
-use Rattle.ice_graphs.specs.Canonical.{Format, sliced, compact}
+use Rattle.ice_encoding.specs.Graph.{Graph}
+use Rattle.ice_encoding.specs.Instances.{slices_of}
+use Rattle.ice_encoding.specs.CanonicalGraph.{Format, sliced, compact}
 use Rattle.class_slices.specs.declared.write_fault.WriteFault.{WriteFault}
 use Rattle.class_slices.specs.declared.write_fault.WriteFault.TheVariants.{UnknownNeedsSliced, TooLong, Memory}
 use Rattle.class_slices.specs.Encoding.{BeginsUnknown, ReachesUnknown, NeedsSliced, IsFirstUnknown}

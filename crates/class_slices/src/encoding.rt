@@ -1,6 +1,6 @@
 //! The encapsulation of any graph, or why there is none.
 
-ghost use Rattle.ice_values.specs.Shapes.{shape_seen};
+ghost use Rattle.value_parts.specs.Shapes.{shape_seen};
 ghost use Rattle.instance_writing.specs.Formats.{view_format};
 ghost use Rattle.class_slices.specs.Encoding.{EncodesGraph};
 
@@ -8,10 +8,10 @@ use crate::encode_fault::EncodeFault;
 use crate::writing::encode_typed;
 use graph_arena::Graph;
 use ice_types::Schema;
-use ice_values::DeclaredMembers;
 use instance_writing::Format;
 use std::alloc::Global;
 use value_checks::first_ill_typed;
+use value_parts::DeclaredMembers;
 
 /// The canonical encapsulation of the graph in the format, where the graph is of the type, the format can
 /// carry it, and the encapsulation is not longer than the limit; else the first part that is not of its type,

@@ -1,6 +1,6 @@
 //! Whether compact format can carry an exception: it has no place for slices that are not known.
 
-ghost use Rattle.ice_graphs.specs.Canonical.{compact};
+ghost use Rattle.ice_encoding.specs.CanonicalGraph.{compact};
 ghost use Rattle.instance_writing.specs.Formats.{view_format};
 ghost use Rattle.graph_arena.specs.Seen.{view_slices};
 ghost use Rattle.class_slices.specs.ExceptionUnknown.{Allows};

@@ -1,6 +1,6 @@
 //! The encapsulation of an exception, or why there is none.
 
-ghost use Rattle.ice_graphs.specs.UserExceptionTyped.{OfUserException};
+ghost use Rattle.ice_encoding.specs.UserExceptionTyped.{OfUserException};
 ghost use Rattle.instance_writing.specs.Formats.{view_format};
 ghost use Rattle.class_slices.specs.ExceptionEncoding.{EncodesException};
 ghost use Rattle.class_slices.specs.Seen.{IsRooted, view_user_exception};

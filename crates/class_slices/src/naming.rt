@@ -2,8 +2,8 @@
 
 ghost use Rattle.std.specs.Prelude.{◌≡◌, IfOk, Some, length};
 ghost use Rattle.ice_encoding.specs.Tree.{reference};
-ghost use Rattle.ice_graphs.specs.Names.{instance_names};
-ghost use Rattle.ice_graphs.specs.UserExceptionWritten.{form_of, references_to};
+ghost use Rattle.ice_encoding.specs.Names.{instance_names};
+ghost use Rattle.ice_encoding.specs.UserExceptionWritten.{form_of, references_to};
 ghost use Rattle.graph_arena.specs.Arena.{AreBelow};
 ghost use Rattle.graph_arena.specs.Seen.{view_slices};
 ghost use Rattle.graph_arena.specs.View.{view, view_all};

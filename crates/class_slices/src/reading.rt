@@ -4,19 +4,19 @@ ghost use Rattle.std.specs.Prelude.{IfOk};
 ghost use Rattle.ice_prims.specs.Rest.{whole};
 ghost use Rattle.ice_prims.specs.Taking.{GivesUnlessMemory, TakesUnlessMemory};
 ghost use Rattle.ice_encoding.specs.Encapsulation.{encapsulated_at};
-ghost use Rattle.ice_graphs.specs.Flags.{all_slices};
-ghost use Rattle.ice_graphs.specs.Instances.{graph_at, numbered_at};
-ghost use Rattle.ice_graphs.specs.Typed.{OfType};
-ghost use Rattle.ice_values.specs.Shapes.{shape_seen};
+ghost use Rattle.ice_encoding.specs.Flags.{all_slices};
+ghost use Rattle.ice_encoding.specs.Instances.{graph_at, numbered_at};
+ghost use Rattle.ice_encoding.specs.TypedGraph.{OfType};
+ghost use Rattle.value_parts.specs.Shapes.{shape_seen};
 
 use crate::enclosing::left_are_bytes;
 use encaps_optionals::{end, open_encaps};
 use graph_arena::Graph;
 use ice_prims::{Cursor, ReadFault};
 use ice_types::Schema;
-use ice_values::DeclaredMembers;
 use instance_reading::read_content;
 use std::alloc::Global;
+use value_parts::DeclaredMembers;
 
 /// The graph that the whole input holds in one encapsulation, or the first fault: slices of known classes,
 /// with sizes or without, and each instance named by the order in which it begins. Nothing may follow the

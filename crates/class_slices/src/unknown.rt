@@ -3,7 +3,7 @@
 ghost use Rattle.std.specs.Prelude.{◌↔◌, IsTrue, IfOk, length};
 ghost use Rattle.graph_arena.specs.Arena.{AreBelow};
 ghost use Rattle.graph_arena.specs.Seen.{view_slices};
-ghost use Rattle.ice_graphs.specs.Canonical.{compact};
+ghost use Rattle.ice_encoding.specs.CanonicalGraph.{compact};
 ghost use Rattle.instance_writing.specs.Formats.{view_format};
 ghost use Rattle.class_slices.specs.Encoding.{BeginsUnknown};
 ghost use Rattle.class_slices.specs.Unknown.{Allows, FindsFirstUnknown, IsFirstUnknownOf};

@@ -1,7 +1,7 @@
 //! The encapsulation of a graph.
 
-ghost use Rattle.ice_graphs.specs.Typed.{OfType};
-ghost use Rattle.ice_values.specs.Shapes.{shape_seen};
+ghost use Rattle.ice_encoding.specs.TypedGraph.{OfType};
+ghost use Rattle.value_parts.specs.Shapes.{shape_seen};
 ghost use Rattle.instance_writing.specs.Formats.{view_format};
 ghost use Rattle.class_slices.specs.Encoding.{Writes};
 
@@ -10,9 +10,9 @@ use crate::unknown::allow;
 use crate::write_fault::WriteFault;
 use graph_arena::Graph;
 use ice_types::Schema;
-use ice_values::DeclaredMembers;
 use instance_writing::{Format, write_numbered};
 use std::alloc::Global;
+use value_parts::DeclaredMembers;
 
 /// The canonical encapsulation of a graph of the type, in the format, where it is not longer than the limit.
 /// The instances that the roots lead to are named by the order of their first visits; the others are left

@@ -6,3 +6,6 @@ pub mod Messages
 pub mod Calls
 pub mod Bounds
 pub mod Sessions
+pub mod Shares
+mod Rows
+pub mod Working

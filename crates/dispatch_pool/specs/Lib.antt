@@ -7,3 +7,6 @@ pub mod Ends
 pub mod Handled
 pub mod ServerDid
 pub mod Parts
+pub mod Shares
+pub mod Sessions
+pub mod Endings

@@ -1,2 +1,4 @@
 pub mod Answers
 pub mod Formats
+pub mod ProxyAnswers
+pub mod Usable

@@ -8,11 +8,11 @@ use Rattle.ice_gateway.specs.Runs.{NetSeen}
 use Rattle.node_commands.specs.declared.outcome.Outcome.{Outcome}
 use Rattle.node_commands.specs.Outside.{Outside, Files, outside, counts}
 use Rattle.node_commands.proofs.Keeping.{keeps_itself}
-use Rattle.net_commands.specs.declared.ending.Ending.{Ending}
-use Rattle.net_commands.specs.declared.ending.Ending.TheVariants as endings
-use Rattle.net_commands.specs.Ends.{answered, end_of}
-use Rattle.net_commands.specs.Lines.{WritesEnd, listening, served}
-use Rattle.net_commands.specs.Lines.{EndsWith}
+use Rattle.node_commands.specs.declared.ending.Ending.{Ending}
+use Rattle.node_commands.specs.declared.ending.Ending.TheVariants as endings
+use Rattle.node_commands.specs.Ends.{answered, end_of}
+use Rattle.node_commands.specs.Lines.{WritesEnd, listening, served}
+use Rattle.node_commands.specs.Lines.{EndsWith}
 use Rattle.gate_command.specs.Words.{GateWords}
 use Rattle.gate_command.specs.Decided.{Sets}
 use Rattle.gate_command.specs.Gated.{IsPort, asked, Comes, refused, unread, starved, unheard, untold, ended}

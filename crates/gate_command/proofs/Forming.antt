@@ -7,10 +7,10 @@ use Rattle.std.specs.declared.alloc.Global.{Global}
 use Rattle.std.proofs.lemmas.Fmt.{decimal_injective}
 use Rattle.std.proofs.lemmas.List.{length-append}
 use Rattle.node_commands.specs.Words.{Word, IsWord, words_of}
-use Rattle.net_commands.specs.declared.limits.TheConstants.{MOST_RETRIES}
-use Rattle.net_commands.specs.declared.limits.TheConstants.{MOST_CONNECTIONS, MOST_PORT}
-use Rattle.net_commands.specs.Once.{Exactly}
-use Rattle.net_commands.proofs.Words.{exactly_by}
+use Rattle.node_commands.specs.declared.limits.TheConstants.{MOST_RETRIES}
+use Rattle.node_commands.specs.declared.limits.TheConstants.{MOST_CONNECTIONS, MOST_PORT}
+use Rattle.node_commands.specs.Once.{Exactly}
+use Rattle.node_commands.proofs.NetWords.{exactly_by}
 use Rattle.gate_command.specs.declared.words.GateCommand.{GateCommand}
 use Rattle.gate_command.specs.declared.words.Options.{Options}
 use Rattle.gate_command.specs.Words.{GateWords, GateForm, AreNamed, Gathers, Gives, IsNamed, IsNumbered, IsOption, IsSetBy, IsWithin, asked_of, no_options, seen}

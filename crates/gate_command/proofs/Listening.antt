@@ -8,13 +8,13 @@ use Rattle.ice_ports.specs.Writing.{AppendsPrefix}
 use Rattle.ice_gateway.specs.Gate.{Gate}
 use Rattle.ice_gateway.specs.Runs.{NetSeen, net_seen}
 use Rattle.ice_gateway.specs.Sessions.{AllServed}
-use Rattle.net_commands.specs.declared.limits.TheConstants.{MOST_MESSAGES}
-use Rattle.net_commands.specs.declared.ending.Ending.{Ending}
-use Rattle.net_commands.specs.declared.ending.Ending.TheVariants as endings
+use Rattle.node_commands.specs.declared.limits.TheConstants.{MOST_MESSAGES}
+use Rattle.node_commands.specs.declared.ending.Ending.{Ending}
+use Rattle.node_commands.specs.declared.ending.Ending.TheVariants as endings
 use Rattle.node_commands.specs.declared.outcome.Outcome.TheVariants as outcomes
-use Rattle.net_commands.specs.Lines.{listening}
-use Rattle.net_commands.specs.Lines.{Tells}
-use Rattle.net_commands.proofs.Counts.{retired, retired_unused, why_ended}
+use Rattle.node_commands.specs.Lines.{listening}
+use Rattle.node_commands.specs.Lines.{Tells}
+use Rattle.node_commands.proofs.Counts.{retired, retired_unused, why_ended}
 use Rattle.talking.specs.Told.{NoneToCome}
 use Rattle.gate_command.specs.Words.{GateWords}
 use Rattle.gate_command.specs.Gated.{Heard, IsPort, asked}

@@ -9,7 +9,7 @@ use Rattle.node_commands.specs.Words.{Word}
 use Rattle.node_commands.specs.Outside.{Files}
 use Rattle.node_commands.specs.Answers.{Answer, slice_refused, text_refused}
 use Rattle.node_commands.specs.Decided.{WithSchema}
-use Rattle.net_commands.specs.Interfaces.{IsInterface}
+use Rattle.node_commands.specs.Interfaces.{IsInterface}
 use Rattle.gate_command.specs.Words.{GateWords}
 use Rattle.gate_command.specs.Decided.{IsListed, WithListed, WithInterface, WithProxy, Refuses, Sets, gate_with}
 use Rattle.gate_command.specs.Laws.{AreSingle}

@@ -8,7 +8,7 @@ use Rattle.node_commands.specs.Words.{Word}
 use Rattle.node_commands.specs.Outside.{Files}
 use Rattle.node_commands.specs.Answers.{Answer, usage, no_such_name, text_refused}
 use Rattle.node_commands.specs.Decided.{IsSchema, WithSchema}
-use Rattle.net_commands.specs.Interfaces.{IsInterface}
+use Rattle.node_commands.specs.Interfaces.{IsInterface}
 use Rattle.gate_command.specs.Words.{GateWords}
 
 -- ---- the steps

@@ -10,9 +10,9 @@ use Rattle.ice_gateway.specs.Sessions.{AllServed}
 use Rattle.node_commands.specs.Outside.{Outside, NoneFailed, ShelfFailed, SinkFailed}
 use Rattle.node_commands.specs.Answers.{Answer, read_failed, write_failed, no_memory}
 use Rattle.node_commands.specs.Effects.{GetsText}
-use Rattle.net_commands.specs.declared.limits.TheConstants.{MOST_MESSAGES}
-use Rattle.net_commands.specs.Ends.{End, answered, network_failed, end_status, end_line}
-use Rattle.net_commands.specs.Lines.{WritesEnd, listening, served}
+use Rattle.node_commands.specs.declared.limits.TheConstants.{MOST_MESSAGES}
+use Rattle.node_commands.specs.Ends.{End, answered, network_failed, end_status, end_line}
+use Rattle.node_commands.specs.Lines.{WritesEnd, listening, served}
 use Rattle.talking.specs.Told.{NoneToCome}
 use Rattle.gate_command.specs.Words.{GateWords}
 use Rattle.gate_command.specs.Decided.{Refuses, Sets}

@@ -21,9 +21,9 @@ use Rattle.ice_gateway.specs.Sessions.{Session, AllDid}
 use Rattle.ice_gateway.specs.Laws.{OnlyLastCounts}
 use Rattle.node_commands.specs.Outside.{Files, Outside, ShelfFailed, SinkFailed}
 use Rattle.node_commands.specs.Answers.{Answer, done, read_failed, no_memory}
-use Rattle.net_commands.specs.declared.limits.TheConstants.{MOST_MESSAGES}
-use Rattle.net_commands.specs.Ends.{End, answered}
-use Rattle.net_commands.specs.Lines.{listening, served}
+use Rattle.node_commands.specs.declared.limits.TheConstants.{MOST_MESSAGES}
+use Rattle.node_commands.specs.Ends.{End, answered}
+use Rattle.node_commands.specs.Lines.{listening, served}
 use Rattle.gate_command.specs.Words.{GateWords}
 use Rattle.gate_command.specs.Decided.{Refuses, Sets}
 use Rattle.gate_command.specs.Gated.{Gated, Sessions}

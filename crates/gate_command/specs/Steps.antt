@@ -14,11 +14,11 @@ use Rattle.node_commands.specs.declared.outcome.Outcome.TheVariants as outcomes
 use Rattle.node_commands.specs.Outside.{Files}
 use Rattle.node_commands.specs.Answers.{Answer, usage, no_memory, read_failed}
 use Rattle.node_commands.specs.Outcomes.{answer_of}
-use Rattle.net_commands.specs.Interfaces.{IsInterface}
-use Rattle.net_commands.specs.declared.ending.Ending.{Ending}
-use Rattle.net_commands.specs.declared.ending.Ending.TheVariants as endings
-use Rattle.net_commands.specs.Lines.{listening, served}
-use Rattle.net_commands.specs.Lines.{EndsWith}
+use Rattle.node_commands.specs.Interfaces.{IsInterface}
+use Rattle.node_commands.specs.declared.ending.Ending.{Ending}
+use Rattle.node_commands.specs.declared.ending.Ending.TheVariants as endings
+use Rattle.node_commands.specs.Lines.{listening, served}
+use Rattle.node_commands.specs.Lines.{EndsWith}
 use Rattle.gate_command.specs.declared.plan.Plan.{Plan}
 use Rattle.gate_command.specs.Words.{GateWords}
 use Rattle.gate_command.specs.Decided.{IsListed, WithInterface, WithProxy, Refuses, Sets}

@@ -3,8 +3,8 @@ use Rattle.std.specs.Prelude.{ℕ, ◌≡◌, ◌≤◌, ◌⊎◌, List, [], �
 use Rattle.std.specs.Fmt.{decimal}
 use Rattle.std.specs.List.{AllByRecursion}
 use Rattle.node_commands.specs.Words.{Word, Command, IsWord, Form, SpellsWithin}
-use Rattle.net_commands.specs.declared.limits.TheConstants.{MOST_RETRIES}
-use Rattle.net_commands.specs.declared.limits.TheConstants.{MOST_CONNECTIONS, MOST_PORT}
+use Rattle.node_commands.specs.declared.limits.TheConstants.{MOST_RETRIES}
+use Rattle.node_commands.specs.declared.limits.TheConstants.{MOST_CONNECTIONS, MOST_PORT}
 use Rattle.gate_command.specs.declared.words.GateCommand.{GateCommand}
 use Rattle.gate_command.specs.declared.words.Options.{Options}
 

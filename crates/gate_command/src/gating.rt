@@ -4,7 +4,7 @@ ghost use Rattle.std.specs.Prelude.{ℕ, ◌≡◌, List, Option};
 ghost use Rattle.ice_types.specs.Object.{object_tables};
 ghost use Rattle.ice_gateway.specs.Runs.{net_seen};
 ghost use Rattle.node_commands.specs.Outside.{counts, outside};
-ghost use Rattle.net_commands.specs.Ends.{end_of};
+ghost use Rattle.node_commands.specs.Ends.{end_of};
 ghost use Rattle.gate_command.specs.Words.{IsWithin, seen};
 ghost use Rattle.gate_command.specs.Gated.{Comes, Gated};
 ghost use Rattle.gate_command.specs.Steps.{Asks, Listens, Serves, gate_of};
@@ -13,8 +13,7 @@ use crate::plan::{Plan, plan_of};
 use crate::words::GateCommand;
 use ice_gateway::{Gateway, gate_all};
 use ice_ports::{Failed, Listener, Net, Shelf, Sink};
-use net_commands::{Ending, MOST_MESSAGES, end_with, report, tell};
-use node_commands::Outcome;
+use node_commands::{Ending, MOST_MESSAGES, Outcome, end_with, report_ending, tell};
 use std::alloc::Global;
 
 /// Takes calls where the words say and forwards them, each once, to the servers of PROXY; answers the status to end
@@ -37,7 +36,7 @@ pub fn gate<H: Shelf, K: Sink, E: Sink, N: Net>(
         (net_seen (N.told net.new) (N.failures net.new) (N.listen_failures net.new)) result }
 {
     let ending = end_of(alloc, command, shelf, sink, net);
-    report(ending, errors)
+    report_ending(ending, errors)
 }
 
 /// Does all of it, up to the line on why there is no success.

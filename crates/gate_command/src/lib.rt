@@ -9,7 +9,7 @@
 //! - What is decided before the net is asked is a chain of steps (`specs/Decided.antt`), as in `call`: PROXY's text is
 //!   read first, since a proxy without endpoints is in no form of `gate`, and where it breaks comes behind the names.
 //! - How it ends, and what it writes, is what `serve` does: its ends, its two lines and their writing are those of
-//!   `net_commands`.
+//!   `node_commands`.
 //! - What became of each connection, and of each call, is told by `GateDid` of `ice_gateway`; the net tells of the
 //!   connects and of the links, which came in and which went out, in their order.
 #![tactic(auto)]

@@ -11,8 +11,7 @@ use ice_ports::Shelf;
 use ice_proxy::{TextFault, parse_text};
 use ice_types::{Proxy, Schema};
 use locator_types::object_schema;
-use net_commands::interface_of;
-use node_commands::{Outcome, load_schema};
+use node_commands::{Outcome, interface_of, load_schema};
 use std::alloc::Global;
 
 /// What calls are forwarded by.

@@ -3,12 +3,11 @@
 ghost use Rattle.std.specs.Prelude.{◌↔◌, IfSome, IsTrue};
 ghost use Rattle.std.specs.List.{AllByRecursion};
 ghost use Rattle.node_commands.specs.Words.{IsWord, words_of};
-ghost use Rattle.net_commands.specs.Once.{Exactly};
+ghost use Rattle.node_commands.specs.Once.{Exactly};
 ghost use Rattle.gate_command.specs.Words.{Gathers, GateForm, IsNamed, IsNoOther};
 ghost use Rattle.gate_command.specs.Words.{IsOption, IsWithin, Takes, asked_of, no_options, seen};
 
-use net_commands::{MOST_CONNECTIONS, MOST_PORT, MOST_RETRIES};
-use node_commands::{MOST_OF_A_WORD, number_of};
+use node_commands::{MOST_CONNECTIONS, MOST_OF_A_WORD, MOST_PORT, MOST_RETRIES, number_of};
 
 /// The option for how many connections are accepted.
 const CONNECTIONS: &str = "--connections";

@@ -7,7 +7,7 @@ use Rattle.std.specs.declared.cmp.Ordering.TheVariants.{Greater}
 use Rattle.ice_encoding.specs.Tree.{byte, sequence, tree, InEach}
 use Rattle.ice_encoding.specs.Order.{tree_cmp, trees_cmp, KeysRise}
 use Rattle.ice_encoding.proofs.Order.{turns}
-use Rattle.ice_graphs.specs.Names.{names_each, renamed_each}
+use Rattle.ice_encoding.specs.Names.{names_each, renamed_each}
 use Rattle.graph_arena.specs.declared.value.Value.{Value}
 use Rattle.graph_arena.specs.declared.value.Value.TheVariants as variants
 use Rattle.graph_arena.specs.Sorted.{sorted, sorted_each, has_equal_keys, some_has_equal_keys}

@@ -2,13 +2,13 @@
 use Rattle.std.proofs.Common.{◌≡◌, ℕ, ◌≤◌, List, [], ◌∷◌, length, map, refl, sym, ap, ◌∙◌, subst, arith, inl, inr}
 use Rattle.std.proofs.lemmas.Bool.{cases_eq}
 use Rattle.std.proofs.lemmas.List.{length-map}
-use Rattle.ice_graphs.specs.OptionalMembers.{Members}
-use Rattle.ice_graphs.specs.Graph.{Slice, Graph}
-use Rattle.ice_graphs.specs.Names.{names_of, instance_names, renamed_members, renamed_slice}
-use Rattle.ice_graphs.specs.Instances.{slices_of}
-use Rattle.ice_graphs.specs.References.{entry_in}
-use Rattle.ice_graphs.specs.Visiting.{place, order}
-use Rattle.ice_graphs.specs.Same.{AreListed, Holds, numbered, form}
+use Rattle.ice_encoding.specs.OptionalMembers.{Members}
+use Rattle.ice_encoding.specs.Graph.{Slice, Graph}
+use Rattle.ice_encoding.specs.Names.{names_of, instance_names, renamed_members, renamed_slice}
+use Rattle.ice_encoding.specs.Instances.{slices_of}
+use Rattle.ice_encoding.specs.References.{entry_in}
+use Rattle.ice_encoding.specs.Visiting.{place, order}
+use Rattle.ice_encoding.specs.SameGraph.{AreListed, Holds, numbered, form}
 use Rattle.graph_arena.specs.Arena.{AreBelow, ContentFits, EachFits, IsSound}
 use Rattle.graph_arena.specs.Renumbering.{IsIndex}
 use Rattle.graph_arena.proofs.Agreeing.{members-agree, slices-agree}

@@ -3,10 +3,10 @@ use Rattle.std.proofs.Common.{◌≡◌, ℕ, List, [], ◌∷◌, ◌++◌, map
 use Rattle.std.proofs.lemmas.List.{map-append}
 use Rattle.ice_encoding.specs.Tree.{Tree, boolean, byte, short, int, long, text, sequence, dictionary, struct, enumerator, proxy, reference, Trees, none, tree, Entries, no_entry, entry, InEach, InPairs}
 use Rattle.ice_encoding.specs.Order.{IsRising, KeysRise, IsOrdered}
-use Rattle.ice_graphs.specs.Optionals.{Present}
-use Rattle.ice_graphs.specs.OptionalMembers.{Members}
-use Rattle.ice_graphs.specs.Graph.{Slice, known, unknown}
-use Rattle.ice_graphs.specs.Names.{listed_name, names, names_each, names_pairs, names_present, names_of, slice_names, instance_names, renamed_name, renamed, renamed_each, renamed_pairs, renamed_present, renamed_members, renamed_slice}
+use Rattle.ice_encoding.specs.Optionals.{Present}
+use Rattle.ice_encoding.specs.OptionalMembers.{Members}
+use Rattle.ice_encoding.specs.Graph.{Slice, known, unknown}
+use Rattle.ice_encoding.specs.Names.{listed_name, names, names_each, names_pairs, names_present, names_of, slice_names, instance_names, renamed_name, renamed, renamed_each, renamed_pairs, renamed_present, renamed_members, renamed_slice}
 use Rattle.graph_arena.specs.Arena.{AreOrdered, HasOrder, SliceHasOrder, HaveOrder}
 
 module _ (f : ℕ → ℕ) where

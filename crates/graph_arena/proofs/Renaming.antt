@@ -3,9 +3,9 @@ use Rattle.std.proofs.Common.{◌≡◌, ◌≤◌, ℕ, List, [], ◌∷◌, �
 use Rattle.std.specs.List.{refill}
 use Rattle.std.proofs.Math.Seq.{take-length, drop-length}
 use Rattle.ice_encoding.specs.Tree.{Tree, sequence, dictionary, struct, tree, entry}
-use Rattle.ice_graphs.specs.Optionals.{Present}
-use Rattle.ice_graphs.specs.Graph as graphs
-use Rattle.ice_graphs.specs.Names.{renamed, renamed_each, renamed_pairs, renamed_present, renamed_slice}
+use Rattle.ice_encoding.specs.Optionals.{Present}
+use Rattle.ice_encoding.specs.Graph as graphs
+use Rattle.ice_encoding.specs.Names.{renamed, renamed_each, renamed_pairs, renamed_present, renamed_slice}
 use Rattle.graph_arena.specs.declared.instance.Slice.{Slice}
 use Rattle.graph_arena.specs.declared.value.Value.{Value}
 use Rattle.graph_arena.specs.declared.value.Value.TheVariants as variants

@@ -3,11 +3,11 @@ use Rattle.std.proofs.Common.{◌≡◌, ℕ, zero, suc, ◌+◌, ◌<◌, ◌�
 use Rattle.std.proofs.Math.Seq.{drop-cons}
 use Rattle.std.proofs.lemmas.Bool.{cases_eq}
 use Rattle.std.proofs.lemmas.List.{get_or-map, get_or-set_other, length-map, length-set, map-append, map-set}
-use Rattle.ice_graphs.specs.Graph.{Slice}
-use Rattle.ice_graphs.specs.Instances.{slices_of}
-use Rattle.ice_graphs.specs.References.{entry_in}
-use Rattle.ice_graphs.specs.Same.{HasEachOnce}
-use Rattle.ice_graphs.specs.Visiting.{place}
+use Rattle.ice_encoding.specs.Graph.{Slice}
+use Rattle.ice_encoding.specs.Instances.{slices_of}
+use Rattle.ice_encoding.specs.References.{entry_in}
+use Rattle.ice_encoding.specs.SameGraph.{HasEachOnce}
+use Rattle.ice_encoding.specs.Visiting.{place}
 use Rattle.graph_arena.specs.Arena.{AreBelow}
 use Rattle.graph_arena.proofs.Closed.{place-head, place-tail}
 

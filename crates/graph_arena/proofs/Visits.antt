@@ -1,10 +1,10 @@
 -- Visits by a stack of what is still to be visited.
 use Rattle.std.proofs.Common.{◌≡◌, ℕ, zero, suc, ◌+◌, ◌<◌, ◌≤◌, Bool, true, false, List, [], ◌∷◌, ◌++◌, length, refl, sym, ap, ◌∙◌, subst, append_assoc, length-append, arith}
 use Rattle.std.proofs.lemmas.List.{append-nil, reverse-append, length-reverse}
-use Rattle.ice_graphs.specs.Graph.{Graph}
-use Rattle.ice_graphs.specs.Instances.{slices_of}
-use Rattle.ice_graphs.specs.Names.{names_of, instance_names}
-use Rattle.ice_graphs.specs.Visiting.{is_listed, visit_each, visit_at, most, order}
+use Rattle.ice_encoding.specs.Graph.{Graph}
+use Rattle.ice_encoding.specs.Instances.{slices_of}
+use Rattle.ice_encoding.specs.Names.{names_of, instance_names}
+use Rattle.ice_encoding.specs.Visiting.{is_listed, visit_each, visit_at, most, order}
 use Rattle.graph_arena.specs.Arena.{AreBelow, IsSound}
 use Rattle.graph_arena.specs.Listing.{from_top}
 use Rattle.graph_arena.proofs.Fitting.{fits-at}

@@ -2,12 +2,12 @@
 use Rattle.std.specs.Prelude.{ℕ, ◌<◌, ◌≤◌, List, [], ◌∷◌, ◌++◌, length}
 use Rattle.ice_encoding.specs.Tree.{InEach, none}
 use Rattle.ice_encoding.specs.Order.{KeysRise, IsOrdered}
-use Rattle.ice_graphs.specs.Optionals.{Present}
-use Rattle.ice_graphs.specs.OptionalMembers.{Members}
-use Rattle.ice_graphs.specs.Graph.{Slice, known, unknown, Graph}
-use Rattle.ice_graphs.specs.Names.{names_of, instance_names}
-use Rattle.ice_graphs.specs.References.{replaced}
-use Rattle.ice_graphs.specs.Visiting.{most}
+use Rattle.ice_encoding.specs.Optionals.{Present}
+use Rattle.ice_encoding.specs.OptionalMembers.{Members}
+use Rattle.ice_encoding.specs.Graph.{Slice, known, unknown, Graph}
+use Rattle.ice_encoding.specs.Names.{names_of, instance_names}
+use Rattle.ice_encoding.specs.References.{replaced}
+use Rattle.ice_encoding.specs.Visiting.{most}
 
 -- each name is below the limit
 abbrev pub AreBelow : ℕ → List ℕ → Type 0

@@ -2,7 +2,7 @@
 use Rattle.std.specs.Prelude.{ℕ, ◌≡◌, ◌<◌, Bool, true, false, List, [], ◌∷◌, ◌++◌, length, reverse, slice_index_or, Result, Ok, Err, refl}
 use Rattle.std.specs.Coded.{Coded, code_by, coded×, coded_ℕ, coded_list}
 use Rattle.std.specs.declared.alloc.AllocError.{AllocError}
-use Rattle.ice_graphs.specs.Visiting.{is_listed}
+use Rattle.ice_encoding.specs.Visiting.{is_listed}
 
 -- so many places, of which these are listed
 pub record Listed : Type 0 where

@@ -1,10 +1,10 @@
 -- Members, slices and instances without where they lie in memory.
 use Rattle.std.specs.Prelude.{ℕ, List, map}
 use Rattle.ice_encoding.specs.Tree.{Tree}
-use Rattle.ice_graphs.specs.OptionalMembers as members
-use Rattle.ice_graphs.specs.Optionals.{Present}
-use Rattle.ice_graphs.specs.Graph.{known, unknown}
-use Rattle.ice_graphs.specs.Graph as graphs
+use Rattle.ice_encoding.specs.OptionalMembers as members
+use Rattle.ice_encoding.specs.Optionals.{Present}
+use Rattle.ice_encoding.specs.Graph.{known, unknown}
+use Rattle.ice_encoding.specs.Graph as graphs
 use Rattle.graph_arena.specs.declared.value.Value.{Value}
 use Rattle.graph_arena.specs.declared.instance.Members.{Members}
 use Rattle.graph_arena.specs.declared.instance.Slice.{Slice}

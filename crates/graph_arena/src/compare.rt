@@ -10,8 +10,8 @@ ghost use Rattle.ice_encoding.specs.Tree.{byte};
 ghost use Rattle.graph_arena.specs.View.{byte_trees, view, view_all, view_pairs};
 ghost use Rattle.graph_arena.specs.Comparing.{values_alike, values_equal, values_partial, values_total};
 
-use crate::Value;
 use crate::proxy_order::compare_some;
+use crate::value::Value;
 use std::cmp::Ordering;
 
 impl PartialEq for Value {

@@ -1,9 +1,9 @@
 //! Graphs of class instances, each named by its place.
 
 ghost use Rattle.std.specs.Prelude.{◌≡◌, ◌≢◌, ◌<◌, ◌↔◌, IsTrue, IfOk, OnOk, OnErr, length, map};
-ghost use Rattle.ice_graphs.specs.Names.{instance_names, names_of};
-ghost use Rattle.ice_graphs.specs.Instances.{slices_of};
-ghost use Rattle.ice_graphs.specs.Visiting.{most};
+ghost use Rattle.ice_encoding.specs.Names.{instance_names, names_of};
+ghost use Rattle.ice_encoding.specs.Instances.{slices_of};
+ghost use Rattle.ice_encoding.specs.Visiting.{most};
 ghost use Rattle.graph_arena.specs.Seen.{view_content, view_instance};
 ghost use Rattle.graph_arena.specs.Arena.{AreBelow, ContentFits, InstanceFits, IsSound, no_graph, with_filled};
 ghost use Rattle.graph_arena.specs.Arena.{with_reserved, with_roots};
@@ -27,7 +27,7 @@ pub struct Graph {
 
 impl Model for Graph {
     ghost use Rattle.std.specs.Prelude.{map};
-    ghost use Rattle.ice_graphs.specs.Graph as graphs;
+    ghost use Rattle.ice_encoding.specs.Graph as graphs;
     ghost use Rattle.graph_arena.specs.Seen.{view_content, view_instance};
     ghost use Rattle.graph_arena.specs.Stored.{graph_code};
     ghost use Rattle.graph_arena.specs.Arena.{IsSound};

@@ -1,10 +1,10 @@
 //! Instances of classes, and the values of their members.
 
 ghost use Rattle.std.specs.Prelude.{◌≡◌};
-ghost use Rattle.ice_graphs.specs.Instances as graphs;
+ghost use Rattle.ice_encoding.specs.Instances as graphs;
 ghost use Rattle.graph_arena.specs.Seen.{view_slices};
 
-use crate::Value;
+use crate::value::Value;
 use ice_types::{Bytes, List, Name};
 
 /// The values of the required members in order, and of the optional ones that are present, by rising

@@ -1,13 +1,13 @@
 //! The instances that values name.
 
 ghost use Rattle.std.specs.Prelude.{◌≡◌, ◌++◌, OnOk};
-ghost use Rattle.ice_graphs.specs.Names.{instance_names, listed_name, names, names_each, names_of, names_pairs};
-ghost use Rattle.ice_graphs.specs.Names.{names_present, slice_names};
+ghost use Rattle.ice_encoding.specs.Names.{instance_names, listed_name, names, names_each, names_of, names_pairs};
+ghost use Rattle.ice_encoding.specs.Names.{names_present, slice_names};
 ghost use Rattle.graph_arena.specs.View.{view, view_all, view_pairs};
 ghost use Rattle.graph_arena.specs.Seen.{view_content, view_present, view_slice, view_slices};
 
-use crate::Value;
 use crate::instance::{Members, Slice};
+use crate::value::Value;
 use ice_types::List;
 use std::alloc::AllocError;
 

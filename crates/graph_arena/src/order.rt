@@ -5,7 +5,7 @@ ghost use Rattle.ice_encoding.specs.Order.{IsRising, KeysRise, IsOrdered, AreBel
 ghost use Rattle.ice_encoding.specs.Tree.{InEach, InPairs};
 ghost use Rattle.graph_arena.specs.View.{view, view_all, view_pairs};
 
-use crate::Value;
+use crate::value::Value;
 
 /// Whether the pairs of every dictionary inside the value stand in strictly rising key order.
 #[cycle(sorted)]

@@ -1,10 +1,10 @@
 //! Graphs whose instances are named by their first visits.
 
 ghost use Rattle.std.specs.Prelude.{◌≡◌, ◌≤◌, IfOk, length, map};
-ghost use Rattle.ice_graphs.specs.Instances.{slices_of};
-ghost use Rattle.ice_graphs.specs.Names.{renamed_slice};
-ghost use Rattle.ice_graphs.specs.References.{entry_in};
-ghost use Rattle.ice_graphs.specs.Same.{HasEachOnce, form};
+ghost use Rattle.ice_encoding.specs.Instances.{slices_of};
+ghost use Rattle.ice_encoding.specs.Names.{renamed_slice};
+ghost use Rattle.ice_encoding.specs.References.{entry_in};
+ghost use Rattle.ice_encoding.specs.SameGraph.{HasEachOnce, form};
 ghost use Rattle.graph_arena.specs.Arena.{AreBelow};
 ghost use Rattle.graph_arena.specs.Renumbering.{IsIndex};
 ghost use Rattle.graph_arena.specs.Seen.{view_instance, view_slice, view_slices};

@@ -1,14 +1,14 @@
 //! The references of a slice that has a table: each is a place in the table until that is read.
 
 ghost use Rattle.std.specs.Prelude.{◌≡◌, map};
-ghost use Rattle.ice_graphs.specs.Names.{renamed, renamed_each, renamed_members, renamed_name, renamed_pairs};
-ghost use Rattle.ice_graphs.specs.Names.{renamed_present};
-ghost use Rattle.ice_graphs.specs.References.{entry_in};
+ghost use Rattle.ice_encoding.specs.Names.{renamed, renamed_each, renamed_members, renamed_name, renamed_pairs};
+ghost use Rattle.ice_encoding.specs.Names.{renamed_present};
+ghost use Rattle.ice_encoding.specs.References.{entry_in};
 ghost use Rattle.graph_arena.specs.View.{view, view_all, view_pairs};
 ghost use Rattle.graph_arena.specs.Seen.{view_content, view_present};
 
-use crate::Value;
 use crate::instance::Members;
+use crate::value::Value;
 
 /// Puts for each place of the table in the members the name that stands there.
 pub fn resolve_members(members: &mut Members, table: &[u32])

@@ -6,9 +6,9 @@ ghost use Rattle.graph_arena.specs.Sorted.{sorted, has_equal_keys};
 ghost use Rattle.graph_arena.specs.Sorting.{Sorts, SortsEach, SortsPairs, UnlessEqual, Puts};
 ghost use Rattle.graph_arena.specs.View.{view, view_all, view_pairs};
 
-use crate::Value;
 use crate::order::is_sorted;
 use crate::proxy_copy::copy_some;
+use crate::value::Value;
 use ice_types::{Bytes, List, Name};
 use std::alloc::{AllocError, Global};
 use std::collections::BTreeMap;

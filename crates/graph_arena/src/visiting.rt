@@ -1,7 +1,7 @@
 //! The order in which instances are visited first.
 
 ghost use Rattle.std.specs.Prelude.{◌≡◌, ◌++◌, IfOk, OnOk};
-ghost use Rattle.ice_graphs.specs.Visiting.{order};
+ghost use Rattle.ice_encoding.specs.Visiting.{order};
 ghost use Rattle.graph_arena.specs.Listing.{from_top};
 
 use crate::graph::Graph;

@@ -20,9 +20,9 @@ use Rattle.ice_types.specs.Tables.{Tables}
 use Rattle.ice_types.specs.Rules.{IsSchema}
 use Rattle.ice_encoding.specs.Tree.{Tree, Trees, tree_count, InEach}
 use Rattle.ice_encoding.specs.Typed.{EachOf, HasType, Refers, by_size}
-use Rattle.ice_graphs.specs.Typed.{AreOptions, AreMembers}
-use Rattle.ice_graphs.specs.Optionals.{Present, kind_tagged}
-use Rattle.ice_graphs.specs.OptionalMembers.{Members}
+use Rattle.ice_encoding.specs.TypedGraph.{AreOptions, AreMembers}
+use Rattle.ice_encoding.specs.Optionals.{Present, kind_tagged}
+use Rattle.ice_encoding.specs.OptionalMembers.{Members}
 use Rattle.graph_json.specs.ValueNotation.{Noting, NotesMembers, Notes}
 use Rattle.graph_json.specs.CanonicalValues.{Write, members_noted, notation}
 use Rattle.graph_json.specs.TypedValues.{IsShort, HasShortTexts}

@@ -13,8 +13,8 @@ use Rattle.ice_types.specs.declared.declarations.Shape.{Shape}
 use Rattle.ice_types.specs.Tables.{Tables}
 use Rattle.ice_types.specs.Rules.{IsSchema}
 use Rattle.ice_encoding.specs.Tree.{Tree}
-use Rattle.ice_graphs.specs.Optionals.{Present}
-use Rattle.ice_graphs.specs.OptionalMembers.{Members, with_optional}
+use Rattle.ice_encoding.specs.Optionals.{Present}
+use Rattle.ice_encoding.specs.OptionalMembers.{Members, with_optional}
 use Rattle.graph_json.specs.ValueNotation.{Noting, Notes}
 use Rattle.graph_json.specs.ReadingValues.{Read, members_of, noted_value}
 use Rattle.graph_json.specs.Contents.{put_at, count_of, NotesOption, NotesOptions, NotesContent, option_there, options_of, counted, content_in, noted_content}

@@ -15,9 +15,9 @@ use Rattle.ice_types.specs.Tables.{Tables}
 use Rattle.ice_types.specs.Rules.{IsSchema}
 use Rattle.ice_encoding.specs.Tree.{Tree}
 use Rattle.ice_encoding.specs.Typed.{HasType, Refers, by_size}
-use Rattle.ice_graphs.specs.Typed.{AreOptions, AreMembers}
-use Rattle.ice_graphs.specs.Optionals.{Present, kind_tagged}
-use Rattle.ice_graphs.specs.OptionalMembers.{Members}
+use Rattle.ice_encoding.specs.TypedGraph.{AreOptions, AreMembers}
+use Rattle.ice_encoding.specs.Optionals.{Present, kind_tagged}
+use Rattle.ice_encoding.specs.OptionalMembers.{Members}
 use Rattle.graph_json.specs.ValueNotation.{Notes}
 use Rattle.graph_json.specs.Contents.{HasOwnNames, put_at, NotesOption, NotesOptions, NotesContent}
 use Rattle.graph_json.proofs.OfType.{members_typed, noted_type}

@@ -16,13 +16,13 @@ use Rattle.ice_types.specs.declared.declarations.Member.{Member}
 use Rattle.ice_types.specs.declared.declarations.Shape.{Shape}
 use Rattle.ice_types.specs.Tables.{Tables}
 use Rattle.ice_encoding.specs.Tree.{Tree, Trees, none, tree, tree_count}
-use Rattle.ice_graphs.specs.Optionals.{Present}
-use Rattle.ice_graphs.specs.OptionalMembers.{with_optional}
+use Rattle.ice_encoding.specs.Optionals.{Present}
+use Rattle.ice_encoding.specs.OptionalMembers.{with_optional}
 use Rattle.graph_arena.specs.declared.value.Value.{Value}
 use Rattle.graph_arena.specs.View.{view, view_all}
 use Rattle.graph_arena.specs.Seen.{view_present}
 use Rattle.graph_arena.proofs.Shapes.{count_all}
-use Rattle.ice_values.specs.Shapes.{without_tag, with_tag}
+use Rattle.value_parts.specs.Shapes.{without_tag, with_tag}
 use Rattle.graph_json.specs.ReadingValues.{Read, members_of, noted_value}
 use Rattle.graph_json.specs.Contents.{put_at, options_of, noted_content}
 use Rattle.graph_json.proofs.WalkingValues.{join, join-none, regroup}

@@ -23,11 +23,11 @@ use Rattle.ice_types.specs.Tables.{Tables}
 use Rattle.ice_types.proofs.Levels.{found_by}
 use Rattle.ice_encoding.specs.Tree as tree
 use Rattle.ice_encoding.specs.Tree.{Tree, Trees, none, Entries, no_entry, entry}
-use Rattle.ice_graphs.specs.Optionals.{Present}
-use Rattle.ice_graphs.specs.OptionalMembers.{Members}
-use Rattle.ice_graphs.specs.Classes.{members_in, own_members}
-use Rattle.ice_graphs.specs.Graph.{Slice, known, unknown, Graph}
-use Rattle.ice_graphs.specs.Same.{form}
+use Rattle.ice_encoding.specs.Optionals.{Present}
+use Rattle.ice_encoding.specs.OptionalMembers.{Members}
+use Rattle.ice_encoding.specs.Classes.{members_in, own_members}
+use Rattle.ice_encoding.specs.Graph.{Slice, known, unknown, Graph}
+use Rattle.ice_encoding.specs.SameGraph.{form}
 use Rattle.graph_json.specs.ValueNotation.{name_noted}
 use Rattle.graph_json.specs.CanonicalValues.{Write, name_numbered, each_noted, pairs_noted, members_noted, noted, notation_step, notation_levels, notation}
 use Rattle.graph_json.specs.Contents.{member_tagged, put_member, options_noted, content_noted}

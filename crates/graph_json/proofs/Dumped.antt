@@ -7,13 +7,13 @@ use Rattle.ice_types.specs.declared.declarations.Shape.{Shape}
 use Rattle.ice_types.specs.Tables.{Tables}
 use Rattle.ice_types.specs.Rules.{IsSchema}
 use Rattle.ice_prims.specs.Rest.{IsBytes}
-use Rattle.ice_graphs.specs.Graph.{Graph}
-use Rattle.ice_graphs.specs.Flags.{Reach}
-use Rattle.ice_graphs.specs.Instances.{most_instances, SpellsNumbered}
-use Rattle.ice_graphs.specs.Same.{form}
-use Rattle.ice_graphs.specs.Typed.{OfType}
-use Rattle.ice_graphs.specs.Canonical.{Format, graph_bytes}
-use Rattle.ice_graphs.specs.Visiting.{most, order}
+use Rattle.ice_encoding.specs.Graph.{Graph}
+use Rattle.ice_encoding.specs.Flags.{Reach}
+use Rattle.ice_encoding.specs.Instances.{most_instances, SpellsNumbered}
+use Rattle.ice_encoding.specs.SameGraph.{form}
+use Rattle.ice_encoding.specs.TypedGraph.{OfType}
+use Rattle.ice_encoding.specs.CanonicalGraph.{Format, graph_bytes}
+use Rattle.ice_encoding.specs.Visiting.{most, order}
 use Rattle.graph_arena.proofs.Closed.{few}
 use Rattle.graph_laws.proofs.Canonicity.{same_bytes}
 use Rattle.graph_laws.proofs.Formed.{Reached, form-same-graph}

@@ -12,8 +12,8 @@ use Rattle.ice_types.specs.declared.schema.TheConstants.{MOST_NUMBER}
 use Rattle.ice_types.specs.Fits.{names_of, tags_of, DifferFrom, MembersFit}
 use Rattle.ice_types.specs.Tables.{Tables}
 use Rattle.ice_types.specs.Rules.{IsSchema}
-use Rattle.ice_graphs.specs.OptionalMembers.{shape_of}
-use Rattle.ice_graphs.specs.Classes.{members_in, own_members}
+use Rattle.ice_encoding.specs.OptionalMembers.{shape_of}
+use Rattle.ice_encoding.specs.Classes.{members_in, own_members}
 use Rattle.graph_json.proofs.ContentCanon.{In, ApartTags}
 use Rattle.graph_json.proofs.Names.{LacksName, AreApart, are_apart}
 use Rattle.graph_json.proofs.Tagged.{Each, each_moves, lacks_each, LacksTag, HaveTags}

@@ -14,15 +14,15 @@ use Rattle.ice_prims.specs.Rest.{IsBytes}
 use Rattle.ice_encoding.specs.declared.limits.TheConstants.{GREATEST}
 use Rattle.ice_encoding.specs.Port.{size_of}
 use Rattle.ice_encoding.specs.Typed.{Refers}
-use Rattle.ice_graphs.specs.Classes.{class_named, base_of, own_members}
-use Rattle.ice_graphs.specs.Graph.{Slice, known, unknown, Graph}
-use Rattle.ice_graphs.specs.Canonical.{sliced, id_in, id_of}
-use Rattle.ice_graphs.specs.Flags.{all_slices}
-use Rattle.ice_graphs.specs.Instances.{slices_of}
-use Rattle.ice_graphs.specs.Names.{renamed_slice}
-use Rattle.ice_graphs.specs.Same.{AreListed, form}
-use Rattle.ice_graphs.specs.Typed.{AreReferred, IsKnown, AreBases, IsInstance, IsHeldIn, RefersIn, OfType}
-use Rattle.ice_graphs.specs.Visiting.{place, order, most}
+use Rattle.ice_encoding.specs.Classes.{class_named, base_of, own_members}
+use Rattle.ice_encoding.specs.Graph.{Slice, known, unknown, Graph}
+use Rattle.ice_encoding.specs.CanonicalGraph.{sliced, id_in, id_of}
+use Rattle.ice_encoding.specs.Flags.{all_slices}
+use Rattle.ice_encoding.specs.Instances.{slices_of}
+use Rattle.ice_encoding.specs.Names.{renamed_slice}
+use Rattle.ice_encoding.specs.SameGraph.{AreListed, form}
+use Rattle.ice_encoding.specs.TypedGraph.{AreReferred, IsKnown, AreBases, IsInstance, IsHeldIn, RefersIn, OfType}
+use Rattle.ice_encoding.specs.Visiting.{place, order, most}
 use Rattle.graph_laws.proofs.Formed.{Reached, form-typed, form-same-graph}
 use Rattle.graph_laws.proofs.Named.{are_named}
 use Rattle.graph_laws.proofs.Reached.{reached-small}

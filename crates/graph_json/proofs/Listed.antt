@@ -11,8 +11,8 @@ use Rattle.serde_json.specs.Events.{members_len}
 use Rattle.ice_types.specs.declared.declarations.Shape.{Shape}
 use Rattle.ice_types.specs.Tables.{Tables}
 use Rattle.ice_types.specs.Rules.{IsSchema}
-use Rattle.ice_graphs.specs.Classes.{class_named, own_members}
-use Rattle.ice_graphs.specs.Graph.{Slice, known, unknown, Graph}
+use Rattle.ice_encoding.specs.Classes.{class_named, own_members}
+use Rattle.ice_encoding.specs.Graph.{Slice, known, unknown, Graph}
 use Rattle.graph_json.specs.ValueNotation.{Noting, NotesName}
 use Rattle.graph_json.specs.ReadingValues.{Read, name_of, whole}
 use Rattle.graph_json.specs.Contents.{NotesContent, noted_content}

@@ -6,12 +6,12 @@ use Rattle.serde_json.specs.Data.{Data}
 use Rattle.ice_types.specs.declared.declarations.Shape.{Shape}
 use Rattle.ice_types.specs.Tables.{Tables}
 use Rattle.ice_types.specs.Rules.{IsSchema}
-use Rattle.ice_graphs.specs.Graph.{Graph}
-use Rattle.ice_graphs.specs.Instances.{slices_of, most_instances}
-use Rattle.ice_graphs.specs.Names.{renamed_slice}
-use Rattle.ice_graphs.specs.Same.{form, Same}
-use Rattle.ice_graphs.specs.Typed.{OfType}
-use Rattle.ice_graphs.specs.Visiting.{place, order, most}
+use Rattle.ice_encoding.specs.Graph.{Graph}
+use Rattle.ice_encoding.specs.Instances.{slices_of, most_instances}
+use Rattle.ice_encoding.specs.Names.{renamed_slice}
+use Rattle.ice_encoding.specs.SameGraph.{form, Same}
+use Rattle.ice_encoding.specs.TypedGraph.{OfType}
+use Rattle.ice_encoding.specs.Visiting.{place, order, most}
 use Rattle.graph_laws.proofs.Formed.{form-same-graph}
 use Rattle.graph_laws.proofs.Reached.{reached-small, reached-few}
 use Rattle.graph_laws.proofs.Renumbered.{form-same}

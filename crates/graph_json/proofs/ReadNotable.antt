@@ -7,15 +7,15 @@ use Rattle.ice_prims.specs.Rest.{IsBytes}
 use Rattle.ice_prims.specs.Bytes.{signed_bytes}
 use Rattle.ice_encoding.specs.declared.limits.TheConstants.{SMALLEST}
 use Rattle.ice_encoding.specs.Port.{Port, Speller}
-use Rattle.ice_graphs.specs.OptionalMembers.{Members, SpellsSliceMembers, SpellsContent}
-use Rattle.ice_graphs.specs.Classes.{own_members}
-use Rattle.ice_graphs.specs.Graph.{Slice, Graph}
-use Rattle.ice_graphs.specs.References.{State, Reference, in_table, entry_in, SpellsEntries, SpellsTable, SpellsInline, replaced, beginning, opening}
-use Rattle.ice_graphs.specs.Flags.{IdForm, no_id, as_text, as_index, as_number, Flags, Reach, Before, first}
-use Rattle.ice_graphs.specs.Slices.{SpellsBody, SpellsSlices, SpellsInstance}
-use Rattle.ice_graphs.specs.Slices.{Behind as Others}
-use Rattle.ice_graphs.specs.TypeIds.{SpellsId, class_in, before_next}
-use Rattle.ice_graphs.specs.Instances.{instances, slices_of, most_instances, SpellsGraph, SpellsNumbered}
+use Rattle.ice_encoding.specs.OptionalMembers.{Members, SpellsSliceMembers, SpellsContent}
+use Rattle.ice_encoding.specs.Classes.{own_members}
+use Rattle.ice_encoding.specs.Graph.{Slice, Graph}
+use Rattle.ice_encoding.specs.References.{State, Reference, in_table, entry_in, SpellsEntries, SpellsTable, SpellsInline, replaced, beginning, opening}
+use Rattle.ice_encoding.specs.Flags.{IdForm, no_id, as_text, as_index, as_number, Flags, Reach, Before, first}
+use Rattle.ice_encoding.specs.Slices.{SpellsBody, SpellsSlices, SpellsInstance}
+use Rattle.ice_encoding.specs.Slices.{Behind as Others}
+use Rattle.ice_encoding.specs.TypeIds.{SpellsId, class_in, before_next}
+use Rattle.ice_encoding.specs.Instances.{instances, slices_of, most_instances, SpellsGraph, SpellsNumbered}
 use Rattle.graph_json.specs.Contents.{ContentIsShort}
 use Rattle.graph_json.specs.Typed.{SliceNotable, InstanceNotable, IsNotable}
 use Rattle.graph_json.proofs.Notable.{members_renamed}

@@ -11,10 +11,10 @@ use Rattle.ice_types.specs.declared.declarations.Member.{Member}
 use Rattle.ice_types.specs.declared.declarations.Shape.{Shape}
 use Rattle.ice_types.specs.Tables.{Tables, no_types}
 use Rattle.ice_encoding.specs.Tree.{int, reference, Trees, none, tree}
-use Rattle.ice_graphs.specs.OptionalMembers.{Members}
-use Rattle.ice_graphs.specs.Graph.{Slice, known, unknown, Graph}
-use Rattle.ice_graphs.specs.Visiting.{most, order}
-use Rattle.ice_graphs.specs.Same.{form}
+use Rattle.ice_encoding.specs.OptionalMembers.{Members}
+use Rattle.ice_encoding.specs.Graph.{Slice, known, unknown, Graph}
+use Rattle.ice_encoding.specs.Visiting.{most, order}
+use Rattle.ice_encoding.specs.SameGraph.{form}
 use Rattle.graph_json.specs.CanonicalValues.{notation}
 use Rattle.graph_json.specs.Canonical.{canonical_noted}
 

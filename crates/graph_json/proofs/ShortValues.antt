@@ -16,9 +16,9 @@ use Rattle.ice_encoding.specs.Order.{insert}
 use Rattle.ice_encoding.specs.Port.{Port, Speller}
 use Rattle.ice_encoding.specs.Spelling.{Each, Pairs, SpellsValue}
 use Rattle.ice_encoding.proofs.Inserting.{insert_inside}
-use Rattle.ice_graphs.specs.Prefixes.{Prefix, no_length, own_size, as_size, as_int, prefix_of, Framed}
-use Rattle.ice_graphs.specs.Optionals.{Present, kind_tagged, with_option, SkippedBy, Tagged, Options, AllOptions}
-use Rattle.ice_graphs.specs.OptionalMembers.{required_kinds, IfFlagged, SpellsSliceMembers, SpellsContent}
+use Rattle.ice_encoding.specs.Prefixes.{Prefix, no_length, own_size, as_size, as_int, prefix_of, Framed}
+use Rattle.ice_encoding.specs.Optionals.{Present, kind_tagged, with_option, SkippedBy, Tagged, Options, AllOptions}
+use Rattle.ice_encoding.specs.OptionalMembers.{required_kinds, IfFlagged, SpellsSliceMembers, SpellsContent}
 use Rattle.graph_json.specs.TypedValues.{IsShort, HasShortTexts}
 use Rattle.graph_json.specs.Contents.{AreShort, ContentIsShort}
 use Rattle.graph_json.proofs.ShortTexts.{spelled_short}

@@ -19,14 +19,14 @@ use Rattle.ice_encoding.specs.Tree.{Trees, InEach}
 use Rattle.ice_encoding.specs.Order.{KeysRise}
 use Rattle.ice_encoding.specs.Typed.{by_size, HasType, EachOf}
 use Rattle.ice_encoding.proofs.Typed.{typed_ordered}
-use Rattle.ice_graphs.specs.OptionalMembers.{Members, required_kinds}
-use Rattle.ice_graphs.specs.Optionals.{Present}
-use Rattle.ice_graphs.specs.Classes.{own_members}
-use Rattle.ice_graphs.specs.Graph.{Slice, known, unknown, Graph}
-use Rattle.ice_graphs.specs.Instances.{slices_of, most_instances}
-use Rattle.ice_graphs.specs.Names.{instance_names, names_of}
-use Rattle.ice_graphs.specs.Typed.{AreMembers, AreOptions, OfType}
-use Rattle.ice_graphs.specs.Visiting.{most}
+use Rattle.ice_encoding.specs.OptionalMembers.{Members, required_kinds}
+use Rattle.ice_encoding.specs.Optionals.{Present}
+use Rattle.ice_encoding.specs.Classes.{own_members}
+use Rattle.ice_encoding.specs.Graph.{Slice, known, unknown, Graph}
+use Rattle.ice_encoding.specs.Instances.{slices_of, most_instances}
+use Rattle.ice_encoding.specs.Names.{instance_names, names_of}
+use Rattle.ice_encoding.specs.TypedGraph.{AreMembers, AreOptions, OfType}
+use Rattle.ice_encoding.specs.Visiting.{most}
 use Rattle.graph_laws.proofs.Ranged as ranged
 use Rattle.graph_arena.specs.declared.instance.Instance.{Instance}
 use Rattle.graph_arena.specs.declared.instance.Members as arena

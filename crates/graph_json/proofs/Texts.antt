@@ -8,9 +8,9 @@ use Rattle.serde_json.specs.Data.{Data}
 use Rattle.ice_types.specs.declared.declarations.Shape.{Shape}
 use Rattle.ice_types.specs.Tables.{Tables}
 use Rattle.ice_types.specs.Rules.{IsSchema}
-use Rattle.ice_graphs.specs.Graph.{Graph}
-use Rattle.ice_graphs.specs.Typed.{OfType}
-use Rattle.ice_graphs.specs.Same.{form}
+use Rattle.ice_encoding.specs.Graph.{Graph}
+use Rattle.ice_encoding.specs.TypedGraph.{OfType}
+use Rattle.ice_encoding.specs.SameGraph.{form}
 use Rattle.graph_arena.specs.Arena.{IsSound}
 use Rattle.graph_json.specs.declared.fault.JsonFault.{JsonFault}
 use Rattle.graph_json.specs.declared.fault.JsonFault.TheVariants as faults

@@ -15,11 +15,11 @@ use Rattle.ice_types.specs.Rules.{IsSchema}
 use Rattle.ice_encoding.specs.Tags.{rises}
 use Rattle.ice_encoding.specs.Tree.{Tree}
 use Rattle.ice_encoding.specs.Typed.{by_size, HasType}
-use Rattle.ice_graphs.specs.Optionals.{Present, kind_tagged}
-use Rattle.ice_graphs.specs.OptionalMembers.{Members}
-use Rattle.ice_graphs.specs.Classes.{own_members}
-use Rattle.ice_graphs.specs.Graph.{Slice, known, unknown, Graph}
-use Rattle.ice_graphs.specs.Typed.{AreReferred, AreOptions, AreMembers}
+use Rattle.ice_encoding.specs.Optionals.{Present, kind_tagged}
+use Rattle.ice_encoding.specs.OptionalMembers.{Members}
+use Rattle.ice_encoding.specs.Classes.{own_members}
+use Rattle.ice_encoding.specs.Graph.{Slice, known, unknown, Graph}
+use Rattle.ice_encoding.specs.TypedGraph.{AreReferred, AreOptions, AreMembers}
 use Rattle.graph_laws.proofs.Bases.{row_of_id}
 use Rattle.graph_json.specs.ValueNotation.{NotesName, Notes}
 use Rattle.graph_json.specs.Contents.{HasOwnNames, put_at, NotesOption, NotesOptions, NotesContent, member_tagged}

@@ -4,10 +4,10 @@ use Rattle.hex.specs.Hex.{encode_lower}
 use Rattle.serde_json.specs.Data.{Data, boolean, string, array, object, Items, no_items, item, no_members, put}
 use Rattle.ice_types.specs.declared.declarations.Shape.{Shape}
 use Rattle.ice_types.specs.Tables.{Tables}
-use Rattle.ice_graphs.specs.Classes.{own_members}
-use Rattle.ice_graphs.specs.Graph.{Slice, known, unknown, Graph}
-use Rattle.ice_graphs.specs.Canonical.{id_of}
-use Rattle.ice_graphs.specs.Same.{form}
+use Rattle.ice_encoding.specs.Classes.{own_members}
+use Rattle.ice_encoding.specs.Graph.{Slice, known, unknown, Graph}
+use Rattle.ice_encoding.specs.CanonicalGraph.{id_of}
+use Rattle.ice_encoding.specs.SameGraph.{form}
 use Rattle.graph_json.specs.ValueNotation.{name_noted}
 use Rattle.graph_json.specs.Contents.{content_noted}
 

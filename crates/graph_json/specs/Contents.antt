@@ -14,8 +14,8 @@ use Rattle.ice_types.specs.Names.{AreNew}
 use Rattle.ice_types.specs.Fits.{names_of, tags_of, NumbersFit}
 use Rattle.ice_types.specs.Tables.{Tables}
 use Rattle.ice_encoding.specs.Tree.{Tree, tree_count, InEach}
-use Rattle.ice_graphs.specs.Optionals.{Present}
-use Rattle.ice_graphs.specs.OptionalMembers.{Members, with_optional}
+use Rattle.ice_encoding.specs.Optionals.{Present}
+use Rattle.ice_encoding.specs.OptionalMembers.{Members, with_optional}
 use Rattle.graph_json.specs.ValueNotation.{Noting, NotesMembers, Notes}
 use Rattle.graph_json.specs.ReadingValues.{Read, members_of, noted_value, where_true}
 use Rattle.graph_json.specs.CanonicalValues.{Write, members_noted, notation}

@@ -1,9 +1,9 @@
 -- What JSON lists, without where it lies in memory, and the graph that it is.
 use Rattle.std.specs.Prelude.{ℕ, ◌≡◌, ◌≤◌, List, [], ◌∷◌, length, map, Option, None, Some}
-use Rattle.ice_graphs.specs.OptionalMembers.{Members}
-use Rattle.ice_graphs.specs.Graph.{Slice, known, unknown, Graph}
-use Rattle.ice_graphs.specs.Names.{instance_names}
-use Rattle.ice_graphs.specs.Visiting.{most}
+use Rattle.ice_encoding.specs.OptionalMembers.{Members}
+use Rattle.ice_encoding.specs.Graph.{Slice, known, unknown, Graph}
+use Rattle.ice_encoding.specs.Names.{instance_names}
+use Rattle.ice_encoding.specs.Visiting.{most}
 use Rattle.graph_arena.specs.Seen.{view_content, view_instance}
 use Rattle.graph_arena.specs.Arena.{AreBelow, HasOrder, HaveOrder, IsSound}
 use Rattle.graph_json.specs.declared.listing.Listed.{Listed}

@@ -7,10 +7,10 @@ use Rattle.serde_json.specs.Find.{get_member}
 use Rattle.serde_json.specs.Events.{members_len}
 use Rattle.ice_types.specs.declared.declarations.Shape.{Shape}
 use Rattle.ice_types.specs.Tables.{Tables}
-use Rattle.ice_graphs.specs.Classes.{class_named, own_members}
-use Rattle.ice_graphs.specs.Graph.{Slice, known, unknown, Graph}
-use Rattle.ice_graphs.specs.Same.{Same}
-use Rattle.ice_graphs.specs.Typed.{OfType}
+use Rattle.ice_encoding.specs.Classes.{class_named, own_members}
+use Rattle.ice_encoding.specs.Graph.{Slice, known, unknown, Graph}
+use Rattle.ice_encoding.specs.SameGraph.{Same}
+use Rattle.ice_encoding.specs.TypedGraph.{OfType}
 use Rattle.graph_json.specs.ValueNotation.{Noting, NotesName}
 use Rattle.graph_json.specs.Contents.{NotesContent}
 

@@ -7,9 +7,9 @@ use Rattle.serde_json.specs.Find.{as_bool, as_str, as_array, as_object, get_memb
 use Rattle.serde_json.specs.Events.{members_len}
 use Rattle.ice_types.specs.declared.declarations.Shape.{Shape}
 use Rattle.ice_types.specs.Tables.{Tables}
-use Rattle.ice_graphs.specs.OptionalMembers.{Members}
-use Rattle.ice_graphs.specs.Classes.{class_named, own_members}
-use Rattle.ice_graphs.specs.Graph.{Slice, known, unknown, Graph}
+use Rattle.ice_encoding.specs.OptionalMembers.{Members}
+use Rattle.ice_encoding.specs.Classes.{class_named, own_members}
+use Rattle.ice_encoding.specs.Graph.{Slice, known, unknown, Graph}
 use Rattle.graph_json.specs.ReadingValues.{Read, name_of, whole}
 use Rattle.graph_json.specs.Contents.{noted_content}
 

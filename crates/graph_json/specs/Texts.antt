@@ -11,9 +11,9 @@ use Rattle.serde_json.specs.declared.value.Value.{Value as Json}
 use Rattle.ice_types.specs.declared.declarations.Shape.{Shape}
 use Rattle.ice_types.specs.Fits.{AreOf}
 use Rattle.ice_types.specs.Tables.{Tables}
-use Rattle.ice_graphs.specs.Graph.{Graph}
-use Rattle.ice_graphs.specs.Instances.{most_instances}
-use Rattle.ice_graphs.specs.Typed.{OfType}
+use Rattle.ice_encoding.specs.Graph.{Graph}
+use Rattle.ice_encoding.specs.Instances.{most_instances}
+use Rattle.ice_encoding.specs.TypedGraph.{OfType}
 use Rattle.graph_json.specs.declared.fault.JsonFault.{JsonFault}
 use Rattle.graph_json.specs.declared.fault.JsonFault.TheVariants as faults
 use Rattle.graph_json.specs.declared.fault.JsonKind.{JsonKind}

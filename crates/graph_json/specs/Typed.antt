@@ -2,10 +2,10 @@
 use Rattle.std.specs.Prelude.{ℕ, ◌<◌, List, [], ◌∷◌, length}
 use Rattle.ice_types.specs.Tables.{Tables}
 use Rattle.ice_encoding.specs.Typed.{by_size}
-use Rattle.ice_graphs.specs.Graph.{Slice, known, unknown, Graph}
-use Rattle.ice_graphs.specs.Instances.{slices_of}
-use Rattle.ice_graphs.specs.Typed.{AreReferred, IsKnown}
-use Rattle.ice_graphs.specs.Visiting.{place, order}
+use Rattle.ice_encoding.specs.Graph.{Slice, known, unknown, Graph}
+use Rattle.ice_encoding.specs.Instances.{slices_of}
+use Rattle.ice_encoding.specs.TypedGraph.{AreReferred, IsKnown}
+use Rattle.ice_encoding.specs.Visiting.{place, order}
 use Rattle.graph_json.specs.Contents.{ContentIsShort}
 
 -- the texts of proxies are short enough

@@ -5,7 +5,7 @@ ghost use Rattle.serde_json.specs.Find.{get_member};
 ghost use Rattle.serde_json.specs.View.{view as json_view, members_view};
 ghost use Rattle.graph_arena.specs.View.{view, view_all};
 ghost use Rattle.graph_arena.specs.Seen.{view_content, view_present};
-ghost use Rattle.ice_values.specs.Shapes.{shape_seen, with_tag, without_tag};
+ghost use Rattle.value_parts.specs.Shapes.{shape_seen, with_tag, without_tag};
 ghost use Rattle.graph_json.specs.ReadingValues.{members_of, noted_value};
 ghost use Rattle.graph_json.specs.Contents.{noted_content, options_of};
 
@@ -13,10 +13,10 @@ use crate::leaves::named;
 use crate::read::value_of;
 use graph_arena::{Members, Value};
 use ice_types::{List, Member, Schema};
-use ice_values::DeclaredMembers;
 use serde_json::{Map, Value as Json};
 use std::alloc::{AllocError, Global};
 use std::collections::BTreeMap;
+use value_parts::DeclaredMembers;
 
 /// The values of these members that the JSON notes, or None where it notes none: an object with the names of
 /// the required members, of the optional ones that are present, and no more. Want of memory is the only

@@ -3,7 +3,7 @@
 ghost use Rattle.std.specs.Prelude.{◌≡◌, IfOk, codes, map, option_map};
 ghost use Rattle.serde_json.specs.View.{view as json_view, items_view, members_view};
 ghost use Rattle.graph_arena.specs.Seen.{view_instance};
-ghost use Rattle.ice_values.specs.Shapes.{shape_seen};
+ghost use Rattle.value_parts.specs.Shapes.{shape_seen};
 ghost use Rattle.graph_json.specs.ReadingValues.{some};
 ghost use Rattle.graph_json.specs.Reading as spec;
 ghost use Rattle.graph_json.specs.Reading.{at_name, items_of, list_of, listed_graph};
@@ -13,9 +13,9 @@ use crate::content_read::content_of;
 use crate::slices::{named, slices_of};
 use graph_arena::{Instance, Members};
 use ice_types::Schema;
-use ice_values::DeclaredMembers;
 use serde_json::{Map, Value as Json};
 use std::alloc::{AllocError, Global};
+use value_parts::DeclaredMembers;
 
 /// The values of the roots, and the instances in the order of the list.
 #[derive(Drop)]

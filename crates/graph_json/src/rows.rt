@@ -5,7 +5,7 @@ ghost use Rattle.serde_json.specs.Data.{put};
 ghost use Rattle.ice_types.specs.declared.kind.TypeRef.{TypeRef as Kind};
 ghost use Rattle.graph_arena.specs.View.{view, view_all};
 ghost use Rattle.graph_arena.specs.Seen.{view_present};
-ghost use Rattle.ice_values.specs.Shapes.{with_tag, without_tag};
+ghost use Rattle.value_parts.specs.Shapes.{with_tag, without_tag};
 ghost use Rattle.graph_json.specs.CanonicalValues.{Write, members_noted};
 ghost use Rattle.graph_json.specs.Contents as spec;
 ghost use Rattle.graph_json.specs.Contents.{options_noted};

@@ -14,9 +14,9 @@ use crate::leaves::name_of;
 use graph_arena::Slice;
 use hex::FromHexError;
 use ice_types::{Bytes, List, Name, Schema};
-use ice_values::{DeclaredMembers, SlicedType};
 use serde_json::{Map, Value as Json};
 use std::alloc::{AllocError, Global};
+use value_parts::{DeclaredMembers, SlicedType};
 
 /// The slices that an array lists, or None where it lists none. Want of memory is the only refusal.
 pub(crate) fn slices_of(

@@ -3,11 +3,11 @@
 ghost use Rattle.std.specs.Prelude.{◌≡◌, ◌↔◌, IsTrue, IfOk, IfSome, Err, map, option_map, string_bytes};
 ghost use Rattle.std.specs.Option.{is_some};
 ghost use Rattle.serde_json.specs.View.{view as json_view, items_view};
-ghost use Rattle.ice_graphs.specs.Graph.{Graph};
-ghost use Rattle.ice_graphs.specs.Names.{instance_names, names_of};
+ghost use Rattle.ice_encoding.specs.Graph.{Graph};
+ghost use Rattle.ice_encoding.specs.Names.{instance_names, names_of};
 ghost use Rattle.graph_arena.specs.Arena.{AreBelow};
 ghost use Rattle.graph_arena.specs.Seen.{view_content, view_instance, view_slice, view_slices};
-ghost use Rattle.ice_values.specs.Shapes.{shape_seen};
+ghost use Rattle.value_parts.specs.Shapes.{shape_seen};
 ghost use Rattle.graph_json.specs.Contents.{HasOwnNames};
 ghost use Rattle.graph_json.specs.Listed.{AreNamed, CanBeNamed, MembersOf, Names, view_listed};
 ghost use Rattle.graph_json.specs.Canonical.{canonical_noted, graph_noted};
@@ -22,11 +22,11 @@ use crate::slices::named;
 use crate::writing::write_graph;
 use graph_arena::{Graph, Instance, Members, Slice, push_slices};
 use ice_types::{List, Schema};
-use ice_values::DeclaredMembers;
 use json::Writer;
 use serde_json::Value as Json;
 use std::alloc::{AllocError, Global};
 use value_checks::first_ill_typed;
+use value_parts::DeclaredMembers;
 
 /// The most bytes of a text that is read.
 pub const MOST_TEXT: usize = 16_777_216;

@@ -4,9 +4,9 @@ ghost use Rattle.std.specs.Prelude.{OnOk};
 ghost use Rattle.hex.specs.Hex.{encode_lower};
 ghost use Rattle.serde_json.specs.Data.{string};
 ghost use Rattle.ice_types.specs.Tables.{Tables};
-ghost use Rattle.ice_graphs.specs.Graph.{unknown, known};
+ghost use Rattle.ice_encoding.specs.Graph.{unknown, known};
 ghost use Rattle.graph_arena.specs.Seen.{view_content, view_slice, view_slices};
-ghost use Rattle.ice_values.specs.Shapes.{shape_seen};
+ghost use Rattle.value_parts.specs.Shapes.{shape_seen};
 ghost use Rattle.graph_json.specs.ValueNotation.{name_noted};
 ghost use Rattle.graph_json.specs.Contents.{content_noted};
 ghost use Rattle.graph_json.specs.Canonical.{graph_noted, instance_noted, items_noted, slice_noted};
@@ -17,9 +17,9 @@ use crate::write::write_object;
 use crate::write_leaves::{write_bool, write_name, write_text};
 use graph_arena::{Graph, Members, Slice};
 use ice_types::{Bytes, Name, Schema};
-use ice_values::{DeclaredMembers, SlicedType};
 use json::Writer;
 use std::alloc::{AllocError, Global};
+use value_parts::{DeclaredMembers, SlicedType};
 
 /// The notation of a graph whose roots are of these members: its instances as they stand. Want of memory is
 /// the only refusal.

@@ -7,12 +7,12 @@ use Rattle.ice_types.specs.declared.declarations.Shape.{Shape}
 use Rattle.ice_types.specs.Tables.{Tables}
 use Rattle.ice_types.specs.Lacking.{SameBase, SameShape}
 use Rattle.ice_encoding.specs.Port.{Speller}
-use Rattle.ice_graphs.specs.OptionalMembers.{Members, SpellsContent}
-use Rattle.ice_graphs.specs.Graph.{Slice}
-use Rattle.ice_graphs.specs.References.{met_at, with_met, with_ended, beginning, opening, SpellsInline}
-use Rattle.ice_graphs.specs.Flags.{all_slices, first}
-use Rattle.ice_graphs.specs.Slices.{SpellsInstance}
-use Rattle.ice_graphs.specs.Instances.{slices_of, class_of, class_fits, AllFit}
+use Rattle.ice_encoding.specs.OptionalMembers.{Members, SpellsContent}
+use Rattle.ice_encoding.specs.Graph.{Slice}
+use Rattle.ice_encoding.specs.References.{met_at, with_met, with_ended, beginning, opening, SpellsInline}
+use Rattle.ice_encoding.specs.Flags.{all_slices, first}
+use Rattle.ice_encoding.specs.Slices.{SpellsInstance}
+use Rattle.ice_encoding.specs.Instances.{slices_of, class_of, class_fits, AllFit}
 use Rattle.graph_laws.proofs.TypeIds.{Spelled}
 use Rattle.graph_laws.proofs.InlineRules.{all_fit_more}
 use Rattle.graph_laws.proofs.WrittenGraphs.{replaced_length, replaced_at}

@@ -6,14 +6,14 @@ use Rattle.ice_types.specs.declared.kind.RowRef.TheVariants as rows
 use Rattle.ice_types.specs.Tables.{Tables}
 use Rattle.ice_types.specs.Lacking.{SameBase}
 use Rattle.ice_encoding.specs.Port.{Port}
-use Rattle.ice_graphs.specs.OptionalMembers.{Members}
-use Rattle.ice_graphs.specs.Classes.{class_by_id, base_of}
-use Rattle.ice_graphs.specs.Graph.{Slice, known, unknown}
-use Rattle.ice_graphs.specs.References.{State}
-use Rattle.ice_graphs.specs.Flags.{Flags, all_slices, Before, first, only_unknown, derived, may_stand}
-use Rattle.ice_graphs.specs.TypeIds.{class_in, is_base, can_be_read, ends_well, same_bool, before_base, before_next}
-use Rattle.ice_graphs.specs.Slices.{SpellsBody, SpellsSlices}
-use Rattle.ice_graphs.specs.Slices.{Behind as Others}
+use Rattle.ice_encoding.specs.OptionalMembers.{Members}
+use Rattle.ice_encoding.specs.Classes.{class_by_id, base_of}
+use Rattle.ice_encoding.specs.Graph.{Slice, known, unknown}
+use Rattle.ice_encoding.specs.References.{State}
+use Rattle.ice_encoding.specs.Flags.{Flags, all_slices, Before, first, only_unknown, derived, may_stand}
+use Rattle.ice_encoding.specs.TypeIds.{class_in, is_base, can_be_read, ends_well, same_bool, before_base, before_next}
+use Rattle.ice_encoding.specs.Slices.{SpellsBody, SpellsSlices}
+use Rattle.ice_encoding.specs.Slices.{Behind as Others}
 use Rattle.graph_laws.proofs.Bases.{IsRow}
 use Rattle.graph_laws.proofs.TypeIds.{Spelled}
 use Rattle.graph_laws.specs.Seeing.{SameClassId, SeenAs, AllSeen}

@@ -8,7 +8,7 @@ use Rattle.ice_types.specs.Tables.{Tables, is_defined}
 use Rattle.ice_types.specs.Rules.{IsSchema}
 use Rattle.ice_types.specs.Fits.{ClassBaseFits}
 use Rattle.ice_types.proofs.BaseChains.{flag_within}
-use Rattle.ice_graphs.specs.Classes.{one_further, place_of, base_of}
+use Rattle.ice_encoding.specs.Classes.{one_further, place_of, base_of}
 
 abbrev pub IsRow : List ClassDecl → ℕ → Type 0
 IsRow ds class = (d : ClassDecl) × (slice_get ds class ≡ Some d)

@@ -5,16 +5,16 @@ use Rattle.ice_types.specs.Tables.{Tables}
 use Rattle.ice_types.specs.Rules.{IsSchema}
 use Rattle.ice_encoding.specs.declared.limits.TheConstants.{LARGEST}
 use Rattle.ice_encoding.specs.Pausing.{written_in_place}
-use Rattle.ice_graphs.specs.Canonical.{Format, compact, put_inline, written_instance, blank}
-use Rattle.ice_graphs.specs.Exceptions.{of_exceptions, UserException, UserExceptionSlices, SpellsUserException, SpellsException}
-use Rattle.ice_graphs.specs.Flags.{Reach, all_slices, known_classes, first}
-use Rattle.ice_graphs.specs.Graph.{Slice, Graph}
-use Rattle.ice_graphs.specs.Instances.{instances, slices_of, most_instances, AllFit}
-use Rattle.ice_graphs.specs.Names.{instance_names, renamed_slice}
-use Rattle.ice_graphs.specs.References.{opening}
-use Rattle.ice_graphs.specs.Typed.{IsInstance, RefersUpTo}
-use Rattle.ice_graphs.specs.Visiting.{place, visit_each, visit_at, most, order}
-use Rattle.ice_graphs.proofs.Exceptions.{exception_apart}
+use Rattle.ice_encoding.specs.CanonicalGraph.{Format, compact, put_inline, written_instance, blank}
+use Rattle.ice_encoding.specs.Exceptions.{of_exceptions, UserException, UserExceptionSlices, SpellsUserException, SpellsException}
+use Rattle.ice_encoding.specs.Flags.{Reach, all_slices, known_classes, first}
+use Rattle.ice_encoding.specs.Graph.{Slice, Graph}
+use Rattle.ice_encoding.specs.Instances.{instances, slices_of, most_instances, AllFit}
+use Rattle.ice_encoding.specs.Names.{instance_names, renamed_slice}
+use Rattle.ice_encoding.specs.References.{opening}
+use Rattle.ice_encoding.specs.TypedGraph.{IsInstance, RefersUpTo}
+use Rattle.ice_encoding.specs.Visiting.{place, visit_each, visit_at, most, order}
+use Rattle.ice_encoding.proofs.Exceptions.{exception_apart}
 use Rattle.graph_arena.specs.Arena.{AreBelow}
 use Rattle.graph_laws.proofs.Canonicity.{six_more}
 use Rattle.graph_laws.proofs.Formed.{Asked, EachAsked, Reached, InOrder, form-in_order, form-typed, asked-renamed}
@@ -25,8 +25,8 @@ use Rattle.graph_laws.proofs.Reached.{reached-few}
 use Rattle.graph_laws.proofs.Schemas.{utf8_texts, few-enough}
 use Rattle.graph_laws.proofs.TypeIds.{Spelled, HaveTexts, HaveTypeTexts}
 use Rattle.graph_laws.proofs.Upto.{upto, visit-grows}
-use Rattle.ice_graphs.specs.UserExceptionTyped.{OfUserException}
-use Rattle.ice_graphs.specs.UserExceptionWritten.{graph_of, order_of, numbered_user_exception, form_of, SameUserException, SpellsSame, user_exception_bytes, canonical_user_exception, exception_bytes, CanBeWritten}
+use Rattle.ice_encoding.specs.UserExceptionTyped.{OfUserException}
+use Rattle.ice_encoding.specs.UserExceptionWritten.{graph_of, order_of, numbered_user_exception, form_of, SameUserException, SpellsSame, user_exception_bytes, canonical_user_exception, exception_bytes, CanBeWritten}
 use Rattle.graph_laws.proofs.UserExceptionForms.{exceptions_named, exception_texts, type_ids-renamed, root_names, graph_numbered, shape_of, graph_typed, slices_typed, form_same}
 use Rattle.graph_laws.proofs.WrittenValues.{written_limits}
 use Rattle.graph_laws.proofs.WrittenGraphs.{rising, refer_long, inline_instances}

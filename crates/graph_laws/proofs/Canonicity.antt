@@ -8,18 +8,18 @@ use Rattle.ice_prims.proofs.Parts.{ok_is}
 use Rattle.ice_encoding.specs.declared.limits.TheConstants.{LARGEST}
 use Rattle.ice_encoding.specs.Opening.{encapsulated_bytes}
 use Rattle.ice_encoding.specs.Port.{Port}
-use Rattle.ice_graphs.specs.OptionalMembers.{Members, SpellsContent, content_at}
-use Rattle.ice_graphs.proofs.Contents.{content_only}
-use Rattle.ice_graphs.specs.Graph.{Slice, Graph}
-use Rattle.ice_graphs.specs.Names.{renamed_slice}
-use Rattle.ice_graphs.specs.References.{State, opening, seen}
-use Rattle.ice_graphs.specs.Flags.{Reach, all_slices}
-use Rattle.ice_graphs.specs.Instances.{instances, slices_of, most_instances, AllFit, SpellsGraph, SpellsNumbered}
-use Rattle.ice_graphs.specs.Visiting.{place, order, most}
-use Rattle.ice_graphs.specs.Same.{Same, form, numbered, Spells}
-use Rattle.ice_graphs.specs.Typed.{OfTypeTo, OfType}
-use Rattle.ice_graphs.specs.Canonical.{Format, bytes_of, canonical_graph, graph_bytes}
-use Rattle.ice_graphs.proofs.Slices.{instances_seen, instances_lawful}
+use Rattle.ice_encoding.specs.OptionalMembers.{Members, SpellsContent, content_at}
+use Rattle.ice_encoding.proofs.Contents.{content_only}
+use Rattle.ice_encoding.specs.Graph.{Slice, Graph}
+use Rattle.ice_encoding.specs.Names.{renamed_slice}
+use Rattle.ice_encoding.specs.References.{State, opening, seen}
+use Rattle.ice_encoding.specs.Flags.{Reach, all_slices}
+use Rattle.ice_encoding.specs.Instances.{instances, slices_of, most_instances, AllFit, SpellsGraph, SpellsNumbered}
+use Rattle.ice_encoding.specs.Visiting.{place, order, most}
+use Rattle.ice_encoding.specs.SameGraph.{Same, form, numbered, Spells}
+use Rattle.ice_encoding.specs.TypedGraph.{OfTypeTo, OfType}
+use Rattle.ice_encoding.specs.CanonicalGraph.{Format, bytes_of, canonical_graph, graph_bytes}
+use Rattle.ice_encoding.proofs.Slices.{instances_seen, instances_lawful}
 use Rattle.graph_laws.proofs.TypeIds.{Spelled}
 use Rattle.graph_laws.proofs.Weaker.{content_weaker}
 use Rattle.graph_laws.proofs.ClassIds.{AreSpelled}

@@ -13,8 +13,8 @@ use Rattle.ice_types.specs.Rules.{IsSchema}
 use Rattle.ice_types.proofs.SliceIds.{type_id_plain, number_text, number_of_class, numbered_utf8, one_class}
 use Rattle.ice_types.proofs.BaseChains.{row_of_base}
 use Rattle.ice_prims.specs.Number.{SpellsSize}
-use Rattle.ice_graphs.specs.Classes.{one_further, place_of, class_named, class_by_id}
-use Rattle.ice_graphs.specs.Canonical.{spelled_by}
+use Rattle.ice_encoding.specs.Classes.{one_further, place_of, class_named, class_by_id}
+use Rattle.ice_encoding.specs.CanonicalGraph.{spelled_by}
 use Rattle.graph_laws.proofs.Bases.{IsRow}
 use Rattle.graph_laws.proofs.Named.{id_of_row}
 use Rattle.graph_laws.proofs.Rows.{row_there}

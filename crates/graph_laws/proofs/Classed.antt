@@ -10,9 +10,9 @@ use Rattle.ice_types.specs.Rules.{IsSchema}
 use Rattle.ice_types.specs.Lacking.{SameBase, Lacks}
 use Rattle.ice_types.proofs.RowIdentity.{one_id}
 use Rattle.ice_types.proofs.SliceIds.{number_text, number_of_class, one_class}
-use Rattle.ice_graphs.specs.Classes.{class_by_id, base_of}
-use Rattle.ice_graphs.specs.Flags.{Flags, all_slices, has_id, Before, first, only_unknown, derived, may_stand}
-use Rattle.ice_graphs.specs.TypeIds.{class_in, is_base, same_class, can_be_read, same_bool, ends_well, before_base, before_next}
+use Rattle.ice_encoding.specs.Classes.{class_by_id, base_of}
+use Rattle.ice_encoding.specs.Flags.{Flags, all_slices, has_id, Before, first, only_unknown, derived, may_stand}
+use Rattle.ice_encoding.specs.TypeIds.{class_in, is_base, same_class, can_be_read, same_bool, ends_well, before_base, before_next}
 use Rattle.graph_laws.proofs.ClassIds.{id_named, named_id, plain_id, id_plain, compact_row, row_compact, slice_row}
 use Rattle.graph_laws.specs.Seeing.{SameClassId}
 use Rattle.graph_laws.proofs.Rows.{Agrees, agrees, own_class, id_there}

@@ -14,17 +14,17 @@ use Rattle.ice_encoding.specs.Tags.{tag}
 use Rattle.ice_encoding.specs.Tree.{Tree}
 use Rattle.ice_encoding.specs.Writing.{Piece, Writer, exactly, ◌>>◌, written, written_each}
 use Rattle.ice_encoding.specs.Pausing.{written_in_place}
-use Rattle.ice_graphs.specs.Prefixes.{Prefix, prefix_of}
-use Rattle.ice_graphs.specs.Optionals.{Present, kind_tagged}
-use Rattle.ice_graphs.specs.OptionalMembers.{Members}
-use Rattle.ice_graphs.specs.Classes.{own_members}
-use Rattle.ice_graphs.specs.Graph.{Slice, known, unknown, Graph}
-use Rattle.ice_graphs.specs.Names.{renamed_members}
-use Rattle.ice_graphs.specs.Slices.{slice_size}
-use Rattle.ice_graphs.specs.Instances.{slices_of}
-use Rattle.ice_graphs.specs.Visiting.{place, most}
-use Rattle.ice_graphs.specs.Members.{framing, written_option, written_options, marked_options, written_slice_members, written_content}
-use Rattle.ice_graphs.specs.Canonical.{Pen, by_size, table_of, sized_bytes, is_there, spelled_by, row_id, written_id, has_optional, flags_byte, written_head, sliced, written_names, written_table, is_end, sized_body, written_slices, with_one_begun, put_inline, written_instance, blank, bytes_of}
+use Rattle.ice_encoding.specs.Prefixes.{Prefix, prefix_of}
+use Rattle.ice_encoding.specs.Optionals.{Present, kind_tagged}
+use Rattle.ice_encoding.specs.OptionalMembers.{Members}
+use Rattle.ice_encoding.specs.Classes.{own_members}
+use Rattle.ice_encoding.specs.Graph.{Slice, known, unknown, Graph}
+use Rattle.ice_encoding.specs.Names.{renamed_members}
+use Rattle.ice_encoding.specs.Slices.{slice_size}
+use Rattle.ice_encoding.specs.Instances.{slices_of}
+use Rattle.ice_encoding.specs.Visiting.{place, most}
+use Rattle.ice_encoding.specs.Members.{framing, written_option, written_options, marked_options, written_slice_members, written_content}
+use Rattle.ice_encoding.specs.CanonicalGraph.{Pen, by_size, table_of, sized_bytes, is_there, spelled_by, row_id, written_id, has_optional, flags_byte, written_head, sliced, written_names, written_table, is_end, sized_body, written_slices, with_one_begun, put_inline, written_instance, blank, bytes_of}
 use Rattle.graph_laws.proofs.Rows.{Agrees}
 use Rattle.graph_laws.proofs.Measured.{SameMembers, TiedOption, tagged_same, own_same, same_optional, same_prefix}
 use Rattle.graph_laws.specs.Seeing.{SameClassId}

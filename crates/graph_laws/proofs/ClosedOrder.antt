@@ -3,12 +3,12 @@
 use Rattle.std.proofs.Common.{ℕ, zero, suc, ◌≡◌, ◌<◌, ◌≤◌, List, [], ◌∷◌, ◌++◌, length, sym, ap, ◌∙◌, subst, inl, inr, arith}
 use Rattle.std.proofs.lemmas.Bool.{cases_lt, le-ltb}
 use Rattle.ice_types.specs.Tables.{Tables}
-use Rattle.ice_graphs.specs.OptionalMembers.{Members}
-use Rattle.ice_graphs.specs.Graph.{Slice, known, unknown, Graph}
-use Rattle.ice_graphs.specs.Names.{names_of, slice_names, instance_names}
-use Rattle.ice_graphs.specs.Instances.{slices_of}
-use Rattle.ice_graphs.specs.Visiting.{place, is_listed, visit_each, visit_at, most, order}
-use Rattle.ice_graphs.specs.Canonical.{each_once}
+use Rattle.ice_encoding.specs.OptionalMembers.{Members}
+use Rattle.ice_encoding.specs.Graph.{Slice, known, unknown, Graph}
+use Rattle.ice_encoding.specs.Names.{names_of, slice_names, instance_names}
+use Rattle.ice_encoding.specs.Instances.{slices_of}
+use Rattle.ice_encoding.specs.Visiting.{place, is_listed, visit_each, visit_at, most, order}
+use Rattle.ice_encoding.specs.CanonicalGraph.{each_once}
 use Rattle.graph_arena.specs.Arena.{AreBelow}
 use Rattle.graph_arena.proofs.Agreeing.{below-left, below-right}
 use Rattle.graph_laws.proofs.Upto.{upto, unlisted-upto, visit-grows, each-append, parts}

@@ -14,15 +14,15 @@ use Rattle.ice_encoding.specs.Tree.{Tree, Trees, none, tree, Entries, no_entry, 
 use Rattle.ice_encoding.specs.Typed.{AllOf, EachOf, PairsOf, Refers, no_reference, HasType}
 use Rattle.ice_encoding.proofs.Within.{proxy_grown}
 use Rattle.ice_encoding.specs.Enum.{HasNumber}
-use Rattle.ice_graphs.specs.Optionals.{Present, kind_tagged}
-use Rattle.ice_graphs.specs.OptionalMembers.{Members, required_kinds}
-use Rattle.ice_graphs.specs.Classes.{class_by_id, base_of, own_members}
-use Rattle.ice_graphs.specs.Graph.{Slice, known, unknown, Graph}
-use Rattle.ice_graphs.specs.Names.{names_of, instance_names}
-use Rattle.ice_graphs.specs.Instances.{slices_of}
-use Rattle.ice_graphs.specs.Typed.{AreReferred, AreOptions, AreMembers, IsKnown, AreBases, IsUnknown, IsInstance, IsHeldIn, RefersIn, OfType}
-use Rattle.ice_graphs.specs.Slices.{unknown_bytes}
-use Rattle.ice_graphs.specs.Canonical.{is_there, written_id, table_of, sized_bytes}
+use Rattle.ice_encoding.specs.Optionals.{Present, kind_tagged}
+use Rattle.ice_encoding.specs.OptionalMembers.{Members, required_kinds}
+use Rattle.ice_encoding.specs.Classes.{class_by_id, base_of, own_members}
+use Rattle.ice_encoding.specs.Graph.{Slice, known, unknown, Graph}
+use Rattle.ice_encoding.specs.Names.{names_of, instance_names}
+use Rattle.ice_encoding.specs.Instances.{slices_of}
+use Rattle.ice_encoding.specs.TypedGraph.{AreReferred, AreOptions, AreMembers, IsKnown, AreBases, IsUnknown, IsInstance, IsHeldIn, RefersIn, OfType}
+use Rattle.ice_encoding.specs.Slices.{unknown_bytes}
+use Rattle.ice_encoding.specs.CanonicalGraph.{is_there, written_id, table_of, sized_bytes}
 use Rattle.ice_prims.specs.Rest.{IsBytes}
 use Rattle.graph_laws.proofs.PutBytes.{kept_bytes}
 use Rattle.graph_laws.proofs.WrittenBytes.{sized_fit}

@@ -6,16 +6,16 @@ use Rattle.ice_types.specs.declared.declarations.Shape.{Shape}
 use Rattle.ice_types.specs.Tables.{Tables}
 use Rattle.ice_types.specs.CompactIds.{HasSliceId}
 use Rattle.ice_encoding.specs.Writing.{Writer, written_each}
-use Rattle.ice_graphs.specs.Optionals.{Present, kind_tagged}
-use Rattle.ice_graphs.specs.OptionalMembers.{Members}
-use Rattle.ice_graphs.specs.Classes.{class_by_id, base_of, own_members}
-use Rattle.ice_graphs.specs.Graph.{Slice, known, unknown}
-use Rattle.ice_graphs.specs.Names.{renamed_members, renamed_present}
-use Rattle.ice_graphs.specs.Slices.{unknown_bytes}
-use Rattle.ice_graphs.specs.Instances.{slices_of}
-use Rattle.ice_graphs.specs.Visiting.{place}
-use Rattle.ice_graphs.specs.Members.{written_option, written_options, marked_options, written_slice_members}
-use Rattle.ice_graphs.specs.Canonical.{is_there, by_size, table_of, sized_bytes, row_id, written_id}
+use Rattle.ice_encoding.specs.Optionals.{Present, kind_tagged}
+use Rattle.ice_encoding.specs.OptionalMembers.{Members}
+use Rattle.ice_encoding.specs.Classes.{class_by_id, base_of, own_members}
+use Rattle.ice_encoding.specs.Graph.{Slice, known, unknown}
+use Rattle.ice_encoding.specs.Names.{renamed_members, renamed_present}
+use Rattle.ice_encoding.specs.Slices.{unknown_bytes}
+use Rattle.ice_encoding.specs.Instances.{slices_of}
+use Rattle.ice_encoding.specs.Visiting.{place}
+use Rattle.ice_encoding.specs.Members.{written_option, written_options, marked_options, written_slice_members}
+use Rattle.ice_encoding.specs.CanonicalGraph.{is_there, by_size, table_of, sized_bytes, row_id, written_id}
 use Rattle.graph_laws.proofs.Bases.{IsRow}
 use Rattle.graph_laws.specs.Seeing.{SameClassId}
 use Rattle.graph_laws.proofs.ClassIds.{id_named, named_id, spelled_there}

@@ -18,13 +18,13 @@ use Rattle.ice_encoding.specs.Proxy as parts
 use Rattle.ice_encoding.specs.Enum.{SpellsEnumerator}
 use Rattle.ice_encoding.specs.Port.{Port, Speller}
 use Rattle.ice_encoding.specs.Spelling.{Plain, Made, Each, Pairs, SpellsValue}
-use Rattle.ice_graphs.specs.Prefixes.{Prefix, no_length, own_size, as_size, as_int, prefix_of, Framed}
-use Rattle.ice_graphs.specs.Optionals.{Present, with_option, kind_tagged, SkippedBy, Tagged, Options, AllOptions}
-use Rattle.ice_graphs.specs.OptionalMembers.{Members, required_kinds, IfFlagged, SpellsSliceMembers}
-use Rattle.ice_graphs.specs.Graph.{known}
-use Rattle.ice_graphs.specs.Names.{names, names_each, names_pairs, names_present, names_of, renamed, renamed_each, renamed_pairs, renamed_present, renamed_slice}
-use Rattle.ice_graphs.specs.References.{Reference, met_at, in_table, entry_in, AreWithin}
-use Rattle.ice_graphs.specs.Slices.{by_table}
+use Rattle.ice_encoding.specs.Prefixes.{Prefix, no_length, own_size, as_size, as_int, prefix_of, Framed}
+use Rattle.ice_encoding.specs.Optionals.{Present, with_option, kind_tagged, SkippedBy, Tagged, Options, AllOptions}
+use Rattle.ice_encoding.specs.OptionalMembers.{Members, required_kinds, IfFlagged, SpellsSliceMembers}
+use Rattle.ice_encoding.specs.Graph.{known}
+use Rattle.ice_encoding.specs.Names.{names, names_each, names_pairs, names_present, names_of, renamed, renamed_each, renamed_pairs, renamed_present, renamed_slice}
+use Rattle.ice_encoding.specs.References.{Reference, met_at, in_table, entry_in, AreWithin}
+use Rattle.ice_encoding.specs.Slices.{by_table}
 use Rattle.graph_arena.specs.Arena.{AreBelow}
 use Rattle.graph_arena.proofs.Agreeing.{below-left, below-right}
 use Rattle.graph_laws.proofs.Stays.{Uses}

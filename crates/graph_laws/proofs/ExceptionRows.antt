@@ -3,7 +3,7 @@ use Rattle.std.proofs.Common.{ℕ, zero, suc, ◌≡◌, List, [], ◌∷◌, ma
 use Rattle.std.specs.Prelude.{slice_get}
 use Rattle.ice_types.specs.declared.declarations.ClassDecl.{ClassDecl}
 use Rattle.ice_types.specs.declared.declarations.ExceptionDecl.{ExceptionDecl}
-use Rattle.ice_graphs.specs.Exceptions.{as_class}
+use Rattle.ice_encoding.specs.Exceptions.{as_class}
 
 pub ids_are : (es : List ExceptionDecl) → map (λ c. c.id) (map as_class es) ≡ map (λ e. e.id) es
 ids_are [] = refl

@@ -1,9 +1,9 @@
 -- One table has the names that are used by first use.
 use Rattle.std.proofs.Common.{ℕ, suc, ◌<◌, ◌≡◌, ◌⊎◌, Bool, true, false, List, [], ◌∷◌, length, map, refl, sym, ap, ◌∙◌, subst, arith, inl, inr}
 use Rattle.std.proofs.lemmas.Bool.{cases_eq, ltb-true, ltb-false}
-use Rattle.ice_graphs.specs.Visiting.{place, is_listed}
-use Rattle.ice_graphs.specs.Same.{AreListed}
-use Rattle.ice_graphs.specs.Canonical.{each_once}
+use Rattle.ice_encoding.specs.Visiting.{place, is_listed}
+use Rattle.ice_encoding.specs.SameGraph.{AreListed}
+use Rattle.ice_encoding.specs.CanonicalGraph.{each_once}
 use Rattle.graph_arena.proofs.Closed.{place-head, place-tail}
 use Rattle.graph_laws.specs.FirstUse.{AreRising, IsByFirstUse}
 use Rattle.graph_laws.proofs.Once.{once-listed}

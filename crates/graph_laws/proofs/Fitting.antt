@@ -13,10 +13,10 @@ use Rattle.ice_encoding.specs.Port.{size_of}
 use Rattle.ice_encoding.specs.Canonical.{HasSize, HasSizes}
 use Rattle.ice_encoding.specs.Typed.{AllOf, EachOf, PairsOf, Refers, no_reference, HasType}
 use Rattle.ice_encoding.proofs.Typed.{typed_ordered}
-use Rattle.ice_graphs.specs.Optionals.{Present}
-use Rattle.ice_graphs.specs.OptionalMembers.{Members, required_kinds}
-use Rattle.ice_graphs.specs.Graph.{Slice}
-use Rattle.ice_graphs.specs.Typed.{AreOptions, AreMembers, IsHeldIn, RefersIn}
+use Rattle.ice_encoding.specs.Optionals.{Present}
+use Rattle.ice_encoding.specs.OptionalMembers.{Members, required_kinds}
+use Rattle.ice_encoding.specs.Graph.{Slice}
+use Rattle.ice_encoding.specs.TypedGraph.{AreOptions, AreMembers, IsHeldIn, RefersIn}
 
 -- ---- of values of types, what holds of each value of a type
 

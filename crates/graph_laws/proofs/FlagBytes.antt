@@ -1,7 +1,7 @@
 -- A byte of flags has the flags that it was made of.
 use Rattle.std.proofs.Common.{◌≡◌, Bool, true, false, ltb, refl}
-use Rattle.ice_graphs.specs.Flags.{IdForm, no_id, as_text, as_index, as_number, flags_of}
-use Rattle.ice_graphs.specs.Canonical.{flags_byte}
+use Rattle.ice_encoding.specs.Flags.{IdForm, no_id, as_text, as_index, as_number, flags_of}
+use Rattle.ice_encoding.specs.CanonicalGraph.{flags_byte}
 
 -- the flags that it was made of, and clear bits above them
 abbrev HasFlags : IdForm → Bool → Bool → Bool → Bool → Type 0

@@ -5,16 +5,16 @@ use Rattle.std.proofs.lemmas.List.{length-map, ext_get_or, get_or-map}
 use Rattle.ice_types.specs.declared.declarations.Shape.{Shape}
 use Rattle.ice_types.specs.Tables.{Tables}
 use Rattle.ice_encoding.specs.Typed.{Refers}
-use Rattle.ice_graphs.specs.OptionalMembers.{Members}
-use Rattle.ice_graphs.specs.Classes.{base_of, own_members}
-use Rattle.ice_graphs.specs.Graph.{Slice, known, unknown, Graph}
-use Rattle.ice_graphs.specs.Names.{listed_name, names_of, instance_names, renamed_name, renamed_members, renamed_slice}
-use Rattle.ice_graphs.specs.Instances.{class_of, slices_of, class_fits}
-use Rattle.ice_graphs.specs.Visiting.{place, order, most}
-use Rattle.ice_graphs.specs.Same.{AreListed, HasEachOnce, Holds, numbered, Same, form}
-use Rattle.ice_graphs.specs.Typed.{AreReferred, IsKnown, AreBases, IsInstance, IsHeldIn, RefersUpTo, OfTypeTo}
-use Rattle.ice_graphs.specs.Flags.{Reach, all_slices, known_classes}
-use Rattle.ice_graphs.specs.Canonical.{Format, sliced, compact, Compact, Writable}
+use Rattle.ice_encoding.specs.OptionalMembers.{Members}
+use Rattle.ice_encoding.specs.Classes.{base_of, own_members}
+use Rattle.ice_encoding.specs.Graph.{Slice, known, unknown, Graph}
+use Rattle.ice_encoding.specs.Names.{listed_name, names_of, instance_names, renamed_name, renamed_members, renamed_slice}
+use Rattle.ice_encoding.specs.Instances.{class_of, slices_of, class_fits}
+use Rattle.ice_encoding.specs.Visiting.{place, order, most}
+use Rattle.ice_encoding.specs.SameGraph.{AreListed, HasEachOnce, Holds, numbered, Same, form}
+use Rattle.ice_encoding.specs.TypedGraph.{AreReferred, IsKnown, AreBases, IsInstance, IsHeldIn, RefersUpTo, OfTypeTo}
+use Rattle.ice_encoding.specs.Flags.{Reach, all_slices, known_classes}
+use Rattle.ice_encoding.specs.CanonicalGraph.{Format, sliced, compact, Compact, Writable}
 use Rattle.graph_laws.proofs.Renamed.{Moves, members-renamed}
 use Rattle.graph_arena.specs.Arena.{AreBelow}
 use Rattle.graph_arena.proofs.Closed.{place-tail, once-end, IsOrder}

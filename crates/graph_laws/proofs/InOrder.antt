@@ -2,13 +2,13 @@
 use Rattle.std.proofs.Common.{ℕ, ◌≡◌, ◌<◌, List, [], ◌∷◌, length, map, refl, ap, ◌∙◌, Some, None, arith}
 use Rattle.std.proofs.lemmas.List.{ext_get_or}
 use Rattle.ice_encoding.specs.Tree.{Tree, boolean, byte, short, int, long, text, sequence, dictionary, struct, enumerator, proxy, reference, Trees, none, tree, Entries, no_entry, entry}
-use Rattle.ice_graphs.specs.Optionals.{Present}
-use Rattle.ice_graphs.specs.OptionalMembers.{Members, with_optional}
-use Rattle.ice_graphs.specs.Graph.{Slice, known, unknown, Graph}
-use Rattle.ice_graphs.specs.Names.{names, names_each, names_pairs, names_present, names_of, slice_names, instance_names, renamed, renamed_each, renamed_pairs, renamed_present, renamed_members, renamed_slice}
-use Rattle.ice_graphs.specs.Instances.{slices_of}
-use Rattle.ice_graphs.specs.Visiting.{place}
-use Rattle.ice_graphs.specs.Same.{numbered}
+use Rattle.ice_encoding.specs.Optionals.{Present}
+use Rattle.ice_encoding.specs.OptionalMembers.{Members, with_optional}
+use Rattle.ice_encoding.specs.Graph.{Slice, known, unknown, Graph}
+use Rattle.ice_encoding.specs.Names.{names, names_each, names_pairs, names_present, names_of, slice_names, instance_names, renamed, renamed_each, renamed_pairs, renamed_present, renamed_members, renamed_slice}
+use Rattle.ice_encoding.specs.Instances.{slices_of}
+use Rattle.ice_encoding.specs.Visiting.{place}
+use Rattle.ice_encoding.specs.SameGraph.{numbered}
 use Rattle.graph_arena.specs.Arena.{AreBelow}
 use Rattle.graph_arena.proofs.Agreeing.{below-left, below-right}
 use Rattle.graph_laws.proofs.Upto.{upto, length-upto, place-upto}

@@ -7,18 +7,18 @@ use Rattle.std.proofs.lemmas.List.{length-append}
 use Rattle.ice_types.specs.Tables.{Tables}
 use Rattle.ice_types.specs.CompactIds.{number_in, numbered_id, IsSliceId}
 use Rattle.ice_types.proofs.SliceIds.{number_there, not_numbered}
-use Rattle.ice_graphs.specs.Classes.{place_of}
+use Rattle.ice_encoding.specs.Classes.{place_of}
 use Rattle.ice_prims.specs.Bytes.{size_bytes, text_bytes}
-use Rattle.ice_graphs.specs.Graph.{Slice, Graph}
-use Rattle.ice_graphs.specs.References.{Reference, with_met}
-use Rattle.ice_graphs.specs.Flags.{IdForm, no_id, as_text, as_index, as_number, has_id}
-use Rattle.ice_graphs.specs.TypeIds.{with_id, SpellsId}
-use Rattle.ice_graphs.specs.Instances.{slices_of, AllFit}
-use Rattle.ice_graphs.specs.Visiting.{visit_each}
-use Rattle.ice_graphs.specs.Canonical.{Pen, head_as, head_under, written_head}
+use Rattle.ice_encoding.specs.Graph.{Slice, Graph}
+use Rattle.ice_encoding.specs.References.{Reference, with_met}
+use Rattle.ice_encoding.specs.Flags.{IdForm, no_id, as_text, as_index, as_number, has_id}
+use Rattle.ice_encoding.specs.TypeIds.{with_id, SpellsId}
+use Rattle.ice_encoding.specs.Instances.{slices_of, AllFit}
+use Rattle.ice_encoding.specs.Visiting.{visit_each}
+use Rattle.ice_encoding.specs.CanonicalGraph.{Pen, head_as, head_under, written_head}
 use Rattle.ice_encoding.specs.Parts.{Part}
 use Rattle.ice_encoding.specs.Writing.{Piece, exactly, ◌>>◌}
-use Rattle.ice_graphs.specs.Members.{with_length}
+use Rattle.ice_encoding.specs.Members.{with_length}
 use Rattle.graph_laws.proofs.ClassIds.{IsText, place_is}
 use Rattle.graph_laws.proofs.TypeIds.{Spelled, text_spelled, index_spelled, number_spelled}
 use Rattle.graph_laws.proofs.Upto.{upto, upto-one, Grows, parts}

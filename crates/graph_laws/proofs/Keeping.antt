@@ -6,8 +6,8 @@ use Rattle.ice_types.specs.declared.declarations.Shape.{Shape}
 use Rattle.ice_types.specs.Tables.{Tables}
 use Rattle.ice_types.specs.Lacking.{SameShape}
 use Rattle.ice_encoding.specs.Port.{Port, nowhere}
-use Rattle.ice_graphs.specs.OptionalMembers.{Members, shape_of, SpellsSliceMembers}
-use Rattle.ice_graphs.specs.Classes.{members_in, own_members}
+use Rattle.ice_encoding.specs.OptionalMembers.{Members, shape_of, SpellsSliceMembers}
+use Rattle.ice_encoding.specs.Classes.{members_in, own_members}
 use Rattle.graph_laws.proofs.Carried.{Steps}
 use Rattle.graph_laws.proofs.Rows.{Agrees, id_there}
 use Rattle.graph_laws.proofs.Measured.{own_same}

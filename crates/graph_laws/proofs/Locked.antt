@@ -32,10 +32,10 @@ use Rattle.ice_encoding.specs.Enum.{SpellsEnumerator}
 use Rattle.ice_encoding.specs.Spelling.{Plain, Made, Each, Pairs, SpellsValue}
 use Rattle.ice_encoding.specs.Reading.{plain}
 use Rattle.ice_encoding.proofs.Values.{LawfulPart, plain_lawful, bool_lawful, byte_lawful, text_lawful, enumerator_lawful, spelled_apart}
-use Rattle.ice_graphs.specs.Prefixes.{Prefix, no_length, own_size, as_size, as_int, prefix_of, Framed}
-use Rattle.ice_graphs.specs.Optionals.{Present, kind_tagged, SpellsEnd, SkippedBy, Tagged, Options, AllOptions}
-use Rattle.ice_graphs.specs.OptionalMembers.{Members, required_kinds, IfFlagged, SpellsSliceMembers, SpellsContent}
-use Rattle.ice_graphs.proofs.Nexts.{tag_leads}
+use Rattle.ice_encoding.specs.Prefixes.{Prefix, no_length, own_size, as_size, as_int, prefix_of, Framed}
+use Rattle.ice_encoding.specs.Optionals.{Present, kind_tagged, SpellsEnd, SkippedBy, Tagged, Options, AllOptions}
+use Rattle.ice_encoding.specs.OptionalMembers.{Members, required_kinds, IfFlagged, SpellsSliceMembers, SpellsContent}
+use Rattle.ice_encoding.proofs.Nexts.{tag_leads}
 use Rattle.graph_laws.proofs.Rows.{Agrees}
 use Rattle.graph_laws.proofs.Measured.{SameKinds, SameMembers, same_entries, repeated, kinds_same, required_same, TiedOption, tagged_same, same_prefix}
 

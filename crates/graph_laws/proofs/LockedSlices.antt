@@ -12,16 +12,16 @@ use Rattle.ice_encoding.specs.Parts.{size}
 use Rattle.ice_encoding.proofs.Joined.{size_lawful}
 use Rattle.ice_encoding.specs.Port.{Port, Speller}
 use Rattle.ice_encoding.proofs.Values.{text_lawful}
-use Rattle.ice_graphs.specs.Steps.{Followed}
-use Rattle.ice_graphs.specs.Classes.{own_members}
-use Rattle.ice_graphs.specs.Graph.{Slice, Graph}
-use Rattle.ice_graphs.specs.References.{State, with_met, with_ended, resolved, beginning, opening, SpellsEntries, SpellsTable, SpellsInline}
-use Rattle.ice_graphs.specs.Flags.{IdForm, no_id, as_text, as_index, as_number, Flags, flags_of, all_slices, Before, first}
-use Rattle.ice_graphs.specs.TypeIds.{SpellsId, with_id, class_in, can_be_read, ends_well, before_next}
-use Rattle.ice_graphs.specs.Slices.{slice_size, unknown_bytes, SpellsBody, FromId, SpellsSlices, SpellsInstance}
-use Rattle.ice_graphs.specs.Slices.{Behind as Others}
-use Rattle.ice_graphs.specs.Instances.{instances, most_instances, SpellsGraph}
-use Rattle.ice_graphs.proofs.Sizes.{slice_size_lawful}
+use Rattle.ice_encoding.specs.Steps.{Followed}
+use Rattle.ice_encoding.specs.Classes.{own_members}
+use Rattle.ice_encoding.specs.Graph.{Slice, Graph}
+use Rattle.ice_encoding.specs.References.{State, with_met, with_ended, resolved, beginning, opening, SpellsEntries, SpellsTable, SpellsInline}
+use Rattle.ice_encoding.specs.Flags.{IdForm, no_id, as_text, as_index, as_number, Flags, flags_of, all_slices, Before, first}
+use Rattle.ice_encoding.specs.TypeIds.{SpellsId, with_id, class_in, can_be_read, ends_well, before_next}
+use Rattle.ice_encoding.specs.Slices.{slice_size, unknown_bytes, SpellsBody, FromId, SpellsSlices, SpellsInstance}
+use Rattle.ice_encoding.specs.Slices.{Behind as Others}
+use Rattle.ice_encoding.specs.Instances.{instances, most_instances, SpellsGraph}
+use Rattle.ice_encoding.proofs.GraphSizes.{slice_size_lawful}
 use Rattle.graph_laws.proofs.TypeIds.{Spelled}
 use Rattle.graph_laws.proofs.WrittenGraphs.{replaced_length}
 use Rattle.graph_laws.specs.Sized.{starts_sized}

@@ -15,10 +15,10 @@ use Rattle.ice_types.specs.Tables.{Tables}
 use Rattle.ice_types.specs.Measures.{measure, measured, measure_members, with_member, sequence_of, dictionary_of, struct_of, fixed_size, enumeration, proxy, reference}
 use Rattle.ice_types.specs.Formats.{optional_format, of_parts, is_fixed}
 use Rattle.ice_types.specs.Lacking.{AreSame, SameEntry, SameKind, SameMember, SameShape}
-use Rattle.ice_graphs.specs.Optionals.{kind_tagged}
-use Rattle.ice_graphs.specs.OptionalMembers.{shape_of, required_kinds}
-use Rattle.ice_graphs.specs.Prefixes.{counts_itself, is_one, prefix_by, prefix_of}
-use Rattle.ice_graphs.specs.Classes.{members_in, own_members}
+use Rattle.ice_encoding.specs.Optionals.{kind_tagged}
+use Rattle.ice_encoding.specs.OptionalMembers.{shape_of, required_kinds}
+use Rattle.ice_encoding.specs.Prefixes.{counts_itself, is_one, prefix_by, prefix_of}
+use Rattle.ice_encoding.specs.Classes.{members_in, own_members}
 use Rattle.graph_laws.specs.Seeing.{SameClassId}
 use Rattle.graph_laws.proofs.Rows.{Agrees, row_there}
 

@@ -8,7 +8,7 @@ use Rattle.ice_types.specs.declared.declarations.ClassDecl.{ClassDecl}
 use Rattle.ice_types.specs.declared.kind.RowRef.TheVariants as rows
 use Rattle.ice_types.specs.Tables.{Tables}
 use Rattle.ice_types.specs.Rules.{IsSchema}
-use Rattle.ice_graphs.specs.Classes.{one_further, place_of, class_named}
+use Rattle.ice_encoding.specs.Classes.{one_further, place_of, class_named}
 
 -- no two rows have one id
 abbrev pub Apart : List ClassDecl → Type 0

@@ -8,11 +8,11 @@ use Rattle.ice_types.specs.declared.schema.TheConstants.{MOST_DEPTH}
 use Rattle.ice_types.specs.Tables.{Tables}
 use Rattle.ice_encoding.specs.Tree.{Tree, Trees, none, tree, Entries, no_entry, entry}
 use Rattle.ice_encoding.specs.Typed.{AllOf, EachOf, PairsOf, Refers, no_reference, HasType}
-use Rattle.ice_graphs.specs.Optionals.{Present}
-use Rattle.ice_graphs.specs.OptionalMembers.{Members, required_kinds}
-use Rattle.ice_graphs.specs.Names.{listed_name, names, names_each, names_pairs, names_present, names_of}
-use Rattle.ice_graphs.specs.Same.{AreListed}
-use Rattle.ice_graphs.specs.Typed.{AreOptions, AreMembers}
+use Rattle.ice_encoding.specs.Optionals.{Present}
+use Rattle.ice_encoding.specs.OptionalMembers.{Members, required_kinds}
+use Rattle.ice_encoding.specs.Names.{listed_name, names, names_each, names_pairs, names_present, names_of}
+use Rattle.ice_encoding.specs.SameGraph.{AreListed}
+use Rattle.ice_encoding.specs.TypedGraph.{AreOptions, AreMembers}
 use Rattle.graph_laws.proofs.Places.{AreListed-left, AreListed-right}
 
 -- what may stand as a reference, and stands in the list

@@ -2,16 +2,16 @@
 use Rattle.std.proofs.Common.{ℕ, zero, suc, ◌≡◌, ◌<◌, Bool, true, List, [], ◌∷◌, ◌++◌, length, map, get_or, refl, sym, ap, ◌∙◌, subst, inl, inr, arith}
 use Rattle.std.proofs.lemmas.List.{length-map, get_or-map}
 use Rattle.ice_types.specs.Tables.{Tables}
-use Rattle.ice_graphs.specs.OptionalMembers.{Members, SpellsSliceMembers}
-use Rattle.ice_graphs.specs.Classes.{own_members}
-use Rattle.ice_graphs.specs.Graph.{Slice, known, unknown, Graph}
-use Rattle.ice_graphs.specs.Names.{names_of, slice_names, instance_names, renamed_members, renamed_slice}
-use Rattle.ice_graphs.specs.References.{in_table, entry_in, resolved, AreWithin}
-use Rattle.ice_graphs.specs.Slices.{unknown_bytes}
-use Rattle.ice_graphs.specs.Instances.{class_of, slices_of, class_fits, AllFit}
-use Rattle.ice_graphs.specs.Visiting.{place}
-use Rattle.ice_graphs.specs.Same.{AreListed, Holds, Same, numbered}
-use Rattle.ice_graphs.specs.Canonical.{is_there}
+use Rattle.ice_encoding.specs.OptionalMembers.{Members, SpellsSliceMembers}
+use Rattle.ice_encoding.specs.Classes.{own_members}
+use Rattle.ice_encoding.specs.Graph.{Slice, known, unknown, Graph}
+use Rattle.ice_encoding.specs.Names.{names_of, slice_names, instance_names, renamed_members, renamed_slice}
+use Rattle.ice_encoding.specs.References.{in_table, entry_in, resolved, AreWithin}
+use Rattle.ice_encoding.specs.Slices.{unknown_bytes}
+use Rattle.ice_encoding.specs.Instances.{class_of, slices_of, class_fits, AllFit}
+use Rattle.ice_encoding.specs.Visiting.{place}
+use Rattle.ice_encoding.specs.SameGraph.{AreListed, Holds, Same, numbered}
+use Rattle.ice_encoding.specs.CanonicalGraph.{is_there}
 use Rattle.graph_arena.specs.Arena.{AreBelow}
 use Rattle.graph_arena.proofs.Keeping as keeping
 use Rattle.graph_laws.proofs.Places.{AreListed-append, AreListed-left, AreListed-right}

@@ -2,13 +2,13 @@
 use Rattle.std.proofs.Common.{ℕ, zero, suc, ◌+◌, ◌<◌, ◌≤◌, ◌≡◌, ◌⊎◌, Bool, true, false, List, [], ◌∷◌, ◌++◌, length, refl, sym, ap, ◌∙◌, subst, arith, inl, inr}
 use Rattle.std.proofs.lemmas.Bool.{cases_lt, cases_eq, false≢true, ltb-true, lt-ltb, le-ltb}
 use Rattle.std.proofs.lemmas.List.{length-append, append_cancel_left}
-use Rattle.ice_graphs.specs.Graph.{Graph}
-use Rattle.ice_graphs.specs.Names.{instance_names}
-use Rattle.ice_graphs.specs.Instances.{slices_of}
-use Rattle.ice_graphs.specs.Visiting.{place, is_listed, visit_each, visit_at}
-use Rattle.ice_graphs.specs.Same.{AreListed}
+use Rattle.ice_encoding.specs.Graph.{Graph}
+use Rattle.ice_encoding.specs.Names.{instance_names}
+use Rattle.ice_encoding.specs.Instances.{slices_of}
+use Rattle.ice_encoding.specs.Visiting.{place, is_listed, visit_each, visit_at}
+use Rattle.ice_encoding.specs.SameGraph.{AreListed}
 use Rattle.graph_arena.specs.Arena.{AreBelow}
-use Rattle.ice_graphs.specs.Canonical.{each_once}
+use Rattle.ice_encoding.specs.CanonicalGraph.{each_once}
 use Rattle.graph_arena.proofs.Closed.{place-head, place-tail}
 use Rattle.graph_laws.proofs.Upto.{upto, length-upto, upto-one, front-upto, place-upto, unlisted-upto, each-grows, visit-grows, parts}
 

@@ -8,19 +8,19 @@ use Rattle.ice_prims.specs.Bytes.{signed_bytes}
 use Rattle.ice_encoding.specs.declared.limits.TheConstants.{SMALLEST}
 use Rattle.ice_encoding.specs.Port.{Port, Speller}
 use Rattle.ice_encoding.specs.Typed.{Refers}
-use Rattle.ice_graphs.specs.OptionalMembers.{Members, SpellsContent}
-use Rattle.ice_graphs.specs.Classes.{own_members}
-use Rattle.ice_graphs.specs.Graph.{Slice, known, unknown, Graph}
-use Rattle.ice_graphs.specs.Names.{renamed_members}
-use Rattle.ice_graphs.specs.References.{State, Reference, entry_in, SpellsEntries, SpellsTable, SpellsInline, replaced, beginning, opening}
-use Rattle.ice_graphs.specs.Flags.{IdForm, no_id, as_text, as_index, as_number, Flags, known_classes, Before, first}
-use Rattle.ice_graphs.specs.Slices.{SpellsBody, SpellsSlices, SpellsInstance}
-use Rattle.ice_graphs.specs.Slices.{Behind as Others}
-use Rattle.ice_graphs.specs.TypeIds.{SpellsId, class_in, can_be_read, before_next}
-use Rattle.ice_graphs.specs.Instances.{instances, slices_of, most_instances, SpellsGraph, SpellsNumbered}
-use Rattle.ice_graphs.specs.Visiting.{order}
-use Rattle.ice_graphs.specs.Typed.{IsInstance, RefersIn, OfType}
-use Rattle.ice_graphs.specs.Canonical.{compact, IsWritable, Compact}
+use Rattle.ice_encoding.specs.OptionalMembers.{Members, SpellsContent}
+use Rattle.ice_encoding.specs.Classes.{own_members}
+use Rattle.ice_encoding.specs.Graph.{Slice, known, unknown, Graph}
+use Rattle.ice_encoding.specs.Names.{renamed_members}
+use Rattle.ice_encoding.specs.References.{State, Reference, entry_in, SpellsEntries, SpellsTable, SpellsInline, replaced, beginning, opening}
+use Rattle.ice_encoding.specs.Flags.{IdForm, no_id, as_text, as_index, as_number, Flags, known_classes, Before, first}
+use Rattle.ice_encoding.specs.Slices.{SpellsBody, SpellsSlices, SpellsInstance}
+use Rattle.ice_encoding.specs.Slices.{Behind as Others}
+use Rattle.ice_encoding.specs.TypeIds.{SpellsId, class_in, can_be_read, before_next}
+use Rattle.ice_encoding.specs.Instances.{instances, slices_of, most_instances, SpellsGraph, SpellsNumbered}
+use Rattle.ice_encoding.specs.Visiting.{order}
+use Rattle.ice_encoding.specs.TypedGraph.{IsInstance, RefersIn, OfType}
+use Rattle.ice_encoding.specs.CanonicalGraph.{compact, IsWritable, Compact}
 use Rattle.graph_laws.proofs.Carried.{Steps, slice_carried, content_carried, front_fits, rest_fits}
 use Rattle.graph_laws.proofs.Formed.{Reached, listed-below}
 

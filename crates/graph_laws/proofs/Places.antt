@@ -3,12 +3,12 @@ use Rattle.std.proofs.Common.{ℕ, suc, ◌<◌, ◌≡◌, Bool, true, false, c
 use Rattle.std.proofs.lemmas.Bool.{cases_eq, eqb-true, eq-eqb, ne_eqb}
 use Rattle.std.proofs.lemmas.List.{length-map}
 use Rattle.ice_encoding.specs.Tree.{Tree, boolean, byte, short, int, long, text, sequence, dictionary, struct, enumerator, proxy, reference, Trees, none, tree, Entries, no_entry, entry}
-use Rattle.ice_graphs.specs.Optionals.{Present}
-use Rattle.ice_graphs.specs.OptionalMembers.{Members, with_optional}
-use Rattle.ice_graphs.specs.Graph.{Slice, known, unknown}
-use Rattle.ice_graphs.specs.Names.{listed_name, names, names_each, names_pairs, names_present, names_of, slice_names, instance_names, renamed_name, renamed, renamed_each, renamed_pairs, renamed_present, renamed_members, renamed_slice}
-use Rattle.ice_graphs.specs.Visiting.{place, is_listed}
-use Rattle.ice_graphs.specs.Same.{AreListed}
+use Rattle.ice_encoding.specs.Optionals.{Present}
+use Rattle.ice_encoding.specs.OptionalMembers.{Members, with_optional}
+use Rattle.ice_encoding.specs.Graph.{Slice, known, unknown}
+use Rattle.ice_encoding.specs.Names.{listed_name, names, names_each, names_pairs, names_present, names_of, slice_names, instance_names, renamed_name, renamed, renamed_each, renamed_pairs, renamed_present, renamed_members, renamed_slice}
+use Rattle.ice_encoding.specs.Visiting.{place, is_listed}
+use Rattle.ice_encoding.specs.SameGraph.{AreListed}
 
 get-place_cases : (m n : ℕ) (ms : List ℕ) (d : ℕ) (b : Bool) → eqb m n ≡ b → (place ms n < length ms → get_or ms (place ms n) d ≡ n) → cond b 0 (suc (place ms n)) < suc (length ms) → get_or (m ∷ ms) (cond b 0 (suc (place ms n))) d ≡ n
 get-place_cases m n ms d true e more lt = eqb-true m n e

@@ -19,7 +19,7 @@ use Rattle.ice_encoding.specs.Endpoint.{endpoint, kind_of, said, said_bytes, end
 use Rattle.ice_encoding.specs.Proxy.{location, details_of, identity_of, named, proxy, location_to, named_to, proxy_to}
 use Rattle.ice_encoding.specs.Skipping.{count}
 use Rattle.ice_encoding.specs.Tags.{leading_byte, tag_by, behind_leading, tag}
-use Rattle.ice_graphs.specs.Slices.{unknown_bytes}
+use Rattle.ice_encoding.specs.Slices.{unknown_bytes}
 
 pub none_bytes : IsBytes []
 none_bytes i = omega arith

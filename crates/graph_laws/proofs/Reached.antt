@@ -4,12 +4,12 @@ use Rattle.std.proofs.lemmas.Bool.{cases_lt, ltb-true, ltb-false}
 use Rattle.std.proofs.lemmas.List.{length-append}
 use Rattle.ice_types.specs.declared.declarations.Shape.{Shape}
 use Rattle.ice_types.specs.Tables.{Tables}
-use Rattle.ice_graphs.specs.Graph.{Graph}
-use Rattle.ice_graphs.specs.Names.{names_of, instance_names}
-use Rattle.ice_graphs.specs.Instances.{slices_of}
-use Rattle.ice_graphs.specs.Visiting.{place, is_listed, visit_each, visit_at, most, order}
-use Rattle.ice_graphs.specs.Same.{AreListed, HasEachOnce}
-use Rattle.ice_graphs.specs.Typed.{OfType}
+use Rattle.ice_encoding.specs.Graph.{Graph}
+use Rattle.ice_encoding.specs.Names.{names_of, instance_names}
+use Rattle.ice_encoding.specs.Instances.{slices_of}
+use Rattle.ice_encoding.specs.Visiting.{place, is_listed, visit_each, visit_at, most, order}
+use Rattle.ice_encoding.specs.SameGraph.{AreListed, HasEachOnce}
+use Rattle.ice_encoding.specs.TypedGraph.{OfType}
 use Rattle.graph_laws.proofs.Ranged as ranged
 use Rattle.graph_arena.specs.Arena.{AreBelow}
 use Rattle.graph_arena.proofs.Closed.{listed-left, listed-end, listed-split, once-end, below-end, few, IsOrder}

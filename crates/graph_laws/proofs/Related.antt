@@ -13,7 +13,7 @@ use Rattle.ice_types.specs.Tables.{Tables}
 use Rattle.ice_types.specs.Rules.{IsSchema}
 use Rattle.ice_types.specs.Bases.{class_base, HasBases, Lone, Derived}
 use Rattle.ice_types.specs.Inherited.{IsA, Here, Onward}
-use Rattle.ice_graphs.specs.Classes.{base_of, holds_of, leads_to, is_a}
+use Rattle.ice_encoding.specs.Classes.{base_of, holds_of, leads_to, is_a}
 
 -- ---- how many bases a class has
 

@@ -5,15 +5,15 @@ use Rattle.ice_types.specs.Tables.{Tables}
 use Rattle.ice_types.specs.Lacking.{SameShape}
 use Rattle.ice_prims.specs.Rest.{IsBytes}
 use Rattle.ice_encoding.specs.declared.limits.TheConstants.{LARGEST}
-use Rattle.ice_graphs.specs.OptionalMembers.{Members, SpellsContent}
-use Rattle.ice_graphs.specs.Graph.{Slice, Graph}
-use Rattle.ice_graphs.specs.References.{opening}
-use Rattle.ice_graphs.specs.Flags.{all_slices}
-use Rattle.ice_graphs.specs.Instances.{SpellsGraph, SpellsNumbered, AllFit, slices_of, most_instances}
-use Rattle.ice_graphs.specs.Visiting.{order}
-use Rattle.ice_graphs.specs.Same.{Same, Holds, numbered}
-use Rattle.ice_graphs.specs.Canonical.{sliced, graph_bytes}
-use Rattle.ice_graphs.proofs.Graphs.{numbered_apart}
+use Rattle.ice_encoding.specs.OptionalMembers.{Members, SpellsContent}
+use Rattle.ice_encoding.specs.Graph.{Slice, Graph}
+use Rattle.ice_encoding.specs.References.{opening}
+use Rattle.ice_encoding.specs.Flags.{all_slices}
+use Rattle.ice_encoding.specs.Instances.{SpellsGraph, SpellsNumbered, AllFit, slices_of, most_instances}
+use Rattle.ice_encoding.specs.Visiting.{order}
+use Rattle.ice_encoding.specs.SameGraph.{Same, Holds, numbered}
+use Rattle.ice_encoding.specs.CanonicalGraph.{sliced, graph_bytes}
+use Rattle.ice_encoding.proofs.Graphs.{numbered_apart}
 use Rattle.graph_laws.proofs.Sound.{numbered_typed}
 use Rattle.graph_arena.specs.Arena.{AreBelow}
 use Rattle.graph_arena.proofs.Closed.{few}

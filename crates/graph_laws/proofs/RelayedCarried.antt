@@ -19,9 +19,9 @@ use Rattle.ice_encoding.specs.Order.{insert}
 use Rattle.ice_encoding.specs.Port.{Port, Speller}
 use Rattle.ice_encoding.specs.Enum.{SpellsEnumerator}
 use Rattle.ice_encoding.specs.Spelling.{Plain, Made, Each, Pairs, SpellsValue}
-use Rattle.ice_graphs.specs.Prefixes.{Prefix, no_length, own_size, as_size, as_int, prefix_of, Framed}
-use Rattle.ice_graphs.specs.Optionals.{kind_tagged, SkippedBy, Tagged, Options, AllOptions}
-use Rattle.ice_graphs.specs.OptionalMembers.{required_kinds, IfFlagged, SpellsSliceMembers, SpellsContent}
+use Rattle.ice_encoding.specs.Prefixes.{Prefix, no_length, own_size, as_size, as_int, prefix_of, Framed}
+use Rattle.ice_encoding.specs.Optionals.{kind_tagged, SkippedBy, Tagged, Options, AllOptions}
+use Rattle.ice_encoding.specs.OptionalMembers.{required_kinds, IfFlagged, SpellsSliceMembers, SpellsContent}
 use Rattle.graph_laws.proofs.Carried.{Steps}
 use Rattle.graph_laws.proofs.Rows.{Agrees}
 use Rattle.graph_laws.proofs.Measured.{SameKinds, SameMembers, same_entries, repeated, kinds_same, required_same, TiedOption, tagged_same, same_optional, same_prefix}

@@ -8,10 +8,10 @@ use Rattle.ice_types.specs.Tables.{Tables, HasId, class_ids}
 use Rattle.ice_types.specs.Rules.{IsSchema}
 use Rattle.ice_types.specs.Lacking.{SameBase}
 use Rattle.ice_types.proofs.RowIdentity.{one_id}
-use Rattle.ice_graphs.specs.OptionalMembers.{Members}
-use Rattle.ice_graphs.specs.Classes.{class_by_id, base_of, holds_of, leads_to, is_a}
-use Rattle.ice_graphs.specs.Graph.{Slice, known, unknown}
-use Rattle.ice_graphs.specs.Instances.{class_of, comes_from, class_fits, slices_of, AllFit}
+use Rattle.ice_encoding.specs.OptionalMembers.{Members}
+use Rattle.ice_encoding.specs.Classes.{class_by_id, base_of, holds_of, leads_to, is_a}
+use Rattle.ice_encoding.specs.Graph.{Slice, known, unknown}
+use Rattle.ice_encoding.specs.Instances.{class_of, comes_from, class_fits, slices_of, AllFit}
 use Rattle.graph_laws.proofs.Related.{related, to_base}
 use Rattle.graph_laws.specs.Seeing.{SameClassId, SeenAs, AllSeen, EachSeen}
 use Rattle.graph_laws.proofs.Classed.{Both, tied_once, tied_base, hidden_untied}

@@ -5,9 +5,9 @@ use Rattle.ice_types.specs.declared.kind.RowRef.TheVariants as rows
 use Rattle.ice_types.specs.Tables.{Tables}
 use Rattle.ice_types.specs.Lacking.{SameBase}
 use Rattle.ice_encoding.specs.Port.{Port}
-use Rattle.ice_graphs.specs.Graph.{Slice}
-use Rattle.ice_graphs.specs.References.{State, Reference, met_at, with_met, with_begun, with_ended, replaced, resolved, entry_in, in_table, AreWithin, SpellsEntries, SpellsTable}
-use Rattle.ice_graphs.specs.Instances.{class_of, slices_of, class_fits, AllFit}
+use Rattle.ice_encoding.specs.Graph.{Slice}
+use Rattle.ice_encoding.specs.References.{State, Reference, met_at, with_met, with_begun, with_ended, replaced, resolved, entry_in, in_table, AreWithin, SpellsEntries, SpellsTable}
+use Rattle.ice_encoding.specs.Instances.{class_of, slices_of, class_fits, AllFit}
 use Rattle.graph_laws.proofs.Carried.{Steps}
 use Rattle.graph_laws.proofs.TypeIds.{Spelled}
 use Rattle.graph_laws.specs.Seeing.{AllSeen, EachSeen}

@@ -10,10 +10,10 @@ use Rattle.ice_encoding.specs.Tree.{Tree, Trees, none, tree, tree_count, Entries
 use Rattle.ice_encoding.specs.Order.{IsRising}
 use Rattle.ice_encoding.proofs.Within.{proxy_grown}
 use Rattle.ice_encoding.specs.Typed.{AllOf, EachOf, PairsOf, Refers, no_reference, HasType}
-use Rattle.ice_graphs.specs.Optionals.{Present}
-use Rattle.ice_graphs.specs.OptionalMembers.{Members, required_kinds}
-use Rattle.ice_graphs.specs.Names.{renamed_name, renamed, renamed_each, renamed_pairs, renamed_present, renamed_members}
-use Rattle.ice_graphs.specs.Typed.{AreOptions, AreMembers}
+use Rattle.ice_encoding.specs.Optionals.{Present}
+use Rattle.ice_encoding.specs.OptionalMembers.{Members, required_kinds}
+use Rattle.ice_encoding.specs.Names.{renamed_name, renamed, renamed_each, renamed_pairs, renamed_present, renamed_members}
+use Rattle.ice_encoding.specs.TypedGraph.{AreOptions, AreMembers}
 
 count-renamed : (f : ℕ → ℕ) (vs : Trees) → tree_count (renamed_each f vs) ≡ tree_count vs
 count-renamed f none = refl

@@ -2,11 +2,11 @@
 use Rattle.std.proofs.Common.{ℕ, zero, suc, ◌<◌, ◌≡◌, Bool, true, false, List, [], ◌∷◌, ◌++◌, length, map, refl, sym, ap, ◌∙◌}
 use Rattle.std.proofs.lemmas.Bool.{false≢true}
 use Rattle.std.proofs.lemmas.List.{map-append, get_or-map}
-use Rattle.ice_graphs.specs.Names.{names_of, instance_names, renamed_slice}
-use Rattle.ice_graphs.specs.Visiting.{place, is_listed, visit_each, visit_at, order, most}
-use Rattle.ice_graphs.specs.Graph.{Graph}
-use Rattle.ice_graphs.specs.Instances.{slices_of}
-use Rattle.ice_graphs.specs.Same.{AreListed, numbered, Holds, Same, form}
+use Rattle.ice_encoding.specs.Names.{names_of, instance_names, renamed_slice}
+use Rattle.ice_encoding.specs.Visiting.{place, is_listed, visit_each, visit_at, order, most}
+use Rattle.ice_encoding.specs.Graph.{Graph}
+use Rattle.ice_encoding.specs.Instances.{slices_of}
+use Rattle.ice_encoding.specs.SameGraph.{AreListed, numbered, Holds, Same, form}
 use Rattle.graph_laws.proofs.Places.{get-place, place-map, is_listed-map, AreListed-append, fused_members, slices-fused}
 use Rattle.graph_arena.proofs.Keeping.{members-renamed, instance-renamed}
 

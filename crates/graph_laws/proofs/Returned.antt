@@ -5,17 +5,17 @@ use Rattle.ice_types.specs.declared.kind.RowRef.TheVariants as rows
 use Rattle.ice_types.specs.Tables.{Tables}
 use Rattle.ice_types.specs.Lacking.{SameBase, SameShape}
 use Rattle.ice_encoding.specs.Port.{Port}
-use Rattle.ice_graphs.specs.OptionalMembers.{Members}
-use Rattle.ice_graphs.specs.Classes.{base_of, own_members}
-use Rattle.ice_graphs.specs.Graph.{Slice, known, unknown}
-use Rattle.ice_graphs.specs.Names.{renamed_members}
-use Rattle.ice_graphs.specs.References.{State, with_met, resolved, entry_in, in_table, AreWithin, SpellsEntries, SpellsTable}
-use Rattle.ice_graphs.specs.Flags.{IdForm, no_id, as_text, as_index, as_number, Flags, all_slices, Before, first, only_unknown, derived}
-use Rattle.ice_graphs.specs.TypeIds.{SpellsId, with_id, class_in, ends_well, before_base, before_next}
-use Rattle.ice_graphs.specs.Slices.{unknown_bytes, SpellsBody, SpellsSlices, FromId}
-use Rattle.ice_graphs.specs.Slices.{Behind as Others}
-use Rattle.ice_graphs.specs.Instances.{slices_of, class_of, class_fits, AllFit}
-use Rattle.ice_graphs.specs.Canonical.{is_there}
+use Rattle.ice_encoding.specs.OptionalMembers.{Members}
+use Rattle.ice_encoding.specs.Classes.{base_of, own_members}
+use Rattle.ice_encoding.specs.Graph.{Slice, known, unknown}
+use Rattle.ice_encoding.specs.Names.{renamed_members}
+use Rattle.ice_encoding.specs.References.{State, with_met, resolved, entry_in, in_table, AreWithin, SpellsEntries, SpellsTable}
+use Rattle.ice_encoding.specs.Flags.{IdForm, no_id, as_text, as_index, as_number, Flags, all_slices, Before, first, only_unknown, derived}
+use Rattle.ice_encoding.specs.TypeIds.{SpellsId, with_id, class_in, ends_well, before_base, before_next}
+use Rattle.ice_encoding.specs.Slices.{unknown_bytes, SpellsBody, SpellsSlices, FromId}
+use Rattle.ice_encoding.specs.Slices.{Behind as Others}
+use Rattle.ice_encoding.specs.Instances.{slices_of, class_of, class_fits, AllFit}
+use Rattle.ice_encoding.specs.CanonicalGraph.{is_there}
 use Rattle.graph_laws.proofs.Carried.{Steps}
 use Rattle.graph_laws.proofs.TypeIds.{Spelled}
 use Rattle.graph_laws.proofs.InlineRules.{all_fit_more}

@@ -4,13 +4,13 @@ use Rattle.std.proofs.lemmas.Bool.{cases_eq, cases_lt, ltb-true, ltb-false}
 use Rattle.std.proofs.lemmas.List.{length-map, get_or-map}
 use Rattle.ice_types.specs.declared.declarations.Shape.{Shape}
 use Rattle.ice_types.specs.Tables.{Tables}
-use Rattle.ice_graphs.specs.Graph.{Slice, Graph}
-use Rattle.ice_graphs.specs.Flags.{Reach}
-use Rattle.ice_graphs.specs.Names.{names_of, instance_names, renamed_slice}
-use Rattle.ice_graphs.specs.Instances.{slices_of}
-use Rattle.ice_graphs.specs.Visiting.{place, is_listed}
-use Rattle.ice_graphs.specs.Same.{AreListed, HasEachOnce, numbered, Holds, Same, Spells}
-use Rattle.ice_graphs.proofs.Graphs.{numbered_apart}
+use Rattle.ice_encoding.specs.Graph.{Slice, Graph}
+use Rattle.ice_encoding.specs.Flags.{Reach}
+use Rattle.ice_encoding.specs.Names.{names_of, instance_names, renamed_slice}
+use Rattle.ice_encoding.specs.Instances.{slices_of}
+use Rattle.ice_encoding.specs.Visiting.{place, is_listed}
+use Rattle.ice_encoding.specs.SameGraph.{AreListed, HasEachOnce, numbered, Holds, Same, Spells}
+use Rattle.ice_encoding.proofs.Graphs.{numbered_apart}
 use Rattle.graph_arena.proofs.Closed.{place-head, place-tail, place-le}
 use Rattle.graph_arena.proofs.Keeping.{members-renamed, instance-renamed}
 use Rattle.graph_laws.proofs.Places.{get-place, place-once}

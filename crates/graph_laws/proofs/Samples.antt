@@ -6,13 +6,13 @@ use Rattle.ice_types.specs.declared.kind.TypeRef.TheVariants as kinds
 use Rattle.ice_types.specs.declared.declarations.ExceptionDecl.{ExceptionDecl}
 use Rattle.ice_types.specs.Tables.{Tables, no_types}
 use Rattle.ice_encoding.specs.Tree.{int, text, none, tree}
-use Rattle.ice_graphs.specs.OptionalMembers.{with_optional}
-use Rattle.ice_graphs.specs.Canonical.{sliced, compact}
-use Rattle.ice_graphs.specs.Exceptions.{UserException}
-use Rattle.ice_graphs.specs.Graph.{Slice, known, unknown}
-use Rattle.ice_graphs.specs.Visiting.{order, most}
-use Rattle.ice_graphs.proofs.Samples.{always, tagged, classes, node_id, values, to, node}
-use Rattle.ice_graphs.specs.UserExceptionWritten.{form_of, canonical_user_exception, exception_bytes}
+use Rattle.ice_encoding.specs.OptionalMembers.{with_optional}
+use Rattle.ice_encoding.specs.CanonicalGraph.{sliced, compact}
+use Rattle.ice_encoding.specs.Exceptions.{UserException}
+use Rattle.ice_encoding.specs.Graph.{Slice, known, unknown}
+use Rattle.ice_encoding.specs.Visiting.{order, most}
+use Rattle.ice_encoding.proofs.GraphSamples.{always, tagged, classes, node_id, values, to, node}
+use Rattle.ice_encoding.specs.UserExceptionWritten.{form_of, canonical_user_exception, exception_bytes}
 
 -- exception Bad {} exception F { int code; } exception G extends F { string why; } exception H { N held; } exception I { optional(1) int more; }
 abbrev exceptions : List ExceptionDecl

@@ -9,13 +9,13 @@ use Rattle.ice_types.specs.CompactIds.{IsSliceId}
 use Rattle.ice_types.specs.Rules.{IsSchema}
 use Rattle.ice_prims.specs.Rest.{IsBytes}
 use Rattle.ice_encoding.specs.declared.limits.TheConstants.{GREATEST, LARGEST}
-use Rattle.ice_graphs.specs.Graph.{Slice, known, unknown, Graph}
-use Rattle.ice_graphs.specs.Flags.{Reach, all_slices, known_classes}
-use Rattle.ice_graphs.specs.Instances.{slices_of, most_instances, SpellsNumbered}
-use Rattle.ice_graphs.specs.Visiting.{most, order}
-use Rattle.ice_graphs.specs.Same.{Same, Spells, form}
-use Rattle.ice_graphs.specs.Typed.{OfTypeTo, OfType, OfReadType}
-use Rattle.ice_graphs.specs.Canonical.{Format, compact, graph_bytes, spelled_by, row_id, IsWritable}
+use Rattle.ice_encoding.specs.Graph.{Slice, known, unknown, Graph}
+use Rattle.ice_encoding.specs.Flags.{Reach, all_slices, known_classes}
+use Rattle.ice_encoding.specs.Instances.{slices_of, most_instances, SpellsNumbered}
+use Rattle.ice_encoding.specs.Visiting.{most, order}
+use Rattle.ice_encoding.specs.SameGraph.{Same, Spells, form}
+use Rattle.ice_encoding.specs.TypedGraph.{OfTypeTo, OfType, OfReadType}
+use Rattle.ice_encoding.specs.CanonicalGraph.{Format, compact, graph_bytes, spelled_by, row_id, IsWritable}
 use Rattle.graph_laws.proofs.Sound.{numbered_read, numbered_typed}
 use Rattle.graph_laws.proofs.Wider.{graph_wider}
 use Rattle.graph_laws.proofs.WrittenValues.{Limits, written_limits, read_limits}

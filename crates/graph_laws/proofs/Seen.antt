@@ -7,16 +7,16 @@ use Rattle.ice_types.specs.declared.declarations.Shape.{Shape}
 use Rattle.ice_types.specs.Tables.{Tables}
 use Rattle.ice_types.specs.Lacking.{SameShape, SameBase}
 use Rattle.ice_encoding.specs.Port.{Port, Speller}
-use Rattle.ice_graphs.specs.OptionalMembers.{Members, SpellsSliceMembers, SpellsContent}
-use Rattle.ice_graphs.specs.Classes.{own_members}
-use Rattle.ice_graphs.specs.Graph.{Slice, known, unknown}
-use Rattle.ice_graphs.specs.References.{State, met_at, with_met, with_ended, beginning, opening, in_table, resolved, AreWithin, SpellsInline, SpellsTable}
-use Rattle.ice_graphs.specs.Flags.{IdForm, no_id, as_text, as_index, as_number, Flags, all_slices, Before, first, may_stand}
-use Rattle.ice_graphs.specs.TypeIds.{SpellsId, with_id, class_in, before_next}
-use Rattle.ice_graphs.specs.Slices.{by_table, SpellsBody, SpellsSlices, SpellsInstance}
-use Rattle.ice_graphs.specs.Slices.{Behind as Others}
-use Rattle.ice_graphs.specs.Instances.{instances, slices_of, class_of, class_fits, AllFit}
-use Rattle.ice_graphs.specs.Canonical.{is_there}
+use Rattle.ice_encoding.specs.OptionalMembers.{Members, SpellsSliceMembers, SpellsContent}
+use Rattle.ice_encoding.specs.Classes.{own_members}
+use Rattle.ice_encoding.specs.Graph.{Slice, known, unknown}
+use Rattle.ice_encoding.specs.References.{State, met_at, with_met, with_ended, beginning, opening, in_table, resolved, AreWithin, SpellsInline, SpellsTable}
+use Rattle.ice_encoding.specs.Flags.{IdForm, no_id, as_text, as_index, as_number, Flags, all_slices, Before, first, may_stand}
+use Rattle.ice_encoding.specs.TypeIds.{SpellsId, with_id, class_in, before_next}
+use Rattle.ice_encoding.specs.Slices.{by_table, SpellsBody, SpellsSlices, SpellsInstance}
+use Rattle.ice_encoding.specs.Slices.{Behind as Others}
+use Rattle.ice_encoding.specs.Instances.{instances, slices_of, class_of, class_fits, AllFit}
+use Rattle.ice_encoding.specs.CanonicalGraph.{is_there}
 use Rattle.graph_laws.proofs.TypeIds.{Spelled}
 use Rattle.graph_laws.specs.Sized.{starts_sized}
 use Rattle.graph_laws.specs.Readable.{IsOfBoth, CanBeRead, readable_instances}

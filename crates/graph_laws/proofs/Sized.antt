@@ -2,12 +2,12 @@
 use Rattle.std.proofs.Common.{ℕ, zero, suc, ◌≡◌, true, List, Option, inl}
 use Rattle.ice_types.specs.declared.declarations.Shape.{Shape}
 use Rattle.ice_types.specs.Tables.{Tables}
-use Rattle.ice_graphs.specs.Graph.{Graph}
-use Rattle.ice_graphs.specs.References.{opening}
-use Rattle.ice_graphs.specs.Flags.{all_slices, first}
-use Rattle.ice_graphs.specs.Slices.{SpellsInstance}
-use Rattle.ice_graphs.specs.Instances.{instances, most_instances, SpellsGraph, SpellsNumbered}
-use Rattle.ice_graphs.specs.Same.{Spells}
+use Rattle.ice_encoding.specs.Graph.{Graph}
+use Rattle.ice_encoding.specs.References.{opening}
+use Rattle.ice_encoding.specs.Flags.{all_slices, first}
+use Rattle.ice_encoding.specs.Slices.{SpellsInstance}
+use Rattle.ice_encoding.specs.Instances.{instances, most_instances, SpellsGraph, SpellsNumbered}
+use Rattle.ice_encoding.specs.SameGraph.{Spells}
 use Rattle.graph_laws.proofs.Weaker.{Goes, slices_go, inline_goes, content_goes}
 use Rattle.graph_laws.specs.Sized.{starts_sized, sized_instances, SpellsSizedGraph, SpellsSizedNumbered, SpellsSized}
 use Rattle.graph_laws.specs.Readable.{CanBeRead, readable_instances, SpellsReadableGraph, SpellsReadableNumbered, SpellsReadable}

@@ -7,17 +7,17 @@ use Rattle.ice_prims.specs.Bytes.{size_bytes}
 use Rattle.ice_encoding.specs.declared.limits.TheConstants.{LARGEST}
 use Rattle.ice_encoding.specs.Opening.{encapsulated_bytes}
 use Rattle.ice_encoding.specs.Writing.{Piece}
-use Rattle.ice_graphs.specs.Classes.{place_of}
+use Rattle.ice_encoding.specs.Classes.{place_of}
 use Rattle.ice_types.specs.CompactIds.{number_in}
-use Rattle.ice_graphs.specs.Graph.{Slice, Graph}
-use Rattle.ice_graphs.specs.Names.{names_of, instance_names}
-use Rattle.ice_graphs.specs.References.{GoesBack}
-use Rattle.ice_graphs.specs.Flags.{as_text, as_index, as_number, Flags, all_slices}
-use Rattle.ice_graphs.specs.Instances.{AllFit, slices_of, most_instances}
-use Rattle.ice_graphs.specs.Visiting.{visit_each, visit_at, most, order}
-use Rattle.ice_graphs.specs.Same.{form, numbered}
-use Rattle.ice_graphs.specs.Typed.{OfType}
-use Rattle.ice_graphs.specs.Canonical.{Pen, table_of, is_there, written_id, has_optional, flags_byte, head_as, head_under, sliced, is_end, sized_body, written_slices, bytes_of, canonical_graph, graph_bytes}
+use Rattle.ice_encoding.specs.Graph.{Slice, Graph}
+use Rattle.ice_encoding.specs.Names.{names_of, instance_names}
+use Rattle.ice_encoding.specs.References.{GoesBack}
+use Rattle.ice_encoding.specs.Flags.{as_text, as_index, as_number, Flags, all_slices}
+use Rattle.ice_encoding.specs.Instances.{AllFit, slices_of, most_instances}
+use Rattle.ice_encoding.specs.Visiting.{visit_each, visit_at, most, order}
+use Rattle.ice_encoding.specs.SameGraph.{form, numbered}
+use Rattle.ice_encoding.specs.TypedGraph.{OfType}
+use Rattle.ice_encoding.specs.CanonicalGraph.{Pen, table_of, is_there, written_id, has_optional, flags_byte, head_as, head_under, sliced, is_end, sized_body, written_slices, bytes_of, canonical_graph, graph_bytes}
 use Rattle.graph_arena.specs.Arena.{AreBelow}
 use Rattle.graph_laws.proofs.TypeIds.{Spelled}
 use Rattle.graph_laws.proofs.ClassIds.{are_spelled}

@@ -7,10 +7,10 @@ use Rattle.ice_types.specs.Rules.{IsSchema}
 use Rattle.ice_prims.specs.Rest.{IsBytes}
 use Rattle.ice_prims.specs.Bytes.{signed_bytes}
 use Rattle.ice_encoding.specs.declared.limits.TheConstants.{GREATEST, LARGEST, SMALLEST}
-use Rattle.ice_graphs.specs.Graph.{Slice, Graph}
-use Rattle.ice_graphs.specs.Flags.{Reach}
-use Rattle.ice_graphs.specs.Instances.{most_instances, AllFit, SpellsGraph, SpellsNumbered}
-use Rattle.ice_graphs.specs.Typed.{OfType, OfReadType}
+use Rattle.ice_encoding.specs.Graph.{Slice, Graph}
+use Rattle.ice_encoding.specs.Flags.{Reach}
+use Rattle.ice_encoding.specs.Instances.{most_instances, AllFit, SpellsGraph, SpellsNumbered}
+use Rattle.ice_encoding.specs.TypedGraph.{OfType, OfReadType}
 use Rattle.graph_laws.proofs.Carried.{rest_fits}
 use Rattle.graph_laws.proofs.Texts.{content_texts}
 use Rattle.graph_laws.proofs.TypedGraphs.{graph_typed}

@@ -6,14 +6,14 @@ use Rattle.ice_types.specs.Rules.{IsSchema}
 use Rattle.ice_prims.specs.Rest.{IsBytes}
 use Rattle.ice_prims.specs.Bytes.{signed_bytes}
 use Rattle.ice_encoding.specs.declared.limits.TheConstants.{LARGEST, SMALLEST}
-use Rattle.ice_graphs.specs.Exceptions.{of_exceptions, UserException, SpellsUserException, SpellsException}
-use Rattle.ice_graphs.specs.Graph.{Slice}
-use Rattle.ice_graphs.specs.Flags.{Reach, first}
-use Rattle.ice_graphs.specs.References.{opening}
-use Rattle.ice_graphs.specs.Instances.{most_instances, instances, slices_of, AllFit}
+use Rattle.ice_encoding.specs.Exceptions.{of_exceptions, UserException, SpellsUserException, SpellsException}
+use Rattle.ice_encoding.specs.Graph.{Slice}
+use Rattle.ice_encoding.specs.Flags.{Reach, first}
+use Rattle.ice_encoding.specs.References.{opening}
+use Rattle.ice_encoding.specs.Instances.{most_instances, instances, slices_of, AllFit}
 use Rattle.graph_laws.proofs.Carried.{rest_fits}
-use Rattle.ice_graphs.specs.Typed.{RefersIn, RefersUpTo}
-use Rattle.ice_graphs.specs.UserExceptionTyped.{OfUserException}
+use Rattle.ice_encoding.specs.TypedGraph.{RefersIn, RefersUpTo}
+use Rattle.ice_encoding.specs.UserExceptionTyped.{OfUserException}
 use Rattle.graph_laws.proofs.Wider.{instance_wider}
 use Rattle.graph_laws.proofs.Texts.{instances_texts}
 use Rattle.graph_laws.proofs.UserExceptionTexts.{user_exception_texts}

@@ -2,10 +2,10 @@
 use Rattle.std.proofs.Common.{ℕ, ◌≡◌, List, [], ◌∷◌, map, ap, Option, Some, None}
 use Rattle.ice_types.specs.Tables.{Tables}
 use Rattle.ice_encoding.specs.Typed.{Refers}
-use Rattle.ice_graphs.specs.Classes.{class_by_id, base_of}
-use Rattle.ice_graphs.specs.Graph.{Slice, known, unknown}
-use Rattle.ice_graphs.specs.Names.{renamed_slice}
-use Rattle.ice_graphs.specs.Typed.{AreBases, IsInstance}
+use Rattle.ice_encoding.specs.Classes.{class_by_id, base_of}
+use Rattle.ice_encoding.specs.Graph.{Slice, known, unknown}
+use Rattle.ice_encoding.specs.Names.{renamed_slice}
+use Rattle.ice_encoding.specs.TypedGraph.{AreBases, IsInstance}
 use Rattle.graph_laws.proofs.Bases.{IsRow}
 
 module _ (t : Tables) where

@@ -5,14 +5,14 @@ use Rattle.std.proofs.lemmas.Bool.{cases_lt}
 use Rattle.std.proofs.lemmas.List.{length-append, append_assoc, append-nil, get_or_append_left}
 use Rattle.ice_types.specs.Tables.{Tables}
 use Rattle.ice_encoding.specs.Port.{Port, Speller}
-use Rattle.ice_graphs.specs.Classes.{own_members}
-use Rattle.ice_graphs.specs.Graph.{Slice}
-use Rattle.ice_graphs.specs.References.{State, Reference, met_at, replaced, resolved, with_met, beginning, SpellsEntries, SpellsTable, SpellsInline}
-use Rattle.ice_graphs.specs.Flags.{IdForm, no_id, as_text, as_index, as_number, Flags, all_slices, Before, first}
-use Rattle.ice_graphs.specs.TypeIds.{SpellsId}
-use Rattle.ice_graphs.specs.Slices.{SpellsBody, SpellsSlices, SpellsInstance}
-use Rattle.ice_graphs.specs.Slices.{Behind as Others}
-use Rattle.ice_graphs.specs.Instances.{slices_of, instances, AllFit}
+use Rattle.ice_encoding.specs.Classes.{own_members}
+use Rattle.ice_encoding.specs.Graph.{Slice}
+use Rattle.ice_encoding.specs.References.{State, Reference, met_at, replaced, resolved, with_met, beginning, SpellsEntries, SpellsTable, SpellsInline}
+use Rattle.ice_encoding.specs.Flags.{IdForm, no_id, as_text, as_index, as_number, Flags, all_slices, Before, first}
+use Rattle.ice_encoding.specs.TypeIds.{SpellsId}
+use Rattle.ice_encoding.specs.Slices.{SpellsBody, SpellsSlices, SpellsInstance}
+use Rattle.ice_encoding.specs.Slices.{Behind as Others}
+use Rattle.ice_encoding.specs.Instances.{slices_of, instances, AllFit}
 use Rattle.graph_laws.proofs.TypeIds.{Spelled}
 use Rattle.graph_laws.proofs.WrittenGraphs.{replaced_length, replaced_else}
 use Rattle.graph_laws.specs.Sized.{starts_sized, sized_instances}

@@ -5,16 +5,16 @@ use Rattle.ice_types.specs.declared.declarations.Shape.{Shape}
 use Rattle.ice_types.specs.Tables.{Tables}
 use Rattle.ice_encoding.specs.Typed.{Refers}
 use Rattle.ice_encoding.specs.Writing.{Piece}
-use Rattle.ice_graphs.specs.OptionalMembers.{Members, SpellsSliceMembers}
-use Rattle.ice_graphs.specs.Graph.{Slice}
-use Rattle.ice_graphs.specs.Names.{listed_name, names_of, renamed_name, renamed_members}
-use Rattle.ice_graphs.specs.References.{Reference, met_at, in_table, entry_in, resolved, AreWithin}
-use Rattle.ice_graphs.specs.Instances.{class_of, slices_of, class_fits, fits, AllFit}
-use Rattle.ice_graphs.specs.Visiting.{place}
-use Rattle.ice_graphs.specs.Same.{AreListed}
-use Rattle.ice_graphs.specs.Typed.{AreMembers, IsHeldIn, RefersUpTo}
-use Rattle.ice_graphs.specs.Members.{written_slice_members}
-use Rattle.ice_graphs.specs.Canonical.{by_size, is_there}
+use Rattle.ice_encoding.specs.OptionalMembers.{Members, SpellsSliceMembers}
+use Rattle.ice_encoding.specs.Graph.{Slice}
+use Rattle.ice_encoding.specs.Names.{listed_name, names_of, renamed_name, renamed_members}
+use Rattle.ice_encoding.specs.References.{Reference, met_at, in_table, entry_in, resolved, AreWithin}
+use Rattle.ice_encoding.specs.Instances.{class_of, slices_of, class_fits, fits, AllFit}
+use Rattle.ice_encoding.specs.Visiting.{place}
+use Rattle.ice_encoding.specs.SameGraph.{AreListed}
+use Rattle.ice_encoding.specs.TypedGraph.{AreMembers, IsHeldIn, RefersUpTo}
+use Rattle.ice_encoding.specs.Members.{written_slice_members}
+use Rattle.ice_encoding.specs.CanonicalGraph.{by_size, is_there}
 use Rattle.graph_laws.proofs.Renamed.{Moves, members-renamed}
 use Rattle.graph_laws.proofs.Places.{get-place}
 use Rattle.graph_laws.proofs.Narrowed.{Narrow, members-narrowed}

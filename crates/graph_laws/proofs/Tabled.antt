@@ -8,12 +8,12 @@ use Rattle.ice_types.specs.Tables.{Tables}
 use Rattle.ice_types.specs.Rules.{IsSchema}
 use Rattle.ice_types.specs.Lacking.{SameBase, SameShape}
 use Rattle.ice_encoding.specs.Port.{Port}
-use Rattle.ice_graphs.specs.Optionals.{Present, Options}
-use Rattle.ice_graphs.specs.OptionalMembers.{Members, SpellsSliceMembers}
-use Rattle.ice_graphs.specs.Classes.{own_members}
-use Rattle.ice_graphs.specs.References.{State, Reference, met_at, in_table, AreWithin, SpellsEntries}
-use Rattle.ice_graphs.specs.Slices.{slice_size, unknown_bytes, SpellsUnknown}
-use Rattle.ice_graphs.specs.Canonical.{is_there}
+use Rattle.ice_encoding.specs.Optionals.{Present, Options}
+use Rattle.ice_encoding.specs.OptionalMembers.{Members, SpellsSliceMembers}
+use Rattle.ice_encoding.specs.Classes.{own_members}
+use Rattle.ice_encoding.specs.References.{State, Reference, met_at, in_table, AreWithin, SpellsEntries}
+use Rattle.ice_encoding.specs.Slices.{slice_size, unknown_bytes, SpellsUnknown}
+use Rattle.ice_encoding.specs.CanonicalGraph.{is_there}
 use Rattle.graph_laws.proofs.Carried.{Steps}
 use Rattle.graph_laws.proofs.TypeIds.{Spelled}
 use Rattle.graph_laws.proofs.Rows.{agrees_itself, one_class}

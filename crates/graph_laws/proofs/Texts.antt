@@ -5,15 +5,15 @@ use Rattle.ice_types.specs.Tables.{Tables}
 use Rattle.ice_prims.specs.Rest.{IsBytes}
 use Rattle.ice_encoding.specs.Port.{Port, Speller}
 use Rattle.ice_encoding.specs.Typed.{Refers}
-use Rattle.ice_graphs.specs.OptionalMembers.{Members, SpellsContent}
-use Rattle.ice_graphs.specs.Classes.{own_members}
-use Rattle.ice_graphs.specs.Graph.{Slice}
-use Rattle.ice_graphs.specs.References.{State, Reference, SpellsEntries, SpellsTable, SpellsInline, beginning, opening}
-use Rattle.ice_graphs.specs.Flags.{IdForm, no_id, as_text, as_index, as_number, Flags, Reach, Before, first}
-use Rattle.ice_graphs.specs.Slices.{SpellsBody, SpellsSlices, SpellsInstance}
-use Rattle.ice_graphs.specs.Slices.{Behind as Others}
-use Rattle.ice_graphs.specs.TypeIds.{SpellsId}
-use Rattle.ice_graphs.specs.Instances.{instances}
+use Rattle.ice_encoding.specs.OptionalMembers.{Members, SpellsContent}
+use Rattle.ice_encoding.specs.Classes.{own_members}
+use Rattle.ice_encoding.specs.Graph.{Slice}
+use Rattle.ice_encoding.specs.References.{State, Reference, SpellsEntries, SpellsTable, SpellsInline, beginning, opening}
+use Rattle.ice_encoding.specs.Flags.{IdForm, no_id, as_text, as_index, as_number, Flags, Reach, Before, first}
+use Rattle.ice_encoding.specs.Slices.{SpellsBody, SpellsSlices, SpellsInstance}
+use Rattle.ice_encoding.specs.Slices.{Behind as Others}
+use Rattle.ice_encoding.specs.TypeIds.{SpellsId}
+use Rattle.ice_encoding.specs.Instances.{instances}
 use Rattle.graph_laws.proofs.ClassIds.{IsText}
 use Rattle.graph_laws.proofs.Carried.{Steps, slice_carried, content_carried, front_fits, rest_fits}
 

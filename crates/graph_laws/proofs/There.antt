@@ -5,11 +5,11 @@ use Rattle.ice_types.specs.Tables.{Tables}
 use Rattle.ice_types.specs.Rules.{IsSchema}
 use Rattle.ice_types.specs.Lacking.{SameShape}
 use Rattle.ice_prims.specs.Rest.{IsBytes}
-use Rattle.ice_graphs.specs.Graph.{Slice, Graph}
-use Rattle.ice_graphs.specs.Flags.{Reach, all_slices}
-use Rattle.ice_graphs.specs.Instances.{SpellsGraph, SpellsNumbered, AllFit, slices_of, most_instances}
-use Rattle.ice_graphs.specs.Same.{Same, form}
-use Rattle.ice_graphs.specs.Typed.{RefersIn, OfType}
+use Rattle.ice_encoding.specs.Graph.{Slice, Graph}
+use Rattle.ice_encoding.specs.Flags.{Reach, all_slices}
+use Rattle.ice_encoding.specs.Instances.{SpellsGraph, SpellsNumbered, AllFit, slices_of, most_instances}
+use Rattle.ice_encoding.specs.SameGraph.{Same, form}
+use Rattle.ice_encoding.specs.TypedGraph.{RefersIn, OfType}
 use Rattle.graph_laws.proofs.Sound.{numbered_typed}
 use Rattle.graph_laws.proofs.Formed.{Reached, form-same-graph}
 use Rattle.graph_laws.proofs.Reached.{reached-small}

@@ -4,12 +4,12 @@ use Rattle.std.specs.Prelude.{slice_get}
 use Rattle.ice_types.specs.Tables.{Tables}
 use Rattle.ice_types.specs.CompactIds.{numbered_id, is_numbered, IsSliceId}
 use Rattle.ice_prims.specs.Bytes.{text_bytes, size_bytes}
-use Rattle.ice_graphs.specs.Graph.{Slice, known, unknown}
-use Rattle.ice_graphs.specs.References.{State, GoesBack}
-use Rattle.ice_graphs.specs.Flags.{as_text, as_index, as_number, Reach}
-use Rattle.ice_graphs.specs.TypeIds.{with_id, SpellsId}
-use Rattle.ice_graphs.specs.Instances.{instances}
-use Rattle.ice_graphs.specs.Canonical.{id_in, row_id}
+use Rattle.ice_encoding.specs.Graph.{Slice, known, unknown}
+use Rattle.ice_encoding.specs.References.{State, GoesBack}
+use Rattle.ice_encoding.specs.Flags.{as_text, as_index, as_number, Reach}
+use Rattle.ice_encoding.specs.TypeIds.{with_id, SpellsId}
+use Rattle.ice_encoding.specs.Instances.{instances}
+use Rattle.ice_encoding.specs.CanonicalGraph.{id_in, row_id}
 use Rattle.graph_laws.proofs.ClassIds.{IsText}
 use Rattle.graph_laws.proofs.WrittenValues.{size_spelled}
 

@@ -12,17 +12,17 @@ use Rattle.ice_prims.specs.Rest.{IsBytes}
 use Rattle.ice_encoding.specs.declared.limits.TheConstants.{LARGEST}
 use Rattle.ice_encoding.specs.Port.{Port, Speller}
 use Rattle.ice_encoding.specs.Typed.{Refers}
-use Rattle.ice_graphs.specs.OptionalMembers.{Members, SpellsSliceMembers, SpellsContent}
-use Rattle.ice_graphs.specs.Classes.{class_by_id, base_of, own_members}
-use Rattle.ice_graphs.specs.Graph.{Slice, known, unknown}
-use Rattle.ice_graphs.specs.Names.{renamed_members, renamed_name}
-use Rattle.ice_graphs.specs.References.{State, Reference, met_at, SpellsEntry, in_table, entry_in, resolved, AreWithin, SpellsEntries, SpellsTable, SpellsInline, with_met, with_ended, replaced, beginning, opening}
-use Rattle.ice_graphs.specs.Flags.{IdForm, no_id, as_text, as_index, as_number, Flags, Reach, Before, first, only_unknown, derived}
-use Rattle.ice_graphs.specs.TypeIds.{SpellsId, class_in, is_base, same_bool, ends_well, before_base, before_next}
-use Rattle.ice_graphs.specs.Slices.{unknown_bytes, SpellsBody, SpellsSlices, SpellsInstance}
-use Rattle.ice_graphs.specs.Slices.{Behind as Others}
-use Rattle.ice_graphs.specs.Instances.{instances, slices_of, class_of, class_fits, AllFit}
-use Rattle.ice_graphs.specs.Typed.{AreReferred, AreMembers, IsKnown, AreBases, IsUnknown, IsInstance, IsHeldIn, RefersUpTo}
+use Rattle.ice_encoding.specs.OptionalMembers.{Members, SpellsSliceMembers, SpellsContent}
+use Rattle.ice_encoding.specs.Classes.{class_by_id, base_of, own_members}
+use Rattle.ice_encoding.specs.Graph.{Slice, known, unknown}
+use Rattle.ice_encoding.specs.Names.{renamed_members, renamed_name}
+use Rattle.ice_encoding.specs.References.{State, Reference, met_at, SpellsEntry, in_table, entry_in, resolved, AreWithin, SpellsEntries, SpellsTable, SpellsInline, with_met, with_ended, replaced, beginning, opening}
+use Rattle.ice_encoding.specs.Flags.{IdForm, no_id, as_text, as_index, as_number, Flags, Reach, Before, first, only_unknown, derived}
+use Rattle.ice_encoding.specs.TypeIds.{SpellsId, class_in, is_base, same_bool, ends_well, before_base, before_next}
+use Rattle.ice_encoding.specs.Slices.{unknown_bytes, SpellsBody, SpellsSlices, SpellsInstance}
+use Rattle.ice_encoding.specs.Slices.{Behind as Others}
+use Rattle.ice_encoding.specs.Instances.{instances, slices_of, class_of, class_fits, AllFit}
+use Rattle.ice_encoding.specs.TypedGraph.{AreReferred, AreMembers, IsKnown, AreBases, IsUnknown, IsInstance, IsHeldIn, RefersUpTo}
 use Rattle.graph_laws.proofs.PutBytes.{kept_bytes}
 use Rattle.graph_laws.proofs.Texts.{AllTexts}
 use Rattle.graph_laws.proofs.Ranged.{AreBelow}

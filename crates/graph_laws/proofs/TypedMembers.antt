@@ -18,10 +18,10 @@ use Rattle.ice_encoding.specs.Port.{Port, Speller}
 use Rattle.ice_encoding.specs.Spelling.{Each, SpellsValue}
 use Rattle.ice_encoding.specs.Typed.{Refers, EachOf, HasType}
 use Rattle.ice_encoding.proofs.Typed.{Spelled, value_typed}
-use Rattle.ice_graphs.specs.Prefixes.{Prefix, no_length, own_size, as_size, as_int, prefix_of, Framed}
-use Rattle.ice_graphs.specs.Optionals.{Present, with_option, kind_tagged, SkippedBy, Tagged, Options, AllOptions}
-use Rattle.ice_graphs.specs.OptionalMembers.{required_kinds, IfFlagged, SpellsSliceMembers, SpellsContent}
-use Rattle.ice_graphs.specs.Typed.{AreOptions, AreMembers}
+use Rattle.ice_encoding.specs.Prefixes.{Prefix, no_length, own_size, as_size, as_int, prefix_of, Framed}
+use Rattle.ice_encoding.specs.Optionals.{Present, with_option, kind_tagged, SkippedBy, Tagged, Options, AllOptions}
+use Rattle.ice_encoding.specs.OptionalMembers.{required_kinds, IfFlagged, SpellsSliceMembers, SpellsContent}
+use Rattle.ice_encoding.specs.TypedGraph.{AreOptions, AreMembers}
 use Rattle.graph_laws.proofs.Carried.{Steps, known_by, slice_carried, content_carried, front_fits, rest_fits}
 
 tag_below : (bytes : List ℕ) (number format : ℕ) → IsBytes bytes → tag.Spells bytes (number, format) → number < 2 ^ 31

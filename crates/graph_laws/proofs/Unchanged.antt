@@ -5,15 +5,15 @@ use Rattle.ice_types.specs.Tables.{Tables}
 use Rattle.ice_types.specs.Lacking.{SameShape}
 use Rattle.ice_encoding.specs.declared.limits.TheConstants.{GREATEST, LARGEST}
 use Rattle.ice_encoding.specs.Opening.{encapsulated_bytes}
-use Rattle.ice_graphs.specs.Graph.{Graph}
-use Rattle.ice_graphs.specs.Names.{names_of, instance_names}
-use Rattle.ice_graphs.specs.Flags.{all_slices}
-use Rattle.ice_graphs.specs.Instances.{SpellsNumbered, slices_of, most_instances}
-use Rattle.ice_graphs.specs.Visiting.{order}
-use Rattle.ice_graphs.specs.Same.{numbered}
-use Rattle.ice_graphs.specs.Typed.{OfType}
-use Rattle.ice_graphs.specs.Canonical.{sliced, bytes_of, graph_bytes}
-use Rattle.ice_graphs.proofs.Graphs.{numbered_apart}
+use Rattle.ice_encoding.specs.Graph.{Graph}
+use Rattle.ice_encoding.specs.Names.{names_of, instance_names}
+use Rattle.ice_encoding.specs.Flags.{all_slices}
+use Rattle.ice_encoding.specs.Instances.{SpellsNumbered, slices_of, most_instances}
+use Rattle.ice_encoding.specs.Visiting.{order}
+use Rattle.ice_encoding.specs.SameGraph.{numbered}
+use Rattle.ice_encoding.specs.TypedGraph.{OfType}
+use Rattle.ice_encoding.specs.CanonicalGraph.{sliced, bytes_of, graph_bytes}
+use Rattle.ice_encoding.proofs.Graphs.{numbered_apart}
 use Rattle.graph_arena.specs.Arena.{AreBelow}
 use Rattle.graph_laws.proofs.Upto.{upto, length-upto}
 use Rattle.graph_laws.proofs.Formed.{InOrder, Reached, form-in_order, form-typed}

@@ -3,10 +3,10 @@ use Rattle.std.proofs.Common.{ℕ, zero, suc, ◌<◌, ◌≤◌, ◌≡◌, Boo
 use Rattle.std.proofs.lemmas.Bool.{cases_lt}
 use Rattle.std.proofs.lemmas.List.{length-append, append-nil, take-append-le}
 use Rattle.std.proofs.Math.Seq.{take-append_seam}
-use Rattle.ice_graphs.specs.Visiting.{place, is_listed, visit_each, visit_at}
-use Rattle.ice_graphs.specs.Graph.{Graph}
-use Rattle.ice_graphs.specs.Names.{instance_names}
-use Rattle.ice_graphs.specs.Instances.{slices_of}
+use Rattle.ice_encoding.specs.Visiting.{place, is_listed, visit_each, visit_at}
+use Rattle.ice_encoding.specs.Graph.{Graph}
+use Rattle.ice_encoding.specs.Names.{instance_names}
+use Rattle.ice_encoding.specs.Instances.{slices_of}
 use Rattle.graph_arena.proofs.Closed.{place-head, place-tail, place-left, place-right}
 
 abbrev pub upto : ℕ → List ℕ

@@ -13,14 +13,14 @@ use Rattle.ice_types.specs.Rules.{IsSchema}
 use Rattle.ice_encoding.specs.declared.limits.TheConstants.{GREATEST}
 use Rattle.ice_encoding.specs.Tree.{Trees, reference, tree}
 use Rattle.ice_encoding.specs.Typed.{Refers, EachOf, HasType}
-use Rattle.ice_graphs.specs.OptionalMembers.{with_optional}
-use Rattle.ice_graphs.specs.Exceptions.{of_exceptions, UserException}
-use Rattle.ice_graphs.specs.Graph.{Slice, known, unknown, Graph}
-use Rattle.ice_graphs.specs.Instances.{slices_of}
-use Rattle.ice_graphs.specs.Names.{names_each, names_of, instance_names, renamed_each, renamed_slice}
-use Rattle.ice_graphs.specs.Same.{AreListed, Holds, numbered}
-use Rattle.ice_graphs.specs.Typed.{IsInstance, RefersIn, OfType}
-use Rattle.ice_graphs.specs.Visiting.{place}
+use Rattle.ice_encoding.specs.OptionalMembers.{with_optional}
+use Rattle.ice_encoding.specs.Exceptions.{of_exceptions, UserException}
+use Rattle.ice_encoding.specs.Graph.{Slice, known, unknown, Graph}
+use Rattle.ice_encoding.specs.Instances.{slices_of}
+use Rattle.ice_encoding.specs.Names.{names_each, names_of, instance_names, renamed_each, renamed_slice}
+use Rattle.ice_encoding.specs.SameGraph.{AreListed, Holds, numbered}
+use Rattle.ice_encoding.specs.TypedGraph.{IsInstance, RefersIn, OfType}
+use Rattle.ice_encoding.specs.Visiting.{place}
 use Rattle.graph_arena.proofs.Keeping as keeping
 use Rattle.graph_laws.proofs.ExceptionRows.{ids_are}
 use Rattle.graph_laws.proofs.Ranged.{AreBelow, instance_below, in_instances}
@@ -33,10 +33,10 @@ use Rattle.graph_laws.proofs.ClassIds.{IsText}
 use Rattle.graph_laws.proofs.TypeIds.{HaveTypeTexts}
 use Rattle.ice_types.proofs.SliceIds.{type_id_plain}
 use Rattle.std.proofs.lemmas.Str.{IsUtf8-nil}
-use Rattle.ice_graphs.specs.Canonical.{id_in}
+use Rattle.ice_encoding.specs.CanonicalGraph.{id_in}
 use Rattle.graph_laws.proofs.Upto.{upto}
-use Rattle.ice_graphs.specs.UserExceptionTyped.{HaveTypeIds, OfUserException}
-use Rattle.ice_graphs.specs.UserExceptionWritten.{references_to, graph_of, order_of, numbered_user_exception, form_of, SameUserException}
+use Rattle.ice_encoding.specs.UserExceptionTyped.{HaveTypeIds, OfUserException}
+use Rattle.ice_encoding.specs.UserExceptionWritten.{references_to, graph_of, order_of, numbered_user_exception, form_of, SameUserException}
 
 -- ---- in a schema each exception is found by its type id, which is UTF-8
 

@@ -7,18 +7,18 @@ use Rattle.ice_prims.specs.Rest.{IsBytes}
 use Rattle.ice_encoding.specs.declared.limits.TheConstants.{LARGEST}
 use Rattle.ice_encoding.specs.Port.{Port, Speller}
 use Rattle.ice_encoding.specs.Typed.{Refers}
-use Rattle.ice_graphs.specs.OptionalMembers.{Members}
-use Rattle.ice_graphs.specs.Classes.{class_named, base_of}
-use Rattle.ice_graphs.specs.Exceptions.{of_exceptions, is_known_last, BehindUserException, UserExceptionSlices}
-use Rattle.ice_graphs.specs.Graph.{Slice}
-use Rattle.ice_graphs.specs.References.{State, in_table, opening}
-use Rattle.ice_graphs.specs.Flags.{Flags, Reach, Before, first, only_unknown, derived}
-use Rattle.ice_graphs.specs.TypeIds.{before_base, before_next}
-use Rattle.ice_graphs.specs.Instances.{instances, slices_of, AllFit}
-use Rattle.ice_graphs.specs.Typed.{AreBases, IsInstance, IsHeldIn, RefersUpTo}
-use Rattle.ice_graphs.specs.UserExceptionTyped.{HaveTypeIds}
+use Rattle.ice_encoding.specs.OptionalMembers.{Members}
+use Rattle.ice_encoding.specs.Classes.{class_named, base_of}
+use Rattle.ice_encoding.specs.Exceptions.{of_exceptions, is_known_last, BehindUserException, UserExceptionSlices}
+use Rattle.ice_encoding.specs.Graph.{Slice}
+use Rattle.ice_encoding.specs.References.{State, in_table, opening}
+use Rattle.ice_encoding.specs.Flags.{Flags, Reach, Before, first, only_unknown, derived}
+use Rattle.ice_encoding.specs.TypeIds.{before_base, before_next}
+use Rattle.ice_encoding.specs.Instances.{instances, slices_of, AllFit}
+use Rattle.ice_encoding.specs.TypedGraph.{AreBases, IsInstance, IsHeldIn, RefersUpTo}
+use Rattle.ice_encoding.specs.UserExceptionTyped.{HaveTypeIds}
 use Rattle.ice_types.specs.CompactIds.{is_numbered}
-use Rattle.ice_graphs.proofs.Agreeing.{spelled_same, members_to}
+use Rattle.ice_encoding.proofs.Agreeing.{spelled_same, members_to}
 use Rattle.graph_laws.proofs.Back.{FormedAs, body_form}
 use Rattle.graph_laws.proofs.ClassIds.{plain_named, text_id}
 use Rattle.graph_laws.proofs.Bases.{row_named}

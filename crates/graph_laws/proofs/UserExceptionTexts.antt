@@ -3,10 +3,10 @@ use Rattle.std.proofs.Common.{ℕ, zero, suc, Bool, true, false, List, [], ◌�
 use Rattle.ice_types.specs.Tables.{Tables}
 use Rattle.ice_prims.specs.Rest.{IsBytes}
 use Rattle.ice_encoding.specs.Port.{Port, Speller}
-use Rattle.ice_graphs.specs.Exceptions.{BehindUserException, UserExceptionSlices}
-use Rattle.ice_graphs.specs.Graph.{Slice}
-use Rattle.ice_graphs.specs.References.{State}
-use Rattle.ice_graphs.specs.Flags.{Reach, Before}
+use Rattle.ice_encoding.specs.Exceptions.{BehindUserException, UserExceptionSlices}
+use Rattle.ice_encoding.specs.Graph.{Slice}
+use Rattle.ice_encoding.specs.References.{State}
+use Rattle.ice_encoding.specs.Flags.{Reach, Before}
 use Rattle.graph_laws.proofs.Carried.{front_fits, rest_fits}
 use Rattle.graph_laws.proofs.Texts.{Spelled, Texts, stay, body_texts}
 

@@ -11,17 +11,17 @@ use Rattle.ice_encoding.specs.Tree.{Tree, Entries, no_entry}
 use Rattle.ice_encoding.specs.Order.{insert}
 use Rattle.ice_encoding.specs.Port.{Port, Speller}
 use Rattle.ice_encoding.specs.Spelling.{Each, Pairs, SpellsValue}
-use Rattle.ice_graphs.specs.Prefixes.{Prefix, no_length, own_size, as_size, as_int, prefix_of, Framed}
-use Rattle.ice_graphs.specs.Optionals.{kind_tagged, SkippedBy, Tagged, Options, AllOptions}
-use Rattle.ice_graphs.specs.OptionalMembers.{required_kinds, IfFlagged, SpellsSliceMembers, SpellsContent}
-use Rattle.ice_graphs.specs.Classes.{own_members}
-use Rattle.ice_graphs.specs.Graph.{Slice}
-use Rattle.ice_graphs.specs.References.{State, Reference, SpellsEntries, SpellsTable, SpellsInline}
-use Rattle.ice_graphs.specs.Flags.{Flags, Reach, all_slices, known_classes, Before, first}
-use Rattle.ice_graphs.specs.TypeIds.{class_in, can_be_read, before_next}
-use Rattle.ice_graphs.specs.Slices.{SpellsBody, SpellsSlices, SpellsInstance}
-use Rattle.ice_graphs.specs.Slices.{Behind as Others}
-use Rattle.ice_graphs.specs.Instances.{instances}
+use Rattle.ice_encoding.specs.Prefixes.{Prefix, no_length, own_size, as_size, as_int, prefix_of, Framed}
+use Rattle.ice_encoding.specs.Optionals.{kind_tagged, SkippedBy, Tagged, Options, AllOptions}
+use Rattle.ice_encoding.specs.OptionalMembers.{required_kinds, IfFlagged, SpellsSliceMembers, SpellsContent}
+use Rattle.ice_encoding.specs.Classes.{own_members}
+use Rattle.ice_encoding.specs.Graph.{Slice}
+use Rattle.ice_encoding.specs.References.{State, Reference, SpellsEntries, SpellsTable, SpellsInline}
+use Rattle.ice_encoding.specs.Flags.{Flags, Reach, all_slices, known_classes, Before, first}
+use Rattle.ice_encoding.specs.TypeIds.{class_in, can_be_read, before_next}
+use Rattle.ice_encoding.specs.Slices.{SpellsBody, SpellsSlices, SpellsInstance}
+use Rattle.ice_encoding.specs.Slices.{Behind as Others}
+use Rattle.ice_encoding.specs.Instances.{instances}
 use Rattle.graph_laws.proofs.TypeIds.{Spelled}
 
 -- what is spelled one way is spelled the other

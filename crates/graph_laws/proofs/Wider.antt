@@ -7,12 +7,12 @@ use Rattle.ice_types.specs.declared.schema.TheConstants.{MOST_DEPTH}
 use Rattle.ice_types.specs.Tables.{Tables}
 use Rattle.ice_encoding.specs.Typed.{Refers, HasType}
 use Rattle.ice_encoding.proofs.Wider.{typed_wider, each_wider}
-use Rattle.ice_graphs.specs.Optionals.{Present}
-use Rattle.ice_graphs.specs.OptionalMembers.{Members, required_kinds}
-use Rattle.ice_graphs.specs.Classes.{base_of, own_members}
-use Rattle.ice_graphs.specs.Graph.{Slice, known, unknown, Graph}
-use Rattle.ice_graphs.specs.Instances.{slices_of}
-use Rattle.ice_graphs.specs.Typed.{AreReferred, AreOptions, AreMembers, IsKnown, AreBases, IsInstance, RefersUpTo, OfTypeTo}
+use Rattle.ice_encoding.specs.Optionals.{Present}
+use Rattle.ice_encoding.specs.OptionalMembers.{Members, required_kinds}
+use Rattle.ice_encoding.specs.Classes.{base_of, own_members}
+use Rattle.ice_encoding.specs.Graph.{Slice, known, unknown, Graph}
+use Rattle.ice_encoding.specs.Instances.{slices_of}
+use Rattle.ice_encoding.specs.TypedGraph.{AreReferred, AreOptions, AreMembers, IsKnown, AreBases, IsInstance, RefersUpTo, OfTypeTo}
 
 module _ (t : Tables) (Refer Other : Refers) (le : Refer.most ≤ Other.most) (more : (declared n : Option ℕ) → Refer.Held declared n → Other.Held declared n) where
   options_wider : (members : List Member) (last : Option ℕ) (os : Present) → AreOptions t Refer members last os → AreOptions t Other members last os

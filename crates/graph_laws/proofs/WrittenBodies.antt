@@ -10,20 +10,20 @@ use Rattle.ice_prims.specs.Number.{SpellsSize}
 use Rattle.ice_prims.specs.Bytes.{size_bytes}
 use Rattle.ice_encoding.specs.Port.{Port}
 use Rattle.ice_encoding.specs.Writing.{Piece, exactly, ◌>>◌}
-use Rattle.ice_graphs.specs.Optionals.{Present}
-use Rattle.ice_graphs.specs.OptionalMembers.{Members, SpellsSliceMembers}
-use Rattle.ice_graphs.specs.Classes.{own_members}
-use Rattle.ice_graphs.specs.Graph.{Slice, known, unknown, Graph}
-use Rattle.ice_graphs.specs.Names.{names_of, renamed_present, renamed_members}
-use Rattle.ice_graphs.specs.References.{State, in_table, resolved, AreWithin, SpellsEntries, SpellsTable, with_met}
-use Rattle.ice_graphs.specs.Flags.{no_id, Before, first, only_unknown, derived}
-use Rattle.ice_graphs.specs.TypeIds.{is_base}
-use Rattle.ice_graphs.specs.Slices.{slice_size, unknown_bytes, by_table, SpellsBody}
-use Rattle.ice_graphs.specs.Instances.{AllFit}
-use Rattle.ice_graphs.specs.Visiting.{place, visit_each}
-use Rattle.ice_graphs.specs.Typed.{IsKnown, RefersUpTo}
-use Rattle.ice_graphs.specs.Canonical.{Pen, is_there, each_once, table_of, sized_bytes, written_names, written_table, sized_body, members_bytes}
-use Rattle.ice_graphs.proofs.Sizes.{slice_size_lawful}
+use Rattle.ice_encoding.specs.Optionals.{Present}
+use Rattle.ice_encoding.specs.OptionalMembers.{Members, SpellsSliceMembers}
+use Rattle.ice_encoding.specs.Classes.{own_members}
+use Rattle.ice_encoding.specs.Graph.{Slice, known, unknown, Graph}
+use Rattle.ice_encoding.specs.Names.{names_of, renamed_present, renamed_members}
+use Rattle.ice_encoding.specs.References.{State, in_table, resolved, AreWithin, SpellsEntries, SpellsTable, with_met}
+use Rattle.ice_encoding.specs.Flags.{no_id, Before, first, only_unknown, derived}
+use Rattle.ice_encoding.specs.TypeIds.{is_base}
+use Rattle.ice_encoding.specs.Slices.{slice_size, unknown_bytes, by_table, SpellsBody}
+use Rattle.ice_encoding.specs.Instances.{AllFit}
+use Rattle.ice_encoding.specs.Visiting.{place, visit_each}
+use Rattle.ice_encoding.specs.TypedGraph.{IsKnown, RefersUpTo}
+use Rattle.ice_encoding.specs.CanonicalGraph.{Pen, is_there, each_once, table_of, sized_bytes, written_names, written_table, sized_body, members_bytes}
+use Rattle.ice_encoding.proofs.GraphSizes.{slice_size_lawful}
 use Rattle.graph_arena.specs.Arena.{AreBelow}
 use Rattle.graph_laws.proofs.TypeIds.{Spelled}
 use Rattle.graph_laws.proofs.Upto.{upto, Grows}

@@ -5,14 +5,14 @@ use Rattle.ice_types.specs.Tables.{Tables}
 use Rattle.ice_prims.specs.Rest.{IsBytes}
 use Rattle.ice_encoding.specs.Port.{size_of, by_number}
 use Rattle.ice_encoding.specs.Typed.{Refers}
-use Rattle.ice_graphs.specs.OptionalMembers.{Members}
-use Rattle.ice_graphs.specs.Classes.{own_members}
-use Rattle.ice_graphs.specs.Graph.{known}
-use Rattle.ice_graphs.specs.Names.{renamed_members}
-use Rattle.ice_graphs.specs.Typed.{AreMembers, IsKnown}
-use Rattle.ice_graphs.specs.Visiting.{place}
-use Rattle.ice_graphs.specs.Members.{written_slice_members}
-use Rattle.ice_graphs.specs.Canonical.{by_size, table_of, sized_bytes}
+use Rattle.ice_encoding.specs.OptionalMembers.{Members}
+use Rattle.ice_encoding.specs.Classes.{own_members}
+use Rattle.ice_encoding.specs.Graph.{known}
+use Rattle.ice_encoding.specs.Names.{renamed_members}
+use Rattle.ice_encoding.specs.TypedGraph.{AreMembers, IsKnown}
+use Rattle.ice_encoding.specs.Visiting.{place}
+use Rattle.ice_encoding.specs.Members.{written_slice_members}
+use Rattle.ice_encoding.specs.CanonicalGraph.{by_size, table_of, sized_bytes}
 use Rattle.graph_laws.proofs.PutBytes.{both_bytes, size_put}
 use Rattle.graph_laws.proofs.Renamed.{members-renamed}
 use Rattle.graph_laws.proofs.WrittenValues.{Limits, Rules}

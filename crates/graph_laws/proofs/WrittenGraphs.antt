@@ -10,16 +10,16 @@ use Rattle.ice_encoding.specs.Port.{Port}
 use Rattle.ice_encoding.specs.Typed.{Refers}
 use Rattle.ice_encoding.specs.Writing.{Piece}
 use Rattle.ice_encoding.specs.Pausing.{Put, written_begun, written_in_place}
-use Rattle.ice_graphs.specs.OptionalMembers.{SpellsContent}
-use Rattle.ice_graphs.specs.Graph.{Slice, Graph}
-use Rattle.ice_graphs.specs.Names.{listed_name, names_of, instance_names}
-use Rattle.ice_graphs.specs.References.{State, met_at, opening, with_met, with_ended, replaced, beginning, Begins, GoesBack}
-use Rattle.ice_graphs.specs.Flags.{Reach}
-use Rattle.ice_graphs.specs.Slices.{SpellsInstance}
-use Rattle.ice_graphs.specs.Instances.{instances, slices_of, class_of, class_fits, AllFit}
-use Rattle.ice_graphs.specs.Visiting.{visit_each, visit_at, most}
-use Rattle.ice_graphs.specs.Typed.{AreMembers, IsInstance, IsHeldIn, RefersUpTo}
-use Rattle.ice_graphs.specs.Canonical.{Pen, Format, written_as, put_inline, written_instance, with_one_begun, blank, bytes_of}
+use Rattle.ice_encoding.specs.OptionalMembers.{SpellsContent}
+use Rattle.ice_encoding.specs.Graph.{Slice, Graph}
+use Rattle.ice_encoding.specs.Names.{listed_name, names_of, instance_names}
+use Rattle.ice_encoding.specs.References.{State, met_at, opening, with_met, with_ended, replaced, beginning, Begins, GoesBack}
+use Rattle.ice_encoding.specs.Flags.{Reach}
+use Rattle.ice_encoding.specs.Slices.{SpellsInstance}
+use Rattle.ice_encoding.specs.Instances.{instances, slices_of, class_of, class_fits, AllFit}
+use Rattle.ice_encoding.specs.Visiting.{visit_each, visit_at, most}
+use Rattle.ice_encoding.specs.TypedGraph.{AreMembers, IsInstance, IsHeldIn, RefersUpTo}
+use Rattle.ice_encoding.specs.CanonicalGraph.{Pen, Format, written_as, put_inline, written_instance, with_one_begun, blank, bytes_of}
 use Rattle.graph_arena.specs.Arena.{AreBelow}
 pub use Rattle.graph_laws.proofs.TypedGraphs.{replaced_length, replaced_at, replaced_else}
 use Rattle.graph_laws.proofs.TypeIds.{Spelled, HaveTexts, null_at, back_at}

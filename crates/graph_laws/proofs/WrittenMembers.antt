@@ -22,13 +22,13 @@ use Rattle.ice_encoding.specs.Port.{Port, Speller}
 use Rattle.ice_encoding.specs.Spelling.{Each, SpellsValue}
 use Rattle.ice_encoding.specs.Typed.{Refers, HasType}
 use Rattle.ice_encoding.specs.Writing.{Piece, exactly, ◌>>◌, written, written_each}
-use Rattle.ice_graphs.specs.Prefixes.{Prefix, no_length, own_size, as_size, as_int, prefix_of, Framed}
-use Rattle.ice_graphs.specs.Optionals.{Present, kind_tagged, SpellsEnd, Tagged, Options, AllOptions}
-use Rattle.ice_graphs.specs.OptionalMembers.{Members, required_kinds, IfFlagged, SpellsSliceMembers, SpellsContent}
-use Rattle.ice_graphs.specs.Names.{names, names_each, names_present, names_of}
-use Rattle.ice_graphs.specs.Typed.{AreOptions, AreMembers}
-use Rattle.ice_graphs.specs.Members.{framing, written_option, written_options, marked_options, written_slice_members, written_content}
-use Rattle.ice_graphs.specs.Canonical.{is_there}
+use Rattle.ice_encoding.specs.Prefixes.{Prefix, no_length, own_size, as_size, as_int, prefix_of, Framed}
+use Rattle.ice_encoding.specs.Optionals.{Present, kind_tagged, SpellsEnd, Tagged, Options, AllOptions}
+use Rattle.ice_encoding.specs.OptionalMembers.{Members, required_kinds, IfFlagged, SpellsSliceMembers, SpellsContent}
+use Rattle.ice_encoding.specs.Names.{names, names_each, names_present, names_of}
+use Rattle.ice_encoding.specs.TypedGraph.{AreOptions, AreMembers}
+use Rattle.ice_encoding.specs.Members.{framing, written_option, written_options, marked_options, written_slice_members, written_content}
+use Rattle.ice_encoding.specs.CanonicalGraph.{is_there}
 use Rattle.graph_laws.proofs.PutBytes.{none_bytes, more_bytes, size_put, count_put, tag_put}
 use Rattle.graph_laws.proofs.WrittenValues.{Relation, Chain, Rules, ReferGood, value_good, each_good, size_spelled, count_spelled, Limits}
 

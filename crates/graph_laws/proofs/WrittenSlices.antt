@@ -6,18 +6,18 @@ use Rattle.ice_types.specs.Tables.{Tables}
 use Rattle.ice_types.specs.CompactIds.{IsSliceId}
 use Rattle.ice_encoding.specs.Port.{Port}
 use Rattle.ice_encoding.specs.Writing.{Piece, exactly, ◌>>◌}
-use Rattle.ice_graphs.specs.OptionalMembers.{Members}
-use Rattle.ice_graphs.specs.Classes.{class_by_id, base_of}
-use Rattle.ice_graphs.specs.Graph.{Slice, known, unknown, Graph}
-use Rattle.ice_graphs.specs.Names.{names_of, instance_names}
-use Rattle.ice_graphs.specs.References.{State}
-use Rattle.ice_graphs.specs.Flags.{IdForm, no_id, Flags, Reach, all_slices, known_classes, is_all, Before, first, only_unknown, derived, has_id, may_stand, SpellsFlags}
-use Rattle.ice_graphs.specs.TypeIds.{class_in, is_base, can_be_read, same_bool, ends_well, before_base, before_next}
-use Rattle.ice_graphs.specs.Slices.{SpellsBody, FromId, SpellsSlices, SpellsInstance}
-use Rattle.ice_graphs.specs.Slices.{Behind as Others}
-use Rattle.ice_graphs.specs.Visiting.{visit_each}
-use Rattle.ice_graphs.specs.Typed.{IsKnown, AreBases, IsUnknown, IsInstance, RefersUpTo}
-use Rattle.ice_graphs.specs.Canonical.{Pen, is_there, each_once, flags_byte, spelled_by, row_id, written_id, written_head, is_end, sized_body, written_slices, members_bytes, written_bases, written_plain, Format, sliced, compact, written_as, Compact}
+use Rattle.ice_encoding.specs.OptionalMembers.{Members}
+use Rattle.ice_encoding.specs.Classes.{class_by_id, base_of}
+use Rattle.ice_encoding.specs.Graph.{Slice, known, unknown, Graph}
+use Rattle.ice_encoding.specs.Names.{names_of, instance_names}
+use Rattle.ice_encoding.specs.References.{State}
+use Rattle.ice_encoding.specs.Flags.{IdForm, no_id, Flags, Reach, all_slices, known_classes, is_all, Before, first, only_unknown, derived, has_id, may_stand, SpellsFlags}
+use Rattle.ice_encoding.specs.TypeIds.{class_in, is_base, can_be_read, same_bool, ends_well, before_base, before_next}
+use Rattle.ice_encoding.specs.Slices.{SpellsBody, FromId, SpellsSlices, SpellsInstance}
+use Rattle.ice_encoding.specs.Slices.{Behind as Others}
+use Rattle.ice_encoding.specs.Visiting.{visit_each}
+use Rattle.ice_encoding.specs.TypedGraph.{IsKnown, AreBases, IsUnknown, IsInstance, RefersUpTo}
+use Rattle.ice_encoding.specs.CanonicalGraph.{Pen, is_there, each_once, flags_byte, spelled_by, row_id, written_id, written_head, is_end, sized_body, written_slices, members_bytes, written_bases, written_plain, Format, sliced, compact, written_as, Compact}
 use Rattle.graph_arena.specs.Arena.{AreBelow}
 use Rattle.graph_arena.proofs.Agreeing.{below-left, below-right}
 use Rattle.graph_laws.proofs.TypeIds.{Spelled, HaveTexts}

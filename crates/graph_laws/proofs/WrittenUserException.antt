@@ -9,18 +9,18 @@ use Rattle.graph_laws.proofs.ClassIds.{IsText, plain_named}
 use Rattle.ice_prims.specs.Bytes.{size_bytes, text_bytes}
 use Rattle.ice_encoding.specs.Port.{Port}
 use Rattle.ice_encoding.specs.Writing.{Piece, exactly, ◌>>◌}
-use Rattle.ice_graphs.specs.OptionalMembers.{Members}
-use Rattle.ice_graphs.specs.Classes.{class_named, base_of}
-use Rattle.ice_graphs.specs.Exceptions.{of_exceptions, may_be_raised, may_be_last, is_known_last, BehindUserException, UserExceptionSlices}
-use Rattle.ice_graphs.specs.Graph.{Slice, known, unknown, Graph}
-use Rattle.ice_graphs.specs.Names.{names_of, instance_names}
-use Rattle.ice_graphs.specs.References.{State}
-use Rattle.ice_graphs.specs.Flags.{no_id, Flags, Reach, all_slices, known_classes, is_all, Before, first, only_unknown, derived, SpellsFlags}
-use Rattle.ice_graphs.specs.TypeIds.{SpellsTypeId, is_base, can_be_read, before_base, before_next}
-use Rattle.ice_graphs.specs.Slices.{SpellsBody, FromId}
-use Rattle.ice_graphs.specs.Visiting.{visit_each}
-use Rattle.ice_graphs.specs.Typed.{IsKnown, AreBases, IsUnknown, IsInstance, RefersUpTo}
-use Rattle.ice_graphs.specs.Canonical.{Pen, is_there, each_once, flags_byte, id_in, id_of, sized_body, members_bytes, Format, sliced, compact, Compact}
+use Rattle.ice_encoding.specs.OptionalMembers.{Members}
+use Rattle.ice_encoding.specs.Classes.{class_named, base_of}
+use Rattle.ice_encoding.specs.Exceptions.{of_exceptions, may_be_raised, may_be_last, is_known_last, BehindUserException, UserExceptionSlices}
+use Rattle.ice_encoding.specs.Graph.{Slice, known, unknown, Graph}
+use Rattle.ice_encoding.specs.Names.{names_of, instance_names}
+use Rattle.ice_encoding.specs.References.{State}
+use Rattle.ice_encoding.specs.Flags.{no_id, Flags, Reach, all_slices, known_classes, is_all, Before, first, only_unknown, derived, SpellsFlags}
+use Rattle.ice_encoding.specs.TypeIds.{SpellsTypeId, is_base, can_be_read, before_base, before_next}
+use Rattle.ice_encoding.specs.Slices.{SpellsBody, FromId}
+use Rattle.ice_encoding.specs.Visiting.{visit_each}
+use Rattle.ice_encoding.specs.TypedGraph.{IsKnown, AreBases, IsUnknown, IsInstance, RefersUpTo}
+use Rattle.ice_encoding.specs.CanonicalGraph.{Pen, is_there, each_once, flags_byte, id_in, id_of, sized_body, members_bytes, Format, sliced, compact, Compact}
 use Rattle.graph_arena.specs.Arena.{AreBelow}
 use Rattle.graph_arena.proofs.Agreeing.{below-left, below-right}
 use Rattle.graph_laws.proofs.TypeIds.{Spelled, HaveTypeTexts, text_spelled}
@@ -31,7 +31,7 @@ use Rattle.graph_laws.proofs.Upto.{upto, Grows}
 use Rattle.graph_laws.proofs.WrittenValues.{Relation, Chain, Limits, ReferGood}
 use Rattle.graph_laws.proofs.WrittenBodies.{IsOpen, open_base, with_size, KnownBody, UnknownBody, PlainBody, known_good, unknown_good, plain_body}
 use Rattle.graph_laws.proofs.InlineRules.{Good, inline_rules, exact_good, joined_good, mapped_good}
-use Rattle.ice_graphs.specs.UserExceptionWritten.{user_exception_head, user_exception_slices, user_exception_plain, user_exception_as}
+use Rattle.ice_encoding.specs.UserExceptionWritten.{user_exception_head, user_exception_slices, user_exception_plain, user_exception_as}
 
 module _ (t : Tables) (found : AreNamed (of_exceptions t)) (reach : Reach) (k : Graph) (l : Limits) (visit : ℕ → List ℕ → List ℕ) (grows : Grows visit) (Ready : ℕ → Type 0) (ready : (i j : ℕ) → Ready i → i ≤ j → Ready j) (P : Port (State ℕ) (State (Unit {0}))) (refer : Option ℕ → Piece Pen)
     (port_good : ReferGood (inline_rules t k l visit grows Ready ready) t P refer (RefersUpTo t l.most k.instances)) (refer_long : (n : ℕ) (p : Pen) → 1 ≤ length (refer (Some n) p).0)

@@ -27,8 +27,8 @@ use Rattle.ice_encoding.specs.Writing.{Piece, exactly, ◌>>◌, written, writte
 use Rattle.ice_encoding.proofs.Order.{tail_rising}
 use Rattle.ice_encoding.proofs.Inserting.{join, join_none, join_join, insert_last, lacks_above, below_next}
 use Rattle.ice_encoding.proofs.Written.{Follows, nothing_before}
-use Rattle.ice_graphs.specs.Names.{listed_name, names, names_each, names_pairs}
-use Rattle.ice_graphs.specs.Members.{with_length}
+use Rattle.ice_encoding.specs.Names.{listed_name, names, names_each, names_pairs}
+use Rattle.ice_encoding.specs.Members.{with_length}
 use Rattle.graph_laws.proofs.PutBytes.{none_bytes, more_bytes, signed_put, bool_put, size_put, text_put, proxy_put}
 
 pub size_spelled : (n : ℕ) → n < 2 ^ 31 → SpellsSize (size_bytes n) n

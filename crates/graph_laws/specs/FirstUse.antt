@@ -1,7 +1,7 @@
 -- The table of a slice: which names stand in it, and in which order. (Ice manual, "Data Encoding for Class and Exception Types".)
 use Rattle.std.specs.Prelude.{ℕ, ◌<◌, List, [], ◌∷◌, map}
-use Rattle.ice_graphs.specs.Visiting.{place}
-use Rattle.ice_graphs.specs.Same.{AreListed}
+use Rattle.ice_encoding.specs.Visiting.{place}
+use Rattle.ice_encoding.specs.SameGraph.{AreListed}
 
 -- each above all before it
 abbrev pub AreRising : List ℕ → Type 0

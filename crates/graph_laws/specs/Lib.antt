@@ -4,3 +4,14 @@ pub mod Readable
 pub mod Relaying
 pub mod Sample
 pub mod FirstUse
+pub mod Defects
+pub mod Heads
+pub mod Proxies
+pub mod Values
+pub mod Encapsulations
+pub mod Members
+pub mod Slices
+pub mod Graphs
+pub mod PlainSlices
+pub mod SeeingOther
+pub mod ReadingThere

@@ -6,13 +6,13 @@ use Rattle.ice_types.specs.Rules.{IsSchema}
 use Rattle.ice_types.specs.Lacking.{SameShape, Lacks}
 use Rattle.ice_prims.specs.Rest.{IsBytes}
 use Rattle.ice_encoding.specs.declared.limits.TheConstants.{LARGEST}
-use Rattle.ice_graphs.specs.Graph.{Graph}
-use Rattle.ice_graphs.specs.Flags.{all_slices}
-use Rattle.ice_graphs.specs.Instances.{most_instances}
-use Rattle.ice_graphs.specs.Visiting.{order}
-use Rattle.ice_graphs.specs.Same.{Spells}
-use Rattle.ice_graphs.specs.Typed.{OfType}
-use Rattle.ice_graphs.specs.Canonical.{sliced, graph_bytes}
+use Rattle.ice_encoding.specs.Graph.{Graph}
+use Rattle.ice_encoding.specs.Flags.{all_slices}
+use Rattle.ice_encoding.specs.Instances.{most_instances}
+use Rattle.ice_encoding.specs.Visiting.{order}
+use Rattle.ice_encoding.specs.SameGraph.{Spells}
+use Rattle.ice_encoding.specs.TypedGraph.{OfType}
+use Rattle.ice_encoding.specs.CanonicalGraph.{sliced, graph_bytes}
 use Rattle.graph_laws.specs.Sized.{SpellsSized}
 use Rattle.graph_laws.specs.Readable.{SpellsReadable}
 

@@ -3,13 +3,13 @@ use Rattle.std.specs.Prelude.{ℕ, ◌≡◌, ◌⊎◌, Bool, List, [], ◌∷�
 use Rattle.ice_types.specs.declared.kind.RowRef.TheVariants as rows
 use Rattle.ice_types.specs.Tables.{Tables}
 use Rattle.ice_types.specs.Lacking.{SameId}
-use Rattle.ice_graphs.specs.OptionalMembers.{Members, SpellsSliceMembers}
-use Rattle.ice_graphs.specs.Classes.{class_by_id, own_members}
-use Rattle.ice_graphs.specs.Graph.{Slice, known, unknown, Graph}
-use Rattle.ice_graphs.specs.References.{Reference, in_table, resolved, AreWithin}
-use Rattle.ice_graphs.specs.Slices.{by_table, unknown_bytes}
-use Rattle.ice_graphs.specs.Instances.{AllFit}
-use Rattle.ice_graphs.specs.Canonical.{is_there}
+use Rattle.ice_encoding.specs.OptionalMembers.{Members, SpellsSliceMembers}
+use Rattle.ice_encoding.specs.Classes.{class_by_id, own_members}
+use Rattle.ice_encoding.specs.Graph.{Slice, known, unknown, Graph}
+use Rattle.ice_encoding.specs.References.{Reference, in_table, resolved, AreWithin}
+use Rattle.ice_encoding.specs.Slices.{by_table, unknown_bytes}
+use Rattle.ice_encoding.specs.Instances.{AllFit}
+use Rattle.ice_encoding.specs.CanonicalGraph.{is_there}
 
 -- The bytes that were kept are members of the class, with places in the table, and the table has what they name: of these
 -- instances, each of a class that fits.

@@ -4,13 +4,13 @@ use Rattle.ice_types.specs.declared.declarations.Shape.{Shape}
 use Rattle.ice_types.specs.Tables.{Tables}
 use Rattle.ice_encoding.specs.Port.{Port, nowhere}
 use Rattle.ice_encoding.specs.Encapsulation.{Encapsulated}
-use Rattle.ice_graphs.specs.OptionalMembers.{SpellsContent}
-use Rattle.ice_graphs.specs.Graph.{Graph}
-use Rattle.ice_graphs.specs.Flags.{flags_of, all_slices}
-use Rattle.ice_graphs.specs.References.{State, opening, inline}
-use Rattle.ice_graphs.specs.Slices.{SpellsInstance, instance_at}
-use Rattle.ice_graphs.specs.Instances.{most_instances, AllFit}
-use Rattle.ice_graphs.specs.Same.{Same}
+use Rattle.ice_encoding.specs.OptionalMembers.{SpellsContent}
+use Rattle.ice_encoding.specs.Graph.{Graph}
+use Rattle.ice_encoding.specs.Flags.{flags_of, all_slices}
+use Rattle.ice_encoding.specs.References.{State, opening, inline}
+use Rattle.ice_encoding.specs.Slices.{SpellsInstance, instance_at}
+use Rattle.ice_encoding.specs.Instances.{most_instances, AllFit}
+use Rattle.ice_encoding.specs.SameGraph.{Same}
 
 -- The flag of the size stands in the first byte of an instance, and then in each of its slices.
 abbrev pub starts_sized : List ℕ → Bool

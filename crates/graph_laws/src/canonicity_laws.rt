@@ -6,15 +6,15 @@ ghost use Rattle.ice_types.specs.Tables.{Tables};
 ghost use Rattle.ice_types.specs.Rules.{IsSchema};
 ghost use Rattle.ice_prims.specs.Rest.{IsBytes};
 ghost use Rattle.ice_encoding.specs.declared.limits.TheConstants.{LARGEST};
-ghost use Rattle.ice_graphs.specs.OptionalMembers.{Members};
-ghost use Rattle.ice_graphs.specs.Graph.{Graph, known};
-ghost use Rattle.ice_graphs.specs.Names.{names_of};
-ghost use Rattle.ice_graphs.specs.Flags.{Reach, all_slices, known_classes};
-ghost use Rattle.ice_graphs.specs.Instances.{most_instances, SpellsNumbered};
-ghost use Rattle.ice_graphs.specs.Visiting.{most, order};
-ghost use Rattle.ice_graphs.specs.Same.{Same, Spells, form};
-ghost use Rattle.ice_graphs.specs.Typed.{OfReadType, OfType};
-ghost use Rattle.ice_graphs.specs.Canonical.{Format, compact, graph_bytes, table_of, IsWritable};
+ghost use Rattle.ice_encoding.specs.OptionalMembers.{Members};
+ghost use Rattle.ice_encoding.specs.Graph.{Graph, known};
+ghost use Rattle.ice_encoding.specs.Names.{names_of};
+ghost use Rattle.ice_encoding.specs.Flags.{Reach, all_slices, known_classes};
+ghost use Rattle.ice_encoding.specs.Instances.{most_instances, SpellsNumbered};
+ghost use Rattle.ice_encoding.specs.Visiting.{most, order};
+ghost use Rattle.ice_encoding.specs.SameGraph.{Same, Spells, form};
+ghost use Rattle.ice_encoding.specs.TypedGraph.{OfReadType, OfType};
+ghost use Rattle.ice_encoding.specs.CanonicalGraph.{Format, compact, graph_bytes, table_of, IsWritable};
 ghost use Rattle.graph_laws.specs.FirstUse.{IsByFirstUse};
 
 /// To be the same but for the names of instances goes both ways, and on from graph to graph; and each graph of

@@ -5,13 +5,13 @@ ghost use Rattle.ice_types.specs.Rules.{IsSchema};
 ghost use Rattle.ice_types.specs.Tables.{Tables};
 ghost use Rattle.ice_prims.specs.Rest.{IsBytes};
 ghost use Rattle.ice_encoding.specs.declared.limits.TheConstants.{LARGEST};
-ghost use Rattle.ice_graphs.specs.Canonical.{Format, compact};
-ghost use Rattle.ice_graphs.specs.Exceptions.{UserException, SpellsException};
-ghost use Rattle.ice_graphs.specs.Flags.{Reach, all_slices, known_classes};
-ghost use Rattle.ice_graphs.specs.Instances.{most_instances};
-ghost use Rattle.ice_graphs.specs.UserExceptionTyped.{OfUserException};
-ghost use Rattle.ice_graphs.specs.UserExceptionWritten.{order_of, exception_bytes, CanBeWritten, SameUserException};
-ghost use Rattle.ice_graphs.specs.UserExceptionWritten.{SpellsSame};
+ghost use Rattle.ice_encoding.specs.CanonicalGraph.{Format, compact};
+ghost use Rattle.ice_encoding.specs.Exceptions.{UserException, SpellsException};
+ghost use Rattle.ice_encoding.specs.Flags.{Reach, all_slices, known_classes};
+ghost use Rattle.ice_encoding.specs.Instances.{most_instances};
+ghost use Rattle.ice_encoding.specs.UserExceptionTyped.{OfUserException};
+ghost use Rattle.ice_encoding.specs.UserExceptionWritten.{order_of, exception_bytes, CanBeWritten, SameUserException};
+ghost use Rattle.ice_encoding.specs.UserExceptionWritten.{SpellsSame};
 
 /// An exception that is read is of its type, and its instances are within the limit.
 pub fn exceptions_typed()

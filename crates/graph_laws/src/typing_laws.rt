@@ -6,11 +6,11 @@ ghost use Rattle.ice_types.specs.Tables.{Tables};
 ghost use Rattle.ice_types.specs.Inherited.{IsA};
 ghost use Rattle.ice_types.specs.Rules.{IsSchema};
 ghost use Rattle.ice_prims.specs.Rest.{IsBytes};
-ghost use Rattle.ice_graphs.specs.Classes.{is_a};
-ghost use Rattle.ice_graphs.specs.Graph.{Graph};
-ghost use Rattle.ice_graphs.specs.Flags.{Reach};
-ghost use Rattle.ice_graphs.specs.Instances.{most_instances, SpellsNumbered};
-ghost use Rattle.ice_graphs.specs.Typed.{OfReadType, OfType};
+ghost use Rattle.ice_encoding.specs.Classes.{is_a};
+ghost use Rattle.ice_encoding.specs.Graph.{Graph};
+ghost use Rattle.ice_encoding.specs.Flags.{Reach};
+ghost use Rattle.ice_encoding.specs.Instances.{most_instances, SpellsNumbered};
+ghost use Rattle.ice_encoding.specs.TypedGraph.{OfReadType, OfType};
 
 /// What is read is of its type, with proxies that can be read again, and within the limit of instances. So it is
 /// of its type as what can be written is.

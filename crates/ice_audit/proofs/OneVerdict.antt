@@ -10,7 +10,7 @@ use Rattle.ice_messages.specs.declared.message.Call.{Call}
 use Rattle.ice_messages.specs.declared.message.Answer.{Answer}
 use Rattle.ice_messages.specs.declared.message.Message.{Message}
 use Rattle.ice_messages.specs.declared.message.Message.TheVariants.{Request, Batch, Reply, Validate, Close}
-use Rattle.audit_world.specs.Asked.{Wanted, wanted, twoways_of}
+use Rattle.call_world.specs.Asked.{Wanted, wanted, twoways_of}
 use Rattle.ice_audit.specs.declared.stop.Stop.{Stop}
 use Rattle.ice_audit.specs.declared.stop.Stage.TheVariants.{Fresh, Open}
 use Rattle.ice_audit.specs.declared.verdict.Seen.{Seen}

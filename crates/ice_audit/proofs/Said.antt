@@ -7,8 +7,8 @@ use Rattle.ice_messages.specs.declared.message.Call.{Call}
 use Rattle.ice_messages.specs.declared.message.Answer.{Answer}
 use Rattle.ice_messages.specs.declared.message.Message.{Message}
 use Rattle.ice_messages.specs.declared.message.Message.TheVariants.{Request, Batch, Reply, Validate, Close}
-use Rattle.audit_world.specs.Asked.{Asked, Wanted, wanted, each_wanted, told, twoways_of, closing}
-use Rattle.audit_world.proofs.Rows.{answers, replies}
+use Rattle.call_world.specs.Asked.{Asked, Wanted, wanted, each_wanted, told, twoways_of, closing}
+use Rattle.call_world.proofs.Rows.{answers, replies}
 use Rattle.ice_audit.specs.Pieces.{Piece}
 use Rattle.ice_audit.specs.Captured.{asked_in, asked_by, batch_asked, seat_ids, ids_by, batch_ids, is_asked, due, due_if, IsServerSide, without_validates, replies_in, reply_ids, reply_answers, closes}
 use Rattle.ice_audit.specs.Traces.{AreSaid, flags}

@@ -12,13 +12,13 @@ use Rattle.ice_messages.specs.declared.message.Answer.TheVariants.{Done}
 use Rattle.ice_messages.specs.declared.message.Message.{Message}
 use Rattle.ice_messages.specs.declared.message.Message.TheVariants.{Validate}
 use Rattle.ice_messages.specs.Calls.{status_of}
-use Rattle.audit_world.specs.Asked.{Asked, Wanted, wanted, told, twoways_of, closing, shown}
-use Rattle.audit_world.specs.Fits.{Fits}
-use Rattle.audit_world.proofs.Counted.{get_front, get_before, at_most_lem, answered_lem, refused_lem, closed_lem}
-use Rattle.audit_world.proofs.Showing.{get_some, show_lem}
-use Rattle.audit_world.proofs.Either.{either_lem, twoway_at}
-use Rattle.audit_world.proofs.Ordered.{order_lem}
-use Rattle.audit_world.proofs.Rows.{answers, replies, row_told}
+use Rattle.call_world.specs.Asked.{Asked, Wanted, wanted, told, twoways_of, closing, shown}
+use Rattle.call_world.specs.Fits.{Fits}
+use Rattle.call_world.proofs.Counted.{get_front, get_before, at_most_lem, answered_lem, refused_lem, closed_lem}
+use Rattle.call_world.proofs.Showing.{get_some, show_lem}
+use Rattle.call_world.proofs.Either.{either_lem, twoway_at}
+use Rattle.call_world.proofs.Ordered.{order_lem}
+use Rattle.call_world.proofs.Rows.{answers, replies, row_told}
 use Rattle.ice_audit.specs.declared.verdict.Seen.TheVariants.{Once, Never, Either}
 use Rattle.ice_audit.specs.Pieces.{Piece}
 use Rattle.ice_audit.specs.Captured.{asked_in, seat_ids, first_validate, without_validates, IsGood, replies_in, reply_answers, closes}

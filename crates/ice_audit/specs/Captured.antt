@@ -4,7 +4,7 @@ use Rattle.ice_messages.specs.declared.message.Call.{Call}
 use Rattle.ice_messages.specs.declared.message.Answer.{Answer}
 use Rattle.ice_messages.specs.declared.message.Message.{Message}
 use Rattle.ice_messages.specs.declared.message.Message.TheVariants.{Request, Batch, Reply, Validate, Close}
-use Rattle.audit_world.specs.Asked.{Asked, Single, Several}
+use Rattle.call_world.specs.Asked.{Asked, Single, Several}
 use Rattle.ice_audit.specs.Pieces.{Piece, messages_of}
 
 -- ---- the client

@@ -10,7 +10,7 @@ use Rattle.ice_messages.specs.declared.message.Answer.{Answer}
 use Rattle.ice_messages.specs.declared.message.Message.{Message}
 use Rattle.ice_messages.specs.declared.message.Message.TheVariants.{Request, Batch, Reply, Validate, Close}
 use Rattle.ice_messages.specs.Calls.{status_of}
-use Rattle.audit_world.specs.Fits.{Fits}
+use Rattle.call_world.specs.Fits.{Fits}
 use Rattle.ice_audit.specs.declared.verdict.Seen.{Seen}
 use Rattle.ice_audit.specs.declared.verdict.Seen.TheVariants.{Once, Never, Either}
 use Rattle.ice_audit.specs.Pieces.{Piece}

@@ -10,7 +10,7 @@ use Rattle.ice_encoding.specs.Parts.{Each}
 use Rattle.ice_ports.specs.Failures.{count_after}
 use Rattle.ice_ports.specs.Nets.{ToldNet}
 use Rattle.ice_ports.specs.declared.talk.Talk.{Talk}
-use Rattle.proxy_bytes.specs.Usable.{usable, tcp_at}
+use Rattle.encaps_optionals.specs.Usable.{usable, tcp_at}
 use Rattle.retry_core.specs.declared.attempt.Attempt.{Attempt}
 use Rattle.retry_core.specs.declared.attempt.Attempt.TheVariants as tries
 use Rattle.retry_core.specs.declared.client_table.ClientAction.TheVariants as actions

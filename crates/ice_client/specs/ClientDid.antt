@@ -12,7 +12,7 @@ use Rattle.ice_messages.specs.declared.fault.WriteFault.TheVariants.{TooLong, Me
 use Rattle.ice_messages.specs.declared.message.Message.{Message}
 use Rattle.ice_messages.specs.Messages.{message_bytes}
 use Rattle.ice_messages.specs.Written.{told}
-use Rattle.proxy_bytes.specs.Usable.{tcp_at}
+use Rattle.encaps_optionals.specs.Usable.{tcp_at}
 use Rattle.retry_core.specs.declared.attempt.Attempt.{Attempt}
 use Rattle.retry_core.specs.declared.client_table.ClientAction.{ClientAction}
 use Rattle.retry_core.specs.declared.client_table.ClientAction.TheVariants as actions

@@ -10,10 +10,10 @@ ghost use Rattle.ice_client.specs.declared.outcome.Outcome.TheVariants as outcom
 use crate::attempting::attempt_once;
 use crate::outcome::{Invoked, Outcome};
 use crate::outgoing::Outgoing;
+use encaps_optionals::tcp_of;
 use ice_messages::{Call, Message, WriteFault};
 use ice_ports::Net;
 use ice_types::{List, Proxy};
-use proxy_bytes::tcp_of;
 use retry_core::{Client, ClientAction};
 use std::alloc::{AllocError, Global};
 

@@ -27,3 +27,23 @@ pub mod Tagged
 pub mod Passed
 mod PartSamples
 mod TagSamples
+pub mod Joining
+pub mod Ending
+pub mod GraphSizes
+pub mod References
+pub mod Slices
+pub mod Graphs
+pub mod Ports
+pub mod Exceptions
+pub mod Reopening
+pub mod Agreeing
+pub mod GraphSamples
+mod UserExceptionSamples
+pub mod Stepping
+pub mod Prefixed
+pub mod OwnSizes
+pub mod Nexts
+pub mod Present
+pub mod Contents
+pub mod Rising
+mod OptionalSamples

@@ -1,11 +1,14 @@
-//! The definitions of the Ice encoding without class instances: which bytes spell a proxy, a tag, an
-//! encapsulation and a value of a type, the first fault of bytes that spell none, and the canonical
-//! bytes of each. They stand in `specs/`; here are the limits that they name, and functions without
-//! bodies, each with a law of the definitions as its contract.
+//! The definitions of the Ice encoding: which bytes spell a proxy, a tag, an encapsulation, a value of a type, the
+//! optional members of a shape, a slice, a class instance, a graph of them and a user exception, the first fault of bytes
+//! that spell none, and the canonical bytes of each. They stand in `specs/`; here are the limits that they name, and
+//! functions without bodies, each with a law of the definitions as its contract. (Ice manual, "The Ice Encoding".)
 //!
 //! - Parts (`part_laws`): identities, facets, proxies, what an encapsulation bounds, and what stands
 //!   before an optional member.
 //! - Values (`laws`): values of types, and encapsulations of them.
+//! - Optional members (`optional_laws`): unknown ones are passed over. Values stand over a port, which
+//!   says how a reference to a class instance stands.
+//! - Graphs and exceptions (`instance_laws`).
 //!
 //! Forms, and why they are so:
 //!
@@ -41,12 +44,41 @@
 //!   content.
 //! - `nowhere` answers `LeftOver`, which is no defect of those bytes. The law `levels_suffice` says that reading
 //!   never comes to it for a type of a schema.
+//! - Optional members are a list of tag and value, in `Members` of the definitions (`Present`) as in that of the
+//!   code, and not a place for each member of the shape. What is unknown has no place then, tags rise by
+//!   themselves in what is read, and a member that is absent takes nothing.
+//! - Which slices are read is a parameter (`Reach`): all that the encoding has, or those of a known class alone,
+//!   with a size or without. The laws hold of both. Code reads all. The second is what a reader is that keeps no
+//!   slices; the laws say what such a one can read.
+//! - References in a slice's members are places in its table until that is read, since the table stands behind
+//!   the members; then they are replaced by names. What is remembered of a place goes along, so a place past the
+//!   table has its fault where it stands, though that is known later.
+//! - The fuel of a definition is a number that is there anyway: an instance has no more slices than bytes where
+//!   it begins (`slices_at`), and there are no more optional members than bytes and one (`options_at`). Code has
+//!   the same number as a counter (`steps`), so it ends for the same reason and with the same answer where it
+//!   runs out.
+//! - The bases of a class are followed at most as often as there are classes (`leads_to`). No chain is longer in
+//!   a schema, but the definition is over any tables, and a ring of bases would have no end. The code counts
+//!   too, so that it needs no rule of the schema for this.
+//! - Whether classes fit is tested at the end of the content, where all else in it is right: the class of an
+//!   instance is known once it is read, and what refers to it may stand before. Of references that do not fit
+//!   the first in the bytes has the fault.
+//! - An exception's last slice may lack its flag, since some writers leave it out; but for that an exception's
+//!   slices are those of an instance in tables whose classes are the exceptions (`of_exceptions`).
+//! - Two graphs are the same by pairs of names (`Same`), not by a walk: so the form by first visits (`form`) has
+//!   something to be right about.
 #![tactic(auto)]
 
+mod instance_laws;
 mod laws;
 mod limits;
+mod optional_laws;
 mod part_laws;
 
+pub use instance_laws::{
+    exceptions_apart, exceptions_found, exceptions_only, graphs_apart, graphs_found, graphs_only,
+    places_lawful, references_apart, references_lawful, slices_reopened, values_with_references,
+};
 pub use laws::{
     encapsulations_apart, encapsulations_canonical, encapsulations_found, encapsulations_in_a_row,
     encapsulations_only, equal_values, fixed_sizes, levels_suffice, pairs_in_any_order,
@@ -54,6 +86,10 @@ pub use laws::{
     values_have_sizes, values_only, values_ordered, values_typed,
 };
 pub use limits::{GREATEST, LARGEST, SIZE_BYTES, SMALLEST};
+pub use optional_laws::{
+    contents_apart, contents_found, contents_only, slices_apart, slices_found, slices_only,
+    tags_known,
+};
 pub use part_laws::{
     encapsulations_opened, proxies_apart, proxies_canonical, proxies_found, proxies_only,
     proxies_sized, tags_apart, tags_put, tags_read, values_passed,

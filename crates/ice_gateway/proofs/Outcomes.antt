@@ -2,7 +2,7 @@
 use Rattle.std.proofs.Common.{◌≡◌, ℕ, Bool, true, false, List, [], ◌∷◌, Option, None, Some, IsSome, Ok, Err, refl, sym, subst, ◌∙◌, inl, inr}
 use Rattle.ice_encoding.specs.Parts.{Each}
 use Rattle.ice_ports.specs.declared.talk.Talk.{Talk}
-use Rattle.proxy_bytes.specs.Usable.{tcp_at}
+use Rattle.encaps_optionals.specs.Usable.{tcp_at}
 use Rattle.ice_messages.specs.declared.fault.WriteFault.{WriteFault}
 use Rattle.ice_messages.specs.declared.fault.WriteFault.TheVariants.{Memory}
 use Rattle.ice_messages.specs.declared.message.Answer.{Answer}

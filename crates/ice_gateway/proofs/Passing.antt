@@ -4,7 +4,7 @@ use Rattle.std.specs.Prelude.{Option, Some, None, IsSome, IfOk, OnOk, Result, Ok
 use Rattle.std.proofs.lemmas.Bool.{le-leb, lt-leb}
 use Rattle.std.proofs.lemmas.List.{drop_all, drop_more}
 use Rattle.ice_encoding.specs.declared.limits.TheConstants.{LARGEST}
-use Rattle.proxy_bytes.specs.Usable.{tcp_at}
+use Rattle.encaps_optionals.specs.Usable.{tcp_at}
 use Rattle.ice_messages.specs.declared.fault.WriteFault.{WriteFault}
 use Rattle.ice_messages.specs.declared.fault.WriteFault.TheVariants.{Memory}
 use Rattle.ice_messages.specs.declared.message.Call.{Call}

@@ -5,13 +5,13 @@ use Rattle.ice_types.specs.declared.declarations.Shape.{Shape}
 use Rattle.ice_types.specs.Tables.{Tables}
 use Rattle.ice_prims.specs.declared.fault.Fault.{Fault}
 use Rattle.ice_prims.specs.Rest.{whole}
-use Rattle.ice_graphs.specs.Graph.{Graph}
-use Rattle.ice_graphs.specs.Flags.{all_slices}
-use Rattle.ice_graphs.specs.Instances.{numbered_at}
-use Rattle.ice_graphs.specs.Canonical.{sliced, graph_bytes}
-use Rattle.ice_graphs.specs.Exceptions.{UserException, exception_at}
-use Rattle.ice_graphs.specs.UserExceptionWritten.{exception_bytes}
-use Rattle.ice_values.specs.Shapes.{told_apart}
+use Rattle.ice_encoding.specs.Graph.{Graph}
+use Rattle.ice_encoding.specs.Flags.{all_slices}
+use Rattle.ice_encoding.specs.Instances.{numbered_at}
+use Rattle.ice_encoding.specs.CanonicalGraph.{sliced, graph_bytes}
+use Rattle.ice_encoding.specs.Exceptions.{UserException, exception_at}
+use Rattle.ice_encoding.specs.UserExceptionWritten.{exception_bytes}
+use Rattle.value_parts.specs.Shapes.{told_apart}
 use Rattle.object_adapter.specs.declared.refusal.TheConstants.{LONGEST}
 use Rattle.ice_gateway.specs.declared.renewing.Renewed.{Renewed}
 use Rattle.ice_gateway.specs.declared.renewing.Renewed.TheVariants.{Written, TooLong, Broken}

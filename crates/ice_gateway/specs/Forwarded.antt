@@ -2,7 +2,7 @@
 -- "Batched Invocations".)
 use Rattle.std.specs.Prelude.{ℤ, pos, negsuc, zero, suc, List, [], ◌∷◌, length, Option, Some, None, is_some, nat_le, if◌then◌else◌}
 use Rattle.ice_encoding.specs.declared.limits.TheConstants.{LARGEST}
-use Rattle.proxy_bytes.specs.Usable.{tcp_at}
+use Rattle.encaps_optionals.specs.Usable.{tcp_at}
 use Rattle.ice_messages.specs.declared.message.Call.{Call}
 use Rattle.ice_messages.specs.declared.message.Message.{Message}
 use Rattle.ice_messages.specs.declared.message.Message.TheVariants.{Request, Batch, Reply, Validate, Close}

@@ -3,7 +3,7 @@
 ghost use Rattle.std.specs.Prelude.{◌++◌, [], OnOk, ◌≡◌, pos, IfOk, IsSome, List};
 ghost use Rattle.ice_types.specs.Object.{object_tables};
 ghost use Rattle.ice_encoding.specs.Parts.{Each};
-ghost use Rattle.proxy_bytes.specs.Usable.{tcp_at};
+ghost use Rattle.encaps_optionals.specs.Usable.{tcp_at};
 ghost use Rattle.ice_messages.specs.declared.message.Message.TheVariants.{Batch, Request};
 ghost use Rattle.ice_messages.specs.Written.{IsWritable};
 ghost use Rattle.ice_client.specs.ClientDid.{Tried};
@@ -20,13 +20,13 @@ use crate::admitting::{Admitted, admit, going};
 use crate::gateway::{Gateway, Known, known_of};
 use crate::mapping::answer_to;
 use crate::refusing::failed;
+use encaps_optionals::tcp_of;
 use ice_client::{Outcome, invoke, send};
 use ice_encoding::LARGEST;
 use ice_messages::{Answer, Call, Message, WriteFault, batch_length};
 use ice_ports::Net;
 use ice_types::List;
 use object_adapter::missed;
-use proxy_bytes::tcp_of;
 use std::alloc::AllocError;
 
 /// The answer of a request that asks for one, which is forwarded where it is not refused and an endpoint can be used.

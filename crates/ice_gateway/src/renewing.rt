@@ -1,9 +1,9 @@
 //! Bodies that are written anew. (Ice manual, "Data Encoding for Class and Exception Types" and "User Exceptions".)
 
 ghost use Rattle.std.specs.Prelude.{◌≡◌, IfOk, Ok};
-ghost use Rattle.ice_graphs.specs.Typed.{OfType};
-ghost use Rattle.ice_graphs.specs.UserExceptionTyped.{OfUserException};
-ghost use Rattle.ice_values.specs.Shapes.{shape_seen};
+ghost use Rattle.ice_encoding.specs.TypedGraph.{OfType};
+ghost use Rattle.ice_encoding.specs.UserExceptionTyped.{OfUserException};
+ghost use Rattle.value_parts.specs.Shapes.{shape_seen};
 ghost use Rattle.class_slices.specs.Seen.{view_user_exception};
 ghost use Rattle.ice_gateway.specs.Anew.{body_anew, exception_anew, graph_anew, raised_anew};
 ghost use Rattle.ice_gateway.specs.Laws.{IsRenewed};
@@ -15,9 +15,9 @@ use class_slices::{
 use graph_arena::Graph;
 use ice_prims::{Fault, ReadFault};
 use ice_types::{Bytes, Schema, Shape};
-use ice_values::DeclaredMembers;
 use object_adapter::LONGEST;
 use std::alloc::{AllocError, Global};
+use value_parts::DeclaredMembers;
 
 /// A body that was written anew.
 #[derive(Drop)]

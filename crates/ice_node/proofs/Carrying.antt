@@ -5,11 +5,11 @@ use Rattle.ice_types.specs.Tables.{Tables}
 use Rattle.ice_prims.specs.Rest.{IsBytes}
 use Rattle.ice_encoding.specs.declared.limits.TheConstants.{LARGEST}
 use Rattle.std.specs.Io.KnownBytes.{Appends}
-use Rattle.ice_graphs.specs.Graph.{Graph}
-use Rattle.ice_graphs.specs.Flags.{all_slices}
-use Rattle.ice_graphs.specs.Canonical.{sliced}
+use Rattle.ice_encoding.specs.Graph.{Graph}
+use Rattle.ice_encoding.specs.Flags.{all_slices}
+use Rattle.ice_encoding.specs.CanonicalGraph.{sliced}
 use Rattle.graph_laws.specs.Relaying.{Relays}
-use Rattle.ice_graphs.specs.Same.{Spells}
+use Rattle.ice_encoding.specs.SameGraph.{Spells}
 use Rattle.graph_laws.specs.Sized.{SpellsSized}
 use Rattle.graph_laws.proofs.Relayed.{spelled_back}
 use Rattle.graph_laws.proofs.There.{reached_there, same_itself}

@@ -8,7 +8,7 @@ use Rattle.call_command.specs.Called.{Called}
 use Rattle.call_command.proofs.OneForm.{one_form}
 use Rattle.gate_command.specs.Words.{GateWords, GateForm}
 use Rattle.gate_command.specs.Gated.{Gated}
-use Rattle.net_commands.specs.Once.{Exactly}
+use Rattle.node_commands.specs.Once.{Exactly}
 use Rattle.serve_command.specs.Words.{Serve, ServeForm, IsServe}
 use Rattle.serve_command.specs.Served.{Served}
 use Rattle.ice_node.proofs.Forms.{forms_apart}

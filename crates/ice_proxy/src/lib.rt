@@ -1,6 +1,6 @@
 //! The texts of proxies and identities: read with the place of the first word that cannot stand, and
 //! printed. (Ice manual, "Proxy and Endpoint Syntax".) What reads and writes proxies as bytes is passed on from
-//! `proxy_bytes`.
+//! `encaps_optionals`.
 //!
 //! - Blanks are space, tab, newline, form feed and carriage return. A blank, `:` or `@` outside quotes ends a word,
 //!   behind a `\` too.
@@ -41,6 +41,7 @@ mod tcp;
 mod word_laws;
 mod words;
 
+pub use encaps_optionals::{read_proxy, tcp_of, write_proxy};
 pub use fault::TextFault;
 pub use identity_text::parse_identity;
 pub use laws::{
@@ -50,7 +51,6 @@ pub use laws::{
 pub use parse::parse_text;
 pub use print::print_text;
 pub use printing::{escape_identity, print_identity, print_word, quote};
-pub use proxy_bytes::{read_proxy, tcp_of, write_proxy};
 pub use reading::{identity_of, text_of};
 pub use word_laws::{identities_printed, printed_is_a_word, texts_printed, words_stand_next};
 pub use words::{Token, Words};

@@ -17,14 +17,14 @@ use Rattle.ice_prims.proofs.Parts.{IsBytes-front, IsBytes-rest}
 use Rattle.ice_encoding.specs.declared.limits.TheConstants.{SMALLEST}
 use Rattle.ice_encoding.proofs.Encapsulations.{encapsulated_length}
 use Rattle.ice_encoding.specs.Encapsulation.{encapsulated_at}
-use Rattle.ice_graphs.specs.Graph.{Graph}
-use Rattle.ice_graphs.specs.Flags.{all_slices}
-use Rattle.ice_graphs.specs.Instances.{graph_at, numbered_at}
-use Rattle.ice_graphs.specs.Canonical.{sliced}
-use Rattle.ice_graphs.specs.Same.{Same}
-use Rattle.ice_graphs.proofs.Graphs.{next_found, next_only, last_found, last_only}
+use Rattle.ice_encoding.specs.Graph.{Graph}
+use Rattle.ice_encoding.specs.Flags.{all_slices}
+use Rattle.ice_encoding.specs.Instances.{graph_at, numbered_at}
+use Rattle.ice_encoding.specs.CanonicalGraph.{sliced}
+use Rattle.ice_encoding.specs.SameGraph.{Same}
+use Rattle.ice_encoding.proofs.Graphs.{next_found, next_only, last_found, last_only}
 use Rattle.graph_laws.proofs.Schemas.{read_equal_is_same}
-use Rattle.ice_values.specs.Shapes.{told_apart}
+use Rattle.value_parts.specs.Shapes.{told_apart}
 use Rattle.class_slices.specs.Encoding.{Writes}
 use Rattle.class_slices.specs.declared.write_fault.WriteFault.{WriteFault}
 use Rattle.class_slices.specs.declared.write_fault.WriteFault.TheVariants as write_faults

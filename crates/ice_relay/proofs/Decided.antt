@@ -15,8 +15,8 @@ use Rattle.ice_encoding.specs.Bounds.{claimed, ended, filled}
 use Rattle.ice_encoding.specs.Opening.{encoding}
 use Rattle.ice_encoding.proofs.Bounded.{claimed_ok}
 use Rattle.ice_encoding.specs.Encapsulation.{encapsulated_at}
-use Rattle.ice_graphs.specs.Flags.{all_slices}
-use Rattle.ice_graphs.specs.Instances.{graph_at}
+use Rattle.ice_encoding.specs.Flags.{all_slices}
+use Rattle.ice_encoding.specs.Instances.{graph_at}
 use Rattle.ice_relay.specs.Relaying.{one_value, held}
 use Rattle.ice_relay.specs.Streams.{GoesOn, IsDecided, ReadsInput}
 

@@ -5,11 +5,11 @@ use Rattle.std.specs.declared.alloc.Global.{Global}
 use Rattle.ice_types.specs.declared.declarations.Member.{Member}
 use Rattle.ice_types.specs.declared.declarations.Shape.{Shape}
 use Rattle.ice_types.specs.Tables.{Tables}
-use Rattle.ice_graphs.specs.Graph.{Graph}
-use Rattle.ice_graphs.specs.Instances.{most_instances}
-use Rattle.ice_graphs.specs.Typed.{OfType}
-use Rattle.ice_graphs.specs.Canonical.{compact, IsWritable}
-use Rattle.ice_values.specs.Shapes.{told_apart}
+use Rattle.ice_encoding.specs.Graph.{Graph}
+use Rattle.ice_encoding.specs.Instances.{most_instances}
+use Rattle.ice_encoding.specs.TypedGraph.{OfType}
+use Rattle.ice_encoding.specs.CanonicalGraph.{compact, IsWritable}
+use Rattle.value_parts.specs.Shapes.{told_apart}
 use Rattle.ice_relay.specs.declared.drilling.TheConstants.{MOST_NODES}
 use Rattle.ice_relay.specs.declared.drill_fault.DrillFault.{DrillFault}
 use Rattle.ice_relay.specs.Drawn.{drawn}

@@ -5,9 +5,9 @@ use Rattle.ice_types.specs.declared.kind.TypeRef.{TypeRef}
 use Rattle.ice_types.specs.Tables.{Tables}
 use Rattle.ice_types.specs.Rules.{IsSchema}
 use Rattle.ice_prims.specs.Rest.{IsBytes}
-use Rattle.ice_graphs.specs.Canonical.{Format}
-use Rattle.ice_graphs.specs.Flags.{all_slices}
-use Rattle.ice_graphs.specs.Graph.{Graph}
+use Rattle.ice_encoding.specs.CanonicalGraph.{Format}
+use Rattle.ice_encoding.specs.Flags.{all_slices}
+use Rattle.ice_encoding.specs.Graph.{Graph}
 use Rattle.graph_json.specs.Canonical.{canonical_noted}
 use Rattle.graph_json.specs.Contents.{HasOwnNames}
 use Rattle.graph_json.specs.Texts.{IsJson, Lists, NotesText}

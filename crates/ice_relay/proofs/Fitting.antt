@@ -10,12 +10,12 @@ use Rattle.std.proofs.lemmas.List.FromFn.{length-map-range_with_len, get_or-map-
 use Rattle.ice_types.specs.declared.declarations.ClassDecl.{ClassDecl}
 use Rattle.ice_encoding.specs.Tree.{int, reference, none, tree}
 use Rattle.ice_encoding.specs.Typed.{Refers}
-use Rattle.ice_graphs.specs.Graph.{Slice}
-use Rattle.ice_graphs.specs.Names.{listed_name}
-use Rattle.ice_graphs.specs.Instances.{most_instances, class_of, class_fits, slices_of}
-use Rattle.ice_graphs.specs.Visiting.{most, order}
-use Rattle.ice_graphs.specs.Typed.{IsInstance, RefersIn, OfType}
-use Rattle.ice_graphs.specs.Canonical.{compact, Compact, IsWritable}
+use Rattle.ice_encoding.specs.Graph.{Slice}
+use Rattle.ice_encoding.specs.Names.{listed_name}
+use Rattle.ice_encoding.specs.Instances.{most_instances, class_of, class_fits, slices_of}
+use Rattle.ice_encoding.specs.Visiting.{most, order}
+use Rattle.ice_encoding.specs.TypedGraph.{IsInstance, RefersIn, OfType}
+use Rattle.ice_encoding.specs.CanonicalGraph.{compact, Compact, IsWritable}
 use Rattle.graph_arena.specs.Arena.{AreBelow, InstanceFits, EachFits, IsSound}
 use Rattle.graph_arena.proofs.Closed.{order-is}
 use Rattle.graph_laws.proofs.Formed.{listed-below}

@@ -13,12 +13,12 @@ use Rattle.ice_prims.specs.Bytes.{signed_bytes}
 use Rattle.ice_prims.proofs.Spelled.{int_exact}
 use Rattle.ice_encoding.specs.declared.limits.TheConstants.{LARGEST, SMALLEST}
 use Rattle.ice_encoding.proofs.Encapsulations.{encapsulated_length}
-use Rattle.ice_graphs.specs.Graph.{Graph}
-use Rattle.ice_graphs.specs.Flags.{all_slices}
-use Rattle.ice_graphs.specs.Canonical.{Format}
-use Rattle.ice_graphs.specs.Instances.{numbered_at}
-use Rattle.ice_graphs.proofs.Graphs.{numbered_found}
-use Rattle.ice_values.specs.Shapes.{told_apart}
+use Rattle.ice_encoding.specs.Graph.{Graph}
+use Rattle.ice_encoding.specs.Flags.{all_slices}
+use Rattle.ice_encoding.specs.CanonicalGraph.{Format}
+use Rattle.ice_encoding.specs.Instances.{numbered_at}
+use Rattle.ice_encoding.proofs.Graphs.{numbered_found}
+use Rattle.value_parts.specs.Shapes.{told_apart}
 use Rattle.class_slices.specs.Encoding.{Writes}
 use Rattle.class_slices.specs.declared.write_fault.WriteFault.{WriteFault}
 use Rattle.class_slices.specs.declared.write_fault.WriteFault.TheVariants as write_faults

@@ -5,9 +5,9 @@ use Rattle.serde_json.specs.Data.{Data}
 use Rattle.ice_types.specs.declared.declarations.Shape.{Shape}
 use Rattle.ice_types.specs.Tables.{Tables}
 use Rattle.ice_types.specs.Rules.{IsSchema}
-use Rattle.ice_graphs.specs.Canonical.{Format, graph_bytes}
-use Rattle.ice_graphs.specs.Graph.{Graph}
-use Rattle.ice_graphs.specs.Same.{Same}
+use Rattle.ice_encoding.specs.CanonicalGraph.{Format, graph_bytes}
+use Rattle.ice_encoding.specs.Graph.{Graph}
+use Rattle.ice_encoding.specs.SameGraph.{Same}
 use Rattle.graph_laws.proofs.Canonicity.{same_bytes}
 use Rattle.graph_json.specs.Notation.{NotesGraph}
 use Rattle.graph_json.specs.Texts.{Lists, NotesText}

@@ -9,9 +9,9 @@ use Rattle.ice_types.specs.Rules.{IsSchema}
 use Rattle.ice_prims.specs.Rest.{IsBytes}
 use Rattle.ice_prims.proofs.Parts.{IsBytes-front, IsBytes-rest}
 use Rattle.ice_encoding.specs.declared.limits.TheConstants.{LARGEST}
-use Rattle.ice_graphs.specs.Flags.{all_slices}
-use Rattle.ice_graphs.specs.Canonical.{Format, sliced}
-use Rattle.ice_graphs.specs.Same.{Same}
+use Rattle.ice_encoding.specs.Flags.{all_slices}
+use Rattle.ice_encoding.specs.CanonicalGraph.{Format, sliced}
+use Rattle.ice_encoding.specs.SameGraph.{Same}
 use Rattle.graph_laws.proofs.Schemas.{read_equal_is_same}
 use Rattle.canonical_inputs.specs.Inputs.{IsOwnForm}
 use Rattle.ice_relay.specs.declared.comparing.TheConstants.{MOST_COMPARED}

@@ -7,14 +7,14 @@ use Rattle.ice_types.specs.Tables.{Tables}
 use Rattle.ice_types.specs.Rules.{IsSchema}
 use Rattle.ice_prims.specs.Rest.{whole}
 use Rattle.ice_encoding.specs.declared.limits.TheConstants.{LARGEST}
-use Rattle.ice_graphs.specs.Graph.{Graph}
-use Rattle.ice_graphs.specs.Flags.{all_slices}
-use Rattle.ice_graphs.specs.Instances.{most_instances, numbered_at}
-use Rattle.ice_graphs.specs.Visiting.{order}
-use Rattle.ice_graphs.specs.Same.{Spells}
-use Rattle.ice_graphs.specs.Typed.{OfType}
-use Rattle.ice_graphs.specs.Canonical.{Format, sliced, compact, graph_bytes, IsWritable}
-use Rattle.ice_graphs.proofs.Graphs.{numbered_only}
+use Rattle.ice_encoding.specs.Graph.{Graph}
+use Rattle.ice_encoding.specs.Flags.{all_slices}
+use Rattle.ice_encoding.specs.Instances.{most_instances, numbered_at}
+use Rattle.ice_encoding.specs.Visiting.{order}
+use Rattle.ice_encoding.specs.SameGraph.{Spells}
+use Rattle.ice_encoding.specs.TypedGraph.{OfType}
+use Rattle.ice_encoding.specs.CanonicalGraph.{Format, sliced, compact, graph_bytes, IsWritable}
+use Rattle.ice_encoding.proofs.Graphs.{numbered_only}
 use Rattle.graph_arena.specs.Arena.{IsSound}
 use Rattle.graph_arena.proofs.Formed.{order-few}
 use Rattle.graph_laws.proofs.Canonicity.{same_bytes}

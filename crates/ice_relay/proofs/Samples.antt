@@ -2,8 +2,8 @@
 use Rattle.std.proofs.Common.{◌≡◌, ℕ, List, [], ◌∷◌, refl, Option, None, Some}
 use Rattle.std.specs.Prelude.{pos}
 use Rattle.ice_encoding.specs.Tree.{int, reference, none, tree}
-use Rattle.ice_graphs.specs.OptionalMembers.{with_optional}
-use Rattle.ice_graphs.specs.Graph.{Slice, known, Graph}
+use Rattle.ice_encoding.specs.OptionalMembers.{with_optional}
+use Rattle.ice_encoding.specs.Graph.{Slice, known, Graph}
 use Rattle.ice_relay.specs.Drawn.{after, given, drawn}
 
 -- a node with this v, left and right

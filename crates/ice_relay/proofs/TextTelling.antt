@@ -7,10 +7,10 @@ use Rattle.ice_types.specs.declared.declarations.Shape.{Shape}
 use Rattle.ice_types.specs.Tables.{Tables}
 use Rattle.ice_prims.specs.Rest.{whole, IsBytes}
 use Rattle.ice_encoding.specs.declared.limits.TheConstants.{LARGEST}
-use Rattle.ice_graphs.specs.Graph.{Graph}
-use Rattle.ice_graphs.specs.Flags.{all_slices}
-use Rattle.ice_graphs.specs.Canonical.{Format}
-use Rattle.ice_graphs.specs.Instances.{numbered_at}
+use Rattle.ice_encoding.specs.Graph.{Graph}
+use Rattle.ice_encoding.specs.Flags.{all_slices}
+use Rattle.ice_encoding.specs.CanonicalGraph.{Format}
+use Rattle.ice_encoding.specs.Instances.{numbered_at}
 use Rattle.class_slices.specs.Encoding.{Writes}
 use Rattle.class_slices.specs.declared.write_fault.WriteFault.{WriteFault}
 use Rattle.class_slices.specs.declared.write_fault.WriteFault.TheVariants as write_faults

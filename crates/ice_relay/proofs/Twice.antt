@@ -13,9 +13,9 @@ use Rattle.ice_encoding.specs.Bounds.{filled}
 use Rattle.ice_encoding.specs.Opening.{encoding}
 use Rattle.ice_encoding.proofs.Bounded.{claimed_ok}
 use Rattle.ice_encoding.specs.Encapsulation.{encapsulated_at}
-use Rattle.ice_graphs.specs.Graph.{Graph}
-use Rattle.ice_graphs.specs.Flags.{all_slices}
-use Rattle.ice_graphs.specs.Instances.{graph_at}
+use Rattle.ice_encoding.specs.Graph.{Graph}
+use Rattle.ice_encoding.specs.Flags.{all_slices}
+use Rattle.ice_encoding.specs.Instances.{graph_at}
 use Rattle.ice_relay.specs.Relaying.{one_value}
 use Rattle.ice_relay.specs.Comparing.{next_held, and_last, two_of, two_held}
 use Rattle.ice_relay.specs.Streams.{Claims, IsDecided, IsRefused, BeginsWith, ReadsTwo}

@@ -4,8 +4,8 @@ use Rattle.std.specs.List.{range_with_len}
 use Rattle.std.proofs.lemmas.List.{map-append}
 use Rattle.std.proofs.lemmas.List.FromFn.{map-range_with_len_more}
 use Rattle.ice_encoding.specs.Tree.{Tree, int, reference, none, tree}
-use Rattle.ice_graphs.specs.OptionalMembers.{with_optional}
-use Rattle.ice_graphs.specs.Graph as graphs
+use Rattle.ice_encoding.specs.OptionalMembers.{with_optional}
+use Rattle.ice_encoding.specs.Graph as graphs
 use Rattle.graph_arena.specs.declared.value.Value.{Value}
 use Rattle.graph_arena.specs.declared.instance.Instance.{Instance}
 use Rattle.graph_arena.specs.declared.instance.Slice.{Slice}

@@ -6,11 +6,11 @@ use Rattle.ice_prims.specs.declared.fault.Fault.{Fault}
 use Rattle.ice_prims.specs.Rest.{Rest, whole, ◌>>=◌}
 use Rattle.ice_encoding.specs.Bounds.{filled}
 use Rattle.ice_encoding.specs.Encapsulation.{encapsulated_at}
-use Rattle.ice_graphs.specs.Graph.{Graph}
-use Rattle.ice_graphs.specs.Flags.{all_slices}
-use Rattle.ice_graphs.specs.Instances.{graph_at}
-use Rattle.ice_graphs.specs.Canonical.{sliced}
-use Rattle.ice_graphs.specs.Same.{Same}
+use Rattle.ice_encoding.specs.Graph.{Graph}
+use Rattle.ice_encoding.specs.Flags.{all_slices}
+use Rattle.ice_encoding.specs.Instances.{graph_at}
+use Rattle.ice_encoding.specs.CanonicalGraph.{sliced}
+use Rattle.ice_encoding.specs.SameGraph.{Same}
 use Rattle.ice_relay.specs.declared.comparing.TheConstants.{MOST_COMPARED}
 use Rattle.ice_relay.specs.declared.fault.RelayFault.{RelayFault}
 use Rattle.ice_relay.specs.declared.fault.RelayFault.TheVariants as faults

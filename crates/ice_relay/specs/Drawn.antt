@@ -2,8 +2,8 @@
 use Rattle.std.specs.Prelude.{ℕ, zero, suc, pos, ◌+◌, ◌*◌, ◌/◌, ◌%◌, List, [], ◌∷◌, map, Option, None, Some, nat_lt, if◌then◌else◌}
 use Rattle.std.specs.List.{range_with_len}
 use Rattle.ice_encoding.specs.Tree.{int, reference, none, tree}
-use Rattle.ice_graphs.specs.OptionalMembers.{with_optional}
-use Rattle.ice_graphs.specs.Graph.{Slice, known, Graph}
+use Rattle.ice_encoding.specs.OptionalMembers.{with_optional}
+use Rattle.ice_encoding.specs.Graph.{Slice, known, Graph}
 
 -- ---- numbers
 

@@ -4,8 +4,8 @@ use Rattle.std.specs.declared.alloc.Global.{Global}
 use Rattle.ice_types.specs.declared.kind.TypeRef.{TypeRef}
 use Rattle.ice_types.specs.Tables.{Tables}
 use Rattle.ice_encoding.specs.declared.limits.TheConstants.{LARGEST}
-use Rattle.ice_graphs.specs.Graph.{Graph}
-use Rattle.ice_graphs.specs.Canonical.{Format, IsWritable}
+use Rattle.ice_encoding.specs.Graph.{Graph}
+use Rattle.ice_encoding.specs.CanonicalGraph.{Format, IsWritable}
 use Rattle.class_slices.specs.Encoding.{NeedsSliced}
 use Rattle.graph_json.specs.Texts.{IsRefused, Lists}
 use Rattle.ice_relay.specs.Relaying.{one_value, canonical_bytes}

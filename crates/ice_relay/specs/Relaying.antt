@@ -8,10 +8,10 @@ use Rattle.ice_types.specs.Tables.{Tables}
 use Rattle.ice_prims.specs.declared.fault.Fault.{Fault}
 use Rattle.ice_prims.specs.Rest.{whole}
 use Rattle.ice_encoding.specs.declared.limits.TheConstants.{LARGEST}
-use Rattle.ice_graphs.specs.Graph.{Graph}
-use Rattle.ice_graphs.specs.Flags.{all_slices}
-use Rattle.ice_graphs.specs.Instances.{SpellsNumbered, numbered_at}
-use Rattle.ice_graphs.specs.Canonical.{Format, graph_bytes, IsWritable}
+use Rattle.ice_encoding.specs.Graph.{Graph}
+use Rattle.ice_encoding.specs.Flags.{all_slices}
+use Rattle.ice_encoding.specs.Instances.{SpellsNumbered, numbered_at}
+use Rattle.ice_encoding.specs.CanonicalGraph.{Format, graph_bytes, IsWritable}
 use Rattle.class_slices.specs.Encoding.{NeedsSliced}
 use Rattle.ice_relay.specs.declared.fault.RelayFault.{RelayFault}
 use Rattle.ice_relay.specs.declared.fault.RelayFault.TheVariants as faults

@@ -5,9 +5,9 @@ use Rattle.std.specs.declared.alloc.Global.{Global}
 use Rattle.ice_types.specs.declared.declarations.Shape.{Shape}
 use Rattle.ice_types.specs.Tables.{Tables}
 use Rattle.ice_encoding.specs.declared.limits.TheConstants.{LARGEST}
-use Rattle.ice_graphs.specs.Graph.{Graph}
-use Rattle.ice_graphs.specs.Visiting.{order}
-use Rattle.ice_graphs.specs.Canonical.{Format, sliced, compact, graph_bytes}
+use Rattle.ice_encoding.specs.Graph.{Graph}
+use Rattle.ice_encoding.specs.Visiting.{order}
+use Rattle.ice_encoding.specs.CanonicalGraph.{Format, sliced, compact, graph_bytes}
 use Rattle.ice_relay.specs.declared.drill_fault.DrillFault.{DrillFault}
 use Rattle.ice_relay.specs.declared.drill_fault.DrillFault.TheVariants as faults
 use Rattle.ice_relay.specs.Drawn.{drawn}

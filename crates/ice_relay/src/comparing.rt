@@ -9,8 +9,8 @@ use canonical_inputs::is_canonical_input;
 use class_slices::{Format, decode_rest, encode_typed, take_graph};
 use ice_prims::Cursor;
 use ice_types::{Schema, TypeRef};
-use ice_values::DeclaredMembers;
 use std::alloc::Global;
+use value_parts::DeclaredMembers;
 
 /// The most bytes of a canonical encapsulation that is compared.
 pub const MOST_COMPARED: usize = 2_147_483_647;

@@ -3,7 +3,7 @@
 ghost use Rattle.std.specs.Prelude.{◌≡◌, ◌<◌, ◌≤◌, ◌+◌, ◌*◌, [], Some, pos, map, IfOk, OnOk};
 ghost use Rattle.std.specs.List.{range_with_len};
 ghost use Rattle.ice_encoding.specs.Tree.{int, none, reference, tree};
-ghost use Rattle.ice_graphs.specs.OptionalMembers.{with_optional};
+ghost use Rattle.ice_encoding.specs.OptionalMembers.{with_optional};
 ghost use Rattle.graph_arena.specs.Seen.{view_content, view_instance};
 ghost use Rattle.graph_arena.specs.View.{view};
 ghost use Rattle.ice_relay.specs.declared.drilling.TheConstants.{MOST_NODES};

@@ -10,8 +10,8 @@ use crate::drill_fault::DrillFault;
 use crate::node_schema::{node_schema, root};
 use crate::telling::tell;
 use ice_types::Schema;
-use ice_values::DeclaredMembers;
 use std::alloc::Global;
+use value_parts::DeclaredMembers;
 
 /// How many nodes a graph has at most.
 pub const MOST_NODES: u32 = 50_000;

@@ -7,8 +7,8 @@ use class_slices::decode;
 use graph_json::to_text;
 use ice_prims::ReadFault;
 use ice_types::{Schema, TypeRef};
-use ice_values::DeclaredMembers;
 use std::alloc::Global;
+use value_parts::DeclaredMembers;
 
 /// The line of JSON that tells the value that the whole input holds, with all instances that it leads to; or
 /// the first fault from the left. (Ice manual, "Data Encoding for Class and Exception Types".)

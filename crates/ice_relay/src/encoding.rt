@@ -9,8 +9,8 @@ use class_slices::{Format, encode_typed};
 use graph_json::from_text;
 use ice_encoding::LARGEST;
 use ice_types::{Schema, TypeRef};
-use ice_values::DeclaredMembers;
 use std::alloc::Global;
+use value_parts::DeclaredMembers;
 
 /// The canonical encapsulation, in the format, of the value that the text notes, with all instances that it
 /// leads to; or why the text notes none; or that one of these has an unknown slice and the format is compact; or

@@ -9,8 +9,8 @@ use canonical_inputs::is_canonical_input;
 use class_slices::{Format, decode, encode_typed};
 use ice_encoding::LARGEST;
 use ice_types::{Member, Name, Schema, TypeRef};
-use ice_values::DeclaredMembers;
 use std::alloc::{AllocError, Global};
+use value_parts::DeclaredMembers;
 
 /// The canonical encapsulation, in the format, of the value that the whole input holds, with all
 /// instances that it leads to; or the first fault from the left; or that one of these has an unknown slice

@@ -2,13 +2,13 @@
 
 ghost use Rattle.std.specs.Prelude.{◌≡◌, ◌≤◌, Ok, IfOk, length, string_bytes};
 ghost use Rattle.ice_prims.specs.Rest.{whole};
-ghost use Rattle.ice_graphs.specs.Graph as graphs;
-ghost use Rattle.ice_graphs.specs.Flags.{all_slices};
-ghost use Rattle.ice_graphs.specs.Instances.{most_instances, numbered_at};
-ghost use Rattle.ice_graphs.specs.Same.{Spells};
-ghost use Rattle.ice_graphs.specs.Typed.{OfType};
-ghost use Rattle.ice_graphs.specs.Canonical.{IsWritable, compact, sliced};
-ghost use Rattle.ice_values.specs.Shapes.{shape_seen};
+ghost use Rattle.ice_encoding.specs.Graph as graphs;
+ghost use Rattle.ice_encoding.specs.Flags.{all_slices};
+ghost use Rattle.ice_encoding.specs.Instances.{most_instances, numbered_at};
+ghost use Rattle.ice_encoding.specs.SameGraph.{Spells};
+ghost use Rattle.ice_encoding.specs.TypedGraph.{OfType};
+ghost use Rattle.ice_encoding.specs.CanonicalGraph.{IsWritable, compact, sliced};
+ghost use Rattle.value_parts.specs.Shapes.{shape_seen};
 ghost use Rattle.instance_writing.specs.Formats.{view_format};
 ghost use Rattle.ice_relay.specs.Telling.{EncodesDrawn, Tells, line, yes_or_no};
 
@@ -18,8 +18,8 @@ use graph_arena::Graph;
 use ice_encoding::LARGEST;
 use ice_prims::ReadFault;
 use ice_types::Schema;
-use ice_values::DeclaredMembers;
 use std::alloc::{AllocError, Global};
+use value_parts::DeclaredMembers;
 
 /// The line of a graph of so many nodes: how many its roots reach, how long it is in compact format and,
 /// relayed from there, in sliced format, and whether that, relayed again, is the same.

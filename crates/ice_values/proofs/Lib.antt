@@ -1,1 +1,9 @@
-pub mod RowsNamed
+pub mod Frames
+pub mod Costs
+pub mod Keys
+pub mod Plain
+pub mod ByteSequences
+pub mod Joined
+pub mod RequiredParts
+pub mod OptionParts
+pub mod Stages

@@ -1,10 +1,9 @@
--- References as numbers, when they are read.
-use Rattle.std.specs.Prelude.{ℕ, Option, Ok}
-use Rattle.ice_prims.specs.Number.{size_at}
-use Rattle.ice_prims.specs.Rest.{◌>>=◌}
-use Rattle.ice_encoding.specs.Port.{Reader, number_of}
-use Rattle.ice_encoding.specs.Pausing.{Met, known}
+-- What is read where a port remembers nothing.
+use Rattle.std.specs.Prelude.{Result, Ok}
+use Rattle.ice_prims.specs.declared.fault.Fault.{Fault}
+use Rattle.ice_prims.specs.Rest.{Rest, ◌>>=◌}
+use Rattle.ice_encoding.specs.Tree.{Tree}
 
--- a reference as a number, at which nothing begins
-abbrev pub number_taken : Option ℕ → Reader (Unit {0}) Met
-number_taken at s r = size_at r >>= λ n. Ok (known (number_of n.0), s, n.1)
+-- what is read, without what the port remembers, which is nothing
+abbrev pub stateless : Result (Tree × (Unit {0}) × Rest) Fault → Result (Tree × Rest) Fault
+stateless read = read >>= λ y. Ok (y.0, y.2)

@@ -1,45 +1,44 @@
-//! What reading, writing and checking of values share: the members of a shape as they are declared, what a
-//! schema declares of a class or an exception, ids of slices, the length before an optional value, and what work
-//! answers that pauses where an instance begins. `value_reading` reads values and members, `value_writing`
-//! writes them. (Ice manual, "Data Encoding for Class and Exception Types" and "Data Encoding for Optional
-//! Values".)
+//! Values by their type, and the members of a shape, required and optional ones: read with the first
+//! fault, in pieces. At a reference that begins a class instance the work pauses, and goes on once the
+//! caller has dealt with the instance. (Ice manual, "Data Encoding for Class and Exception Types" and
+//! "Data Encoding for Optional Values".)
 //!
 //! Forms, and why they are so:
 //!
-//! - It holds no value and stands beside what does (`graph_arena`): so what checks values or notes them waits
-//!   neither for the proof of what reads them nor for that of what writes them, and these two for none of each
-//!   other.
-//! - Whatever pauses answers `Paused`, and each step of it `Step`, in reading and in writing, of a value and of
-//!   members. So what such a call owes to its end stands once (`specs/Pauses.antt`).
-//! - A port says in one call what stands at a reference (`Met`), and the reference is given to the value around
-//!   it before the instance is read. With a second call for the instance a port would have something pending
-//!   between the two; so its model is the definitions' state and nothing else. It stands here, so that what
-//!   remembers references does not wait for what reads values.
-//! - An enumerator is looked up at the place of its number, and else in order among those of its enum. So an
-//!   enum of tens of thousands that leaves numbers out is quadratic; an index beside its row in the schema would
-//!   end that.
-//! - Slices of instances are of classes, and those of exceptions of exceptions: what a schema declares of either is
-//!   found by one type (`SlicedType`), so that what reads, writes and checks slices is told of it and does not ask.
-//! - A class hands over its members as both lists (`DeclaredMembers`): required ones are those without a tag,
-//!   optional ones those with one. So nothing is sorted or copied for each slice.
+//! - Pairs are read into a list while their keys rise, each key compared with the one before it; at the first
+//!   that does not rise, over to std's `BTreeMap`. There a key is looked up once it is read, so that an equal
+//!   one has its fault before its value is read, and once more when the pair is put.
+//! - A text in a key is copied once, when it is read: keys that lend their text from the input stopped being
+//!   possible with structs as keys.
+//! - No room is made for a size that merely claims many: lists begin empty and grow as their items are read. No
+//!   clause says it, since a reader wants memory for its stack before that; cases with little memory show it.
+//! - Reading is an object that pauses (`ValueReader`, `MembersReader`), over a stack of values that have begun:
+//!   instances stand inside values, up to 100,000 in one another. The calls in one piece (`read_value`,
+//!   `read_members`) are these at a port at which nothing begins.
+//! - That reading ends is told by how many instances may still begin (`room`), which falls at each pause, and
+//!   between two pauses by how much is left to do (`cost`).
+//! - A refusal leaves reader and port anywhere on the way, and in pieces the cursor too, since those who use
+//!   pieces drop all of it after a refusal. The calls in one piece put the cursor back.
+//! - Room for the members of a struct is made when it begins, for as many as it declares: the schema says how
+//!   many, and not the input. In a list that grows, a struct of one member takes room for four, and a value of
+//!   many such structs two or three times as much memory as it has to.
 #![tactic(auto)]
 
-mod enumerator;
-mod fields;
-mod numbers;
-mod paused;
-mod port;
-mod prefix;
-mod slice_id;
-mod sliced_type;
-mod tagged;
+mod begun;
+mod byte_sequence;
+mod entering;
+mod frame;
+mod laws;
+mod leaf;
+mod left;
+mod members_reader;
+mod options;
+mod reader;
+mod required;
+mod sorted;
+mod value;
 
-pub use enumerator::has_number;
-pub use fields::{DeclaredMembers, Optionals};
-pub use numbers::Numbers;
-pub use paused::{Paused, Step};
-pub use port::{Met, RefPort};
-pub use prefix::{Prefix, prefix_of};
-pub use slice_id::SliceId;
-pub use sliced_type::SlicedType;
-pub use tagged::kind_tagged;
+pub use laws::read_by_number;
+pub use members_reader::{MembersReader, read_members};
+pub use reader::ValueReader;
+pub use value::read_value;

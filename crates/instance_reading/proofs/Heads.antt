@@ -11,25 +11,25 @@ use Rattle.ice_encoding.specs.Port.{Reader}
 use Rattle.ice_encoding.specs.Pausing.{Inside}
 use Rattle.ice_encoding.specs.Reading.{made}
 use Rattle.ice_prims.specs.declared.fault.Kind.TheVariants.{WrongBase, UnknownClass, BadLast}
-use Rattle.ice_graphs.specs.Steps.{followed, tested}
-use Rattle.ice_graphs.specs.Prefixes.{prefixed}
-use Rattle.ice_graphs.specs.OptionalMembers.{Members, slice_members_at}
-use Rattle.ice_graphs.specs.Classes.{own_members, base_of}
-use Rattle.ice_graphs.specs.Graph.{Slice, known}
-use Rattle.ice_graphs.specs.Exceptions.{of_exceptions, is_known_last, unless_ended, behind_user_exception, user_exception_slices}
-use Rattle.ice_graphs.specs.Flags.{Flags, Before, only_unknown, all_slices, flags_at}
-use Rattle.ice_graphs.specs.TypeIds.{is_base, can_be_read, same_bool, before_base, before_next}
-use Rattle.ice_graphs.specs.Instances.{most_instances}
-use Rattle.ice_graphs.specs.References.{State, Reference, inline_at, entry_at, entries_at, table_at, resolved, with_met}
-use Rattle.ice_graphs.specs.Slices.{slice_size, unknown_at, one_more, body_at, next_slices, from_id, slices_at}
-use Rattle.ice_values.specs.declared.fields.Optionals.{Optionals}
-use Rattle.value_reading.specs.Advancing.{fresh_members}
-use Rattle.ice_values.specs.Shapes.{told_apart}
-use Rattle.value_reading.specs.Unread.{left_of_members}
-use Rattle.value_reading.proofs.Stages.{left-slice, left-bare}
-use Rattle.ice_values.specs.SlicedType.{own_fields, rows_of}
-use Rattle.ice_values.specs.declared.sliced_type.SlicedType.{SlicedType}
-use Rattle.ice_values.specs.declared.sliced_type.SlicedType.TheVariants as sorts
+use Rattle.ice_encoding.specs.Steps.{followed, tested}
+use Rattle.ice_encoding.specs.Prefixes.{prefixed}
+use Rattle.ice_encoding.specs.OptionalMembers.{Members, slice_members_at}
+use Rattle.ice_encoding.specs.Classes.{own_members, base_of}
+use Rattle.ice_encoding.specs.Graph.{Slice, known}
+use Rattle.ice_encoding.specs.Exceptions.{of_exceptions, is_known_last, unless_ended, behind_user_exception, user_exception_slices}
+use Rattle.ice_encoding.specs.Flags.{Flags, Before, only_unknown, all_slices, flags_at}
+use Rattle.ice_encoding.specs.TypeIds.{is_base, can_be_read, same_bool, before_base, before_next}
+use Rattle.ice_encoding.specs.Instances.{most_instances}
+use Rattle.ice_encoding.specs.References.{State, Reference, inline_at, entry_at, entries_at, table_at, resolved, with_met}
+use Rattle.ice_encoding.specs.Slices.{slice_size, unknown_at, one_more, body_at, next_slices, from_id, slices_at}
+use Rattle.value_parts.specs.declared.fields.Optionals.{Optionals}
+use Rattle.ice_values.specs.Advancing.{fresh_members}
+use Rattle.value_parts.specs.Shapes.{told_apart}
+use Rattle.ice_values.specs.Unread.{left_of_members}
+use Rattle.ice_values.proofs.Stages.{left-slice, left-bare}
+use Rattle.value_parts.specs.SlicedType.{own_fields, rows_of}
+use Rattle.value_parts.specs.declared.sliced_type.SlicedType.{SlicedType}
+use Rattle.value_parts.specs.declared.sliced_type.SlicedType.TheVariants as sorts
 use Rattle.slice_heads.specs.Seen.{by_flag, view_next}
 use Rattle.instance_reading.specs.Slices.{Front, members_of, bytes_of, slice_with, uses_of, Open, refer_by, left_table, left_next, left_open, left_members, left_compact, behind_tests, OpensKnown, OpensSlice, BeginsSlice}
 use Rattle.slice_heads.specs.Sorts.{may_begin, id_by, class_by, ends_by, is_over, behind_base, behind_unknown, behind_slice, port_by, unless_over, slices_by}

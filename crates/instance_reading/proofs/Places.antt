@@ -11,17 +11,17 @@ use Rattle.ice_prims.specs.Rest.{Rest, fault, ◌>>=◌}
 use Rattle.ice_prims.specs.Taking.{Fails}
 use Rattle.ice_encoding.specs.Port.{Reader}
 use Rattle.ice_encoding.specs.Pausing.{Inside, Met, met, in_place}
-use Rattle.ice_graphs.specs.OptionalMembers.{Members, slice_members_at}
-use Rattle.ice_graphs.specs.References.{State, Reference, entry_at, within, with_met}
-use Rattle.ice_graphs.proofs.Agreeing.{read_same}
-use Rattle.ice_values.specs.SlicedType.{rows_of}
-use Rattle.ice_values.specs.declared.sliced_type.SlicedType.{SlicedType}
-use Rattle.ice_values.specs.declared.sliced_type.SlicedType.TheVariants as sorts
+use Rattle.ice_encoding.specs.OptionalMembers.{Members, slice_members_at}
+use Rattle.ice_encoding.specs.References.{State, Reference, entry_at, within, with_met}
+use Rattle.ice_encoding.proofs.Agreeing.{read_same}
+use Rattle.value_parts.specs.SlicedType.{rows_of}
+use Rattle.value_parts.specs.declared.sliced_type.SlicedType.{SlicedType}
+use Rattle.value_parts.specs.declared.sliced_type.SlicedType.TheVariants as sorts
 use Rattle.slice_heads.specs.Seen.{by_flag, entry_met, is_known}
 use Rattle.instance_reading.specs.Slices.{ReadsPlaces, first_outside}
 use Rattle.instance_reading.specs.declared.sized.SizedMembers.{SizedMembers}
-use Rattle.ice_values.specs.declared.fields.Optionals.{Optionals}
-use Rattle.value_reading.specs.Advancing.{members_at, ReadsMembers}
+use Rattle.value_parts.specs.declared.fields.Optionals.{Optionals}
+use Rattle.ice_values.specs.Advancing.{members_at, ReadsMembers}
 use Rattle.graph_arena.specs.declared.instance.Members as stored
 
 abbrev pub nothing : Inside (List (Reference ℕ))

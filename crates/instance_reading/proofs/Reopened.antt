@@ -7,13 +7,13 @@ use Rattle.ice_prims.specs.declared.fault.ReadFault.{ReadFault}
 use Rattle.ice_prims.specs.Rest.{Rest, whole, ◌>>=◌}
 use Rattle.ice_prims.specs.Taking.{Fails, GivesUnlessMemory}
 use Rattle.ice_encoding.specs.Bounds.{ended}
-use Rattle.ice_graphs.specs.OptionalMembers.{Members, slice_members_at}
-use Rattle.ice_graphs.specs.Canonical.{is_there}
-use Rattle.ice_graphs.specs.Classes.{own_members}
-use Rattle.ice_graphs.specs.Graph.{Slice}
-use Rattle.ice_graphs.specs.References.{Reference, entry_at, within}
-use Rattle.ice_graphs.specs.Reopening.{reopened}
-use Rattle.ice_graphs.specs.Slices.{by_table, unknown_bytes}
+use Rattle.ice_encoding.specs.OptionalMembers.{Members, slice_members_at}
+use Rattle.ice_encoding.specs.CanonicalGraph.{is_there}
+use Rattle.ice_encoding.specs.Classes.{own_members}
+use Rattle.ice_encoding.specs.Graph.{Slice}
+use Rattle.ice_encoding.specs.References.{Reference, entry_at, within}
+use Rattle.ice_encoding.specs.Reopening.{reopened}
+use Rattle.ice_encoding.specs.Slices.{by_table, unknown_bytes}
 use Rattle.graph_arena.specs.declared.instance.Slice as stored
 use Rattle.graph_arena.specs.Seen.{view_slice}
 use Rattle.instance_reading.specs.Reopened.{members_reopened, resolved_by}

@@ -7,13 +7,13 @@ use Rattle.ice_prims.specs.Rest.{Rest, ◌>>=◌}
 use Rattle.ice_prims.specs.Taking.{Fails}
 use Rattle.ice_encoding.specs.Port.{Reader}
 use Rattle.ice_encoding.specs.Pausing.{Inside}
-use Rattle.ice_graphs.specs.Graph.{Slice}
-use Rattle.ice_graphs.specs.Flags.{first, all_slices}
-use Rattle.ice_graphs.specs.Instances.{most_instances}
-use Rattle.ice_graphs.specs.References.{State, with_ended}
-use Rattle.ice_graphs.specs.Slices.{slices_at}
+use Rattle.ice_encoding.specs.Graph.{Slice}
+use Rattle.ice_encoding.specs.Flags.{first, all_slices}
+use Rattle.ice_encoding.specs.Instances.{most_instances}
+use Rattle.ice_encoding.specs.References.{State, with_ended}
+use Rattle.ice_encoding.specs.Slices.{slices_at}
 use Rattle.graph_arena.specs.Seen.{view_slices}
-use Rattle.ice_values.specs.declared.sliced_type.SlicedType.TheVariants as sorts
+use Rattle.value_parts.specs.declared.sliced_type.SlicedType.TheVariants as sorts
 use Rattle.instance_reading.specs.declared.unfinished.Unfinished.{Unfinished}
 use Rattle.instance_reading.specs.Slices.{refer_by}
 use Rattle.instance_reading.specs.Unfinished.{begun, behind, left_slices}

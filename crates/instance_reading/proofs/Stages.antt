@@ -12,22 +12,22 @@ use Rattle.ice_encoding.specs.Pausing.{Inside, begins, met}
 use Rattle.ice_encoding.specs.Pausing as pausing
 use Rattle.ice_encoding.specs.Reading.{made}
 use Rattle.ice_types.specs.declared.declarations.Shape.{Shape}
-use Rattle.ice_graphs.specs.OptionalMembers.{Members}
-use Rattle.ice_graphs.specs.Graph.{Slice, known}
-use Rattle.ice_graphs.specs.Flags.{Before}
-use Rattle.ice_graphs.specs.Instances.{most_instances}
-use Rattle.ice_graphs.specs.References.{State, inline_at, entries_at, not_null, resolved, with_met}
-use Rattle.ice_graphs.specs.Slices.{one_more}
+use Rattle.ice_encoding.specs.OptionalMembers.{Members}
+use Rattle.ice_encoding.specs.Graph.{Slice, known}
+use Rattle.ice_encoding.specs.Flags.{Before}
+use Rattle.ice_encoding.specs.Instances.{most_instances}
+use Rattle.ice_encoding.specs.References.{State, inline_at, entries_at, not_null, resolved, with_met}
+use Rattle.ice_encoding.specs.Slices.{one_more}
 use Rattle.graph_arena.specs.declared.instance.Members as stored_members
 use Rattle.graph_arena.specs.declared.instance.Slice as stored
 use Rattle.graph_arena.specs.declared.instance.Slice.TheVariants.{Known}
 use Rattle.graph_arena.specs.Seen.{view_content, view_slice, view_slices}
-use Rattle.value_reading.specs.declared.members_reader.MembersReader.{MembersReader}
-use Rattle.ice_values.specs.declared.paused.Step.{Step}
-use Rattle.value_reading.specs.Unread.{left_of_members}
-use Rattle.ice_values.specs.SlicedType.{own_fields, rows_of}
-use Rattle.ice_values.specs.declared.sliced_type.SlicedType.{SlicedType}
-use Rattle.ice_values.specs.declared.sliced_type.SlicedType.TheVariants as sorts
+use Rattle.ice_values.specs.declared.members_reader.MembersReader.{MembersReader}
+use Rattle.value_parts.specs.declared.paused.Step.{Step}
+use Rattle.ice_values.specs.Unread.{left_of_members}
+use Rattle.value_parts.specs.SlicedType.{own_fields, rows_of}
+use Rattle.value_parts.specs.declared.sliced_type.SlicedType.{SlicedType}
+use Rattle.value_parts.specs.declared.sliced_type.SlicedType.TheVariants as sorts
 use Rattle.slice_heads.specs.declared.before.Before as code
 use Rattle.instance_reading.specs.declared.slice.CompactSlice.{CompactSlice}
 use Rattle.slice_heads.specs.Seen.{view_before, view_next}

@@ -10,23 +10,23 @@ use Rattle.ice_prims.specs.Taking.{Fails}
 use Rattle.ice_encoding.specs.Bounds.{ended}
 use Rattle.ice_encoding.specs.Port.{Port, Reader}
 use Rattle.ice_encoding.specs.Reading.{plain}
-use Rattle.ice_graphs.specs.Steps.{followed}
-use Rattle.ice_graphs.specs.OptionalMembers as defs
-use Rattle.ice_graphs.specs.Classes.{class_named}
-use Rattle.ice_graphs.specs.Exceptions.{UserException, of_exceptions, may_be_raised, may_be_last, is_known_last, behind_user_exception, user_exception_slices, user_exception_at}
-use Rattle.ice_graphs.specs.Graph.{Slice, Graph}
-use Rattle.ice_graphs.specs.Flags.{first, all_slices, flags_at}
-use Rattle.ice_graphs.specs.Instances.{most_instances, references, graph_at, misfit, unless_misfit}
-use Rattle.ice_graphs.specs.Joining.{placed}
-use Rattle.ice_graphs.specs.References.{State, inline_at, opening}
-use Rattle.ice_graphs.specs.Slices.{from_id}
-use Rattle.ice_graphs.specs.TypeIds.{type_id_at, before_next}
-use Rattle.ice_values.specs.declared.fields.Optionals.TheVariants.{ToEnd}
-use Rattle.value_reading.specs.Advancing.{fresh_members}
-use Rattle.ice_values.specs.Shapes.{told_apart}
-use Rattle.value_reading.specs.Unread.{left_of_members}
-use Rattle.value_reading.proofs.Stages.{left-content}
-use Rattle.ice_values.specs.declared.sliced_type.SlicedType.TheVariants as sorts
+use Rattle.ice_encoding.specs.Steps.{followed}
+use Rattle.ice_encoding.specs.OptionalMembers as defs
+use Rattle.ice_encoding.specs.Classes.{class_named}
+use Rattle.ice_encoding.specs.Exceptions.{UserException, of_exceptions, may_be_raised, may_be_last, is_known_last, behind_user_exception, user_exception_slices, user_exception_at}
+use Rattle.ice_encoding.specs.Graph.{Slice, Graph}
+use Rattle.ice_encoding.specs.Flags.{first, all_slices, flags_at}
+use Rattle.ice_encoding.specs.Instances.{most_instances, references, graph_at, misfit, unless_misfit}
+use Rattle.ice_encoding.specs.Joining.{placed}
+use Rattle.ice_encoding.specs.References.{State, inline_at, opening}
+use Rattle.ice_encoding.specs.Slices.{from_id}
+use Rattle.ice_encoding.specs.TypeIds.{type_id_at, before_next}
+use Rattle.value_parts.specs.declared.fields.Optionals.TheVariants.{ToEnd}
+use Rattle.ice_values.specs.Advancing.{fresh_members}
+use Rattle.value_parts.specs.Shapes.{told_apart}
+use Rattle.ice_values.specs.Unread.{left_of_members}
+use Rattle.ice_values.proofs.Stages.{left-content}
+use Rattle.value_parts.specs.declared.sliced_type.SlicedType.TheVariants as sorts
 use Rattle.instance_reading.specs.Slices.{refer_by}
 use Rattle.slice_heads.specs.Sorts.{port_by}
 use Rattle.instance_reading.specs.Unfinished.{begun, left_slices}

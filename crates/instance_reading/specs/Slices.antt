@@ -8,25 +8,25 @@ use Rattle.ice_prims.specs.Taking.{Fails}
 use Rattle.ice_encoding.specs.Port.{Reader}
 use Rattle.ice_encoding.specs.Pausing.{Inside, in_place}
 use Rattle.ice_encoding.specs.Reading.{made}
-use Rattle.ice_graphs.specs.Steps.{followed, given}
-use Rattle.ice_graphs.specs.Prefixes.{prefixed}
-use Rattle.ice_graphs.specs.OptionalMembers.{slice_members_at}
-use Rattle.ice_graphs.specs.OptionalMembers as defs
-use Rattle.ice_graphs.specs.Classes.{own_members}
-use Rattle.ice_graphs.specs.Graph.{known, unknown}
-use Rattle.ice_graphs.specs.Graph as graphs
-use Rattle.ice_graphs.specs.Flags.{Flags, all_slices}
-use Rattle.ice_graphs.specs.Flags as flags
-use Rattle.ice_graphs.specs.TypeIds.{can_be_read}
-use Rattle.ice_graphs.specs.Instances.{most_instances}
-use Rattle.ice_graphs.specs.References.{State, inline_at, entry_at, entries_at, table_at, resolved, with_met}
-use Rattle.ice_graphs.specs.References as refs
-use Rattle.ice_graphs.specs.Slices.{slice_size, by_table, one_more, body_at}
+use Rattle.ice_encoding.specs.Steps.{followed, given}
+use Rattle.ice_encoding.specs.Prefixes.{prefixed}
+use Rattle.ice_encoding.specs.OptionalMembers.{slice_members_at}
+use Rattle.ice_encoding.specs.OptionalMembers as defs
+use Rattle.ice_encoding.specs.Classes.{own_members}
+use Rattle.ice_encoding.specs.Graph.{known, unknown}
+use Rattle.ice_encoding.specs.Graph as graphs
+use Rattle.ice_encoding.specs.Flags.{Flags, all_slices}
+use Rattle.ice_encoding.specs.Flags as flags
+use Rattle.ice_encoding.specs.TypeIds.{can_be_read}
+use Rattle.ice_encoding.specs.Instances.{most_instances}
+use Rattle.ice_encoding.specs.References.{State, inline_at, entry_at, entries_at, table_at, resolved, with_met}
+use Rattle.ice_encoding.specs.References as refs
+use Rattle.ice_encoding.specs.Slices.{slice_size, by_table, one_more, body_at}
 use Rattle.graph_arena.specs.Seen.{view_content}
-use Rattle.value_reading.specs.Unread.{left_of_members}
-use Rattle.ice_values.specs.SlicedType.{own_fields, rows_of}
-use Rattle.ice_values.specs.declared.sliced_type.SlicedType.{SlicedType}
-use Rattle.ice_values.specs.SliceIds.{id_of}
+use Rattle.ice_values.specs.Unread.{left_of_members}
+use Rattle.value_parts.specs.SlicedType.{own_fields, rows_of}
+use Rattle.value_parts.specs.declared.sliced_type.SlicedType.{SlicedType}
+use Rattle.value_parts.specs.SliceIds.{id_of}
 use Rattle.slice_heads.specs.Seen.{view_before, view_next, view_references}
 use Rattle.slice_heads.specs.Sorts.{behind_slice, slices_by, slices_from}
 use Rattle.instance_reading.specs.declared.sized.SizedMembers.{SizedMembers}

@@ -8,17 +8,17 @@ use Rattle.ice_prims.specs.Rest.{Rest, ◌>>=◌}
 use Rattle.ice_prims.specs.Taking.{Fails}
 use Rattle.ice_encoding.specs.Port.{Reader, nowhere}
 use Rattle.ice_encoding.specs.Pausing.{Inside}
-use Rattle.ice_graphs.specs.OptionalMembers as defs
-use Rattle.ice_graphs.specs.Exceptions.{UserException, of_exceptions, user_exception_slices}
-use Rattle.ice_graphs.specs.Graph as graphs
-use Rattle.ice_graphs.specs.Flags.{first, all_slices}
-use Rattle.ice_graphs.specs.References.{State, instance_by, with_ended}
-use Rattle.ice_graphs.specs.Instances.{most_instances, instances, references}
-use Rattle.ice_graphs.specs.Slices.{instance_at}
+use Rattle.ice_encoding.specs.OptionalMembers as defs
+use Rattle.ice_encoding.specs.Exceptions.{UserException, of_exceptions, user_exception_slices}
+use Rattle.ice_encoding.specs.Graph as graphs
+use Rattle.ice_encoding.specs.Flags.{first, all_slices}
+use Rattle.ice_encoding.specs.References.{State, instance_by, with_ended}
+use Rattle.ice_encoding.specs.Instances.{most_instances, instances, references}
+use Rattle.ice_encoding.specs.Slices.{instance_at}
 use Rattle.graph_arena.specs.declared.instance.Members.{Members}
 use Rattle.graph_arena.specs.declared.instance.Slice.{Slice}
 use Rattle.graph_arena.specs.Seen.{view_content, view_instance, view_slices}
-use Rattle.ice_values.specs.declared.sliced_type.SlicedType.TheVariants as sorts
+use Rattle.value_parts.specs.declared.sliced_type.SlicedType.TheVariants as sorts
 use Rattle.instance_reading.specs.declared.unfinished.Unfinished.{Unfinished}
 use Rattle.instance_reading.specs.declared.decoder.Content.{Content}
 use Rattle.instance_reading.specs.declared.exception.UserExceptionContent.{UserExceptionContent}

@@ -8,16 +8,16 @@ use Rattle.ice_prims.specs.Rest.{Rest}
 use Rattle.ice_encoding.specs.Port.{Reader}
 use Rattle.ice_encoding.specs.Pausing.{Inside}
 use Rattle.ice_encoding.specs.Reading.{made}
-use Rattle.ice_graphs.specs.Graph as graphs
-use Rattle.ice_graphs.specs.Flags as flags
-use Rattle.ice_graphs.specs.References.{State}
-use Rattle.ice_graphs.specs.Instances.{most_instances}
+use Rattle.ice_encoding.specs.Graph as graphs
+use Rattle.ice_encoding.specs.Flags as flags
+use Rattle.ice_encoding.specs.References.{State}
+use Rattle.ice_encoding.specs.Instances.{most_instances}
 use Rattle.graph_arena.specs.declared.instance.Slice.{Slice}
 use Rattle.graph_arena.specs.Seen.{view_slices}
-use Rattle.ice_values.specs.declared.paused.Paused.{Paused}
-use Rattle.ice_values.specs.declared.paused.Step.{Step}
-use Rattle.ice_values.specs.declared.sliced_type.SlicedType.{SlicedType}
-use Rattle.value_reading.specs.Pauses.{GoesOnReading, StepsReading}
+use Rattle.value_parts.specs.declared.paused.Paused.{Paused}
+use Rattle.value_parts.specs.declared.paused.Step.{Step}
+use Rattle.value_parts.specs.declared.sliced_type.SlicedType.{SlicedType}
+use Rattle.ice_values.specs.Pauses.{GoesOnReading, StepsReading}
 use Rattle.slice_heads.specs.declared.before.Before.TheVariants as befores
 use Rattle.instance_reading.specs.declared.slice.CompactSlice.{CompactSlice}
 use Rattle.instance_reading.specs.declared.slice.Stage.{Stage}

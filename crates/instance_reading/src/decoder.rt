@@ -1,20 +1,20 @@
 //! Members with the instances that begin in them, without recursion over instances.
 
-ghost use Rattle.ice_graphs.specs.Flags.{all_slices};
-ghost use Rattle.ice_graphs.specs.Instances.{graph_at, most_instances};
-ghost use Rattle.ice_graphs.specs.References.{inline_at};
-ghost use Rattle.ice_values.specs.Shapes.{handed, shape_seen};
-ghost use Rattle.value_reading.specs.Unread.{left_of_members};
+ghost use Rattle.ice_encoding.specs.Flags.{all_slices};
+ghost use Rattle.ice_encoding.specs.Instances.{graph_at, most_instances};
+ghost use Rattle.ice_encoding.specs.References.{inline_at};
+ghost use Rattle.value_parts.specs.Shapes.{handed, shape_seen};
+ghost use Rattle.ice_values.specs.Unread.{left_of_members};
 ghost use Rattle.instance_reading.specs.Stacked.{ReadsGraph, ReadsRoots, instance_within, roots_at};
 
 use crate::nesting::read_instance;
 use graph_arena::{Instance, Members};
 use ice_prims::{Cursor, ReadFault};
 use ice_types::Schema;
-use ice_values::{DeclaredMembers, Optionals, Paused};
+use ice_values::MembersReader;
 use slice_heads::Arena;
 use std::alloc::Global;
-use value_reading::MembersReader;
+use value_parts::{DeclaredMembers, Optionals, Paused};
 
 /// The members of a whole content, and the instances that begin in it, each named by its place.
 #[derive(Drop)]

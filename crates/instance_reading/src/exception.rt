@@ -1,10 +1,10 @@
 //! A user exception with the instances that begin in it.
 //! (Ice manual, "Data Encoding for Class and Exception Types".)
 
-ghost use Rattle.ice_graphs.specs.Exceptions.{user_exception_at};
-ghost use Rattle.ice_graphs.specs.Flags.{all_slices};
-ghost use Rattle.ice_graphs.specs.Instances.{most_instances};
-ghost use Rattle.ice_values.specs.declared.sliced_type.SlicedType.TheVariants as sorts;
+ghost use Rattle.ice_encoding.specs.Exceptions.{user_exception_at};
+ghost use Rattle.ice_encoding.specs.Flags.{all_slices};
+ghost use Rattle.ice_encoding.specs.Instances.{most_instances};
+ghost use Rattle.value_parts.specs.declared.sliced_type.SlicedType.TheVariants as sorts;
 ghost use Rattle.instance_reading.specs.Stacked.{ReadsUserException, ReadsSlices, exception_slices, instance_within};
 ghost use Rattle.instance_reading.specs.Unfinished.{left_slices};
 
@@ -14,10 +14,10 @@ use encaps_optionals::end;
 use graph_arena::{Instance, Slice};
 use ice_prims::{Cursor, ReadFault};
 use ice_types::{List, Schema};
-use ice_values::{Paused, SlicedType};
 use slice_heads::Arena;
 use std::alloc::Global;
 use std::mem;
+use value_parts::{Paused, SlicedType};
 
 /// The slices of a user exception, in which a known one names an exception of the schema by its place, and
 /// the instances that begin in them, each named by its place.

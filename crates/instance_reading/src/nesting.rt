@@ -1,7 +1,7 @@
 //! An instance with those that begin in it, over an explicit stack of those that are not read whole.
 
 ghost use Rattle.std.specs.Prelude.{◌<◌, ◌≤◌, ◌++◌, ◌∷◌, [], OnOk};
-ghost use Rattle.ice_graphs.specs.Instances.{most_instances};
+ghost use Rattle.ice_encoding.specs.Instances.{most_instances};
 ghost use Rattle.instance_reading.specs.Stacked.{ReadsInstance, StepsNesting, instance_within, is_within, stack_left};
 ghost use Rattle.instance_reading.specs.Stacked.{steps_left};
 ghost use Rattle.instance_reading.specs.Unfinished.{room};
@@ -9,10 +9,10 @@ ghost use Rattle.instance_reading.specs.Unfinished.{room};
 use crate::unfinished::Unfinished;
 use ice_prims::{Cursor, ReadFault};
 use ice_types::{List, Schema};
-use ice_values::{Paused, SlicedType};
 use slice_heads::Arena;
 use std::alloc::Global;
 use std::mem;
+use value_parts::{Paused, SlicedType};
 
 /// Reads the instance of this name, which begins here, whole, with those that begin in it.
 pub(crate) fn read_instance<'a>(

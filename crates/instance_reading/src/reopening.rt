@@ -1,9 +1,9 @@
 //! An unknown slice, read as one of a class. (Ice manual, "Data Encoding for Class and Exception Types".)
 
 ghost use Rattle.std.specs.Prelude.{◌≡◌, IfOk, true};
-ghost use Rattle.ice_graphs.specs.Canonical.{is_there};
-ghost use Rattle.ice_graphs.specs.Reopening.{reopened};
-ghost use Rattle.ice_graphs.specs.Slices.{unknown_bytes};
+ghost use Rattle.ice_encoding.specs.CanonicalGraph.{is_there};
+ghost use Rattle.ice_encoding.specs.Reopening.{reopened};
+ghost use Rattle.ice_encoding.specs.Slices.{unknown_bytes};
 ghost use Rattle.ice_prims.specs.Rest.{whole};
 ghost use Rattle.ice_prims.specs.Taking.{GivesUnlessMemory};
 ghost use Rattle.graph_arena.specs.Seen.{view_slice};
@@ -15,8 +15,8 @@ use encaps_optionals::end;
 use graph_arena::{Slice, resolve_members};
 use ice_prims::{Cursor, Fault, Kind, ReadFault, put_byte};
 use ice_types::Schema;
-use ice_values::SlicedType;
 use std::alloc::{AllocError, Global};
+use value_parts::SlicedType;
 
 /// What stands behind the optional members of a slice, and is not kept.
 const END_MARKER: u8 = 255;

@@ -4,14 +4,14 @@
 
 ghost use Rattle.std.specs.Prelude.{◌≡◌, true, false};
 ghost use Rattle.ice_encoding.specs.Pausing.{Inside, in_place};
-ghost use Rattle.ice_graphs.specs.OptionalMembers.{slice_members_at};
-ghost use Rattle.ice_graphs.specs.Classes.{own_members};
-ghost use Rattle.ice_graphs.specs.Classes as classes;
-ghost use Rattle.ice_graphs.specs.Flags.{flags_of};
-ghost use Rattle.value_reading.specs.Advancing.{ReadsMembers};
-ghost use Rattle.ice_values.specs.SlicedType.{rows_of};
+ghost use Rattle.ice_encoding.specs.OptionalMembers.{slice_members_at};
+ghost use Rattle.ice_encoding.specs.Classes.{own_members};
+ghost use Rattle.ice_encoding.specs.Classes as classes;
+ghost use Rattle.ice_encoding.specs.Flags.{flags_of};
+ghost use Rattle.ice_values.specs.Advancing.{ReadsMembers};
+ghost use Rattle.value_parts.specs.SlicedType.{rows_of};
 ghost use Rattle.slice_heads.specs.Seen.{view_next, view_references};
-ghost use Rattle.ice_values.specs.SliceIds.{id_of};
+ghost use Rattle.value_parts.specs.SliceIds.{id_of};
 ghost use Rattle.instance_reading.specs.Slices.{OpensUnknown, OpensSized, ReadsPlaces, ReadsSized};
 ghost use Rattle.instance_reading.specs.Slices.{SeesTable, first_outside};
 ghost use Rattle.slice_heads.specs.Sorts as sorts;
@@ -20,11 +20,11 @@ use encaps_optionals::end;
 use graph_arena::Members;
 use ice_prims::{Cursor, Fault, Kind, ReadFault};
 use ice_types::{List, Schema};
-use ice_values::{RefPort, SliceId, SlicedType};
+use ice_values::read_members;
 use preserved::{UnknownPart, skip_slice, slice_bound};
 use slice_heads::{Before, InTable, Reference, Untabled, is_odd, optionals};
 use std::alloc::Global;
-use value_reading::read_members;
+use value_parts::{RefPort, SliceId, SlicedType};
 
 /// The members of a slice, and the references that were met in them, all of which are places in the
 /// slice's table.

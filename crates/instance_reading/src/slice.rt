@@ -2,18 +2,18 @@
 //! (Ice manual, "Data Encoding for Class and Exception Types".)
 
 ghost use Rattle.std.specs.Prelude.{◌≡◌, ◌<◌, ◌^◌, OnOk, Some};
-ghost use Rattle.ice_graphs.specs.Flags.{flags_of};
-ghost use Rattle.ice_values.specs.SliceIds.{id_of};
+ghost use Rattle.ice_encoding.specs.Flags.{flags_of};
+ghost use Rattle.value_parts.specs.SliceIds.{id_of};
 ghost use Rattle.slice_heads.specs.Seen.{view_before};
 ghost use Rattle.instance_reading.specs.Slices.{BeginsSlice, OpensKnown, OpensSlice, stage_work};
 
 use crate::sized::{OpenSlice, behind_base, open_sized, open_unknown};
 use ice_prims::{Cursor, ReadFault};
 use ice_types::Schema;
-use ice_values::{SliceId, SlicedType};
+use ice_values::MembersReader;
 use slice_heads::{Arena, Before, class_in, is_odd, optionals, take_flags, take_id, test_class};
 use std::alloc::Global;
-use value_reading::MembersReader;
+use value_parts::{SliceId, SlicedType};
 
 /// A slice without a size, whose members are being read. References stand inline in them.
 #[derive(Drop)]

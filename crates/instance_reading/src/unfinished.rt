@@ -1,9 +1,9 @@
 //! A class instance or an exception that has begun and is not read whole.
 
 ghost use Rattle.std.specs.Prelude.{ℕ, ◌≡◌, ◌<◌, ◌≤◌, ◌+◌, ◌*◌, ◌^◌, ◌++◌, ◌∷◌, [], IfOk, OnOk};
-ghost use Rattle.ice_graphs.specs.References.{resolved, with_met};
+ghost use Rattle.ice_encoding.specs.References.{resolved, with_met};
 ghost use Rattle.graph_arena.specs.Seen.{view_slice};
-ghost use Rattle.ice_values.specs.Pauses.{LessOnStep, NarrowsOnPause, NarrowsOnStep};
+ghost use Rattle.value_parts.specs.Pauses.{LessOnStep, NarrowsOnPause, NarrowsOnStep};
 ghost use Rattle.slice_heads.specs.Seen.{view_next};
 ghost use Rattle.instance_reading.specs.Slices.{opened, slice_with, uses_of, view_body};
 ghost use Rattle.instance_reading.specs.Unfinished.{Completes, Keeps, Pauses, ReadsOn, StepsOn, begun, room, work_left};
@@ -14,11 +14,11 @@ use crate::slice::{CompactSlice, Stage, begin_slice};
 use graph_arena::{Slice, resolve_members};
 use ice_prims::{Cursor, Kind, ReadFault};
 use ice_types::{List, Schema};
-use ice_values::{Met, Paused, RefPort, SlicedType, Step};
 use preserved::keep;
 use slice_heads::{Arena, Before, is_over};
 use std::alloc::{AllocError, Global};
 use std::mem;
+use value_parts::{Met, Paused, RefPort, SlicedType, Step};
 
 /// An instance, or an exception, of which some slices are read.
 #[derive(Drop)]

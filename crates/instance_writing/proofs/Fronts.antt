@@ -6,17 +6,17 @@ use Rattle.ice_types.specs.declared.declarations.Member.{Member}
 use Rattle.ice_types.specs.Tables.{Tables}
 use Rattle.ice_encoding.specs.Writing.{Piece}
 use Rattle.ice_encoding.specs.Pausing.{written_in_place}
-use Rattle.ice_graphs.specs.OptionalMembers.{Members, shape_of}
-use Rattle.ice_graphs.specs.Members.{written_slice_members}
-use Rattle.ice_graphs.specs.Classes.{own_members, members_in}
-use Rattle.ice_graphs.specs.Graph.{known}
-use Rattle.ice_graphs.specs.Names.{names_of}
-use Rattle.ice_graphs.specs.Canonical.{table_of, sized_bytes}
+use Rattle.ice_encoding.specs.OptionalMembers.{Members, shape_of}
+use Rattle.ice_encoding.specs.Members.{written_slice_members}
+use Rattle.ice_encoding.specs.Classes.{own_members, members_in}
+use Rattle.ice_encoding.specs.Graph.{known}
+use Rattle.ice_encoding.specs.Names.{names_of}
+use Rattle.ice_encoding.specs.CanonicalGraph.{table_of, sized_bytes}
 use Rattle.graph_arena.specs.Arena.{AreBelow}
 use Rattle.value_writing.specs.Putting.{InsideWritten}
 use Rattle.value_writing.specs.WritingMembers.{WritesPiece}
-use Rattle.ice_values.specs.declared.sliced_type.SlicedType.{SlicedType}
-use Rattle.ice_values.specs.SlicedType.{rows_of}
+use Rattle.value_parts.specs.declared.sliced_type.SlicedType.{SlicedType}
+use Rattle.value_parts.specs.SlicedType.{rows_of}
 use Rattle.instance_writing.specs.Tabling.{Listed, no_names, place_put, HasPlaces}
 use Rattle.instance_writing.proofs.Placed.{slice-listed}
 use Rattle.instance_writing.proofs.Steps.{members-same}

@@ -5,8 +5,8 @@ use Rattle.std.specs.Str.{bytes_eq}
 use Rattle.std.proofs.Math.Dec.{leb}
 use Rattle.std.proofs.lemmas.Bool.{false≢true, leb-true, le-leb}
 use Rattle.std.proofs.lemmas.Slice.Eq.{bytes_eq-Decides}
-use Rattle.ice_graphs.specs.Classes.{place_of, one_further}
-use Rattle.ice_graphs.specs.Visiting.{most}
+use Rattle.ice_encoding.specs.Classes.{place_of, one_further}
+use Rattle.ice_encoding.specs.Visiting.{most}
 use Rattle.instance_writing.specs.Pens.{ArePlaced}
 
 -- ---- how many may begin

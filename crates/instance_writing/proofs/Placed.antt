@@ -16,15 +16,15 @@ use Rattle.ice_encoding.specs.Tags.{tag}
 use Rattle.ice_encoding.specs.Tree.{Tree, boolean, byte, short, int, long, text, sequence, dictionary, struct, enumerator, proxy, reference, Trees, none, tree, tree_count, Entries, no_entry, entry, entry_count, InEach, InPairs, Everywhere}
 use Rattle.ice_encoding.specs.Writing.{Piece, Writer, exactly, ◌>>◌, written, written_each, written_pairs}
 use Rattle.ice_encoding.specs.Pausing.{Put, written_begun, written_in_place}
-use Rattle.ice_graphs.specs.Prefixes.{Prefix, no_length, own_size, as_size, as_int, prefix_of}
-use Rattle.ice_graphs.specs.Optionals.{Present, kind_tagged}
-use Rattle.ice_graphs.specs.OptionalMembers.{Members}
-use Rattle.ice_graphs.specs.Members.{framing, written_option, written_options, marked_options, written_slice_members}
-use Rattle.ice_graphs.specs.Names.{names, names_each, names_pairs, names_present, names_of, renamed, renamed_each, renamed_pairs, renamed_present, renamed_members}
-use Rattle.ice_graphs.specs.Visiting.{place, is_listed}
-use Rattle.ice_graphs.specs.Classes.{own_members}
-use Rattle.ice_graphs.specs.Graph.{known}
-use Rattle.ice_graphs.specs.Canonical.{each_once, by_size, table_of, sized_bytes}
+use Rattle.ice_encoding.specs.Prefixes.{Prefix, no_length, own_size, as_size, as_int, prefix_of}
+use Rattle.ice_encoding.specs.Optionals.{Present, kind_tagged}
+use Rattle.ice_encoding.specs.OptionalMembers.{Members}
+use Rattle.ice_encoding.specs.Members.{framing, written_option, written_options, marked_options, written_slice_members}
+use Rattle.ice_encoding.specs.Names.{names, names_each, names_pairs, names_present, names_of, renamed, renamed_each, renamed_pairs, renamed_present, renamed_members}
+use Rattle.ice_encoding.specs.Visiting.{place, is_listed}
+use Rattle.ice_encoding.specs.Classes.{own_members}
+use Rattle.ice_encoding.specs.Graph.{known}
+use Rattle.ice_encoding.specs.CanonicalGraph.{each_once, by_size, table_of, sized_bytes}
 use Rattle.graph_arena.specs.Arena.{AreBelow}
 use Rattle.graph_arena.proofs.Listed.{listed-cons, listed-new, listed-other}
 use Rattle.value_writing.specs.Putting.{InsideWritten}

@@ -6,22 +6,22 @@ use Rattle.ice_types.specs.Tables.{Tables}
 use Rattle.ice_prims.specs.Bytes.{size_bytes, Grows}
 use Rattle.ice_encoding.specs.Writing.{Piece, exactly, ◌>>◌, written_each}
 use Rattle.ice_encoding.specs.Pausing.{Put, written_begun, written_in_place}
-use Rattle.ice_graphs.specs.OptionalMembers.{Members, shape_of}
-use Rattle.ice_graphs.specs.Graph.{Slice, Graph}
-use Rattle.ice_graphs.specs.Instances.{slices_of}
-use Rattle.ice_graphs.specs.Visiting.{most}
-use Rattle.ice_graphs.specs.Members.{written_content}
-use Rattle.ice_graphs.specs.Canonical.{Pen, Format, blank, bytes_of, put_inline, with_one_begun, written_as, written_instance}
-use Rattle.ice_graphs.specs.Exceptions.{of_exceptions}
-use Rattle.ice_graphs.specs.UserExceptionWritten.{graph_of, user_exception_as, user_exception_bytes}
-use Rattle.ice_graphs.specs.Names.{instance_names}
+use Rattle.ice_encoding.specs.OptionalMembers.{Members, shape_of}
+use Rattle.ice_encoding.specs.Graph.{Slice, Graph}
+use Rattle.ice_encoding.specs.Instances.{slices_of}
+use Rattle.ice_encoding.specs.Visiting.{most}
+use Rattle.ice_encoding.specs.Members.{written_content}
+use Rattle.ice_encoding.specs.CanonicalGraph.{Pen, Format, blank, bytes_of, put_inline, with_one_begun, written_as, written_instance}
+use Rattle.ice_encoding.specs.Exceptions.{of_exceptions}
+use Rattle.ice_encoding.specs.UserExceptionWritten.{graph_of, user_exception_as, user_exception_bytes}
+use Rattle.ice_encoding.specs.Names.{instance_names}
 use Rattle.graph_arena.specs.Arena.{AreBelow}
 use Rattle.graph_arena.specs.Seen.{view_slices}
 use Rattle.value_writing.specs.Putting.{InsideWritten, Written, onto}
 use Rattle.value_writing.proofs.WritingSteps.{options-of-tagged, all-left, stands-grown, grows-longer}
 use Rattle.value_writing.specs.declared.ending.Ending.TheVariants.{Bound}
 use Rattle.value_writing.specs.WritingMembers.{Remaining, all_of, members_left, RemainingFits}
-use Rattle.ice_values.specs.declared.sliced_type.SlicedType.TheVariants.{Class, Exception}
+use Rattle.value_parts.specs.declared.sliced_type.SlicedType.TheVariants.{Class, Exception}
 use Rattle.instance_writing.specs.declared.open_slice.OpenSlice.{OpenSlice}
 use Rattle.instance_writing.specs.declared.open_slice.OpenSlice.TheVariants as opens
 use Rattle.instance_writing.specs.declared.unfinished.Unfinished.{Unfinished}

@@ -10,31 +10,31 @@ use Rattle.ice_types.specs.declared.declarations.Shape.{Shape}
 use Rattle.ice_types.specs.Tables.{Tables}
 use Rattle.ice_encoding.specs.Writing.{Piece, exactly, ◌>>◌}
 use Rattle.ice_encoding.specs.Pausing.{Put, written_begun}
-use Rattle.ice_graphs.specs.Graph.{Slice, known, unknown}
-use Rattle.ice_graphs.specs.Names.{names_of, slice_names, instance_names}
-use Rattle.ice_graphs.specs.Visiting.{is_listed, most}
-use Rattle.ice_graphs.specs.Slices.{slice_size}
+use Rattle.ice_encoding.specs.Graph.{Slice, known, unknown}
+use Rattle.ice_encoding.specs.Names.{names_of, slice_names, instance_names}
+use Rattle.ice_encoding.specs.Visiting.{is_listed, most}
+use Rattle.ice_encoding.specs.Slices.{slice_size}
 use Rattle.ice_prims.specs.Bytes.{text_bytes}
-use Rattle.ice_graphs.specs.Canonical as spec
-use Rattle.ice_graphs.specs.Canonical.{flags_byte, has_optional, Pen, Format, sliced, compact, each_once, table_of, sized_bytes, is_there, written_names, written_table, sized_body, members_bytes, written_as, written_slices, written_bases, is_end}
-use Rattle.ice_graphs.specs.Exceptions.{of_exceptions}
-use Rattle.ice_graphs.specs.Flags.{no_id}
-use Rattle.ice_graphs.specs.UserExceptionWritten.{user_exception_slices, user_exception_plain}
-use Rattle.ice_graphs.proofs.Agreeing.{written_same}
+use Rattle.ice_encoding.specs.CanonicalGraph as spec
+use Rattle.ice_encoding.specs.CanonicalGraph.{flags_byte, has_optional, Pen, Format, sliced, compact, each_once, table_of, sized_bytes, is_there, written_names, written_table, sized_body, members_bytes, written_as, written_slices, written_bases, is_end}
+use Rattle.ice_encoding.specs.Exceptions.{of_exceptions}
+use Rattle.ice_encoding.specs.Flags.{no_id}
+use Rattle.ice_encoding.specs.UserExceptionWritten.{user_exception_slices, user_exception_plain}
+use Rattle.ice_encoding.proofs.Agreeing.{written_same}
 use Rattle.graph_arena.specs.declared.instance.Slice as arena
 use Rattle.graph_arena.specs.Arena.{AreBelow}
 use Rattle.graph_arena.specs.Seen.{view_slices}
-use Rattle.ice_graphs.specs.OptionalMembers.{Members, shape_of}
-use Rattle.ice_graphs.specs.Members.{written_slice_members}
-use Rattle.ice_graphs.specs.Classes.{members_in, own_members}
+use Rattle.ice_encoding.specs.OptionalMembers.{Members, shape_of}
+use Rattle.ice_encoding.specs.Members.{written_slice_members}
+use Rattle.ice_encoding.specs.Classes.{members_in, own_members}
 use Rattle.value_writing.proofs.WritingSteps.{fits-grown, all-left}
 use Rattle.value_writing.specs.declared.ending.Ending.TheVariants.{Marked}
 use Rattle.value_writing.specs.WritingMembers.{Remaining, remaining, all_of, members_left}
 use Rattle.value_writing.specs.Putting.{InsideWritten, Written, onto}
 use Rattle.value_writing.proofs.Levels.{onto-then, onto-nothing}
-use Rattle.ice_values.specs.declared.sliced_type.SlicedType.{SlicedType}
-use Rattle.ice_values.specs.declared.sliced_type.SlicedType.TheVariants.{Class, Exception}
-use Rattle.ice_values.specs.SlicedType.{rows_of}
+use Rattle.value_parts.specs.declared.sliced_type.SlicedType.{SlicedType}
+use Rattle.value_parts.specs.declared.sliced_type.SlicedType.TheVariants.{Class, Exception}
+use Rattle.value_parts.specs.SlicedType.{rows_of}
 use Rattle.instance_writing.specs.declared.open_slice.OpenSlice.{OpenSlice}
 use Rattle.instance_writing.specs.declared.open_slice.OpenSlice.TheVariants.{Nothing, Found, Lent}
 use Rattle.instance_writing.specs.declared.open_slice.OpenSlice.TheVariants as opens

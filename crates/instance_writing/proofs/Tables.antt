@@ -2,7 +2,7 @@
 use Rattle.std.proofs.Common.{◌≡◌, ◌≢◌, ℕ, zero, suc, ◌+◌, ◌^◌, ◌<◌, ◌≤◌, Bool, true, false, List, [], ◌∷◌, ◌++◌, length, slice_get, slice_set, slice_index_or, refl, sym, ap, ◌∙◌, subst, inl, inr, arith, length-append}
 use Rattle.std.proofs.lemmas.Bool.{cases_eq, false≢true, eq-eqb, ne_eqb, le-ltb}
 use Rattle.std.proofs.lemmas.List.{get_or-set_same, get_or-set_other, length-set}
-use Rattle.ice_graphs.specs.Visiting.{place, is_listed, most}
+use Rattle.ice_encoding.specs.Visiting.{place, is_listed, most}
 use Rattle.graph_arena.proofs.Listed.{fresh, fresh-most, weight-less}
 use Rattle.instance_writing.specs.Tabling.{missing, is_name, place_at, IsIndexed}
 

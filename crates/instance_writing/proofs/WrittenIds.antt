@@ -10,21 +10,21 @@ use Rattle.ice_types.specs.CompactIds.{number_in, numbered_id}
 use Rattle.ice_types.specs.Rules.{IsSchema}
 use Rattle.ice_types.proofs.SliceIds.{number_found, number_there, not_numbered, type_id_plain}
 use Rattle.ice_prims.specs.Bytes.{size_bytes, text_bytes}
-use Rattle.ice_graphs.specs.Flags.{IdForm, no_id, as_number}
-use Rattle.ice_graphs.specs.Canonical as spec
-use Rattle.ice_graphs.specs.Canonical.{Pen, id_in, row_id, head_under}
-use Rattle.ice_graphs.specs.Exceptions.{of_exceptions}
-use Rattle.ice_graphs.specs.Graph.{Slice, known, unknown}
+use Rattle.ice_encoding.specs.Flags.{IdForm, no_id, as_number}
+use Rattle.ice_encoding.specs.CanonicalGraph as spec
+use Rattle.ice_encoding.specs.CanonicalGraph.{Pen, id_in, row_id, head_under}
+use Rattle.ice_encoding.specs.Exceptions.{of_exceptions}
+use Rattle.ice_encoding.specs.Graph.{Slice, known, unknown}
 use Rattle.value_writing.specs.WritingMembers.{WritesPiece}
-use Rattle.ice_values.specs.SlicedType.{compact_in, rows_of}
-use Rattle.ice_values.specs.declared.sliced_type.SlicedType.{SlicedType}
-use Rattle.ice_values.specs.declared.sliced_type.SlicedType.TheVariants.{Class, Exception}
-use Rattle.ice_values.proofs.RowsNamed.{exception_compact}
-use Rattle.ice_values.specs.SliceIds.{id_of}
+use Rattle.value_parts.specs.SlicedType.{compact_in, rows_of}
+use Rattle.value_parts.specs.declared.sliced_type.SlicedType.{SlicedType}
+use Rattle.value_parts.specs.declared.sliced_type.SlicedType.TheVariants.{Class, Exception}
+use Rattle.value_parts.proofs.RowsNamed.{exception_compact}
+use Rattle.value_parts.specs.SliceIds.{id_of}
 use Rattle.instance_writing.specs.Ids.{IsTold}
 use Rattle.instance_writing.specs.Sorts.{head_of, text_head}
-use Rattle.ice_values.specs.declared.slice_id.SliceId.{SliceId}
-use Rattle.ice_values.specs.declared.slice_id.SliceId.TheVariants as ids
+use Rattle.value_parts.specs.declared.slice_id.SliceId.{SliceId}
+use Rattle.value_parts.specs.declared.slice_id.SliceId.TheVariants as ids
 
 -- ---- of a known class
 

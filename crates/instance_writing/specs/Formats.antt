@@ -1,6 +1,6 @@
 -- The two formats.
-use Rattle.ice_graphs.specs.Canonical.{sliced, compact}
-use Rattle.ice_graphs.specs.Canonical as canonical
+use Rattle.ice_encoding.specs.CanonicalGraph.{sliced, compact}
+use Rattle.ice_encoding.specs.CanonicalGraph as canonical
 use Rattle.instance_writing.specs.declared.format.Format.{Format}
 use Rattle.instance_writing.specs.declared.format.Format.TheVariants.{Sliced, Compact}
 

@@ -3,7 +3,7 @@ use Rattle.std.specs.Prelude.{ℕ, ◌≡◌, ◌<◌, ◌^◌, Bool, true, fals
 use Rattle.ice_types.specs.Tables.{Tables}
 use Rattle.ice_encoding.specs.Writing.{Piece}
 use Rattle.ice_encoding.specs.Pausing.{written_in_place}
-use Rattle.ice_graphs.specs.Canonical.{Pen, written_names}
+use Rattle.ice_encoding.specs.CanonicalGraph.{Pen, written_names}
 use Rattle.graph_arena.specs.Arena.{AreBelow}
 use Rattle.value_writing.specs.Putting.{InsideWritten, Written, onto}
 use Rattle.value_writing.specs.WritingMembers.{remaining, members_left, RemainingFits}

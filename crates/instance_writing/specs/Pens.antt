@@ -4,9 +4,9 @@ use Rattle.std.specs.BTreeMap.{get_by_text}
 use Rattle.std.specs.Coded.{Coded, code_by, coded×, coded_ℕ, coded_list}
 use Rattle.ice_prims.specs.Bytes.{size_bytes}
 use Rattle.ice_encoding.specs.Pausing.{Put}
-use Rattle.ice_graphs.specs.Classes.{place_of}
-use Rattle.ice_graphs.specs.Visiting.{most}
-use Rattle.ice_graphs.specs.Canonical.{Pen, with_one_begun}
+use Rattle.ice_encoding.specs.Classes.{place_of}
+use Rattle.ice_encoding.specs.Visiting.{most}
+use Rattle.ice_encoding.specs.CanonicalGraph.{Pen, with_one_begun}
 use Rattle.instance_writing.specs.declared.id_places.IdPlaces.{IdPlaces}
 
 abbrev pub pen_code : Coded Pen

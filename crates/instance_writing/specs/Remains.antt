@@ -7,18 +7,18 @@ use Rattle.ice_types.specs.Tables.{Tables}
 use Rattle.ice_prims.specs.Bytes.{size_bytes}
 use Rattle.ice_encoding.specs.Writing.{Piece, exactly, ◌>>◌}
 use Rattle.ice_encoding.specs.Pausing.{written_in_place}
-use Rattle.ice_graphs.specs.Graph.{Slice, Graph}
-use Rattle.ice_graphs.specs.Names.{instance_names}
-use Rattle.ice_graphs.specs.Slices.{slice_size}
-use Rattle.ice_graphs.specs.Instances.{slices_of}
-use Rattle.ice_graphs.specs.Canonical.{Pen, Format, sliced, compact, table_of, sized_bytes, is_there, sized_body, members_bytes, written_slices, written_bases, written_plain, written_as, written_instance, put_inline}
-use Rattle.ice_graphs.specs.UserExceptionWritten.{user_exception_as}
+use Rattle.ice_encoding.specs.Graph.{Slice, Graph}
+use Rattle.ice_encoding.specs.Names.{instance_names}
+use Rattle.ice_encoding.specs.Slices.{slice_size}
+use Rattle.ice_encoding.specs.Instances.{slices_of}
+use Rattle.ice_encoding.specs.CanonicalGraph.{Pen, Format, sliced, compact, table_of, sized_bytes, is_there, sized_body, members_bytes, written_slices, written_bases, written_plain, written_as, written_instance, put_inline}
+use Rattle.ice_encoding.specs.UserExceptionWritten.{user_exception_as}
 use Rattle.graph_arena.specs.Arena.{AreBelow}
 use Rattle.graph_arena.specs.Seen.{view_slices}
 use Rattle.value_writing.specs.Putting.{InsideWritten, Written, onto}
-use Rattle.ice_values.specs.declared.sliced_type.SlicedType.{SlicedType}
-use Rattle.ice_values.specs.declared.sliced_type.SlicedType.TheVariants.{Class, Exception}
-use Rattle.ice_values.specs.SlicedType.{rows_of}
+use Rattle.value_parts.specs.declared.sliced_type.SlicedType.{SlicedType}
+use Rattle.value_parts.specs.declared.sliced_type.SlicedType.TheVariants.{Class, Exception}
+use Rattle.value_parts.specs.SlicedType.{rows_of}
 use Rattle.instance_writing.specs.declared.unfinished.Unfinished.{Unfinished}
 use Rattle.instance_writing.specs.Sorts.{slice_head, plain_head}
 use Rattle.instance_writing.specs.Writable.{SlicesCanBeWritten}

@@ -4,13 +4,13 @@ use Rattle.std.specs.Prelude.{ℕ, Bool, true, false, List, [], ◌∷◌}
 use Rattle.ice_types.specs.Tables.{Tables}
 use Rattle.ice_prims.specs.Bytes.{text_bytes}
 use Rattle.ice_encoding.specs.Writing.{Piece, exactly}
-use Rattle.ice_graphs.specs.Flags.{IdForm, no_id}
-use Rattle.ice_graphs.specs.Graph.{Slice}
-use Rattle.ice_graphs.specs.Classes.{place_of}
-use Rattle.ice_graphs.specs.Canonical.{Pen, flags_byte, has_optional, head_as, written_id, written_head}
-use Rattle.ice_values.specs.SlicedType.{rows_of}
-use Rattle.ice_values.specs.declared.sliced_type.SlicedType.{SlicedType}
-use Rattle.ice_values.specs.declared.sliced_type.SlicedType.TheVariants.{Class, Exception}
+use Rattle.ice_encoding.specs.Flags.{IdForm, no_id}
+use Rattle.ice_encoding.specs.Graph.{Slice}
+use Rattle.ice_encoding.specs.Classes.{place_of}
+use Rattle.ice_encoding.specs.CanonicalGraph.{Pen, flags_byte, has_optional, head_as, written_id, written_head}
+use Rattle.value_parts.specs.SlicedType.{rows_of}
+use Rattle.value_parts.specs.declared.sliced_type.SlicedType.{SlicedType}
+use Rattle.value_parts.specs.declared.sliced_type.SlicedType.TheVariants.{Class, Exception}
 
 -- the flags and a type id, as an index where it was written before, else as a text
 abbrev pub text_head : (IdForm → ℕ) → List ℕ → Piece Pen

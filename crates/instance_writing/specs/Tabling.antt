@@ -6,10 +6,10 @@ use Rattle.ice_types.specs.declared.declarations.Member.{Member}
 use Rattle.ice_prims.specs.Bytes.{size_bytes}
 use Rattle.ice_encoding.specs.Pausing.{Put}
 use Rattle.ice_encoding.specs.Tree.{Tree, boolean, byte, short, int, long, text, sequence, dictionary, struct, enumerator, proxy, reference, Entries, no_entry, entry, InEach, Everywhere}
-use Rattle.ice_graphs.specs.Optionals.{Present, kind_tagged}
-use Rattle.ice_graphs.specs.OptionalMembers.{Members}
-use Rattle.ice_graphs.specs.Names.{names}
-use Rattle.ice_graphs.specs.Visiting.{place, is_listed, most}
+use Rattle.ice_encoding.specs.Optionals.{Present, kind_tagged}
+use Rattle.ice_encoding.specs.OptionalMembers.{Members}
+use Rattle.ice_encoding.specs.Names.{names}
+use Rattle.ice_encoding.specs.Visiting.{place, is_listed, most}
 
 -- the names of a table, all below the count
 pub record Listed : Type 0 where

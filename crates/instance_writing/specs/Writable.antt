@@ -1,11 +1,11 @@
 -- Which graphs and user exceptions can be written. (Ice manual, "Data Encoding".)
 use Rattle.std.specs.Prelude.{ℕ, List, [], ◌∷◌, length}
 use Rattle.ice_types.specs.Tables.{Tables}
-use Rattle.ice_graphs.specs.Classes.{own_members}
-use Rattle.ice_graphs.specs.Graph.{Slice, known, unknown, Graph}
-use Rattle.ice_graphs.specs.Instances.{slices_of}
-use Rattle.ice_graphs.specs.Names.{instance_names}
-use Rattle.ice_graphs.specs.Exceptions.{of_exceptions, UserException}
+use Rattle.ice_encoding.specs.Classes.{own_members}
+use Rattle.ice_encoding.specs.Graph.{Slice, known, unknown, Graph}
+use Rattle.ice_encoding.specs.Instances.{slices_of}
+use Rattle.ice_encoding.specs.Names.{instance_names}
+use Rattle.ice_encoding.specs.Exceptions.{of_exceptions, UserException}
 use Rattle.graph_arena.specs.Arena.{AreBelow}
 use Rattle.value_writing.specs.WritingMembers.{ContentCanBeWritten}
 use Rattle.instance_writing.specs.Tabling.{HasPlaces}

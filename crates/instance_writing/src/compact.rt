@@ -1,11 +1,11 @@
 //! A slice in compact format, up to its members.
 
 ghost use Rattle.std.specs.Prelude.{◌≡◌, false, ℕ, List, IfOk};
-ghost use Rattle.ice_graphs.specs.Canonical.{Pen, members_bytes};
+ghost use Rattle.ice_encoding.specs.CanonicalGraph.{Pen, members_bytes};
 ghost use Rattle.graph_arena.specs.Seen.{view_slice};
 ghost use Rattle.value_writing.specs.Putting.{InsideWritten, Written, onto};
 ghost use Rattle.value_writing.specs.WritingMembers.{WritesPiece};
-ghost use Rattle.ice_values.specs.SlicedType.{rows_of};
+ghost use Rattle.value_parts.specs.SlicedType.{rows_of};
 ghost use Rattle.instance_writing.specs.Opened.{OpenFits, open_left, refer_to};
 ghost use Rattle.instance_writing.specs.Opened as spec;
 ghost use Rattle.instance_writing.specs.Sorts.{has_plain_id, plain_head};
@@ -20,8 +20,8 @@ use crate::position::Position;
 use crate::written_id::written_id;
 use graph_arena::Slice;
 use ice_prims::put_byte;
-use ice_values::SlicedType;
 use std::alloc::AllocError;
+use value_parts::SlicedType;
 use value_writing::{Ending, MembersWriter};
 
 /// Puts the flags of a slice without a size, and its type id where it is the first of an instance, or one of

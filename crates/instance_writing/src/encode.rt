@@ -1,10 +1,10 @@
 //! A graph in bytes, over an explicit stack of instances that have begun.
 
 ghost use Rattle.std.specs.Prelude.{◌≡◌, ℕ, ◌+◌, ◌-◌, ◌++◌, ◌<◌, ◌≤◌, [], ◌∷◌, length, OnOk};
-ghost use Rattle.ice_graphs.specs.Names.{instance_names};
-ghost use Rattle.ice_graphs.specs.Instances.{slices_of};
-ghost use Rattle.ice_graphs.specs.Visiting.{most};
-ghost use Rattle.ice_graphs.specs.Canonical.{bytes_of};
+ghost use Rattle.ice_encoding.specs.Names.{instance_names};
+ghost use Rattle.ice_encoding.specs.Instances.{slices_of};
+ghost use Rattle.ice_encoding.specs.Visiting.{most};
+ghost use Rattle.ice_encoding.specs.CanonicalGraph.{bytes_of};
 ghost use Rattle.graph_arena.specs.Arena.{AreBelow};
 ghost use Rattle.graph_arena.specs.Seen.{view_slices};
 ghost use Rattle.value_writing.specs.Putting.{onto};
@@ -21,8 +21,8 @@ use crate::slice::Desk;
 use crate::unfinished::Unfinished;
 use graph_arena::{Graph, Slice};
 use ice_types::{List, Member, Schema};
-use ice_values::{Paused, SlicedType};
 use std::alloc::{AllocError, Global};
+use value_parts::{Paused, SlicedType};
 use value_writing::{Ending, MembersWriter};
 
 /// Puts the canonical bytes, in the format, of a graph whose instances are named by the order of their

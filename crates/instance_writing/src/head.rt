@@ -3,18 +3,18 @@
 ghost use Rattle.std.specs.Prelude.{◌≡◌, ◌+◌, ◌<◌, ◌≤◌, ◌++◌, ◌∷◌, OnOk, OnErr};
 ghost use Rattle.ice_prims.specs.Bytes.{size_bytes, text_bytes};
 ghost use Rattle.ice_types.specs.declared.schema.TheConstants.{MOST_NUMBER};
-ghost use Rattle.ice_graphs.specs.Flags.{as_number, no_id};
-ghost use Rattle.ice_graphs.specs.Canonical.{flags_byte};
+ghost use Rattle.ice_encoding.specs.Flags.{as_number, no_id};
+ghost use Rattle.ice_encoding.specs.CanonicalGraph.{flags_byte};
 ghost use Rattle.value_writing.specs.WritingMembers.{WritesPiece};
-ghost use Rattle.ice_values.specs.SliceIds.{id_of};
+ghost use Rattle.value_parts.specs.SliceIds.{id_of};
 ghost use Rattle.instance_writing.specs.Ids.{IsTold};
 ghost use Rattle.instance_writing.specs.Sorts.{head_of, text_head};
 
 use crate::pen::Pen;
 use ice_prims::{put_byte, put_size, put_str};
 use ice_types::MOST_NUMBER;
-use ice_values::{SliceId, SlicedType};
 use std::alloc::AllocError;
+use value_parts::{SliceId, SlicedType};
 
 /// A type id that stands as a text, in the flags.
 const AS_TEXT: u8 = 1;

@@ -2,9 +2,9 @@
 
 ghost use Rattle.std.specs.Prelude.{◌≡◌, ◌∷◌, ◌≤◌, ℕ, [], length, MatchOption, OnOk, slice_get};
 ghost use Rattle.ice_types.specs.Tables.{Tables};
-ghost use Rattle.ice_graphs.specs.Visiting.{most};
-ghost use Rattle.ice_graphs.specs.Canonical.{Pen};
-ghost use Rattle.ice_values.specs.Pauses.{NarrowsOnPause};
+ghost use Rattle.ice_encoding.specs.Visiting.{most};
+ghost use Rattle.ice_encoding.specs.CanonicalGraph.{Pen};
+ghost use Rattle.value_parts.specs.Pauses.{NarrowsOnPause};
 ghost use Rattle.value_writing.specs.Pauses.{GoesOnWriting};
 ghost use Rattle.value_writing.specs.Putting.{InsideWritten};
 ghost use Rattle.value_writing.specs.WritingMembers.{RemainingFits, remaining};
@@ -14,8 +14,8 @@ ghost use Rattle.instance_writing.specs.Opened as spec;
 
 use crate::pen::Pen;
 use ice_types::{List, Member, Schema};
-use ice_values::Paused;
 use std::alloc::{AllocError, Global};
+use value_parts::Paused;
 use value_writing::{MembersWriter, PutPort};
 
 /// Members of a known class that are being written with references in place.

@@ -1,7 +1,7 @@
 //! What is known of a slice by its class or its exception, or by what was kept of it.
 
 ghost use Rattle.std.specs.Prelude.{◌≡◌};
-ghost use Rattle.ice_graphs.specs.Canonical as spec;
+ghost use Rattle.ice_encoding.specs.CanonicalGraph as spec;
 ghost use Rattle.graph_arena.specs.Seen.{view_slice};
 
 use graph_arena::Slice;

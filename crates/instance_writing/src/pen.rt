@@ -3,9 +3,9 @@
 ghost use Rattle.std.specs.Prelude.{◌≡◌, ◌+◌, ◌++◌, ◌<◌, ◌^◌, ◌≤◌, ◌↔◌, suc, IsTrue, None, OnErr, OnOk};
 ghost use Rattle.std.specs.Option.{IfSome};
 ghost use Rattle.ice_prims.specs.Bytes.{size_bytes};
-ghost use Rattle.ice_graphs.specs.Canonical.{blank};
-ghost use Rattle.ice_graphs.specs.Classes.{place_of};
-ghost use Rattle.ice_graphs.specs.Visiting.{most};
+ghost use Rattle.ice_encoding.specs.CanonicalGraph.{blank};
+ghost use Rattle.ice_encoding.specs.Classes.{place_of};
+ghost use Rattle.ice_encoding.specs.Visiting.{most};
 ghost use Rattle.instance_writing.specs.Pens.{put_counted, room, with_text};
 
 use crate::id_places::IdPlaces;
@@ -28,7 +28,7 @@ pub(crate) struct Pen<'a> {
 
 impl<'a> Model for Pen<'a> {
     ghost use Rattle.std.specs.Prelude.{map};
-    ghost use Rattle.ice_graphs.specs.Canonical.{Pen};
+    ghost use Rattle.ice_encoding.specs.CanonicalGraph.{Pen};
     ghost use Rattle.instance_writing.specs.Pens.{ArePlaced, pen_code, place_in};
 
     ghost Value = { Pen };

@@ -1,18 +1,18 @@
 //! A slice in sliced format, up to the entries of its table.
 
 ghost use Rattle.std.specs.Prelude.{◌≡◌, ◌++◌, ◌≤◌, true, [], length, IfOk, OnOk};
-ghost use Rattle.ice_graphs.specs.Classes.{own_members};
-ghost use Rattle.ice_graphs.specs.Graph.{known};
-ghost use Rattle.ice_graphs.specs.Names.{names_of, slice_names};
-ghost use Rattle.ice_graphs.specs.Slices.{slice_size};
-ghost use Rattle.ice_graphs.specs.Visiting.{most};
-ghost use Rattle.ice_graphs.specs.Canonical.{is_there, sized_bytes, table_of};
-ghost use Rattle.ice_graphs.specs.Canonical as spec;
+ghost use Rattle.ice_encoding.specs.Classes.{own_members};
+ghost use Rattle.ice_encoding.specs.Graph.{known};
+ghost use Rattle.ice_encoding.specs.Names.{names_of, slice_names};
+ghost use Rattle.ice_encoding.specs.Slices.{slice_size};
+ghost use Rattle.ice_encoding.specs.Visiting.{most};
+ghost use Rattle.ice_encoding.specs.CanonicalGraph.{is_there, sized_bytes, table_of};
+ghost use Rattle.ice_encoding.specs.CanonicalGraph as spec;
 ghost use Rattle.graph_arena.specs.Arena.{AreBelow};
 ghost use Rattle.graph_arena.specs.Seen.{view_content, view_slice};
 ghost use Rattle.value_writing.specs.Putting.{onto};
 ghost use Rattle.value_writing.specs.WritingMembers.{ContentCanBeWritten};
-ghost use Rattle.ice_values.specs.SlicedType.{rows_of};
+ghost use Rattle.value_parts.specs.SlicedType.{rows_of};
 ghost use Rattle.instance_writing.specs.Tabling.{HasPlaces, no_names};
 ghost use Rattle.instance_writing.specs.Opened.{HasEntries};
 ghost use Rattle.instance_writing.specs.Remains.{slice_front, table_size};
@@ -28,9 +28,9 @@ use crate::written_id::written_id;
 use graph_arena::{Members, Slice};
 use ice_prims::put_size;
 use ice_types::MOST_NUMBER;
-use ice_values::SlicedType;
 use preserved::{put_slice_size, write_unknown};
 use std::alloc::{AllocError, Global};
+use value_parts::SlicedType;
 use value_writing::{Ending, write_members};
 
 /// Where the members of a slice are written first, since their size stands before them.

@@ -1,7 +1,7 @@
 //! The table of a slice.
 
 ghost use Rattle.std.specs.Prelude.{◌≡◌, ◌<◌, ◌≤◌, ◌+◌, ◌^◌, [], IfOk, OnOk, length, nat_lt, slice_index_or};
-ghost use Rattle.ice_graphs.specs.Visiting.{place, most};
+ghost use Rattle.ice_encoding.specs.Visiting.{place, most};
 ghost use Rattle.instance_writing.specs.Tabling.{also, no_names, place_at, place_put};
 
 use ice_prims::put_size;

@@ -1,15 +1,15 @@
 //! Instances and exceptions that are being written.
 
 ghost use Rattle.std.specs.Prelude.{◌≡◌, ◌≤◌, false, [], length, OnOk, IfOk};
-ghost use Rattle.ice_graphs.specs.Visiting.{most};
-ghost use Rattle.ice_graphs.specs.Names.{slice_names};
-ghost use Rattle.ice_graphs.specs.Canonical.{Pen};
+ghost use Rattle.ice_encoding.specs.Visiting.{most};
+ghost use Rattle.ice_encoding.specs.Names.{slice_names};
+ghost use Rattle.ice_encoding.specs.CanonicalGraph.{Pen};
 ghost use Rattle.graph_arena.specs.Arena.{AreBelow};
 ghost use Rattle.graph_arena.specs.Seen.{view_slice};
-ghost use Rattle.ice_values.specs.Pauses.{NarrowsOnPause};
+ghost use Rattle.value_parts.specs.Pauses.{NarrowsOnPause};
 ghost use Rattle.value_writing.specs.Pauses.{GoesOnWriting};
 ghost use Rattle.value_writing.specs.Putting.{InsideWritten, onto};
-ghost use Rattle.ice_values.specs.SlicedType.{rows_of};
+ghost use Rattle.value_parts.specs.SlicedType.{rows_of};
 ghost use Rattle.instance_writing.specs.declared.open_slice.OpenSlice.TheVariants as opens;
 ghost use Rattle.instance_writing.specs.Formats.{view_format};
 ghost use Rattle.instance_writing.specs.Pens.{room};
@@ -26,9 +26,9 @@ use crate::pen::Pen;
 use crate::position::Position;
 use crate::slice::{Desk, put_slice};
 use graph_arena::Slice;
-use ice_values::{Paused, SlicedType};
 use std::alloc::AllocError;
 use std::mem::size_of;
+use value_parts::{Paused, SlicedType};
 
 /// What is left of an instance, or of an exception, that has begun.
 #[derive(Drop)]

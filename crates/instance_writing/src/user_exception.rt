@@ -1,7 +1,7 @@
 //! A user exception in bytes, with the instances that begin in it.
 
 ghost use Rattle.std.specs.Prelude.{◌≡◌, ◌++◌, OnOk};
-ghost use Rattle.ice_graphs.specs.UserExceptionWritten.{user_exception_bytes};
+ghost use Rattle.ice_encoding.specs.UserExceptionWritten.{user_exception_bytes};
 ghost use Rattle.graph_arena.specs.Seen.{view_slices};
 ghost use Rattle.instance_writing.specs.Formats.{view_format};
 ghost use Rattle.instance_writing.specs.Writable.{UserExceptionCanBeWritten, user_exception_of};
@@ -14,8 +14,8 @@ use crate::slice::Desk;
 use crate::unfinished::Unfinished;
 use graph_arena::{Graph, Slice};
 use ice_types::Schema;
-use ice_values::{Paused, SlicedType};
 use std::alloc::{AllocError, Global};
+use value_parts::{Paused, SlicedType};
 
 /// Puts the content, in the format, of the user exception of these slices and of the instances of the graph
 /// at the end of the output, where these are named by the order in which the slices visit them first. The

@@ -1,15 +1,15 @@
 //! The id under which a slice is written. (Ice manual, "Compact Type IDs".)
 
 ghost use Rattle.std.specs.Prelude.{◌≡◌};
-ghost use Rattle.ice_graphs.specs.Canonical as spec;
+ghost use Rattle.ice_encoding.specs.CanonicalGraph as spec;
 ghost use Rattle.graph_arena.specs.Seen.{view_slice};
-ghost use Rattle.ice_values.specs.SlicedType.{rows_of};
-ghost use Rattle.ice_values.specs.SliceIds.{id_of};
+ghost use Rattle.value_parts.specs.SlicedType.{rows_of};
+ghost use Rattle.value_parts.specs.SliceIds.{id_of};
 ghost use Rattle.instance_writing.specs.Ids.{IsTold};
 
 use graph_arena::Slice;
 use ice_types::{Schema, number_in};
-use ice_values::{SliceId, SlicedType};
+use value_parts::{SliceId, SlicedType};
 
 /// The id under which a slice is written: of a known class its compact id where it has one, else its type id; of a
 /// kept one the id that was kept.

@@ -6,7 +6,7 @@ use Rattle.ice_messages.specs.declared.fault.WriteFault.{WriteFault}
 use Rattle.ice_messages.specs.declared.fault.WriteFault.TheVariants.{TooLong, Memory}
 use Rattle.ice_messages.specs.declared.message.Message.{Message}
 use Rattle.ice_messages.specs.Messages.{message_bytes}
-use Rattle.proxy_bytes.specs.Usable.{tcp_at}
+use Rattle.encaps_optionals.specs.Usable.{tcp_at}
 use Rattle.retry_core.specs.Client.{Invoking}
 use Rattle.ice_client.specs.Asking.{HasRow}
 use Rattle.ice_client.specs.Sending.{IsOf, Prepares}

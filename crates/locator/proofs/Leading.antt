@@ -10,11 +10,11 @@ use Rattle.ice_encoding.specs.Tree.{Trees}
 use Rattle.ice_types.specs.declared.declarations.Member.{Member}
 use Rattle.ice_types.specs.declared.proxy.Endpoint.{Endpoint}
 use Rattle.ice_types.specs.Tables.{Tables}
-use Rattle.ice_graphs.specs.Exceptions.{UserException, exception_at}
-use Rattle.ice_graphs.specs.Flags.{all_slices}
-use Rattle.ice_graphs.specs.Graph.{Graph, Slice}
-use Rattle.ice_graphs.specs.Instances.{numbered_at}
-use Rattle.ice_values.specs.Shapes.{told_apart}
+use Rattle.ice_encoding.specs.Exceptions.{UserException, exception_at}
+use Rattle.ice_encoding.specs.Flags.{all_slices}
+use Rattle.ice_encoding.specs.Graph.{Graph, Slice}
+use Rattle.ice_encoding.specs.Instances.{numbered_at}
+use Rattle.value_parts.specs.Shapes.{told_apart}
 use Rattle.graph_arena.specs.declared.value.Value.{Value}
 use Rattle.graph_arena.specs.View.{view_all}
 use Rattle.locator.specs.declared.lead.Lead.{Lead}

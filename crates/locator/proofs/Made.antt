@@ -3,7 +3,7 @@ use Rattle.std.proofs.Common.{◌≡◌, ℕ, ◌-◌, ◌^◌, ◌≤◌, min, 
 use Rattle.ice_types.specs.declared.proxy.Proxy.{Proxy}
 use Rattle.ice_ports.specs.Failures.{count_after}
 use Rattle.ice_ports.specs.Nets.{ToldNet}
-use Rattle.proxy_bytes.specs.Usable.{tcp_at}
+use Rattle.encaps_optionals.specs.Usable.{tcp_at}
 use Rattle.ice_client.specs.Attempted.{attempted, is_failure}
 use Rattle.ice_client.specs.ClientDid.{Tried, Made, Rises, attempted_all, failures_after}
 use Rattle.locator.specs.Rounds.{Round, net_after, failed_after, WereMade, round, attempt, AreAt}

@@ -4,7 +4,7 @@ use Rattle.std.specs.Prelude.{is_some, option_map, slice_get, Result, Ok, Err, I
 use Rattle.ice_types.specs.declared.proxy.Proxy.{Proxy}
 use Rattle.ice_ports.specs.declared.talk.Talk.{Talk}
 use Rattle.ice_ports.specs.Nets.{ToldNet}
-use Rattle.proxy_bytes.specs.Usable.{tcp_at}
+use Rattle.encaps_optionals.specs.Usable.{tcp_at}
 use Rattle.retry_core.specs.declared.attempt.Attempt.{Attempt}
 use Rattle.retry_core.specs.Client.{Invoking}
 use Rattle.ice_client.specs.Asking.{HasRow, IsOver}

@@ -5,11 +5,11 @@ use Rattle.ice_types.specs.declared.proxy.Proxy.{Proxy}
 use Rattle.ice_prims.specs.declared.fault.Fault.{Fault}
 use Rattle.ice_prims.specs.Rest.{whole}
 use Rattle.ice_encoding.specs.Tree.{Tree, boolean, byte, short, int, long, text, sequence, dictionary, struct, enumerator, proxy, reference, Trees, none, tree}
-use Rattle.ice_graphs.specs.Exceptions.{UserException, exception_at}
-use Rattle.ice_graphs.specs.Flags.{all_slices}
-use Rattle.ice_graphs.specs.Graph.{Graph, Slice, known, unknown}
-use Rattle.ice_graphs.specs.Instances.{numbered_at}
-use Rattle.ice_values.specs.Shapes.{told_apart}
+use Rattle.ice_encoding.specs.Exceptions.{UserException, exception_at}
+use Rattle.ice_encoding.specs.Flags.{all_slices}
+use Rattle.ice_encoding.specs.Graph.{Graph, Slice, known, unknown}
+use Rattle.ice_encoding.specs.Instances.{numbered_at}
+use Rattle.value_parts.specs.Shapes.{told_apart}
 use Rattle.ice_messages.specs.declared.message.Answer.{Answer}
 use Rattle.ice_messages.specs.declared.message.Answer.TheVariants.{Done, Raised, Missing, Unknown}
 use Rattle.ice_client.specs.declared.outcome.Outcome.{Outcome}

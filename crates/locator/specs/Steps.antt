@@ -1,7 +1,7 @@
 -- One attempt at a message whose proxy is resolved first, and the places that are kept then.
 use Rattle.std.specs.Prelude.{ℕ, ◌≡◌, ◌⊎◌, Bool, true, false, ◌&&◌, List, [], ◌∷◌, ◌++◌, Option, None, Some, IsSome, option_copied, if◌then◌else◌}
 use Rattle.ice_types.specs.declared.proxy.Proxy.{Proxy}
-use Rattle.proxy_bytes.specs.Usable.{tcp_at}
+use Rattle.encaps_optionals.specs.Usable.{tcp_at}
 use Rattle.retry_core.specs.declared.attempt.Attempt.{Attempt}
 use Rattle.retry_core.specs.declared.attempt.Attempt.TheVariants as tries
 use Rattle.retry_core.specs.Client.{Invoking}

@@ -15,8 +15,8 @@ use ice_client::{Invoked, Outcome};
 use ice_messages::Answer;
 use ice_prims::ReadFault;
 use ice_types::{Bytes, Endpoint, List, Member, Name, Proxy, Schema, TypeRef};
-use ice_values::DeclaredMembers;
 use std::alloc::{AllocError, Global};
+use value_parts::DeclaredMembers;
 
 /// Where an answer of the locator leads.
 #[derive(Drop)]

@@ -1,7 +1,7 @@
 //! One attempt at a message whose proxy is resolved first.
 
 ghost use Rattle.std.specs.Prelude.{◌≡◌, IfOk, IsSome, List, false, option_copied};
-ghost use Rattle.proxy_bytes.specs.Usable.{tcp_at};
+ghost use Rattle.encaps_optionals.specs.Usable.{tcp_at};
 ghost use Rattle.retry_core.specs.declared.client_table.ClientState.TheVariants as states;
 ghost use Rattle.ice_client.specs.Asking.{IsFor};
 ghost use Rattle.ice_client.specs.ClientDid.{Rises};
@@ -14,10 +14,10 @@ ghost use Rattle.locator.specs.Steps as spec;
 use crate::cache::Cache;
 use crate::key::Key;
 use crate::resolving::{Resolved, resolve};
+use encaps_optionals::tcp_of;
 use ice_client::{Invoked, Once, Outgoing, attempt_once};
 use ice_ports::Net;
 use ice_types::Proxy;
-use proxy_bytes::tcp_of;
 use retry_core::{Attempt, Client};
 use std::alloc::{AllocError, Global};
 

@@ -5,7 +5,7 @@ ghost use Rattle.std.specs.Prelude.{◌<◌};
 ghost use Rattle.dispatch_pool.specs.Lanes.{AreOf};
 
 use crate::serving::{COUNTER, lanes_of, plan, stores};
-use dispatch_pool::{Gate, LanePasses, Lanes, OpenGate};
+use dispatch_pool::{Gate, LanePasses, Lanes, OpenGate, Served, serve_all};
 use ice_messages::Call;
 use ice_ports::{Listener, MemNet, Net};
 use ice_types::List;
@@ -16,7 +16,6 @@ use std::sync::Wait;
 use std::sync::atomic::{AtomicBool, AtomicU64, Ordering};
 use std::test::Fail;
 use std::thread::{Threads, yield_now};
-use worker_pool::{Served, serve_all};
 
 /// The call on `a` waits until the call on `b` has been answered, or for so many looks.
 #[derive(Drop)]

@@ -8,9 +8,9 @@ use Rattle.ice_types.specs.Tables.{Tables}
 use Rattle.ice_prims.specs.declared.fault.Fault.{Fault}
 use Rattle.ice_prims.specs.declared.fault.ReadFault.{ReadFault}
 use Rattle.ice_prims.specs.declared.fault.ReadFault.TheVariants as read_faults
-use Rattle.ice_graphs.specs.Graph.{Graph}
-use Rattle.ice_graphs.specs.Canonical.{Format as Form, IsWritable}
-use Rattle.ice_graphs.specs.Same.{Same}
+use Rattle.ice_encoding.specs.Graph.{Graph}
+use Rattle.ice_encoding.specs.CanonicalGraph.{Format as Form, IsWritable}
+use Rattle.ice_encoding.specs.SameGraph.{Same}
 use Rattle.graph_json.specs.declared.fault.JsonKind.{JsonKind}
 use Rattle.graph_json.specs.Texts.{IsRefused, Lists}
 use Rattle.ice_relay.specs.Dumping.{Dumps}

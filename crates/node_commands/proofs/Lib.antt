@@ -9,3 +9,6 @@ pub mod OneAnswer
 pub mod Denying
 pub mod Finding
 pub mod Auditing
+pub mod Counts
+pub mod NetWords
+pub mod OneInterface

@@ -5,12 +5,12 @@ use Rattle.ice_types.specs.declared.declarations.Shape.{Shape}
 use Rattle.ice_types.specs.Tables.{Tables}
 use Rattle.ice_prims.specs.declared.fault.Fault.{Fault}
 use Rattle.ice_prims.proofs.Parts.{ok_is}
-use Rattle.ice_graphs.specs.Graph.{Slice, known, unknown, Graph}
-use Rattle.ice_graphs.specs.Instances.{slices_of}
-use Rattle.ice_graphs.specs.Canonical.{Format, sliced, compact, Compact, IsWritable}
+use Rattle.ice_encoding.specs.Graph.{Slice, known, unknown, Graph}
+use Rattle.ice_encoding.specs.Instances.{slices_of}
+use Rattle.ice_encoding.specs.CanonicalGraph.{Format, sliced, compact, Compact, IsWritable}
 use Rattle.instance_writing.specs.Formats.{view_format}
-use Rattle.ice_graphs.specs.Flags.{all_slices}
-use Rattle.ice_graphs.proofs.Graphs.{numbered_only, numbered_apart}
+use Rattle.ice_encoding.specs.Flags.{all_slices}
+use Rattle.ice_encoding.proofs.Graphs.{numbered_only, numbered_apart}
 use Rattle.class_slices.specs.Encoding.{BeginsUnknown, NeedsSliced}
 use Rattle.ice_relay.specs.Relaying.{one_value, Holds, held, canonical_bytes}
 use Rattle.ice_relay.specs.Comparing.{HoldTwo, two_held, CanBeCompared, IsFirstLong}

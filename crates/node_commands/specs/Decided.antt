@@ -7,9 +7,9 @@ use Rattle.ice_types.specs.declared.kind.TypeRef.{TypeRef}
 use Rattle.ice_types.specs.Tables.{Tables}
 use Rattle.ice_prims.specs.declared.fault.Fault.{Fault}
 use Rattle.ice_encoding.specs.declared.limits.TheConstants.{LARGEST}
-use Rattle.ice_graphs.specs.Graph.{Graph}
-use Rattle.ice_graphs.specs.Canonical.{Format, IsWritable}
-use Rattle.ice_graphs.specs.Same.{Same}
+use Rattle.ice_encoding.specs.Graph.{Graph}
+use Rattle.ice_encoding.specs.CanonicalGraph.{Format, IsWritable}
+use Rattle.ice_encoding.specs.SameGraph.{Same}
 use Rattle.instance_writing.specs.Formats.{view_format}
 use Rattle.class_slices.specs.Encoding.{NeedsSliced}
 use Rattle.ice_relay.specs.Relaying.{one_value, Holds, held, canonical_bytes}

@@ -10,3 +10,7 @@ pub mod Causes
 pub mod Effects
 pub mod Statuses
 pub mod Outcomes
+pub mod Ends
+pub mod Lines
+pub mod Interfaces
+pub mod Once

@@ -1,6 +1,7 @@
 //! What the program does for the words of the command line: which command they ask for, which type a word
 //! names, what each command finds before any of it is written, or why it finds nothing, and the status and
-//! the line of each answer.
+//! the line of each answer. And what `call`, `serve` and `gate`, which stand above, share: how connections end that were
+//! served or forwarded, the lines on the standard output, the interface that a word names, and limits of their words.
 //!
 //! Forms, and why they are so:
 //!
@@ -35,12 +36,16 @@ mod compat_text;
 mod drill;
 mod dump;
 mod encode;
+mod ending;
 mod execution;
 mod found;
 mod help;
+mod interfaces;
 mod laws;
+mod limits;
 mod loading;
 mod messages;
+mod net_lines;
 mod outcome;
 mod output;
 mod pages;
@@ -52,11 +57,15 @@ mod type_words;
 mod values;
 mod words;
 
+pub use ending::{Ending, report_ending};
 pub use execution::run;
 pub use found::Found;
 pub use help::{HELP, VERSION};
+pub use interfaces::interface_of;
 pub use laws::answers_apart;
+pub use limits::{MOST_CONNECTIONS, MOST_MESSAGES, MOST_PORT, MOST_RETRIES};
 pub use loading::load_schema;
+pub use net_lines::{end_with, tell};
 pub use outcome::{Line, Outcome};
 pub use output::{print, print_found, report};
 pub use type_words::type_of_word;

@@ -22,10 +22,10 @@ use Rattle.ice_types.specs.declared.identity.Identity.{Identity}
 use Rattle.ice_types.specs.Tables.{Tables}
 use Rattle.ice_encoding.specs.Tree.{Tree, text, struct, Trees, none, tree}
 use Rattle.ice_encoding.specs.Typed.{EachOf, HasType, Refers}
-use Rattle.ice_graphs.specs.Exceptions.{UserException, as_class}
-use Rattle.ice_graphs.specs.Graph.{Graph}
-use Rattle.ice_graphs.specs.Typed.{OfType, RefersIn}
-use Rattle.ice_values.specs.Shapes.{told_apart}
+use Rattle.ice_encoding.specs.Exceptions.{UserException, as_class}
+use Rattle.ice_encoding.specs.Graph.{Graph}
+use Rattle.ice_encoding.specs.TypedGraph.{OfType, RefersIn}
+use Rattle.value_parts.specs.Shapes.{told_apart}
 use Rattle.class_slices.specs.ExceptionEncoding.{AreUserException, IsFirstIll}
 use Rattle.locator_types.specs.Locator.{adapter_not_found, find_object, identity_decl, locator_tables, object_not_found}
 use Rattle.object_adapter.specs.declared.seeking.Sought.{Sought}

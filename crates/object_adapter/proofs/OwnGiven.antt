@@ -2,7 +2,7 @@
 use Rattle.std.proofs.Common.{ℕ, true, List, Ok, Err, refl, sym, subst}
 use Rattle.std.specs.Prelude.{Result}
 use Rattle.ice_types.specs.Tables.{Tables}
-use Rattle.ice_graphs.specs.Graph.{Graph}
+use Rattle.ice_encoding.specs.Graph.{Graph}
 use Rattle.ice_messages.specs.declared.message.Call.{Call}
 use Rattle.object_adapter.specs.declared.refusal.Refusal.{Refusal}
 use Rattle.object_adapter.specs.declared.refusal.Unanswered.{Unanswered}

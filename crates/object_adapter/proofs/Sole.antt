@@ -9,9 +9,9 @@ use Rattle.ice_types.specs.Tables.{Tables}
 use Rattle.ice_types.specs.declared.schema.TheConstants.{MOST_DEPTH}
 use Rattle.ice_encoding.specs.Tree.{Tree, int, text, Trees, none, tree}
 use Rattle.ice_encoding.specs.Typed.{EachOf, HasType, Refers}
-use Rattle.ice_graphs.specs.Graph.{Graph}
-use Rattle.ice_graphs.specs.Typed.{OfType, RefersIn}
-use Rattle.ice_values.specs.Shapes.{told_apart, without_tag}
+use Rattle.ice_encoding.specs.Graph.{Graph}
+use Rattle.ice_encoding.specs.TypedGraph.{OfType, RefersIn}
+use Rattle.value_parts.specs.Shapes.{told_apart, without_tag}
 use Rattle.graph_arena.specs.declared.value.Value.{Value}
 use Rattle.graph_arena.specs.View.{view, view_all}
 use Rattle.object_adapter.specs.Arguments.{sole_members, sole_number, sole_text, text_at, text_of}

@@ -5,7 +5,7 @@ use Rattle.std.specs.Prelude.{slice_get}
 use Rattle.ice_types.specs.Tables.{Tables}
 use Rattle.ice_prims.specs.Bytes.{size_bytes, text_bytes}
 use Rattle.ice_encoding.specs.Opening.{encapsulated_bytes}
-use Rattle.ice_graphs.specs.Graph.{Graph}
+use Rattle.ice_encoding.specs.Graph.{Graph}
 use Rattle.object_adapter.specs.declared.refusal.Refusal.{Refusal}
 use Rattle.object_adapter.specs.declared.refusal.Refusal.TheVariants.{TooLong}
 use Rattle.object_adapter.specs.declared.refusal.Unanswered.{Unanswered}

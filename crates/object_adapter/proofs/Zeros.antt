@@ -15,9 +15,9 @@ use Rattle.ice_types.specs.Rules.{IsSchema}
 use Rattle.ice_types.specs.Tables.{Tables}
 use Rattle.ice_encoding.specs.Tree.{none, tree}
 use Rattle.ice_encoding.specs.Typed.{EachOf, HasType}
-use Rattle.ice_graphs.specs.Instances.{most_instances}
-use Rattle.ice_graphs.specs.Typed.{OfType, RefersIn}
-use Rattle.ice_values.specs.Shapes.{told_apart}
+use Rattle.ice_encoding.specs.Instances.{most_instances}
+use Rattle.ice_encoding.specs.TypedGraph.{OfType, RefersIn}
+use Rattle.value_parts.specs.Shapes.{told_apart}
 use Rattle.value_checks.specs.Zeros.{zero_of}
 use Rattle.graph_arena.specs.Arena.{IsSound}
 use Rattle.graph_arena.specs.Seen.{view_content, view_instance}

@@ -7,10 +7,10 @@ use Rattle.ice_types.specs.Tables.{Tables}
 use Rattle.ice_prims.specs.declared.fault.Fault.{Fault}
 use Rattle.ice_prims.specs.Rest.{whole}
 use Rattle.ice_encoding.specs.Opening.{encapsulated_bytes}
-use Rattle.ice_graphs.specs.Graph.{Graph}
-use Rattle.ice_graphs.specs.Flags.{all_slices}
-use Rattle.ice_graphs.specs.Instances.{numbered_at}
-use Rattle.ice_values.specs.Shapes.{told_apart}
+use Rattle.ice_encoding.specs.Graph.{Graph}
+use Rattle.ice_encoding.specs.Flags.{all_slices}
+use Rattle.ice_encoding.specs.Instances.{numbered_at}
+use Rattle.value_parts.specs.Shapes.{told_apart}
 use Rattle.ice_messages.specs.declared.message.Call.{Call}
 use Rattle.object_adapter.specs.declared.refusal.Refusal.{Refusal}
 use Rattle.object_adapter.specs.declared.refusal.Refusal.TheVariants.{NoOperation, BadMode, BadArguments, TooLong}

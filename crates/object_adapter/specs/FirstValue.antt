@@ -5,8 +5,8 @@ use Rattle.ice_types.specs.declared.declarations.OpDecl.{OpDecl}
 use Rattle.ice_types.specs.declared.schema.TheConstants.{MOST_DEPTH}
 use Rattle.ice_types.specs.Tables.{Tables}
 use Rattle.ice_encoding.specs.Tree.{none, tree}
-use Rattle.ice_graphs.specs.Graph.{Graph}
-use Rattle.ice_graphs.specs.OptionalMembers.{with_optional}
+use Rattle.ice_encoding.specs.Graph.{Graph}
+use Rattle.ice_encoding.specs.OptionalMembers.{with_optional}
 use Rattle.value_checks.specs.Zeros.{zero_of}
 use Rattle.object_adapter.specs.declared.kept.Kept.{Kept}
 use Rattle.object_adapter.specs.Deeds.{IsPut, IsSomePut}

@@ -7,11 +7,11 @@ use Rattle.ice_types.specs.declared.identity.Identity.{Identity}
 use Rattle.ice_types.specs.declared.proxy.Proxy.{Proxy}
 use Rattle.ice_encoding.specs.Proxy as form
 use Rattle.ice_encoding.specs.Tree.{text, struct, none, tree}
-use Rattle.ice_graphs.specs.Canonical.{sliced}
-use Rattle.ice_graphs.specs.Exceptions.{UserException}
-use Rattle.ice_graphs.specs.Graph.{Graph, known}
-use Rattle.ice_graphs.specs.OptionalMembers.{with_optional}
-use Rattle.ice_graphs.specs.UserExceptionWritten.{exception_bytes}
+use Rattle.ice_encoding.specs.CanonicalGraph.{sliced}
+use Rattle.ice_encoding.specs.Exceptions.{UserException}
+use Rattle.ice_encoding.specs.Graph.{Graph, known}
+use Rattle.ice_encoding.specs.OptionalMembers.{with_optional}
+use Rattle.ice_encoding.specs.UserExceptionWritten.{exception_bytes}
 use Rattle.ice_messages.specs.declared.message.Call.{Call}
 use Rattle.ice_messages.specs.declared.message.Answer.{Answer}
 use Rattle.ice_messages.specs.declared.message.Answer.TheVariants.{Done, Raised}

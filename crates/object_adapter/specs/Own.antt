@@ -12,7 +12,7 @@ use Rattle.std.specs.Cmp.Lexicographic.{slice_cmp}
 use Rattle.ice_prims.specs.Bytes.{bool_bytes, size_bytes, text_bytes}
 use Rattle.ice_encoding.specs.Opening.{encapsulated_bytes}
 use Rattle.ice_encoding.specs.Tree.{text, none, tree}
-use Rattle.ice_graphs.specs.Graph.{Graph}
+use Rattle.ice_encoding.specs.Graph.{Graph}
 use Rattle.ice_messages.specs.declared.message.Call.{Call}
 use Rattle.object_adapter.specs.declared.refusal.Refusal.{Refusal}
 use Rattle.object_adapter.specs.declared.refusal.Refusal.TheVariants.{NoOperation, BadMode, BadArguments, TooLong}

@@ -2,9 +2,9 @@
 use Rattle.std.specs.Prelude.{ℕ, List, length, Option, None, Some, nat_le, if◌then◌else◌}
 use Rattle.ice_types.specs.declared.declarations.Shape.{Shape}
 use Rattle.ice_types.specs.Tables.{Tables}
-use Rattle.ice_graphs.specs.Graph.{Graph}
-use Rattle.ice_graphs.specs.Canonical.{sliced, graph_bytes}
-use Rattle.ice_values.specs.Shapes.{told_apart}
+use Rattle.ice_encoding.specs.Graph.{Graph}
+use Rattle.ice_encoding.specs.CanonicalGraph.{sliced, graph_bytes}
+use Rattle.value_parts.specs.Shapes.{told_apart}
 use Rattle.object_adapter.specs.declared.refusal.TheConstants.{LONGEST}
 
 -- bytes, or none where results may not be so long

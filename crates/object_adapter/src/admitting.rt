@@ -1,8 +1,8 @@
 //! What is tried of a call before an object acts.
 
 ghost use Rattle.std.specs.Prelude.{◌≡◌, ◌↔◌, IsTrue, IfOk};
-ghost use Rattle.ice_graphs.specs.Typed.{OfType};
-ghost use Rattle.ice_values.specs.Shapes.{told_apart};
+ghost use Rattle.ice_encoding.specs.TypedGraph.{OfType};
+ghost use Rattle.value_parts.specs.Shapes.{told_apart};
 ghost use Rattle.object_adapter.specs.Refusals.{Outcome};
 ghost use Rattle.object_adapter.specs.Admitting.{Comes, ModeFits, Stops, only_id};
 
@@ -11,8 +11,8 @@ use class_slices::decode;
 use graph_arena::Graph;
 use ice_messages::Call;
 use ice_types::{List, Member, Name, Schema, Shape, TypeRef};
-use ice_values::DeclaredMembers;
 use std::alloc::{AllocError, Global};
+use value_parts::DeclaredMembers;
 
 /// The arguments of a call of an operation that takes these, and that may be called again or not; or that
 /// the mode is none for it, or else the first fault of the arguments. (Ice manual, "Request Message".)

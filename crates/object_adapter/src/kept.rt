@@ -2,8 +2,8 @@
 
 ghost use Rattle.std.specs.Prelude.{◌≡◌, IfOk, OnOk, OnErr, Some, None};
 ghost use Rattle.ice_types.specs.declared.kind.TypeRef.TheVariants as kinds;
-ghost use Rattle.ice_graphs.specs.Typed.{OfType};
-ghost use Rattle.ice_values.specs.Shapes.{told_apart};
+ghost use Rattle.ice_encoding.specs.TypedGraph.{OfType};
+ghost use Rattle.value_parts.specs.Shapes.{told_apart};
 ghost use Rattle.object_adapter.specs.declared.store_deeds.Deed.TheVariants as deeds;
 ghost use Rattle.object_adapter.specs.declared.refusal.Refusal.TheVariants as refusals;
 ghost use Rattle.object_adapter.specs.Refusals.{Outcome};

@@ -26,8 +26,8 @@ impl Locator {
     ghost use Rattle.std.specs.Prelude.{IfOk, MatchOption, Some};
     ghost use Rattle.ice_types.specs.declared.proxy.Proxy as proxies;
     ghost use Rattle.ice_encoding.specs.Proxy.{HasProxySizes};
-    ghost use Rattle.ice_graphs.specs.Typed.{OfType};
-    ghost use Rattle.ice_values.specs.Shapes.{told_apart};
+    ghost use Rattle.ice_encoding.specs.TypedGraph.{OfType};
+    ghost use Rattle.value_parts.specs.Shapes.{told_apart};
     ghost use Rattle.object_adapter.specs.Refusals.{Outcome};
     ghost use Rattle.object_adapter.specs.Replies.{IsReply};
     ghost use Rattle.object_adapter.specs.Locators.{Acts, Gives, IsNamed, IsSought, Overflows, Refuses};

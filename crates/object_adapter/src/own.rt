@@ -3,8 +3,8 @@
 ghost use Rattle.std.specs.Prelude.{◌≡◌, ◌<◌, ◌↔◌, IfOk, IsTrue, codes, length, slice_get};
 ghost use Rattle.ice_types.specs.Tables.{Finds};
 ghost use Rattle.ice_prims.specs.Bytes.{bool_bytes, text_bytes};
-ghost use Rattle.ice_graphs.specs.Typed.{OfType};
-ghost use Rattle.ice_values.specs.Shapes.{told_apart};
+ghost use Rattle.ice_encoding.specs.TypedGraph.{OfType};
+ghost use Rattle.value_parts.specs.Shapes.{told_apart};
 ghost use Rattle.object_adapter.specs.declared.refusal.Refusal.TheVariants as refusals;
 ghost use Rattle.object_adapter.specs.Refusals.{Outcome};
 ghost use Rattle.object_adapter.specs.Own.{HasObjectId, IsNamed, OwnActs, OwnGives, OwnGivesIn, OwnOverflows};

@@ -19,10 +19,10 @@ use crate::enclosing::enclose;
 use crate::refusal::{LONGEST, Refusal, Unanswered};
 use crate::results::Results;
 use class_slices::{Format, UserException, UserExceptionFault, write_exception};
+use encaps_optionals::write_proxy;
 use graph_arena::{Graph, Members, Slice};
 use ice_messages::Answer;
 use ice_types::{List, Proxy, Schema, Shape, TypeRef};
-use proxy_bytes::write_proxy;
 use std::alloc::{AllocError, Global};
 
 /// What an operation of a locator seeks.

@@ -1,8 +1,8 @@
 //! Values as results.
 
 ghost use Rattle.std.specs.Prelude.{◌≡◌, IfOk};
-ghost use Rattle.ice_graphs.specs.Typed.{OfType};
-ghost use Rattle.ice_values.specs.Shapes.{told_apart};
+ghost use Rattle.ice_encoding.specs.TypedGraph.{OfType};
+ghost use Rattle.value_parts.specs.Shapes.{told_apart};
 ghost use Rattle.object_adapter.specs.Writing as spec;
 
 use crate::refusal::LONGEST;
@@ -10,8 +10,8 @@ use crate::results::Results;
 use class_slices::{Format, WriteFault, encode_typed};
 use graph_arena::Graph;
 use ice_types::{Schema, Shape};
-use ice_values::DeclaredMembers;
 use std::alloc::{AllocError, Global};
+use value_parts::DeclaredMembers;
 
 /// The canonical encapsulation of values of this shape, in sliced format, None where it is longer than
 /// results may be. (Ice manual, "Data Encoding for Class and Exception Types".)

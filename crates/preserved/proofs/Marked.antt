@@ -8,7 +8,7 @@ use Rattle.ice_prims.specs.declared.fault.Kind.TheVariants.{BadTag}
 use Rattle.ice_prims.specs.Rest.{Rest, fault, ◌>>=◌, bytes_at}
 use Rattle.ice_prims.specs.Number.{byte_at}
 use Rattle.ice_prims.proofs.Parts.{bytes_found, then_ok, ok_is}
-use Rattle.ice_graphs.specs.Slices.{unmarked}
+use Rattle.ice_encoding.specs.Slices.{unmarked}
 
 -- ---- what is found of bytes with one more behind them
 

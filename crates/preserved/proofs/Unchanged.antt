@@ -7,8 +7,8 @@ use Rattle.ice_prims.specs.Rest.{Rest, IsBytes}
 use Rattle.ice_prims.proofs.Once.{int_once}
 use Rattle.ice_prims.proofs.Parts.{IsBytes-front}
 use Rattle.ice_encoding.specs.Skipping.{is_natural, natural_of}
-use Rattle.ice_graphs.specs.Slices.{slice_size, unknown_bytes, unknown_at}
-use Rattle.ice_graphs.proofs.Sizes.{unknown_lawful}
+use Rattle.ice_encoding.specs.Slices.{slice_size, unknown_bytes, unknown_at}
+use Rattle.ice_encoding.proofs.GraphSizes.{unknown_lawful}
 use Rattle.preserved.specs.Unknown.{unknown_part}
 
 -- an int that is not negative, by what it counts

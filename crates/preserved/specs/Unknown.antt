@@ -3,8 +3,8 @@ use Rattle.std.specs.Prelude.{ℕ, ◌≡◌, Bool, List, [], ◌++◌, length, 
 use Rattle.std.specs.Borrow.{Bor}
 use Rattle.ice_prims.specs.declared.fault.Fault.{Fault}
 use Rattle.ice_prims.specs.Rest.{Rest}
-use Rattle.ice_graphs.specs.Graph.{Slice, known, unknown}
-use Rattle.ice_graphs.specs.Slices.{slice_size, unknown_bytes, without_marker}
+use Rattle.ice_encoding.specs.Graph.{Slice, known, unknown}
+use Rattle.ice_encoding.specs.Slices.{slice_size, unknown_bytes, without_marker}
 
 -- the slice is of a class that is not known
 abbrev pub IsUnknown : Slice → Type 0

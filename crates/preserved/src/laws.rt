@@ -2,7 +2,7 @@
 
 ghost use Rattle.std.specs.Prelude.{◌≡◌, ◌++◌, ℕ, Bool, List, Ok};
 ghost use Rattle.ice_prims.specs.Rest.{Rest, IsBytes};
-ghost use Rattle.ice_graphs.specs.Slices.{unknown_at};
+ghost use Rattle.ice_encoding.specs.Slices.{unknown_at};
 ghost use Rattle.preserved.specs.Unknown.{unknown_part};
 
 /// Bytes come out as they went in: what is written of an unknown slice is what was taken for it, its size and

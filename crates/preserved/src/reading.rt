@@ -3,10 +3,10 @@
 ghost use Rattle.std.specs.Prelude.{◌≡◌, IfOk};
 ghost use Rattle.ice_prims.specs.Taking.{Takes};
 ghost use Rattle.ice_encoding.specs.Skipping.{bound_behind};
-ghost use Rattle.ice_graphs.specs.Flags.{flags_of};
-ghost use Rattle.ice_graphs.specs.Flags as spec;
-ghost use Rattle.ice_graphs.specs.Graph.{unknown};
-ghost use Rattle.ice_graphs.specs.Slices.{unknown_at, slice_size};
+ghost use Rattle.ice_encoding.specs.Flags.{flags_of};
+ghost use Rattle.ice_encoding.specs.Flags as spec;
+ghost use Rattle.ice_encoding.specs.Graph.{unknown};
+ghost use Rattle.ice_encoding.specs.Slices.{unknown_at, slice_size};
 ghost use Rattle.graph_arena.specs.Seen.{view_slice};
 ghost use Rattle.preserved.specs.Unknown.{FindsUnknown};
 

@@ -2,7 +2,7 @@
 
 ghost use Rattle.std.specs.Prelude.{◌≡◌, ◌++◌, OnErr, OnOk};
 ghost use Rattle.ice_prims.specs.Bytes.{Grows};
-ghost use Rattle.ice_graphs.specs.Slices.{slice_size};
+ghost use Rattle.ice_encoding.specs.Slices.{slice_size};
 ghost use Rattle.graph_arena.specs.Seen.{view_slice};
 ghost use Rattle.preserved.specs.Unknown.{IsUnknown, unknown_part, unknown_part_of};
 

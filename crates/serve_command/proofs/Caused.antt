@@ -5,8 +5,8 @@ use Rattle.object_adapter.specs.Objects.{Objects}
 use Rattle.node_commands.specs.Outside.{Files, Outside, ShelfFailed, SinkFailed}
 use Rattle.node_commands.specs.Answers.{Answer, read_failed, no_memory}
 use Rattle.serve_command.specs.Words.{Serve}
-use Rattle.net_commands.specs.Ends.{End, answered}
-use Rattle.net_commands.specs.Lines.{WritesEnd, listening, served}
+use Rattle.node_commands.specs.Ends.{End, answered}
+use Rattle.node_commands.specs.Lines.{WritesEnd, listening, served}
 use Rattle.serve_command.specs.Served.{Network, Refuses, Sets, Comes, refused, unread, starved, unheard, untold, ended}
 use Rattle.serve_command.specs.Laws.{EndsAsRefused, IsDone, EndsForCause}
 use Rattle.serve_command.proofs.OneRefusal.{refused_once, refused_or_set}

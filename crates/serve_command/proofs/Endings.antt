@@ -8,11 +8,11 @@ use Rattle.dispatch_pool.specs.declared.lanes.Lanes.{Lanes}
 use Rattle.dispatch_pool.specs.declared.lanes.LanePasses.{LanePasses}
 use Rattle.node_commands.specs.declared.outcome.Outcome.{Outcome}
 use Rattle.node_commands.specs.Outside.{Outside, Files, outside, counts}
-use Rattle.net_commands.specs.declared.ending.Ending.{Ending}
-use Rattle.net_commands.specs.declared.ending.Ending.TheVariants as endings
+use Rattle.node_commands.specs.declared.ending.Ending.{Ending}
+use Rattle.node_commands.specs.declared.ending.Ending.TheVariants as endings
 use Rattle.serve_command.specs.Words.{Serve}
-use Rattle.net_commands.specs.Ends.{answered, end_of}
-use Rattle.net_commands.specs.Lines.{EndsWith, WritesEnd, listening, served}
+use Rattle.node_commands.specs.Ends.{answered, end_of}
+use Rattle.node_commands.specs.Lines.{EndsWith, WritesEnd, listening, served}
 use Rattle.serve_command.specs.Served.{Network, network, Sets, IsPort, asked, Comes, refused, unread, starved, unheard, untold, ended}
 use Rattle.serve_command.specs.Steps.{AreLanes, MakesNone, Serves, Listens, Asks, answered_by}
 

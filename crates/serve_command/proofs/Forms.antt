@@ -8,10 +8,10 @@ use Rattle.std.proofs.lemmas.List.{take_all}
 use Rattle.std.proofs.lemmas.Slice.Eq.{bytes_eq-Decides}
 use Rattle.std.proofs.lemmas.Fmt.{decimal_injective}
 use Rattle.node_commands.specs.Words.{Word, words_of}
-use Rattle.net_commands.specs.declared.limits.TheConstants.{MOST_CONNECTIONS}
+use Rattle.node_commands.specs.declared.limits.TheConstants.{MOST_CONNECTIONS}
 use Rattle.serve_command.specs.declared.operands.TheConstants.{MOST_WORKERS}
-use Rattle.net_commands.specs.Once.{Exactly}
-use Rattle.net_commands.proofs.Words.{exactly_by}
+use Rattle.node_commands.specs.Once.{Exactly}
+use Rattle.node_commands.proofs.NetWords.{exactly_by}
 use Rattle.serve_command.specs.Words.{Plain, operand_words, Finds, IsCount, Behind, WithNumber, BehindWorkers, BehindConnections, BehindServe, PlainForm}
 
 -- ---- lists

@@ -6,12 +6,12 @@ use Rattle.ice_ports.specs.Nets.{ToldNet, ToldListener, came_back, gathered_of}
 use Rattle.dispatch_pool.specs.declared.lanes.Lanes.{Lanes}
 use Rattle.dispatch_pool.specs.declared.lanes.LanePasses.{LanePasses}
 use Rattle.dispatch_pool.specs.Lanes.{AreWhole}
-use Rattle.worker_pool.specs.Sessions.{AllServed}
+use Rattle.dispatch_pool.specs.Sessions.{AllServed}
 use Rattle.talking.specs.Told.{NoneToCome}
-use Rattle.net_commands.specs.declared.limits.TheConstants.{MOST_MESSAGES}
+use Rattle.node_commands.specs.declared.limits.TheConstants.{MOST_MESSAGES}
 use Rattle.serve_command.specs.Words.{Serve}
 use Rattle.serve_command.specs.Served.{network, Heard}
-use Rattle.net_commands.proofs.Counts.{retired, why_ended}
+use Rattle.node_commands.proofs.Counts.{retired, why_ended}
 
 module _ (c : Serve) (lanes : Lanes) (begun : LanePasses) where
   -- sessions were served

@@ -8,12 +8,12 @@ use Rattle.std.specs.declared.alloc.Global.{Global}
 use Rattle.std.proofs.lemmas.List.{length-map}
 use Rattle.node_commands.specs.Words.{Word, IsWord, words_of}
 use Rattle.serve_command.specs.ObjectWords.{Object, object_word, IsCut, AreShort, AreApart}
-use Rattle.net_commands.specs.Once.{Exactly}
+use Rattle.node_commands.specs.Once.{Exactly}
 use Rattle.serve_command.specs.Words.{Plain, Serve, plain, PlainForm, Completes, ServeForm, asked_of}
 use Rattle.serve_command.specs.declared.words.TheConstants.{MOST_WORDS}
 use Rattle.serve_command.specs.declared.words.ServeCommand.{ServeCommand}
 use Rattle.serve_command.proofs.Cuts.{object_once}
-use Rattle.net_commands.proofs.Words.{exactly_by}
+use Rattle.node_commands.proofs.NetWords.{exactly_by}
 use Rattle.serve_command.proofs.Commands.{all_short}
 
 abbrev behind_first : List Word → List Word

@@ -6,8 +6,8 @@ use Rattle.node_commands.specs.Words.{Word}
 use Rattle.node_commands.specs.Outside.{Files, Outside, ShelfFailed, SinkFailed}
 use Rattle.node_commands.specs.Answers.{Answer, done, read_failed, no_memory}
 use Rattle.serve_command.specs.Words.{Serve, ServeForm, IsServe}
-use Rattle.net_commands.specs.Ends.{End, answered}
-use Rattle.net_commands.specs.Lines.{listening, served}
+use Rattle.node_commands.specs.Ends.{End, answered}
+use Rattle.node_commands.specs.Lines.{listening, served}
 use Rattle.serve_command.specs.Served.{Network, Refuses, Sets, Served}
 
 -- with these words and files one answer refuses at most, and where one does they make no objects

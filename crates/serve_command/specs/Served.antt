@@ -9,18 +9,18 @@ use Rattle.object_adapter.specs.Objects.{Objects}
 use Rattle.dispatch_pool.specs.declared.lanes.Lanes.{Lanes}
 use Rattle.dispatch_pool.specs.declared.lanes.LanePasses.{LanePasses}
 use Rattle.dispatch_pool.specs.Lanes.{Opens, AreNew, AreWhole}
-use Rattle.worker_pool.specs.Sessions.{AllServed}
+use Rattle.dispatch_pool.specs.Sessions.{AllServed}
 use Rattle.node_commands.specs.Words.{Word}
 use Rattle.node_commands.specs.Outside.{Outside, Files, NoneFailed, ShelfFailed, SinkFailed}
 use Rattle.node_commands.specs.Answers.{Answer, no_such_name, text_refused, read_failed, write_failed, no_memory}
 use Rattle.node_commands.specs.Decided.{IsSchema, WithSchema}
 use Rattle.node_commands.specs.Effects.{GetsText}
 use Rattle.talking.specs.Told.{NoneToCome}
-use Rattle.net_commands.specs.declared.limits.TheConstants.{MOST_MESSAGES}
+use Rattle.node_commands.specs.declared.limits.TheConstants.{MOST_MESSAGES}
 use Rattle.serve_command.specs.Words.{Serve}
 use Rattle.serve_command.specs.Adapters.{IsAdapter, First, Never, LacksInterface, Breaks}
-use Rattle.net_commands.specs.Ends.{End, answered, network_failed, end_status, end_line}
-use Rattle.net_commands.specs.Lines.{WritesEnd, listening, served}
+use Rattle.node_commands.specs.Ends.{End, answered, network_failed, end_status, end_line}
+use Rattle.node_commands.specs.Lines.{WritesEnd, listening, served}
 
 -- what the net tells, and how many calls of `listen` and `retire` counted a failure
 pub record Network : Type 0 where

@@ -15,8 +15,8 @@ use Rattle.dispatch_pool.specs.Lanes.{AreOf, Opens, AreNew, AreWhole}
 use Rattle.node_commands.specs.declared.outcome.Outcome.{Outcome}
 use Rattle.node_commands.specs.declared.outcome.Outcome.TheVariants as outcomes
 use Rattle.node_commands.specs.Words.{Word}
-use Rattle.net_commands.specs.declared.ending.Ending.{Ending}
-use Rattle.net_commands.specs.declared.ending.Ending.TheVariants as endings
+use Rattle.node_commands.specs.declared.ending.Ending.{Ending}
+use Rattle.node_commands.specs.declared.ending.Ending.TheVariants as endings
 use Rattle.node_commands.specs.Outside.{Files}
 use Rattle.node_commands.specs.Answers.{Answer, no_such_name, no_memory, read_failed}
 use Rattle.node_commands.specs.Outcomes.{answer_of}
@@ -27,7 +27,7 @@ use Rattle.serve_command.specs.declared.words.TheConstants.{MOST_WORDS}
 use Rattle.serve_command.specs.ObjectWords.{Object, AreShort, AreApart}
 use Rattle.serve_command.specs.Adapters.{First, Never, LacksInterface, Breaks}
 use Rattle.serve_command.specs.Served.{Refuses, Sets, Network, network, Heard, IsPort, asked}
-use Rattle.net_commands.specs.Lines.{EndsWith, listening, served}
+use Rattle.node_commands.specs.Lines.{EndsWith, listening, served}
 
 -- the answer of an outcome for which nothing was written
 abbrev pub answered_by : Outcome → Answer

@@ -3,7 +3,7 @@ use Rattle.std.specs.Prelude.{ℕ, ◌≡◌, ◌≢◌, ◌<◌, ◌≤◌, ◌
 use Rattle.std.specs.Fmt.{decimal}
 use Rattle.std.specs.List.{AllByRecursion}
 use Rattle.node_commands.specs.Words.{Word, IsWord, Command, Form, words_of}
-use Rattle.net_commands.specs.declared.limits.TheConstants.{MOST_CONNECTIONS, MOST_PORT}
+use Rattle.node_commands.specs.declared.limits.TheConstants.{MOST_CONNECTIONS, MOST_PORT}
 use Rattle.serve_command.specs.declared.operands.TheConstants.{MOST_WORKERS}
 use Rattle.serve_command.specs.declared.operands.Operands.{Operands as ReadOperands}
 use Rattle.serve_command.specs.declared.words.TheConstants.{MOST_WORDS}

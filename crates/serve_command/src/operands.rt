@@ -3,13 +3,12 @@
 ghost use Rattle.std.specs.Prelude.{◌≡◌, ◌∷◌, ◌≤◌, ℕ, List};
 ghost use Rattle.node_commands.specs.Words.{Word, words_of};
 ghost use Rattle.serve_command.specs.Words.{Behind, BehindConnections, BehindServe, BehindWorkers};
-ghost use Rattle.net_commands.specs.Once.{Exactly};
+ghost use Rattle.node_commands.specs.Once.{Exactly};
 ghost use Rattle.serve_command.specs.Words.{Finds, PlainForm};
 ghost use Rattle.serve_command.specs.Words.{plain_of};
 ghost use Rattle.serve_command.specs.Reading.{FindsNumber, FindsWord};
 
-use net_commands::{MOST_CONNECTIONS, MOST_PORT};
-use node_commands::number_of;
+use node_commands::{MOST_CONNECTIONS, MOST_PORT, number_of};
 
 /// The most workers.
 pub const MOST_WORKERS: u32 = 64;

@@ -4,21 +4,19 @@ ghost use Rattle.std.specs.Prelude.{ℕ, ◌≡◌, ◌<◌, List, Option};
 ghost use Rattle.dispatch_pool.specs.Lanes.{AreOf, AreWhole};
 ghost use Rattle.node_commands.specs.Outside.{counts, outside};
 ghost use Rattle.node_commands.specs.Words.{Word};
-ghost use Rattle.net_commands.specs.Ends.{end_of};
+ghost use Rattle.node_commands.specs.Ends.{end_of};
 ghost use Rattle.serve_command.specs.Served.{Comes, Served, network};
 ghost use Rattle.serve_command.specs.Steps.{Asks, Listens, Serves};
 ghost use Rattle.serve_command.specs.Words.{ServeForm, command_of};
 
 use crate::adapters::lanes_of;
 use crate::words::ServeCommand;
-use dispatch_pool::{LanePasses, Lanes, OpenGate};
+use dispatch_pool::{LanePasses, Lanes, OpenGate, serve_all};
 use ice_ports::{Failed, Listener, Net, Shelf, Sink};
-use net_commands::{Ending, MOST_MESSAGES, end_with, report, tell};
-use node_commands::Outcome;
+use node_commands::{Ending, MOST_MESSAGES, Outcome, end_with, report_ending, tell};
 use std::alloc::Global;
 use std::sync::Wait;
 use std::thread::Threads;
-use worker_pool::serve_all;
 
 /// Serves the objects of the words, and answers the status to end with.
 pub fn serve<R: Threads + Wait + Sync, H: Shelf, K: Sink, E: Sink, N: Net>(
@@ -40,7 +38,7 @@ pub fn serve<R: Threads + Wait + Sync, H: Shelf, K: Sink, E: Sink, N: Net>(
         (network (N.told net.new) (N.listen_failures net.new)) result }
 {
     let ending = end_of(rt, alloc, &command, shelf, sink, net);
-    report(ending, errors)
+    report_ending(ending, errors)
 }
 
 /// Serves the objects of the words.
@@ -150,7 +148,7 @@ fn serve_links<R: Threads + Wait + Sync, K: Sink, N: Net>(
         u64::from(command.connections),
         MOST_MESSAGES,
     );
-    let worker_pool::Served {
+    let dispatch_pool::Served {
         door,
         passes: _,
         accepted,

@@ -3,7 +3,7 @@
 ghost use Rattle.std.specs.Prelude.{◌↔◌, IfOk, IsTrue, OnErr};
 ghost use Rattle.std.specs.List.{AllByRecursion};
 ghost use Rattle.node_commands.specs.Words.{IsWord, words_of};
-ghost use Rattle.net_commands.specs.Once.{Exactly};
+ghost use Rattle.node_commands.specs.Once.{Exactly};
 ghost use Rattle.serve_command.specs.Words.{Completes, IsNoOther, IsServe, ServeForm};
 ghost use Rattle.serve_command.specs.Words.{asked_of, plain_from};
 

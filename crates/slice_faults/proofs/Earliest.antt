@@ -5,7 +5,7 @@ use Rattle.std.proofs.lemmas.Bool.{cases_lt}
 use Rattle.std.proofs.lemmas.Bool.Decides.{nat_tests}
 use Rattle.slice_meaning.specs.Names.{Declared}
 use Rattle.slice_meaning.specs.Checking.{stands_before, earlier}
-use Rattle.slice_names.specs.Numbers.{declared_at}
+use Rattle.slice_meaning.specs.Numbers.{declared_at}
 
 -- the declarations up to a number
 abbrev pub up_to : List Declared → ℕ → List Declared

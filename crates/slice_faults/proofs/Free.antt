@@ -14,7 +14,7 @@ use Rattle.slice_meaning.specs.Known.{Known}
 use Rattle.slice_meaning.specs.Uses.{where_true}
 use Rattle.slice_meaning.specs.Clashes.{new_name, is_taken}
 use Rattle.slice_meaning.specs.Checking.{comes_before, noted}
-use Rattle.slice_names.specs.Numbers.{scope_at}
+use Rattle.slice_meaning.specs.Numbers.{scope_at}
 
 -- ---- nothing is noted where no fault is
 

@@ -16,8 +16,8 @@ use Rattle.slice_meaning.specs.Uses.{where_true}
 use Rattle.slice_meaning.specs.Members.{entry_faults}
 use Rattle.slice_meaning.specs.Faults.{is_empty, enum_faults}
 use Rattle.slice_meaning.specs.After.{enumerator, with_entries}
-use Rattle.slice_names.specs.Numbers.{scope_at}
-use Rattle.slice_names.proofs.Numbering.{scope_test}
+use Rattle.slice_meaning.specs.Numbers.{scope_at}
+use Rattle.slice_meaning.proofs.Numbering.{scope_test}
 use Rattle.slice_faults.specs.Held.{AreFree}
 use Rattle.slice_faults.specs.Kept.{IsInside}
 use Rattle.slice_faults.proofs.Free.{both_none, test_off, parts_off, not_called, scope_stays}

@@ -16,7 +16,7 @@ use Rattle.slice_meaning.specs.Clashes.{is_taken, again, reopened_name, may_stan
 use Rattle.slice_meaning.specs.After.{class_at, interface_at}
 use Rattle.slice_meaning.specs.Rows.{KnowsRows}
 use Rattle.slice_meaning.proofs.KnownNames.{here_row, as_class_says, interface_says}
-use Rattle.slice_names.proofs.Lookup.{taken_some}
+use Rattle.slice_meaning.proofs.Lookup.{taken_some}
 use Rattle.slice_faults.proofs.Free.{test_off}
 
 -- ---- a name that is declared

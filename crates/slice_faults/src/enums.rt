@@ -7,7 +7,7 @@ ghost use Rattle.slice_meaning.specs.Members.{entry_number, entry_place, after_e
 ghost use Rattle.slice_meaning.specs.Faults.{faults};
 ghost use Rattle.slice_meaning.specs.After.{after, with_entries};
 ghost use Rattle.slice_meaning.specs.Checking.{noted};
-ghost use Rattle.slice_names.specs.Numbers.{scope_at};
+ghost use Rattle.slice_meaning.specs.Numbers.{scope_at};
 ghost use Rattle.ice_types.specs.declared.schema.TheConstants.{MOST_NUMBER};
 ghost use Rattle.slice_faults.specs.Held.{known_of, entry_rows, AreFree};
 ghost use Rattle.slice_faults.specs.Kept.{IsKept};
@@ -22,8 +22,7 @@ use crate::number_set::NumberSet;
 use crate::room::has_room;
 use crate::values::number_of;
 use ice_types::{Entry, EnumDecl, List, MOST_NUMBER, Name, TypeRef};
-use slice_meaning::{CheckKind, Fault, Found, Standing, Value};
-use slice_names::Scopes;
+use slice_meaning::{CheckKind, Fault, Found, Scopes, Standing, Value};
 use slice_syntax::{Constant, Word};
 use std::alloc::{AllocError, Global};
 

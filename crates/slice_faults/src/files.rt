@@ -15,8 +15,7 @@ use crate::items::declare_all;
 use crate::known::Known;
 use crate::undefined::first_undefined;
 use ice_types::Schema;
-use slice_meaning::{CheckKind, Fault};
-use slice_names::Scopes;
+use slice_meaning::{CheckKind, Fault, Scopes};
 use slice_syntax::File;
 use std::alloc::{AllocError, Global};
 

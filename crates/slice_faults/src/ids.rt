@@ -5,7 +5,7 @@ ghost use Rattle.slice_syntax.specs.Places.{IsPlain};
 ghost use Rattle.ice_types.specs.Tables.{IsTypeId, IsNewId};
 ghost use Rattle.slice_meaning.specs.Names.{declared_in};
 ghost use Rattle.slice_meaning.specs.Known.{id_here};
-ghost use Rattle.slice_names.specs.Numbers.{scope_at};
+ghost use Rattle.slice_meaning.specs.Numbers.{scope_at};
 ghost use Rattle.slice_faults.specs.Held.{known_of};
 ghost use Rattle.slice_faults.specs.Kept.{IsKept};
 

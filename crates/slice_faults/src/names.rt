@@ -7,7 +7,7 @@ ghost use Rattle.slice_meaning.specs.Uses.{where_true};
 ghost use Rattle.slice_meaning.specs.Clashes.{new_name, is_taken};
 ghost use Rattle.slice_meaning.specs.declared.fault.CheckKind.TheVariants as rows;
 ghost use Rattle.slice_meaning.specs.Checking.{noted};
-ghost use Rattle.slice_names.specs.Numbers.{scope_at};
+ghost use Rattle.slice_meaning.specs.Numbers.{scope_at};
 ghost use Rattle.slice_faults.specs.Held.{known_of};
 
 use crate::known::Known;

@@ -4,8 +4,8 @@ ghost use Rattle.std.specs.Prelude.{◌≡◌, ◌<◌, ◌≤◌, length, [], �
 ghost use Rattle.slice_meaning.specs.Names.{Declared};
 ghost use Rattle.slice_meaning.specs.Meaning.{is_undefined, undefined};
 ghost use Rattle.slice_meaning.specs.Checking.{stands_before, earlier};
-ghost use Rattle.slice_names.specs.Numbers.{declared_at};
-ghost use Rattle.slice_names.specs.Numbers.{stands_at};
+ghost use Rattle.slice_meaning.specs.Numbers.{declared_at};
+ghost use Rattle.slice_meaning.specs.Numbers.{stands_at};
 ghost use Rattle.slice_faults.specs.Held.{known_of};
 
 use crate::known::Known;

@@ -5,8 +5,8 @@ use Rattle.ice_prims.specs.declared.fault.Kind.TheVariants.{TooMany}
 use Rattle.ice_prims.specs.Rest.{Rest, fault}
 use Rattle.ice_prims.specs.Number.{size_at}
 use Rattle.ice_encoding.specs.Pausing.{begins}
-use Rattle.ice_graphs.specs.Instances.{most_instances}
-use Rattle.ice_graphs.specs.References.{State, replaced, inline_at, beginning}
+use Rattle.ice_encoding.specs.Instances.{most_instances}
+use Rattle.ice_encoding.specs.References.{State, replaced, inline_at, beginning}
 
 pub map-replaced : {A B : Type 0} (f : A → B) (n : ℕ) (x : A) (xs : List A) → map f (replaced n x xs) ≡ replaced n (f x) (map f xs)
 map-replaced f zero x [] = refl

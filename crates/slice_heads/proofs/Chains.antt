@@ -2,7 +2,7 @@
 use Rattle.std.proofs.Common.{ℕ, suc, ◌≡◌, true, false, eqb, List, [], ◌∷◌, length, drop, Option, None, Some, refl}
 use Rattle.std.proofs.lemmas.Bool.{eq-eqb, ne_eqb}
 use Rattle.ice_types.specs.Tables.{Tables}
-use Rattle.ice_graphs.specs.Classes.{base_of, holds_of, leads_to}
+use Rattle.ice_encoding.specs.Classes.{base_of, holds_of, leads_to}
 
 -- the class itself
 pub leads_here : (t : Tables) (steps base class : ℕ) → class ≡ base → leads_to t (suc steps) base class ≡ true

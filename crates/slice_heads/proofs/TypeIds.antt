@@ -5,7 +5,7 @@ use Rattle.ice_prims.specs.declared.fault.Fault.{Fault}
 use Rattle.ice_prims.specs.declared.fault.Kind.TheVariants.{BadTypeId}
 use Rattle.ice_prims.specs.Rest.{Rest, fault}
 use Rattle.ice_prims.specs.Number.{text_at}
-use Rattle.ice_graphs.specs.TypeIds.{type_id_at}
+use Rattle.ice_encoding.specs.TypeIds.{type_id_at}
 
 pub text_refused : (r : Rest) (e : Fault) → text_at r ≡ Err e → type_id_at r ≡ Err e
 text_refused r e is = rw is refl

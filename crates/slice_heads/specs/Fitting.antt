@@ -3,8 +3,8 @@ use Rattle.std.specs.Prelude.{ℕ, ◌≡◌, None, Some, Result, Ok, Err}
 use Rattle.ice_types.specs.Tables.{Tables}
 use Rattle.ice_prims.specs.declared.fault.Fault.{Fault}
 use Rattle.ice_prims.specs.declared.fault.Kind.TheVariants.{WrongClass}
-use Rattle.ice_graphs.specs.References.{State}
-use Rattle.ice_graphs.specs.Instances.{misfit}
+use Rattle.ice_encoding.specs.References.{State}
+use Rattle.ice_encoding.specs.Instances.{misfit}
 
 -- each class fits where it is named, or the first place where one does not has the fault
 abbrev pub Fits : {X : Type 0} → Tables → State ℕ → Result X Fault → Type 0

@@ -9,16 +9,16 @@ use Rattle.ice_prims.specs.declared.fault.ReadFault.TheVariants as faults
 use Rattle.ice_prims.specs.Rest.{Rest, fault}
 use Rattle.ice_prims.specs.Taking.{Fails}
 use Rattle.ice_encoding.specs.Port.{Reader}
-use Rattle.ice_graphs.specs.Steps.{tested}
-use Rattle.ice_graphs.specs.Graph as graphs
-use Rattle.ice_graphs.specs.Flags.{Flags, IdForm, flags_of, all_slices, flags_at}
-use Rattle.ice_graphs.specs.Flags as flags
-use Rattle.ice_graphs.specs.TypeIds.{type_id_at, id_indexed, is_base, can_be_read}
-use Rattle.ice_graphs.specs.References.{State}
-use Rattle.ice_values.specs.SlicedType.{rows_of}
-use Rattle.ice_values.specs.SliceIds.{id_of}
-use Rattle.ice_values.specs.declared.sliced_type.SlicedType.{SlicedType}
-use Rattle.ice_values.specs.declared.slice_id.SliceId.{SliceId}
+use Rattle.ice_encoding.specs.Steps.{tested}
+use Rattle.ice_encoding.specs.Graph as graphs
+use Rattle.ice_encoding.specs.Flags.{Flags, IdForm, flags_of, all_slices, flags_at}
+use Rattle.ice_encoding.specs.Flags as flags
+use Rattle.ice_encoding.specs.TypeIds.{type_id_at, id_indexed, is_base, can_be_read}
+use Rattle.ice_encoding.specs.References.{State}
+use Rattle.value_parts.specs.SlicedType.{rows_of}
+use Rattle.value_parts.specs.SliceIds.{id_of}
+use Rattle.value_parts.specs.declared.sliced_type.SlicedType.{SlicedType}
+use Rattle.value_parts.specs.declared.slice_id.SliceId.{SliceId}
 use Rattle.slice_heads.specs.Sorts.{may_begin, id_by, ends_by}
 
 -- flags that may stand

@@ -5,13 +5,13 @@ use Rattle.ice_prims.specs.Rest.{Rest, ◌>>=◌}
 use Rattle.ice_encoding.specs.Port.{Reader}
 use Rattle.ice_encoding.specs.Pausing.{Met, known}
 use Rattle.std.specs.Coded.{Coded, code_by, coded×, coded_ℕ, coded_list, coded_option}
-use Rattle.ice_graphs.specs.Flags.{first, only_unknown, derived}
-use Rattle.ice_graphs.specs.Flags as flags
-use Rattle.ice_graphs.specs.Graph.{Slice}
-use Rattle.ice_graphs.specs.References as refs
+use Rattle.ice_encoding.specs.Flags.{first, only_unknown, derived}
+use Rattle.ice_encoding.specs.Flags as flags
+use Rattle.ice_encoding.specs.Graph.{Slice}
+use Rattle.ice_encoding.specs.References as refs
 use Rattle.graph_arena.specs.Stored.{instances_code}
-use Rattle.ice_values.specs.declared.fields.Optionals.{Optionals}
-use Rattle.ice_values.specs.declared.fields.Optionals.TheVariants.{Absent, Marked}
+use Rattle.value_parts.specs.declared.fields.Optionals.{Optionals}
+use Rattle.value_parts.specs.declared.fields.Optionals.TheVariants.{Absent, Marked}
 use Rattle.slice_heads.specs.declared.arena.Reference.{Reference}
 use Rattle.slice_heads.specs.declared.before.Before.{Before}
 use Rattle.slice_heads.specs.declared.before.Before.TheVariants as befores

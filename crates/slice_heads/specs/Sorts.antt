@@ -3,16 +3,16 @@ use Rattle.std.specs.Prelude.{ℕ, Bool, true, false, List, [], ◌∷◌, Optio
 use Rattle.ice_types.specs.Tables.{Tables}
 use Rattle.ice_encoding.specs.Port.{Port, Reader}
 use Rattle.ice_encoding.specs.Reading.{plain}
-use Rattle.ice_graphs.specs.Steps.{given}
-use Rattle.ice_graphs.specs.Classes.{class_named, base_of}
-use Rattle.ice_graphs.specs.Graph.{Slice}
-use Rattle.ice_graphs.specs.Flags.{IdForm, Flags, all_slices, Before, first, only_unknown, derived, may_stand}
-use Rattle.ice_graphs.specs.References.{State, seen}
-use Rattle.ice_graphs.specs.TypeIds.{type_id_at, id_at, class_in, ends_well}
-use Rattle.ice_graphs.specs.Slices.{slices_at}
-use Rattle.ice_graphs.specs.Exceptions.{of_exceptions, may_be_raised, may_be_last, user_exception_slices}
-use Rattle.ice_values.specs.declared.sliced_type.SlicedType.{SlicedType}
-use Rattle.ice_values.specs.declared.sliced_type.SlicedType.TheVariants as sorts
+use Rattle.ice_encoding.specs.Steps.{given}
+use Rattle.ice_encoding.specs.Classes.{class_named, base_of}
+use Rattle.ice_encoding.specs.Graph.{Slice}
+use Rattle.ice_encoding.specs.Flags.{IdForm, Flags, all_slices, Before, first, only_unknown, derived, may_stand}
+use Rattle.ice_encoding.specs.References.{State, seen}
+use Rattle.ice_encoding.specs.TypeIds.{type_id_at, id_at, class_in, ends_well}
+use Rattle.ice_encoding.specs.Slices.{slices_at}
+use Rattle.ice_encoding.specs.Exceptions.{of_exceptions, may_be_raised, may_be_last, user_exception_slices}
+use Rattle.value_parts.specs.declared.sliced_type.SlicedType.{SlicedType}
+use Rattle.value_parts.specs.declared.sliced_type.SlicedType.TheVariants as sorts
 
 -- which flags may stand
 abbrev pub may_begin : SlicedType → Before → Flags → Bool

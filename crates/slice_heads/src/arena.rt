@@ -3,9 +3,9 @@
 
 ghost use Rattle.std.specs.Prelude.{◌≡◌, ◌∷◌, ◌++◌, [], length, map, slice_get, OnOk};
 ghost use Rattle.std.specs.Option.{option_map};
-ghost use Rattle.ice_graphs.specs.References.{opening, entry_in, met_at, replaced, resolved, with_begun, with_ended};
-ghost use Rattle.ice_graphs.specs.References.{with_met};
-ghost use Rattle.ice_graphs.specs.TypeIds.{with_id};
+ghost use Rattle.ice_encoding.specs.References.{opening, entry_in, met_at, replaced, resolved, with_begun, with_ended};
+ghost use Rattle.ice_encoding.specs.References.{with_met};
+ghost use Rattle.ice_encoding.specs.TypeIds.{with_id};
 ghost use Rattle.graph_arena.specs.Seen.{view_instance, view_slice};
 ghost use Rattle.slice_heads.specs.Seen.{view_reference, view_references};
 ghost use Rattle.slice_heads.specs.Fitting.{Fits};
@@ -14,9 +14,9 @@ use crate::fitting::misfit;
 use graph_arena::{Instance, Slice};
 use ice_prims::{Cursor, Fault, Kind, ReadFault};
 use ice_types::{List, Schema};
-use ice_values::{Met, RefPort};
 use std::alloc::{AllocError, Global};
 use std::marker::Model;
+use value_parts::{Met, RefPort};
 
 /// How many instances begin at most in one encapsulation.
 pub const MOST_INSTANCES: u32 = 100_000;
@@ -42,7 +42,7 @@ pub struct Arena<'a> {
 
 impl<'a> Model for Arena<'a> {
     ghost use Rattle.std.specs.Prelude.{ℕ, map};
-    ghost use Rattle.ice_graphs.specs.References.{State};
+    ghost use Rattle.ice_encoding.specs.References.{State};
     ghost use Rattle.graph_arena.specs.Seen.{view_instance};
     ghost use Rattle.slice_heads.specs.Seen.{state_code, view_references};
 
@@ -180,8 +180,8 @@ fn put_at(instances: &mut Vec<Instance>, at: u32, instance: Instance)
 }
 
 impl<'a> RefPort for Arena<'a> {
-    ghost use Rattle.ice_graphs.specs.Instances.{most_instances};
-    ghost use Rattle.ice_graphs.specs.References.{inline_at};
+    ghost use Rattle.ice_encoding.specs.Instances.{most_instances};
+    ghost use Rattle.ice_encoding.specs.References.{inline_at};
     ghost use Rattle.std.specs.Prelude.{◌-◌, length};
 
     ghost take = { inline_at most_instances };

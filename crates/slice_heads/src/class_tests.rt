@@ -2,9 +2,9 @@
 //! (Ice manual, "Data Encoding for Class and Exception Types".)
 
 ghost use Rattle.std.specs.Prelude.{◌≡◌, Some};
-ghost use Rattle.ice_graphs.specs.Flags.{flags_of};
-ghost use Rattle.ice_values.specs.SlicedType.{rows_of};
-ghost use Rattle.ice_values.specs.SliceIds.{id_of};
+ghost use Rattle.ice_encoding.specs.Flags.{flags_of};
+ghost use Rattle.value_parts.specs.SlicedType.{rows_of};
+ghost use Rattle.value_parts.specs.SliceIds.{id_of};
 ghost use Rattle.slice_heads.specs.Heads.{Tests};
 ghost use Rattle.slice_heads.specs.Seen.{view_before};
 ghost use Rattle.slice_heads.specs.Sorts.{class_by, ends_by, is_over};
@@ -13,7 +13,7 @@ use crate::before::Before;
 use crate::flags::is_odd;
 use ice_prims::{Cursor, Fault, Kind};
 use ice_types::Schema;
-use ice_values::{SliceId, SlicedType};
+use value_parts::{SliceId, SlicedType};
 
 /// The class of a slice, or the exception: by its id, or of an instance without one the base that follows.
 pub fn class_in(sort: SlicedType, schema: &Schema, before: Before, id: SliceId<'_>) -> Option<u32>

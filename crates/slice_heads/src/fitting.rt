@@ -1,15 +1,15 @@
 //! Whether the class of each instance fits the places that refer to it.
 
 ghost use Rattle.std.specs.Prelude.{◌≡◌, map, Some};
-ghost use Rattle.ice_graphs.specs.Classes as classes;
-ghost use Rattle.ice_graphs.specs.Instances as graphs;
+ghost use Rattle.ice_encoding.specs.Classes as classes;
+ghost use Rattle.ice_encoding.specs.Instances as graphs;
 ghost use Rattle.graph_arena.specs.Seen.{view_instance};
 ghost use Rattle.slice_heads.specs.Seen.{view_reference, view_references};
 
 use crate::arena::Reference;
 use graph_arena::{Instance, class_of};
 use ice_types::Schema;
-use ice_values::SlicedType;
+use value_parts::SlicedType;
 
 /// The place of the first reference in the bytes whose class does not fit.
 pub(crate) fn misfit(schema: &Schema, instances: &[Instance], met: &[Reference]) -> Option<u64>

@@ -1,16 +1,16 @@
 //! The flags of a slice. (Ice manual, "Data Encoding for Class and Exception Types".)
 
 ghost use Rattle.std.specs.Prelude.{◌≡◌};
-ghost use Rattle.ice_graphs.specs.Exceptions as exceptions;
-ghost use Rattle.ice_graphs.specs.Flags.{flags_of, has_id, is_odd};
-ghost use Rattle.ice_graphs.specs.Flags as spec;
+ghost use Rattle.ice_encoding.specs.Exceptions as exceptions;
+ghost use Rattle.ice_encoding.specs.Flags.{flags_of, has_id, is_odd};
+ghost use Rattle.ice_encoding.specs.Flags as spec;
 ghost use Rattle.slice_heads.specs.Seen.{by_flag, view_before};
 ghost use Rattle.slice_heads.specs.Heads.{SeesFlags};
 ghost use Rattle.slice_heads.specs.Sorts.{may_begin};
 
 use crate::before::Before;
 use ice_prims::{Cursor, Fault, Kind};
-use ice_values::{Optionals, SlicedType};
+use value_parts::{Optionals, SlicedType};
 
 /// Whether the lowest bit of the flags is set, once those below it are shifted out.
 pub fn is_odd(flags: u8) -> bool

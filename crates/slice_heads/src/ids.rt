@@ -1,14 +1,14 @@
 //! The id of a slice. (Ice manual, "Data Encoding for Class and Exception Types" and "Compact Type IDs".)
 
 ghost use Rattle.std.specs.Prelude.{◌≡◌, OnOk};
-ghost use Rattle.ice_graphs.specs.Flags.{as_index, as_text};
-ghost use Rattle.ice_values.specs.declared.sliced_type.SlicedType.TheVariants as sorts;
+ghost use Rattle.ice_encoding.specs.Flags.{as_index, as_text};
+ghost use Rattle.value_parts.specs.declared.sliced_type.SlicedType.TheVariants as sorts;
 ghost use Rattle.slice_heads.specs.Heads.{FindsId, ReadsId, ReadsIdIn, TakesTypeId};
 
 use crate::arena::Arena;
 use ice_prims::{Cursor, Fault, Kind, ReadFault};
 use ice_types::is_numbered;
-use ice_values::{SliceId, SlicedType};
+use value_parts::{SliceId, SlicedType};
 
 /// The id of a slice with these flags.
 pub fn take_id<'a>(

@@ -4,7 +4,7 @@
 //!
 //! Forms, and why they are so:
 //!
-//! - It reads no member: so it stands beside what does (`value_reading`), and `instance_reading` over both.
+//! - It reads no member: so it stands beside what does (`ice_values`), and `instance_reading` over both.
 //! - The instances of an encapsulation are named by their places in the order in which they begin (`Arena`),
 //!   without slices until they end.
 #![tactic(auto)]

@@ -5,9 +5,9 @@ ghost use Rattle.slice_heads.specs.Seen.{view_references};
 
 use crate::arena::Reference;
 use ice_prims::{Cursor, Kind, ReadFault};
-use ice_values::{Met, RefPort};
 use std::alloc::Global;
 use std::marker::Model;
+use value_parts::{Met, RefPort};
 
 /// The references that were met in a slice that has a table.
 #[derive(Drop)]
@@ -17,7 +17,7 @@ pub struct InTable {
 
 impl Model for InTable {
     ghost use Rattle.std.specs.Prelude.{ℕ, List};
-    ghost use Rattle.ice_graphs.specs.References as refs;
+    ghost use Rattle.ice_encoding.specs.References as refs;
     ghost use Rattle.slice_heads.specs.Seen.{references_code, view_references};
 
     ghost Value = { List (refs.Reference ℕ) };
@@ -82,7 +82,7 @@ pub struct Untabled {
 
 impl Model for Untabled {
     ghost use Rattle.std.specs.Prelude.{ℕ, List, []};
-    ghost use Rattle.ice_graphs.specs.References as refs;
+    ghost use Rattle.ice_encoding.specs.References as refs;
     ghost use Rattle.slice_heads.specs.Seen.{references_code};
 
     ghost Value = { List (refs.Reference ℕ) };

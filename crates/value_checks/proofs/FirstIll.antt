@@ -4,9 +4,9 @@ use Rattle.std.specs.Prelude.{OnErr}
 use Rattle.std.proofs.lemmas.Bool.{false≢true}
 use Rattle.ice_types.specs.declared.declarations.Shape.{Shape}
 use Rattle.ice_types.specs.Tables.{Tables}
-use Rattle.ice_graphs.specs.OptionalMembers.{Members}
-use Rattle.ice_graphs.specs.Graph.{Graph}
-use Rattle.ice_graphs.specs.Typed.{AreMembers, RefersIn, OfType}
+use Rattle.ice_encoding.specs.OptionalMembers.{Members}
+use Rattle.ice_encoding.specs.Graph.{Graph}
+use Rattle.ice_encoding.specs.TypedGraph.{AreMembers, RefersIn, OfType}
 use Rattle.value_checks.specs.First.{IsFine, IsFirstInstance, IsFirstIll, IsPart, ComesBefore, IsWell}
 
 -- what holds anyway holds at a refusal

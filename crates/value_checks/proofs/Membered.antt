@@ -10,12 +10,12 @@ use Rattle.ice_types.specs.declared.schema.TheConstants.{MOST_DEPTH}
 use Rattle.ice_types.specs.Tables.{Tables}
 use Rattle.ice_encoding.specs.Tags.{rises}
 use Rattle.ice_encoding.specs.Typed.{EachOf, HasType, Refers}
-use Rattle.ice_graphs.specs.Optionals.{kind_tagged}
-use Rattle.ice_graphs.specs.Typed.{AreOptions}
+use Rattle.ice_encoding.specs.Optionals.{kind_tagged}
+use Rattle.ice_encoding.specs.TypedGraph.{AreOptions}
 use Rattle.graph_arena.specs.Seen.{view_present}
 use Rattle.graph_arena.specs.declared.value.Value.{Value}
 use Rattle.graph_arena.specs.View.{view, view_all}
-use Rattle.ice_values.specs.Shapes.{without_tag}
+use Rattle.value_parts.specs.Shapes.{without_tag}
 
 -- ---- lists from a place on
 

@@ -5,14 +5,14 @@ use Rattle.ice_types.specs.declared.declarations.ClassDecl.{ClassDecl}
 use Rattle.ice_types.specs.declared.declarations.Shape.{Shape}
 use Rattle.ice_types.specs.Tables.{Tables}
 use Rattle.ice_encoding.specs.Typed.{Refers}
-use Rattle.ice_graphs.specs.OptionalMembers.{Members}
-use Rattle.ice_graphs.specs.Classes.{own_members}
-use Rattle.ice_graphs.specs.Exceptions.{of_exceptions}
-use Rattle.ice_graphs.specs.Typed.{AreMembers, IsKnown}
-use Rattle.ice_graphs.proofs.Agreeing.{members_to, members_from}
-use Rattle.ice_values.specs.SlicedType.{rows_of}
-use Rattle.ice_values.specs.declared.sliced_type.SlicedType.{SlicedType}
-use Rattle.ice_values.specs.declared.sliced_type.SlicedType.TheVariants.{Class, Exception}
+use Rattle.ice_encoding.specs.OptionalMembers.{Members}
+use Rattle.ice_encoding.specs.Classes.{own_members}
+use Rattle.ice_encoding.specs.Exceptions.{of_exceptions}
+use Rattle.ice_encoding.specs.TypedGraph.{AreMembers, IsKnown}
+use Rattle.ice_encoding.proofs.Agreeing.{members_to, members_from}
+use Rattle.value_parts.specs.SlicedType.{rows_of}
+use Rattle.value_parts.specs.declared.sliced_type.SlicedType.{SlicedType}
+use Rattle.value_parts.specs.declared.sliced_type.SlicedType.TheVariants.{Class, Exception}
 
 there : (ds : List ClassDecl) (at : ℕ) → at < length ds → (d : ClassDecl) × (slice_get ds at ≡ Some d)
 there [] at lt = absurd (omega (arith, lt))

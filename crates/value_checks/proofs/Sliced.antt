@@ -8,19 +8,19 @@ use Rattle.ice_types.specs.Tables.{Tables, Finds, HasId, class_ids, compact_ids,
 use Rattle.ice_types.specs.CompactIds.{is_numbered, number_in, compact_text, ids_like, IsSliceId, IsKeptId}
 use Rattle.ice_types.proofs.SliceIds.{number_found, number_there}
 use Rattle.ice_encoding.specs.Typed.{Refers}
-use Rattle.ice_graphs.specs.Classes.{base_of, class_by_id, one_further, place_of}
-use Rattle.ice_graphs.specs.Exceptions.{as_class, of_exceptions}
-use Rattle.ice_graphs.specs.Graph.{Slice, known, unknown}
-use Rattle.ice_graphs.specs.Typed.{AreBases, IsInstance, IsKnown}
+use Rattle.ice_encoding.specs.Classes.{base_of, class_by_id, one_further, place_of}
+use Rattle.ice_encoding.specs.Exceptions.{as_class, of_exceptions}
+use Rattle.ice_encoding.specs.Graph.{Slice, known, unknown}
+use Rattle.ice_encoding.specs.TypedGraph.{AreBases, IsInstance, IsKnown}
 use Rattle.graph_arena.specs.declared.instance.Members.{Members}
 use Rattle.graph_arena.specs.declared.instance.Slice as seen
 use Rattle.graph_arena.specs.declared.instance.Slice.TheVariants.{Known}
 use Rattle.graph_arena.specs.Seen.{view_content, view_slices}
 use Rattle.graph_laws.proofs.ClassIds.{plain_named}
-use Rattle.ice_values.proofs.RowsNamed.{at_none, none_at, same_ids}
-use Rattle.ice_values.specs.SlicedType.{rows_of}
-use Rattle.ice_values.specs.declared.sliced_type.SlicedType.{SlicedType}
-use Rattle.ice_values.specs.declared.sliced_type.SlicedType.TheVariants.{Class, Exception}
+use Rattle.value_parts.proofs.RowsNamed.{at_none, none_at, same_ids}
+use Rattle.value_parts.specs.SlicedType.{rows_of}
+use Rattle.value_parts.specs.declared.sliced_type.SlicedType.{SlicedType}
+use Rattle.value_parts.specs.declared.sliced_type.SlicedType.TheVariants.{Class, Exception}
 use Rattle.value_checks.specs.First.{AreSlices}
 
 -- ---- an id that the schema lacks

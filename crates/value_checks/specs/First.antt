@@ -3,11 +3,11 @@ use Rattle.std.specs.Prelude.{ℕ, ◌<◌, ◌≡◌, ◌⊎◌, Bool, true, fa
 use Rattle.ice_types.specs.declared.declarations.Shape.{Shape}
 use Rattle.ice_types.specs.Tables.{Tables}
 use Rattle.ice_encoding.specs.Typed.{Refers}
-use Rattle.ice_graphs.specs.Classes.{base_of}
-use Rattle.ice_graphs.specs.Graph.{Graph, Slice, known, unknown}
-use Rattle.ice_graphs.specs.Instances.{slices_of}
-use Rattle.ice_graphs.specs.Typed.{AreBases, AreMembers, IsInstance, IsUnknown, IsKnown, RefersIn}
-use Rattle.ice_graphs.specs.Visiting.{order, place}
+use Rattle.ice_encoding.specs.Classes.{base_of}
+use Rattle.ice_encoding.specs.Graph.{Graph, Slice, known, unknown}
+use Rattle.ice_encoding.specs.Instances.{slices_of}
+use Rattle.ice_encoding.specs.TypedGraph.{AreBases, AreMembers, IsInstance, IsUnknown, IsKnown, RefersIn}
+use Rattle.ice_encoding.specs.Visiting.{order, place}
 
 -- the one is listed before the other, or neither is listed and the one is less
 abbrev pub IsEarlier : List ℕ → ℕ → ℕ → Type 0

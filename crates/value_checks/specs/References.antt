@@ -3,7 +3,7 @@ use Rattle.std.specs.Prelude.{ℕ, Option}
 use Rattle.ice_types.specs.Tables.{Tables}
 use Rattle.ice_encoding.specs.declared.limits.TheConstants.{GREATEST, LARGEST}
 use Rattle.ice_encoding.specs.Typed.{Refers}
-use Rattle.ice_graphs.specs.Typed.{IsHeldIn}
+use Rattle.ice_encoding.specs.TypedGraph.{IsHeldIn}
 use Rattle.value_checks.specs.declared.references.References.{References}
 use Rattle.value_checks.specs.declared.references.References.TheVariants.{No, Any, Into}
 

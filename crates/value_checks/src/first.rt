@@ -1,18 +1,18 @@
 //! The first part of a graph that is not of its type. (Ice manual, "Classes".)
 
 ghost use Rattle.std.specs.Prelude.{◌≡◌, ◌<◌, ◌↔◌, IfOk, IfSome, None, OnErr, length};
-ghost use Rattle.ice_graphs.specs.Typed.{AreMembers, OfType, RefersIn};
+ghost use Rattle.ice_encoding.specs.TypedGraph.{AreMembers, OfType, RefersIn};
 ghost use Rattle.graph_arena.specs.Arena.{AreBelow};
 ghost use Rattle.graph_arena.specs.Listing.{Marks};
-ghost use Rattle.ice_values.specs.Shapes.{shape_seen};
+ghost use Rattle.value_parts.specs.Shapes.{shape_seen};
 ghost use Rattle.value_checks.specs.First.{AreMarkedFine, IsFirstIll, IsFirstInstance, IsFirstOf, IsLeast};
 
 use crate::instances::is_fine;
 use crate::members::are_members;
 use graph_arena::Graph;
 use ice_types::Schema;
-use ice_values::DeclaredMembers;
 use std::alloc::{AllocError, Global};
+use value_parts::DeclaredMembers;
 
 /// The first part of a graph that is not of its type: the roots, which are None, of these members; then
 /// the instances that they lead to, in the order of their first visits; then the others, by rising place.

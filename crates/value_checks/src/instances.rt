@@ -4,19 +4,19 @@
 ghost use Rattle.std.specs.Prelude.{◌≡◌, ◌<◌, ◌↔◌, IsTrue, None, length};
 ghost use Rattle.ice_types.specs.CompactIds.{IsSliceId};
 ghost use Rattle.ice_prims.specs.Rest.{IsBytes};
-ghost use Rattle.ice_graphs.specs.Classes as classes;
-ghost use Rattle.ice_graphs.specs.Exceptions.{of_exceptions};
-ghost use Rattle.ice_graphs.specs.Typed.{AreBases, AreReferred, IsInstance, IsKnown, RefersIn};
-ghost use Rattle.ice_graphs.specs.UserExceptionTyped.{HasTypeId, HaveTypeIds};
+ghost use Rattle.ice_encoding.specs.Classes as classes;
+ghost use Rattle.ice_encoding.specs.Exceptions.{of_exceptions};
+ghost use Rattle.ice_encoding.specs.TypedGraph.{AreBases, AreReferred, IsInstance, IsKnown, RefersIn};
+ghost use Rattle.ice_encoding.specs.UserExceptionTyped.{HasTypeId, HaveTypeIds};
 ghost use Rattle.graph_arena.specs.Seen.{view_content, view_slice, view_slices};
-ghost use Rattle.ice_values.specs.SlicedType.{rows_of};
+ghost use Rattle.value_parts.specs.SlicedType.{rows_of};
 ghost use Rattle.value_checks.specs.First.{AreSlices, IsFine, IsUnknownSlice, IsSlice};
 
 use crate::members::are_members;
 use crate::references::References;
 use graph_arena::{Graph, Members, Slice};
 use ice_types::{Name, Schema, is_numbered, number_in};
-use ice_values::SlicedType;
+use value_parts::SlicedType;
 
 /// Whether they are the slices of a user exception whose references stand for instances of the graph: kept
 /// ones and then those of an exception of the schema and of all its bases, in order, or unknown ones alone, and

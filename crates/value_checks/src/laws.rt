@@ -7,8 +7,8 @@ ghost use Rattle.ice_types.specs.Tables.{Tables};
 ghost use Rattle.ice_types.specs.Fits.{IsOf};
 ghost use Rattle.ice_types.specs.Rules.{IsSchema};
 ghost use Rattle.ice_encoding.specs.Typed.{HasType};
-ghost use Rattle.ice_graphs.specs.Graph.{Slice};
-ghost use Rattle.ice_graphs.specs.Typed.{RefersIn};
+ghost use Rattle.ice_encoding.specs.Graph.{Slice};
+ghost use Rattle.ice_encoding.specs.TypedGraph.{RefersIn};
 ghost use Rattle.value_checks.specs.References.{AnyRefers};
 ghost use Rattle.value_checks.specs.Zeros.{zero_of};
 

@@ -6,18 +6,18 @@ ghost use Rattle.ice_types.specs.declared.kind.TypeRef.{TypeRef};
 ghost use Rattle.ice_types.specs.declared.schema.TheConstants.{MOST_DEPTH};
 ghost use Rattle.ice_encoding.specs.Tags as tags;
 ghost use Rattle.ice_encoding.specs.Typed.{EachOf, HasType};
-ghost use Rattle.ice_graphs.specs.Optionals as optionals;
-ghost use Rattle.ice_graphs.specs.Typed.{AreMembers, AreOptions, RefersIn};
+ghost use Rattle.ice_encoding.specs.Optionals as optionals;
+ghost use Rattle.ice_encoding.specs.TypedGraph.{AreMembers, AreOptions, RefersIn};
 ghost use Rattle.graph_arena.specs.View.{view, view_all};
 ghost use Rattle.graph_arena.specs.Seen.{view_content, view_present};
-ghost use Rattle.ice_values.specs.Shapes.{shape_seen, with_tag, without_tag};
+ghost use Rattle.value_parts.specs.Shapes.{shape_seen, with_tag, without_tag};
 
 use crate::proxies::is_size;
 use crate::references::References;
 use crate::values::is_of;
 use graph_arena::{Graph, Members, Value};
 use ice_types::{MOST_DEPTH, Member, Schema, TypeRef};
-use ice_values::{DeclaredMembers, kind_tagged};
+use value_parts::{DeclaredMembers, kind_tagged};
 
 /// Whether they are the values of these members, each reference to an instance of the graph that fits.
 pub(crate) fn are_members(

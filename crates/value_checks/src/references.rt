@@ -1,9 +1,9 @@
 //! Which references may stand in a value.
 
 ghost use Rattle.std.specs.Prelude.{◌≡◌, ◌<◌, ◌^◌, ◌↔◌, IsTrue, true};
-ghost use Rattle.ice_graphs.specs.Classes as classes;
-ghost use Rattle.ice_graphs.specs.Instances as graphs;
-ghost use Rattle.ice_graphs.specs.Typed.{IsHeldIn};
+ghost use Rattle.ice_encoding.specs.Classes as classes;
+ghost use Rattle.ice_encoding.specs.Instances as graphs;
+ghost use Rattle.ice_encoding.specs.TypedGraph.{IsHeldIn};
 ghost use Rattle.value_checks.specs.References.{IsHeldBy, most_of};
 
 use graph_arena::{Graph, class_of};

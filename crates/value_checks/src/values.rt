@@ -15,7 +15,7 @@ use crate::proxies::{is_proxy, is_size, is_text};
 use crate::references::References;
 use graph_arena::{Value, is_rising};
 use ice_types::{MOST_DEPTH, Member, Proxy, Schema, TypeRef};
-use ice_values::has_number;
+use value_parts::has_number;
 
 /// Whether a value is of the type, by its form: each size is at most the greatest int, the keys of each
 /// dictionary rise, each enumerator is one of its enum, and each proxy can be written. Any reference may

@@ -12,9 +12,9 @@ use Rattle.graph_arena.specs.declared.value.Value.TheVariants as variants
 use Rattle.graph_arena.specs.View.{view, view_all, view_pairs}
 use Rattle.graph_arena.proofs.Shapes.{view_seq, view_dict}
 use Rattle.graph_arena.proofs.Shapes.{count_all, count_pairs}
-use Rattle.ice_values.specs.declared.paused.Step.{Step}
-use Rattle.ice_values.specs.declared.paused.Step.TheVariants as steps
-use Rattle.ice_values.specs.Pauses.{LessOnStep}
+use Rattle.value_parts.specs.declared.paused.Step.{Step}
+use Rattle.value_parts.specs.declared.paused.Step.TheVariants as steps
+use Rattle.value_parts.specs.Pauses.{LessOnStep}
 use Rattle.value_writing.specs.Pauses.{StepsWriting}
 use Rattle.value_writing.specs.Putting.{InsideWritten, Written, onto, Waiting, Values, Pairs, level_written, left_written, level_fits, all_fit, level_size, tree_size, work_left}
 

@@ -13,10 +13,10 @@ use Rattle.ice_encoding.specs.Tree.{Tree, Trees, none, tree}
 use Rattle.ice_encoding.specs.Canonical.{HasSizes}
 use Rattle.ice_encoding.specs.Writing.{Piece, Writer, exactly, ◌>>◌, written, written_each}
 use Rattle.ice_encoding.specs.Pausing.{Put, written_in_place}
-use Rattle.ice_graphs.specs.Prefixes.{Prefix, no_length, own_size, as_size, as_int, prefix_of}
-use Rattle.ice_graphs.specs.Optionals.{Present, kind_tagged}
-use Rattle.ice_graphs.specs.OptionalMembers.{Members, with_optional, shape_of}
-use Rattle.ice_graphs.specs.Members.{framing, written_option, written_options}
+use Rattle.ice_encoding.specs.Prefixes.{Prefix, no_length, own_size, as_size, as_int, prefix_of}
+use Rattle.ice_encoding.specs.Optionals.{Present, kind_tagged}
+use Rattle.ice_encoding.specs.OptionalMembers.{Members, with_optional, shape_of}
+use Rattle.ice_encoding.specs.Members.{framing, written_option, written_options}
 use Rattle.value_writing.specs.Putting.{InsideWritten, Written, onto, Waiting, Values, left_written, all_fit}
 use Rattle.value_writing.proofs.Levels.{onto-then, onto-nothing, Grows-then, one-written, left-push}
 use Rattle.value_writing.specs.declared.ending.Ending.{Ending}

@@ -1,10 +1,10 @@
 -- What the calls that write answer where they pause, since an instance begins.
 use Rattle.std.specs.Prelude.{◌≡◌, Result, Ok, Err}
 use Rattle.std.specs.declared.alloc.AllocError.{AllocError}
-use Rattle.ice_values.specs.declared.paused.Paused.{Paused}
-use Rattle.ice_values.specs.declared.paused.Paused.TheVariants as pauses
-use Rattle.ice_values.specs.declared.paused.Step.{Step}
-use Rattle.ice_values.specs.declared.paused.Step.TheVariants as steps
+use Rattle.value_parts.specs.declared.paused.Paused.{Paused}
+use Rattle.value_parts.specs.declared.paused.Paused.TheVariants as pauses
+use Rattle.value_parts.specs.declared.paused.Step.{Step}
+use Rattle.value_parts.specs.declared.paused.Step.TheVariants as steps
 use Rattle.value_writing.specs.Putting.{InsideWritten, Written, onto}
 
 -- What was to be written has been; or it is what stands now, and then the instance that begins, and then what is now to be

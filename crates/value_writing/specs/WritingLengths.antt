@@ -3,7 +3,7 @@ use Rattle.std.specs.Prelude.{ℕ, ◌+◌, ◌≤◌, ◌^◌, List, [], ◌∷
 use Rattle.ice_encoding.specs.Parts.{size}
 use Rattle.ice_encoding.specs.Skipping.{count}
 use Rattle.ice_prims.specs.Bytes.{Grows}
-use Rattle.ice_graphs.specs.Prefixes.{Prefix, no_length, own_size, as_size, as_int}
+use Rattle.ice_encoding.specs.Prefixes.{Prefix, no_length, own_size, as_size, as_int}
 use Rattle.value_writing.specs.declared.length_place.LengthPlace.{LengthPlace}
 use Rattle.value_writing.specs.declared.length_place.LengthPlace.TheVariants as places
 

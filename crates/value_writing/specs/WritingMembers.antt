@@ -12,10 +12,10 @@ use Rattle.ice_encoding.specs.Tree.{Tree, none, tree, InEach}
 use Rattle.ice_encoding.specs.Canonical.{HasSize, HasSizes}
 use Rattle.ice_encoding.specs.Writing.{Piece, Writer}
 use Rattle.ice_encoding.specs.Pausing.{Put, written_in_place}
-use Rattle.ice_graphs.specs.Prefixes.{prefix_of}
-use Rattle.ice_graphs.specs.Optionals.{Present}
-use Rattle.ice_graphs.specs.OptionalMembers.{Members}
-use Rattle.ice_graphs.specs.Members.{written_options, written_slice_members, written_content}
+use Rattle.ice_encoding.specs.Prefixes.{prefix_of}
+use Rattle.ice_encoding.specs.Optionals.{Present}
+use Rattle.ice_encoding.specs.OptionalMembers.{Members}
+use Rattle.ice_encoding.specs.Members.{written_options, written_slice_members, written_content}
 use Rattle.graph_arena.specs.Seen.{view_present}
 use Rattle.value_writing.specs.Putting.{InsideWritten, Written, onto, Waiting, Values, lists, left_written, all_fit}
 use Rattle.value_writing.specs.declared.ending.Ending.{Ending}

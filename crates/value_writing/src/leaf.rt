@@ -7,10 +7,10 @@ ghost use Rattle.ice_encoding.specs.Canonical.{HasSize};
 ghost use Rattle.graph_arena.specs.View.{unboxed, view};
 ghost use Rattle.value_writing.specs.Leaves.{leaf_bytes};
 
+use encaps_optionals::write_proxy;
 use graph_arena::Value;
 use ice_prims::{put_bool, put_byte, put_int, put_long, put_short, put_size, put_str};
 use ice_types::Proxy;
-use proxy_bytes::write_proxy;
 use std::alloc::AllocError;
 
 /// Puts a value without parts at the end of the output, and nothing of any other value. Out of memory

@@ -4,13 +4,13 @@
 ghost use Rattle.std.specs.Prelude.{◌≡◌, ◌++◌, ◌≤◌, ◌+◌, ◌<◌, ◌^◌, length, take, drop, OnOk, OnErr, IfOk};
 ghost use Rattle.ice_encoding.specs.Parts.{size};
 ghost use Rattle.ice_encoding.specs.Skipping.{count};
-ghost use Rattle.ice_values.specs.Prefixes.{prefix_seen};
+ghost use Rattle.value_parts.specs.Prefixes.{prefix_seen};
 ghost use Rattle.value_writing.specs.WritingLengths.{held, length_at, with_length_at, MayBeRefused, Stands};
 
 use ice_prims::put_size;
 use ice_types::MOST_NUMBER;
-use ice_values::Prefix;
 use std::alloc::AllocError;
+use value_parts::Prefix;
 
 /// Where the length of a value is put, once the value is written.
 #[derive(Clone, Copy)]

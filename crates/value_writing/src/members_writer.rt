@@ -3,12 +3,12 @@
 ghost use Rattle.std.specs.Prelude.{◌≡◌, ◌++◌, ◌<◌, ◌≤◌, ◌^◌, List, ℕ, length, OnOk, OnErr, IfOk, [], ◌∷◌};
 ghost use Rattle.ice_prims.specs.Bytes.{Grows};
 ghost use Rattle.ice_encoding.specs.Pausing.{written_in_place};
-ghost use Rattle.ice_graphs.specs.OptionalMembers.{shape_of};
-ghost use Rattle.ice_graphs.specs.Optionals.{kind_tagged};
+ghost use Rattle.ice_encoding.specs.OptionalMembers.{shape_of};
+ghost use Rattle.ice_encoding.specs.Optionals.{kind_tagged};
 ghost use Rattle.graph_arena.specs.View.{view, view_all};
 ghost use Rattle.graph_arena.specs.Seen.{view_content, view_present};
 ghost use Rattle.value_writing.specs.Putting.{InsideWritten, Values, lists};
-ghost use Rattle.ice_values.specs.Pauses.{NarrowsOnPause};
+ghost use Rattle.value_parts.specs.Pauses.{NarrowsOnPause};
 ghost use Rattle.value_writing.specs.Pauses.{GoesOnWriting};
 ghost use Rattle.value_writing.specs.WritingLengths.{GoesOnFrom, IsBehind};
 ghost use Rattle.value_writing.specs.WritingMembers.{remaining, all_of, is_marked, marker, members_left, members_written};
@@ -23,9 +23,9 @@ use encaps_optionals::put_tag;
 use graph_arena::{Members, Value};
 use ice_prims::put_byte;
 use ice_types::{Member, Schema, TypeRef};
-use ice_values::{Paused, kind_tagged, prefix_of};
 use std::alloc::{AllocError, Global};
 use std::slice::from_ref;
+use value_parts::{Paused, kind_tagged, prefix_of};
 
 /// Members of a shape that are being written.
 #[derive(Drop)]

@@ -4,8 +4,8 @@ ghost use Rattle.value_writing.specs.Numbering.{number_put};
 
 use crate::put_port::PutPort;
 use ice_prims::put_size;
-use ice_values::Numbers;
 use std::alloc::AllocError;
+use value_parts::Numbers;
 
 /// Each reference is its number: 0 for null, else one more than the number. No instance begins.
 impl PutPort for Numbers {

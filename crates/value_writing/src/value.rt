@@ -9,8 +9,8 @@ ghost use Rattle.value_writing.specs.Putting.{InsideWritten, WritesValue};
 use crate::put_port::PutPort;
 use crate::writer::ValueWriter;
 use graph_arena::Value;
-use ice_values::Paused;
 use std::alloc::{AllocError, Global};
+use value_parts::Paused;
 
 /// Puts the value's bytes at the end of the output, at a port at which nothing begins. Out of memory
 /// leaves the output as it was, and the port anywhere on the way.

@@ -7,7 +7,7 @@ ghost use Rattle.ice_encoding.specs.Tree.{none, tree};
 ghost use Rattle.ice_encoding.specs.Writing.{written};
 ghost use Rattle.ice_encoding.specs.Pausing.{written_in_place};
 ghost use Rattle.graph_arena.specs.View.{view, view_all};
-ghost use Rattle.ice_values.specs.Pauses.{NarrowsOnPause, NarrowsOnStep, LessOnStep};
+ghost use Rattle.value_parts.specs.Pauses.{NarrowsOnPause, NarrowsOnStep, LessOnStep};
 ghost use Rattle.value_writing.specs.Pauses.{GoesOnWriting, StepsWriting};
 ghost use Rattle.value_writing.specs.Putting.{InsideWritten, Values, all_fit, left_written, lists, onto, tree_size};
 ghost use Rattle.value_writing.specs.Putting.{waiting, work_left};
@@ -18,8 +18,8 @@ use crate::put_port::PutPort;
 use graph_arena::Value;
 use ice_prims::put_size;
 use ice_types::List;
-use ice_values::{Paused, Step};
 use std::alloc::{AllocError, Global};
+use value_parts::{Paused, Step};
 
 /// What is left of a list of values or of pairs, or one value.
 #[derive(Clone, Copy)]

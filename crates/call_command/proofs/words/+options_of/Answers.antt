@@ -1,7 +1,7 @@
 use Rattle.std.proofs.Common.{◌≡◌, List, string_bytes, Some, None, sym, subst, ◌∙◌, codes, arith}
 use Rattle.node_commands.specs.Words.{Word, words_of}
 use Rattle.call_command.specs.Words.{Gathers, Takes, given_of}
-use Rattle.net_commands.proofs.Words.{rest_of, first_word, two_words, same_word, other_word}
+use Rattle.node_commands.proofs.NetWords.{rest_of, first_word, two_words, same_word, other_word}
 use Rattle.call_command.proofs.Giving.{compact_given, value_refused, value_given}
 use Rattle.call_command.proofs.words.+options_of.Goals as goal
 

@@ -2,7 +2,7 @@ use Rattle.std.proofs.Common.{◌≡◌, ◌+◌, length, List, ◌∷◌, strin
 use Rattle.std.proofs.lemmas.List.{take-map}
 use Rattle.node_commands.specs.Words.{Word, words_of}
 use Rattle.call_command.specs.Words.{Gathers, IsNamed, given_of, no_options}
-use Rattle.net_commands.proofs.Words.{rest_of, first_word, as_many, behind, no_other_word}
+use Rattle.node_commands.proofs.NetWords.{rest_of, first_word, as_many, behind, no_other_word}
 use Rattle.call_command.proofs.Wording.{asked, none_given, within_asked}
 use Rattle.call_command.proofs.words.call_of.Goals as goal
 

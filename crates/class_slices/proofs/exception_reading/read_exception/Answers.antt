@@ -1,7 +1,7 @@
 use Rattle.std.proofs.Common.{◌∙◌, Ok, sym, ap, subst}
-use Rattle.ice_graphs.specs.Flags.{all_slices}
-use Rattle.ice_graphs.specs.Graph.{Graph}
-use Rattle.ice_graphs.specs.UserExceptionTyped.{OfUserException}
+use Rattle.ice_encoding.specs.Flags.{all_slices}
+use Rattle.ice_encoding.specs.Graph.{Graph}
+use Rattle.ice_encoding.specs.UserExceptionTyped.{OfUserException}
 use Rattle.graph_arena.specs.Seen.{view_content, view_slices}
 use Rattle.instance_writing.specs.Writable.{user_exception_of}
 use Rattle.instance_reading.specs.Stacked.{view_user_exception as view_read}

@@ -1,4 +1,4 @@
-use Rattle.ice_graphs.specs.Flags.{all_slices}
+use Rattle.ice_encoding.specs.Flags.{all_slices}
 use Rattle.instance_reading.specs.Stacked.{view_user_exception}
 use Rattle.class_slices.proofs.Read.{taken}
 use Rattle.class_slices.proofs.exception_reading.take_content.Goals as goal

@@ -1,7 +1,7 @@
 use Rattle.std.proofs.Common.{List, subst}
-use Rattle.ice_graphs.specs.Exceptions.{of_exceptions}
-use Rattle.ice_graphs.specs.Typed.{IsInstance, RefersIn}
-use Rattle.ice_graphs.specs.UserExceptionTyped.{HaveTypeIds}
+use Rattle.ice_encoding.specs.Exceptions.{of_exceptions}
+use Rattle.ice_encoding.specs.TypedGraph.{IsInstance, RefersIn}
+use Rattle.ice_encoding.specs.UserExceptionTyped.{HaveTypeIds}
 use Rattle.graph_arena.specs.Seen.{view_slices}
 use Rattle.graph_arena.specs.declared.instance.Slice.{Slice}
 use Rattle.class_slices.specs.Seen.{view_user_exception}

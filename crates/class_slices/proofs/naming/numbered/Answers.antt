@@ -1,8 +1,8 @@
 use Rattle.std.proofs.Common.{◌≡◌, ℕ, ◌∙◌, List, drop, length, map, sym, ap, subst, arith}
 use Rattle.std.proofs.lemmas.List.{take_at}
 use Rattle.std.specs.List.{refill}
-use Rattle.ice_graphs.specs.Names.{renamed_slice}
-use Rattle.ice_graphs.specs.References.{entry_in}
+use Rattle.ice_encoding.specs.Names.{renamed_slice}
+use Rattle.ice_encoding.specs.References.{entry_in}
 use Rattle.graph_arena.specs.Arena.{AreBelow}
 use Rattle.graph_arena.specs.Seen.{view_slices}
 use Rattle.graph_arena.specs.declared.instance.Slice.{Slice}

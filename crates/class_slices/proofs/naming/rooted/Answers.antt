@@ -1,5 +1,5 @@
 use Rattle.std.proofs.Common.{◌∙◌, ◌++◌, length}
-use Rattle.ice_graphs.specs.Names.{instance_names}
+use Rattle.ice_encoding.specs.Names.{instance_names}
 use Rattle.graph_arena.specs.Seen.{view_slices}
 use Rattle.class_slices.specs.Seen.{view_user_exception}
 use Rattle.class_slices.proofs.Named.{roots-put}

@@ -1,9 +1,9 @@
 use Rattle.std.proofs.Common.{ap, sym, subst}
 use Rattle.ice_prims.specs.Rest.{Rest, IsBytes}
-use Rattle.ice_graphs.specs.Flags.{all_slices}
-use Rattle.ice_graphs.specs.Graph.{Graph}
-use Rattle.ice_graphs.specs.Typed.{OfType}
-use Rattle.ice_values.specs.Shapes.{shape_seen}
+use Rattle.ice_encoding.specs.Flags.{all_slices}
+use Rattle.ice_encoding.specs.Graph.{Graph}
+use Rattle.ice_encoding.specs.TypedGraph.{OfType}
+use Rattle.value_parts.specs.Shapes.{shape_seen}
 use Rattle.instance_reading.specs.Stacked.{view_graph}
 use Rattle.class_slices.proofs.Sound.{steps-typed}
 use Rattle.class_slices.proofs.reading.take_graph.Goals as goal

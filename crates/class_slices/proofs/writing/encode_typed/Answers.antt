@@ -1,6 +1,6 @@
 use Rattle.std.proofs.Common.{subst, sym}
-use Rattle.ice_graphs.specs.Graph.{Graph}
-use Rattle.ice_values.specs.Shapes.{shape_seen}
+use Rattle.ice_encoding.specs.Graph.{Graph}
+use Rattle.value_parts.specs.Shapes.{shape_seen}
 use Rattle.instance_writing.specs.Formats.{view_format}
 use Rattle.instance_writing.specs.Writable.{GraphCanBeWritten}
 use Rattle.class_slices.specs.Enclosing.{Closes}

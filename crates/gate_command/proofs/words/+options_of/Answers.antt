@@ -1,6 +1,6 @@
 use Rattle.std.proofs.Common.{List, string_bytes, Some, None, sym, subst, arith}
 use Rattle.node_commands.specs.Words.{Word, words_of}
-use Rattle.net_commands.proofs.Words.{rest_of, two_words}
+use Rattle.node_commands.proofs.NetWords.{rest_of, two_words}
 use Rattle.gate_command.specs.Words.{Gathers, Takes}
 use Rattle.gate_command.proofs.Giving.{value_given, value_refused}
 use Rattle.gate_command.proofs.words.+options_of.Goals as goal

@@ -1,8 +1,8 @@
 use Rattle.std.proofs.Common.{◌≡◌, ◌+◌, length, List, ◌∷◌, string_bytes, None, sym, ap, subst, ◌∙◌, codes, arith}
 use Rattle.std.proofs.lemmas.List.{take-map}
 use Rattle.node_commands.specs.Words.{Word, words_of}
-use Rattle.net_commands.proofs.Words.{rest_of, first_word, as_many, behind, no_other_word}
-use Rattle.net_commands.specs.Once.{Exactly}
+use Rattle.node_commands.proofs.NetWords.{rest_of, first_word, as_many, behind, no_other_word}
+use Rattle.node_commands.specs.Once.{Exactly}
 use Rattle.gate_command.specs.Words.{Gathers, Gives, IsNamed, asked_of, no_options}
 use Rattle.gate_command.proofs.Forming.{asked, none_given, within_asked}
 use Rattle.gate_command.proofs.words.gate_of.Goals as goal

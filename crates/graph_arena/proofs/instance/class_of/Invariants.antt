@@ -1,5 +1,5 @@
 use Rattle.std.proofs.Common.{◌≡◌, drop}
-use Rattle.ice_graphs.specs.Instances.{class_of}
+use Rattle.ice_encoding.specs.Instances.{class_of}
 use Rattle.graph_arena.specs.Seen.{view_slices}
 use Rattle.graph_arena.proofs.instance.class_of.Given as goal
 

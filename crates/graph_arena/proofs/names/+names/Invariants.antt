@@ -1,5 +1,5 @@
 use Rattle.std.proofs.Common.{◌≡◌, ◌++◌, drop}
-use Rattle.ice_graphs.specs.Names.{names_each, names_pairs}
+use Rattle.ice_encoding.specs.Names.{names_each, names_pairs}
 use Rattle.graph_arena.specs.View.{view_all, view_pairs}
 use Rattle.graph_arena.proofs.names.+names.Given as goal
 

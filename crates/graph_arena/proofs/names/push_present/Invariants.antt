@@ -1,5 +1,5 @@
 use Rattle.std.proofs.Common.{◌≡◌, ◌++◌, drop}
-use Rattle.ice_graphs.specs.Names.{names_present}
+use Rattle.ice_encoding.specs.Names.{names_present}
 use Rattle.graph_arena.specs.Seen.{view_present}
 use Rattle.graph_arena.proofs.names.push_present.Given as goal
 

@@ -1,5 +1,5 @@
 use Rattle.std.proofs.Common.{◌≡◌, ◌++◌, drop}
-use Rattle.ice_graphs.specs.Names.{instance_names}
+use Rattle.ice_encoding.specs.Names.{instance_names}
 use Rattle.graph_arena.specs.Seen.{view_slices}
 use Rattle.graph_arena.proofs.names.push_slices.Given as goal
 

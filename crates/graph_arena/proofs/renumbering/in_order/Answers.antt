@@ -1,9 +1,9 @@
 use Rattle.std.proofs.Common.{◌≡◌, ◌∙◌, ap, drop, length, map, slice_index_or}
 use Rattle.std.specs.List.{refill}
 use Rattle.std.proofs.lemmas.List.{take_at}
-use Rattle.ice_graphs.specs.Instances.{slices_of}
-use Rattle.ice_graphs.specs.Names.{renamed_slice}
-use Rattle.ice_graphs.specs.References.{entry_in}
+use Rattle.ice_encoding.specs.Instances.{slices_of}
+use Rattle.ice_encoding.specs.Names.{renamed_slice}
+use Rattle.ice_encoding.specs.References.{entry_in}
 use Rattle.graph_arena.specs.Seen.{view_instance, view_slices}
 use Rattle.graph_arena.proofs.Taking.{found, left-first, left-next, taken-first, taken-next}
 use Rattle.graph_arena.proofs.renumbering.in_order.Goals as goal

@@ -1,7 +1,7 @@
 use Rattle.std.proofs.Common.{◌≡◌, ◌++◌, drop, map}
-use Rattle.ice_graphs.specs.Instances.{slices_of}
-use Rattle.ice_graphs.specs.Names.{renamed_slice}
-use Rattle.ice_graphs.specs.References.{entry_in}
+use Rattle.ice_encoding.specs.Instances.{slices_of}
+use Rattle.ice_encoding.specs.Names.{renamed_slice}
+use Rattle.ice_encoding.specs.References.{entry_in}
 use Rattle.graph_arena.specs.Seen.{view_instance}
 use Rattle.graph_arena.proofs.Taking.{AreLeft}
 use Rattle.graph_arena.proofs.renumbering.in_order.Given as goal

@@ -1,5 +1,5 @@
 use Rattle.std.proofs.Common.{◌≡◌, map}
-use Rattle.ice_graphs.specs.References.{entry_in}
+use Rattle.ice_encoding.specs.References.{entry_in}
 use Rattle.graph_arena.specs.Seen.{view_slice}
 use Rattle.graph_arena.proofs.Renaming.{slice_renamed, so_far}
 use Rattle.graph_arena.proofs.renumbering.resolve_slices.Given as goal

@@ -1,6 +1,6 @@
 use Rattle.std.proofs.Common.{List, arith, rules, sym, ap, ◌∙◌}
-use Rattle.ice_graphs.specs.Names.{renamed, renamed_each, renamed_pairs}
-use Rattle.ice_graphs.specs.References.{entry_in}
+use Rattle.ice_encoding.specs.Names.{renamed, renamed_each, renamed_pairs}
+use Rattle.ice_encoding.specs.References.{entry_in}
 use Rattle.graph_arena.specs.declared.value.Value.{Value}
 use Rattle.graph_arena.specs.View.{view, view_all, view_pairs}
 use Rattle.graph_arena.proofs.ByteTrees.{bytes_renamed}

@@ -1,5 +1,5 @@
 use Rattle.std.proofs.Common.{◌≡◌, map}
-use Rattle.ice_graphs.specs.References.{entry_in}
+use Rattle.ice_encoding.specs.References.{entry_in}
 use Rattle.graph_arena.proofs.Renaming.{itself, so_far}
 use Rattle.graph_arena.proofs.resolving.resolve_names.Given as goal
 

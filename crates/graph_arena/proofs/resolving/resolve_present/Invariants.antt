@@ -1,5 +1,5 @@
 use Rattle.std.proofs.Common.{◌≡◌, map}
-use Rattle.ice_graphs.specs.References.{entry_in}
+use Rattle.ice_encoding.specs.References.{entry_in}
 use Rattle.graph_arena.specs.Seen.{view_option}
 use Rattle.graph_arena.proofs.Renaming.{renamed_option, so_far}
 use Rattle.graph_arena.proofs.resolving.resolve_present.Given as goal

@@ -1,5 +1,5 @@
 use Rattle.serde_json.specs.View.{view as json_view}
-use Rattle.ice_values.specs.Shapes.{shape_seen}
+use Rattle.value_parts.specs.Shapes.{shape_seen}
 use Rattle.graph_json.proofs.ContentWalking.{content_is, content_is_not}
 use Rattle.graph_json.proofs.content_read.content_of.Goals as goal
 

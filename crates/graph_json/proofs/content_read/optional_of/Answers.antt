@@ -2,7 +2,7 @@ use Rattle.std.proofs.Common.{◌≡◌, ◌+◌, [], drop, ap, ◌∙◌}
 use Rattle.serde_json.specs.View.{view as json_view, members_view}
 use Rattle.graph_arena.specs.View.{view}
 use Rattle.graph_arena.specs.Seen.{view_present}
-use Rattle.ice_values.specs.Shapes.{with_tag}
+use Rattle.value_parts.specs.Shapes.{with_tag}
 use Rattle.graph_json.specs.ReadingValues.{noted_value}
 use Rattle.graph_json.specs.Contents.{put_at, options_of}
 use Rattle.graph_json.proofs.WalkingValues.{some_is, member_left}

@@ -1,7 +1,7 @@
 use Rattle.std.proofs.Common.{◌≡◌, [], drop}
 use Rattle.serde_json.specs.View.{members_view}
 use Rattle.graph_arena.specs.Seen.{view_present}
-use Rattle.ice_values.specs.Shapes.{with_tag}
+use Rattle.value_parts.specs.Shapes.{with_tag}
 use Rattle.graph_json.specs.ReadingValues.{noted_value}
 use Rattle.graph_json.specs.Contents.{options_of}
 use Rattle.graph_json.proofs.content_read.optional_of.Given as goal

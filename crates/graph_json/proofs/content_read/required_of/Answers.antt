@@ -3,7 +3,7 @@ use Rattle.std.proofs.lemmas.List.{map_push}
 use Rattle.serde_json.specs.View.{members_view}
 use Rattle.ice_encoding.specs.Tree.{none, tree}
 use Rattle.graph_arena.specs.View.{view, view_all}
-use Rattle.ice_values.specs.Shapes.{without_tag}
+use Rattle.value_parts.specs.Shapes.{without_tag}
 use Rattle.graph_json.specs.ReadingValues.{members_of, noted_value}
 use Rattle.graph_json.proofs.WalkingValues.{join, trees-push, some_is, member_left, no_member_left}
 use Rattle.graph_json.proofs.ContentWalking.{required_goes_on, required_done}

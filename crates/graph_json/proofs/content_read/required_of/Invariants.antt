@@ -1,7 +1,7 @@
 use Rattle.std.proofs.Common.{◌≡◌, drop, option_map}
 use Rattle.serde_json.specs.View.{members_view}
 use Rattle.graph_arena.specs.View.{view_all}
-use Rattle.ice_values.specs.Shapes.{without_tag}
+use Rattle.value_parts.specs.Shapes.{without_tag}
 use Rattle.graph_json.specs.ReadingValues.{members_of, noted_value}
 use Rattle.graph_json.proofs.WalkingValues.{join}
 use Rattle.graph_json.proofs.content_read.required_of.Given as goal

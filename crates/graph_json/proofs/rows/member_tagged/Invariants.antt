@@ -1,5 +1,5 @@
 use Rattle.std.proofs.Common.{◌≡◌, drop}
-use Rattle.ice_values.specs.Shapes.{with_tag}
+use Rattle.value_parts.specs.Shapes.{with_tag}
 use Rattle.graph_json.specs.Contents.{member_tagged}
 use Rattle.graph_json.proofs.rows.member_tagged.Given as goal
 

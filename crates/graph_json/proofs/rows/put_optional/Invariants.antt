@@ -1,7 +1,7 @@
 use Rattle.std.proofs.Common.{◌≡◌, drop}
 use Rattle.ice_types.specs.declared.kind.TypeRef.{TypeRef}
 use Rattle.graph_arena.specs.Seen.{view_present}
-use Rattle.ice_values.specs.Shapes.{with_tag}
+use Rattle.value_parts.specs.Shapes.{with_tag}
 use Rattle.graph_json.specs.CanonicalValues.{Write}
 use Rattle.graph_json.specs.Contents.{options_noted}
 use Rattle.graph_json.specs.Printing.{row_noted}

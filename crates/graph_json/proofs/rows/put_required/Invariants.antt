@@ -1,7 +1,7 @@
 use Rattle.std.proofs.Common.{◌≡◌, drop}
 use Rattle.ice_types.specs.declared.kind.TypeRef.{TypeRef}
 use Rattle.graph_arena.specs.View.{view_all}
-use Rattle.ice_values.specs.Shapes.{without_tag}
+use Rattle.value_parts.specs.Shapes.{without_tag}
 use Rattle.graph_json.specs.CanonicalValues.{Write, members_noted}
 use Rattle.graph_json.specs.Printing.{row_noted}
 use Rattle.graph_json.proofs.rows.put_required.Given as goal

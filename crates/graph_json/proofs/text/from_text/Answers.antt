@@ -1,4 +1,4 @@
-use Rattle.ice_values.specs.Shapes.{shape_seen}
+use Rattle.value_parts.specs.Shapes.{shape_seen}
 use Rattle.graph_json.proofs.Texts.{parsed_misfit, parsed_notes}
 use Rattle.graph_json.proofs.text.from_text.Goals as goal
 

@@ -1,8 +1,8 @@
 use Rattle.std.proofs.Common.{subst, sym, ◌∙◌}
 use Rattle.std.proofs.lemmas.Option.{none-some}
 use Rattle.serde_json.specs.View.{view as json_view}
-use Rattle.ice_graphs.specs.Typed.{OfType}
-use Rattle.ice_values.specs.Shapes.{shape_seen}
+use Rattle.ice_encoding.specs.TypedGraph.{OfType}
+use Rattle.value_parts.specs.Shapes.{shape_seen}
 use Rattle.graph_json.proofs.WalkingValues.{some_is}
 use Rattle.graph_json.specs.Listed.{Names, view_listed}
 use Rattle.graph_json.proofs.Sound.{can_be_named}

@@ -1,6 +1,6 @@
 use Rattle.std.proofs.Common.{◌≡◌, [], ◌++◌, rules}
 use Rattle.std.specs.Prelude.{string_bytes}
-use Rattle.ice_values.specs.Shapes.{shape_seen}
+use Rattle.value_parts.specs.Shapes.{shape_seen}
 use Rattle.json.specs.Print.{print}
 use Rattle.graph_json.specs.Canonical.{graph_noted}
 use Rattle.graph_json.proofs.Printing.{text_printed}

@@ -1,4 +1,4 @@
-use Rattle.ice_values.specs.Shapes.{shape_seen}
+use Rattle.value_parts.specs.Shapes.{shape_seen}
 use Rattle.graph_json.proofs.Texts.{text_is, text_reads}
 use Rattle.graph_json.proofs.text.to_text.Goals as goal
 

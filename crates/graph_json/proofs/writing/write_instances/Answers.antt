@@ -1,7 +1,7 @@
 use Rattle.std.proofs.Common.{[], refl, ap, ◌∙◌, subst, arith}
 use Rattle.graph_arena.specs.Seen.{view_slices}
-use Rattle.ice_graphs.specs.Graph as graphs
-use Rattle.ice_graphs.specs.Instances.{slices_of}
+use Rattle.ice_encoding.specs.Graph as graphs
+use Rattle.ice_encoding.specs.Instances.{slices_of}
 use Rattle.std.specs.Prelude.{List}
 use Rattle.graph_json.specs.Canonical.{instance_noted, items_noted}
 use Rattle.graph_json.specs.Printing.{Prints}

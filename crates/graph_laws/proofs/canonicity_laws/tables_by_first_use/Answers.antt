@@ -1,6 +1,6 @@
 use Rattle.std.proofs.Common.{ℕ, List, [], sym, subst}
-use Rattle.ice_graphs.specs.Names.{names_of}
-use Rattle.ice_graphs.specs.Canonical.{each_once}
+use Rattle.ice_encoding.specs.Names.{names_of}
+use Rattle.ice_encoding.specs.CanonicalGraph.{each_once}
 use Rattle.graph_laws.specs.FirstUse.{IsByFirstUse}
 use Rattle.graph_laws.proofs.FirstUse.{one_table, once_by_first_use}
 use Rattle.graph_laws.proofs.canonicity_laws.tables_by_first_use.Goals as goal

@@ -1,6 +1,6 @@
 use Rattle.std.proofs.Common.{pos, []}
 use Rattle.std.proofs.lemmas.Result.{err_from_is_err_and}
-use Rattle.proxy_bytes.specs.Usable.{tcp_at}
+use Rattle.encaps_optionals.specs.Usable.{tcp_at}
 use Rattle.ice_messages.specs.declared.message.Message.TheVariants.{Request}
 use Rattle.ice_client.proofs.Delivering.{no_place, some_place}
 use Rattle.ice_gateway.specs.Gate.{operation_seen, seen}

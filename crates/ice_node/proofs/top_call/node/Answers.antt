@@ -3,7 +3,7 @@ use Rattle.node_commands.specs.Words.{words_of}
 use Rattle.call_command.specs.Words.{seen}
 use Rattle.gate_command.specs.Words as gates
 use Rattle.serve_command.specs.declared.words.ServeCommand.{ServeCommand}
-use Rattle.net_commands.specs.Once.{Exactly}
+use Rattle.node_commands.specs.Once.{Exactly}
 use Rattle.serve_command.specs.Words.{ServeForm, asked_of, command_of}
 use Rattle.ice_node.proofs.Ending.{of_call, of_gate, of_serve, of_stay, of_want}
 use Rattle.ice_node.proofs.top_call.node.Goals as goal

@@ -1,5 +1,5 @@
 use Rattle.ice_relay.proofs.Relayed.{spelled_read, encodes_same}
-use Rattle.ice_values.specs.Shapes.{shape_seen}
+use Rattle.value_parts.specs.Shapes.{shape_seen}
 use Rattle.ice_relay.proofs.telling.relayed.Goals as goal
 
 pub read-requires : goal.read-requires

@@ -2,8 +2,8 @@ use Rattle.std.proofs.Common.{ap, sym, ◌∙◌, length}
 use Rattle.std.proofs.lemmas.Bool.Decides.{Decides-eqb}
 use Rattle.std.proofs.lemmas.Slice.Eq.{slice_eq-Decides}
 use Rattle.std.proofs.lemmas.Result.{err_from_is_err_and}
-use Rattle.ice_graphs.specs.Canonical.{compact, sliced}
-use Rattle.ice_values.specs.Shapes.{shape_seen}
+use Rattle.ice_encoding.specs.CanonicalGraph.{compact, sliced}
+use Rattle.value_parts.specs.Shapes.{shape_seen}
 use Rattle.ice_relay.proofs.Relayed.{encoded_spells, sliced_fails, tells}
 use Rattle.ice_relay.proofs.telling.tell.Goals as goal
 

@@ -1,5 +1,5 @@
 use Rattle.std.proofs.Common.{Ok, sym, ◌∙◌}
-use Rattle.ice_values.specs.Shapes.{shape_seen}
+use Rattle.value_parts.specs.Shapes.{shape_seen}
 use Rattle.graph_arena.specs.Seen.{view_content}
 use Rattle.instance_reading.proofs.Wholes.{graph_fits, graph_misfits, graph_refused}
 use Rattle.instance_reading.proofs.decoder.read_content.Goals as goal

@@ -1,4 +1,4 @@
-use Rattle.ice_values.specs.Shapes.{handed}
+use Rattle.value_parts.specs.Shapes.{handed}
 use Rattle.instance_reading.proofs.Wholes.{content-fresh}
 use Rattle.instance_reading.proofs.decoder.read_roots.Goals as goal
 

@@ -1,8 +1,8 @@
 use Rattle.std.proofs.Common.{◌≡◌}
-use Rattle.ice_graphs.specs.Instances.{most_instances}
-use Rattle.ice_graphs.specs.References.{inline_at}
-use Rattle.ice_values.specs.Shapes.{handed}
-use Rattle.value_reading.specs.Unread.{left_of_members}
+use Rattle.ice_encoding.specs.Instances.{most_instances}
+use Rattle.ice_encoding.specs.References.{inline_at}
+use Rattle.value_parts.specs.Shapes.{handed}
+use Rattle.ice_values.specs.Unread.{left_of_members}
 use Rattle.instance_reading.specs.Stacked.{instance_within}
 use Rattle.instance_reading.specs.Unfinished.{room}
 use Rattle.instance_reading.proofs.decoder.read_through.Given as goal

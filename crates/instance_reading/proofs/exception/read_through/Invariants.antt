@@ -1,6 +1,6 @@
 use Rattle.std.proofs.Common.{◌≡◌}
-use Rattle.ice_graphs.specs.Instances.{most_instances}
-use Rattle.ice_values.specs.declared.sliced_type.SlicedType.TheVariants as sorts
+use Rattle.ice_encoding.specs.Instances.{most_instances}
+use Rattle.value_parts.specs.declared.sliced_type.SlicedType.TheVariants as sorts
 use Rattle.instance_reading.specs.Stacked.{instance_within}
 use Rattle.instance_reading.specs.Unfinished.{left_slices, room}
 use Rattle.instance_reading.proofs.exception.read_through.Given as goal

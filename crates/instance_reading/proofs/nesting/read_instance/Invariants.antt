@@ -1,5 +1,5 @@
 use Rattle.std.proofs.Common.{◌≡◌, ◌≤◌}
-use Rattle.ice_graphs.specs.Instances.{most_instances}
+use Rattle.ice_encoding.specs.Instances.{most_instances}
 use Rattle.instance_reading.specs.Stacked.{instance_within, is_within, stack_left, steps_left}
 use Rattle.instance_reading.specs.Unfinished.{room}
 use Rattle.instance_reading.proofs.nesting.read_instance.Given as goal

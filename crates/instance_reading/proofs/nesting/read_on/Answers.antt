@@ -1,5 +1,5 @@
 use Rattle.std.proofs.Common.{◌<◌, ◌++◌, ◌∷◌, [], ◌∙◌, List, length, length-append, ap, sym, arith}
-use Rattle.ice_graphs.specs.Instances.{most_instances}
+use Rattle.ice_encoding.specs.Instances.{most_instances}
 use Rattle.instance_reading.specs.declared.unfinished.Unfinished.{Unfinished}
 use Rattle.instance_reading.specs.Stacked.{stack_left}
 use Rattle.slice_heads.proofs.Arenas.{most_is}

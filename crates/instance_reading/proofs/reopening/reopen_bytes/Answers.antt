@@ -1,5 +1,5 @@
 use Rattle.std.proofs.Common.{Bool, sym, ap, ◌∙◌}
-use Rattle.ice_graphs.specs.Slices.{unknown_bytes}
+use Rattle.ice_encoding.specs.Slices.{unknown_bytes}
 use Rattle.instance_reading.proofs.Reopened.{whole_along}
 use Rattle.instance_reading.proofs.reopening.reopen_bytes.Goals as goal
 

@@ -1,5 +1,5 @@
 use Rattle.std.proofs.Common.{List, Ok, length, sym, ap, ◌∙◌}
-use Rattle.ice_graphs.specs.Graph.{known}
+use Rattle.ice_encoding.specs.Graph.{known}
 use Rattle.slice_heads.specs.Seen.{view_references}
 use Rattle.instance_reading.specs.Slices.{first_outside}
 use Rattle.slice_heads.specs.declared.arena.Reference.{Reference}

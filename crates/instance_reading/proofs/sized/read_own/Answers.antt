@@ -1,8 +1,8 @@
 use Rattle.std.proofs.Common.{ap, sym, ◌∙◌}
 use Rattle.ice_encoding.specs.Pausing.{in_place}
-use Rattle.ice_graphs.specs.Classes.{own_members}
-use Rattle.ice_values.specs.Shapes.{told_apart}
-use Rattle.ice_values.specs.SlicedType.{rows_of}
+use Rattle.ice_encoding.specs.Classes.{own_members}
+use Rattle.value_parts.specs.Shapes.{told_apart}
+use Rattle.value_parts.specs.SlicedType.{rows_of}
 use Rattle.instance_reading.proofs.Places.{flagged_along, reads_along, rows_read}
 use Rattle.instance_reading.proofs.sized.read_own.Goals as goal
 

@@ -1,6 +1,6 @@
 use Rattle.std.proofs.Common.{true, [], sym, ◌∙◌}
-use Rattle.ice_graphs.specs.Classes.{own_members}
-use Rattle.ice_values.specs.SlicedType.{rows_of}
+use Rattle.ice_encoding.specs.Classes.{own_members}
+use Rattle.value_parts.specs.SlicedType.{rows_of}
 use Rattle.instance_reading.proofs.Places.{nothing, members_read, fault_along}
 use Rattle.instance_reading.proofs.sized.read_tabled.Goals as goal
 

@@ -1,7 +1,7 @@
 use Rattle.std.proofs.Common.{◌≡◌, Ok, false, [], sym, ap, ◌∙◌}
-use Rattle.ice_graphs.specs.Classes.{own_members}
+use Rattle.ice_encoding.specs.Classes.{own_members}
 use Rattle.graph_arena.specs.Seen.{view_content}
-use Rattle.ice_values.specs.SlicedType.{rows_of}
+use Rattle.value_parts.specs.SlicedType.{rows_of}
 use Rattle.slice_heads.specs.Seen.{view_references}
 use Rattle.instance_reading.proofs.Places.{nothing, members_read, fault_along}
 use Rattle.instance_reading.proofs.sized.read_untabled.Goals as goal

@@ -3,7 +3,7 @@ use Rattle.ice_prims.specs.declared.fault.Fault.{Fault}
 use Rattle.ice_prims.specs.Number.{size_at}
 use Rattle.ice_prims.specs.Rest.{Rest, ◌>>=◌}
 use Rattle.ice_encoding.specs.Port.{Reader}
-use Rattle.ice_graphs.specs.References.{State, Reference, entries_at, table_at, within, resolved, with_met}
+use Rattle.ice_encoding.specs.References.{State, Reference, entries_at, table_at, within, resolved, with_met}
 use Rattle.slice_heads.specs.Seen.{view_references}
 use Rattle.instance_reading.specs.Slices.{uses_in}
 use Rattle.instance_reading.proofs.Places.{none_met, all_inside, one_outside}

@@ -1,6 +1,6 @@
 use Rattle.std.proofs.Common.{sym}
-use Rattle.ice_graphs.specs.Flags.{flags_of}
-use Rattle.ice_values.specs.SliceIds.{id_of}
+use Rattle.ice_encoding.specs.Flags.{flags_of}
+use Rattle.value_parts.specs.SliceIds.{id_of}
 use Rattle.slice_heads.specs.Seen.{view_before}
 use Rattle.instance_reading.specs.Slices.{refer_by}
 use Rattle.instance_reading.proofs.Heads.{begins_from, class_refused}

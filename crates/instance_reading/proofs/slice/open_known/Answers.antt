@@ -1,6 +1,6 @@
 use Rattle.std.proofs.Common.{◌∙◌, ap, sym}
-use Rattle.ice_graphs.specs.Flags.{flags_of}
-use Rattle.value_reading.specs.declared.members_reader.MembersReader.{MembersReader}
+use Rattle.ice_encoding.specs.Flags.{flags_of}
+use Rattle.ice_values.specs.declared.members_reader.MembersReader.{MembersReader}
 use Rattle.slice_heads.specs.Seen.{by_flag}
 use Rattle.instance_reading.specs.Slices.{left_compact}
 use Rattle.instance_reading.specs.declared.slice.CompactSlice.{CompactSlice}

@@ -1,5 +1,5 @@
-use Rattle.ice_graphs.specs.Flags.{flags_of}
-use Rattle.ice_values.specs.SliceIds.{id_of}
+use Rattle.ice_encoding.specs.Flags.{flags_of}
+use Rattle.value_parts.specs.SliceIds.{id_of}
 use Rattle.instance_reading.proofs.Heads.{opens_known}
 use Rattle.instance_reading.proofs.slice.open_slice.Goals as goal
 

@@ -1,10 +1,10 @@
 use Rattle.std.proofs.Common.{ap, sym, ◌∙◌}
-use Rattle.ice_graphs.specs.Canonical.{members_bytes}
+use Rattle.ice_encoding.specs.CanonicalGraph.{members_bytes}
 use Rattle.graph_arena.specs.declared.instance.Slice as arena
 use Rattle.graph_arena.specs.Seen.{view_slice, view_content}
 use Rattle.value_writing.specs.Putting.{onto}
 use Rattle.value_writing.specs.WritingMembers.{remaining}
-use Rattle.ice_values.specs.SlicedType.{rows_of}
+use Rattle.value_parts.specs.SlicedType.{rows_of}
 use Rattle.instance_writing.specs.declared.open_slice.OpenMembers.{OpenMembers}
 use Rattle.instance_writing.specs.Opened.{members_of, refer_to}
 use Rattle.instance_writing.proofs.Steps.{members-open}

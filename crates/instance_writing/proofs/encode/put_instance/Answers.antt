@@ -1,5 +1,5 @@
 use Rattle.std.proofs.Common.{◌≡◌, List, [], ◌∷◌, ◌++◌, length, refl, sym, ap, subst, ◌∙◌, arith}
-use Rattle.ice_graphs.specs.Instances.{slices_of}
+use Rattle.ice_encoding.specs.Instances.{slices_of}
 use Rattle.graph_arena.specs.Seen.{view_slices}
 use Rattle.instance_writing.specs.declared.open_slice.OpenSlice.TheVariants as opens
 use Rattle.instance_writing.specs.declared.unfinished.Unfinished.{Unfinished}

@@ -1,5 +1,5 @@
 use Rattle.std.proofs.Common.{◌≡◌, ◌+◌, ◌≤◌, ◌-◌, length}
-use Rattle.ice_graphs.specs.Visiting.{most}
+use Rattle.ice_encoding.specs.Visiting.{most}
 use Rattle.value_writing.specs.Putting.{onto}
 use Rattle.instance_writing.specs.Formats.{view_format}
 use Rattle.instance_writing.specs.Pens.{room}

@@ -1,5 +1,5 @@
 use Rattle.std.proofs.Common.{◌-◌, List, length, ap, sym, subst, ◌∙◌, arith}
-use Rattle.ice_graphs.specs.Visiting.{most}
+use Rattle.ice_encoding.specs.Visiting.{most}
 use Rattle.graph_arena.specs.Seen.{view_slices}
 use Rattle.instance_writing.specs.declared.unfinished.Unfinished.{Unfinished}
 use Rattle.instance_writing.specs.Formats.{view_format}

@@ -1,6 +1,6 @@
 use Rattle.std.proofs.Common.{List, ℕ, ◌++◌, sym, ap, ◌∙◌}
-use Rattle.ice_graphs.specs.Visiting.{most}
-use Rattle.ice_graphs.specs.Canonical.{Pen}
+use Rattle.ice_encoding.specs.Visiting.{most}
+use Rattle.ice_encoding.specs.CanonicalGraph.{Pen}
 use Rattle.graph_arena.specs.Seen.{view_content}
 use Rattle.value_writing.specs.Putting.{Written}
 use Rattle.value_writing.specs.WritingMembers.{remaining, members_left}

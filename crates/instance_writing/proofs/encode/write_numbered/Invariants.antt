@@ -1,9 +1,9 @@
 use Rattle.std.proofs.Common.{◌≡◌, length}
 use Rattle.ice_encoding.specs.Pausing.{written_in_place}
-use Rattle.ice_graphs.specs.OptionalMembers.{shape_of}
-use Rattle.ice_graphs.specs.Visiting.{most}
-use Rattle.ice_graphs.specs.Members.{written_content}
-use Rattle.ice_graphs.specs.Canonical.{blank}
+use Rattle.ice_encoding.specs.OptionalMembers.{shape_of}
+use Rattle.ice_encoding.specs.Visiting.{most}
+use Rattle.ice_encoding.specs.Members.{written_content}
+use Rattle.ice_encoding.specs.CanonicalGraph.{blank}
 use Rattle.value_writing.specs.Putting.{onto}
 use Rattle.value_writing.specs.WritingMembers.{remaining, members_left, RemainingFits}
 use Rattle.instance_writing.specs.Formats.{view_format}

@@ -1,5 +1,5 @@
-use Rattle.ice_graphs.specs.Canonical.{flags_byte}
-use Rattle.ice_graphs.specs.Flags.{IdForm}
+use Rattle.ice_encoding.specs.CanonicalGraph.{flags_byte}
+use Rattle.ice_encoding.specs.Flags.{IdForm}
 use Rattle.std.proofs.Common.{ℕ}
 use Rattle.instance_writing.proofs.WrittenIds.{told_small, number_put, text_put, exception_put}
 use Rattle.instance_writing.proofs.head.put_head.Goals as goal

@@ -1,10 +1,10 @@
 use Rattle.std.proofs.Common.{◌≡◌, List, ℕ, ◌++◌, sym, ap, subst, ◌∙◌}
-use Rattle.ice_graphs.specs.Visiting.{most}
-use Rattle.ice_graphs.specs.Exceptions.{of_exceptions}
+use Rattle.ice_encoding.specs.Visiting.{most}
+use Rattle.ice_encoding.specs.Exceptions.{of_exceptions}
 use Rattle.graph_arena.specs.Seen.{view_slices}
 use Rattle.value_writing.specs.Putting.{Written}
-use Rattle.ice_graphs.specs.Canonical.{Pen}
-use Rattle.ice_values.specs.declared.sliced_type.SlicedType.TheVariants.{Exception}
+use Rattle.ice_encoding.specs.CanonicalGraph.{Pen}
+use Rattle.value_parts.specs.declared.sliced_type.SlicedType.TheVariants.{Exception}
 use Rattle.instance_writing.specs.declared.open_slice.OpenSlice.TheVariants as opens
 use Rattle.instance_writing.specs.Formats.{view_format}
 use Rattle.instance_writing.specs.Tabling.{Listed, no_names}

@@ -1,11 +1,11 @@
 use Rattle.std.proofs.Common.{◌≡◌, length}
-use Rattle.ice_graphs.specs.Visiting.{most}
-use Rattle.ice_graphs.specs.Canonical.{blank}
-use Rattle.ice_graphs.specs.Exceptions.{of_exceptions}
-use Rattle.ice_graphs.specs.UserExceptionWritten.{user_exception_as}
+use Rattle.ice_encoding.specs.Visiting.{most}
+use Rattle.ice_encoding.specs.CanonicalGraph.{blank}
+use Rattle.ice_encoding.specs.Exceptions.{of_exceptions}
+use Rattle.ice_encoding.specs.UserExceptionWritten.{user_exception_as}
 use Rattle.graph_arena.specs.Seen.{view_slices}
 use Rattle.value_writing.specs.Putting.{onto}
-use Rattle.ice_values.specs.declared.sliced_type.SlicedType.TheVariants.{Exception}
+use Rattle.value_parts.specs.declared.sliced_type.SlicedType.TheVariants.{Exception}
 use Rattle.instance_writing.specs.Formats.{view_format}
 use Rattle.instance_writing.specs.Opened.{refer_to}
 use Rattle.instance_writing.specs.Pens.{room}

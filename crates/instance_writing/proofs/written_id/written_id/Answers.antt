@@ -1,8 +1,8 @@
 use Rattle.std.proofs.Common.{ap, sym, ◌∙◌}
 use Rattle.std.specs.Prelude.{slice_get}
-use Rattle.ice_graphs.specs.Canonical as spec
+use Rattle.ice_encoding.specs.CanonicalGraph as spec
 use Rattle.graph_arena.specs.Seen.{view_slice}
-use Rattle.ice_values.specs.SlicedType.{rows_of}
+use Rattle.value_parts.specs.SlicedType.{rows_of}
 use Rattle.instance_writing.proofs.WrittenIds.{number_of_row, text_of_row, number_told, type_id_told}
 use Rattle.instance_writing.proofs.written_id.written_id.Goals as goal
 

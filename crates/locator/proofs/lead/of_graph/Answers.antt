@@ -1,5 +1,5 @@
 use Rattle.std.proofs.Common.{ap, ◌∙◌}
-use Rattle.ice_graphs.specs.OptionalMembers.{Members}
+use Rattle.ice_encoding.specs.OptionalMembers.{Members}
 use Rattle.graph_arena.specs.View.{view_all}
 use Rattle.locator.proofs.Leading.{several}
 use Rattle.locator.proofs.lead.of_graph.Goals as goal

@@ -1,6 +1,6 @@
 use Rattle.std.proofs.Common.{[], ◌∷◌, refl}
 use Rattle.std.proofs.lemmas.Result.{err_from_is_err_and}
-use Rattle.proxy_bytes.specs.Usable.{tcp_at}
+use Rattle.encaps_optionals.specs.Usable.{tcp_at}
 use Rattle.retry_core.specs.declared.attempt.Attempt.TheVariants.{NotConnected}
 use Rattle.ice_client.specs.ClientDid.{Tried}
 use Rattle.locator.specs.Rounds.{attempt}

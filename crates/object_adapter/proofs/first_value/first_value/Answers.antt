@@ -1,8 +1,8 @@
 use Rattle.std.proofs.Common.{[], Option, None, codes, refl, sym, subst}
 use Rattle.ice_types.specs.declared.declarations.OpDecl.{OpDecl}
-use Rattle.ice_graphs.specs.Graph.{Graph}
-use Rattle.ice_graphs.specs.Typed.{OfType}
-use Rattle.ice_values.specs.Shapes.{told_apart}
+use Rattle.ice_encoding.specs.Graph.{Graph}
+use Rattle.ice_encoding.specs.TypedGraph.{OfType}
+use Rattle.value_parts.specs.Shapes.{told_apart}
 use Rattle.object_adapter.specs.FirstValue.{HoldsZeros}
 use Rattle.object_adapter.proofs.Zeros.{kind_fits, op_fits, zeros_typed}
 use Rattle.object_adapter.proofs.first_value.first_value.Goals as goal

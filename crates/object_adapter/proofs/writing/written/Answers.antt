@@ -1,5 +1,5 @@
-use Rattle.ice_graphs.specs.Canonical.{sliced, canonical_graph}
-use Rattle.ice_values.specs.Shapes.{told_apart}
+use Rattle.ice_encoding.specs.CanonicalGraph.{sliced, canonical_graph}
+use Rattle.value_parts.specs.Shapes.{told_apart}
 use Rattle.object_adapter.proofs.writing.written.Goals as goal
 
 pub of-requires : goal.of-requires

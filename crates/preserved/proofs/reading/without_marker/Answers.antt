@@ -1,7 +1,7 @@
 use Rattle.std.proofs.Common.{◌≡◌, ℕ, ◌-◌, Bool, true, false, List, Result, Ok, Err, sym, ap, subst, ◌∙◌}
 use Rattle.ice_prims.specs.declared.fault.Fault.{Fault}
 use Rattle.ice_prims.specs.Rest.{Rest}
-use Rattle.ice_graphs.specs.Slices.{unmarked, without_marker}
+use Rattle.ice_encoding.specs.Slices.{unmarked, without_marker}
 use Rattle.preserved.proofs.Marked.{is_marked, is_not_marked}
 use Rattle.preserved.proofs.reading.without_marker.Goals as goal
 

@@ -1,6 +1,6 @@
 use Rattle.node_commands.specs.Words.{words_of}
 use Rattle.serve_command.specs.Words.{plain_of}
-use Rattle.net_commands.specs.declared.limits.TheConstants.{MOST_CONNECTIONS}
+use Rattle.node_commands.specs.declared.limits.TheConstants.{MOST_CONNECTIONS}
 use Rattle.serve_command.proofs.Forms.{strong, by_workers, by_connections, by_neither}
 use Rattle.serve_command.proofs.operands.behind_serve.Goals as goal
 

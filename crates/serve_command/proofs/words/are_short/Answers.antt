@@ -1,7 +1,7 @@
 use Rattle.std.proofs.Common.{◌<◌, ◌≤◌, length, string_bytes, rules, tests}
 use Rattle.std.proofs.lemmas.Iterator.{cases_from_all, YieldsList-from_slice}
 use Rattle.node_commands.specs.declared.words.TheConstants.{MOST_OF_A_WORD}
-use Rattle.net_commands.proofs.Words.{words_short}
+use Rattle.node_commands.proofs.NetWords.{words_short}
 use Rattle.serve_command.proofs.words.are_short.Goals as goal
 
 pub returns : goal.returns

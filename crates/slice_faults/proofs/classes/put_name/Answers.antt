@@ -1,4 +1,4 @@
-use Rattle.slice_names.specs.Numbers.{scope_at}
+use Rattle.slice_meaning.specs.Numbers.{scope_at}
 use Rattle.slice_meaning.specs.Known as meaning
 use Rattle.slice_faults.specs.Held.{known_of}
 use Rattle.slice_faults.proofs.Reopened.{class_undefined}

@@ -1,6 +1,6 @@
 use Rattle.std.proofs.Common.{◌≡◌, ◌≤◌, length, drop}
 use Rattle.slice_meaning.specs.After.{with_entries}
-use Rattle.slice_names.specs.Numbers.{scope_at}
+use Rattle.slice_meaning.specs.Numbers.{scope_at}
 use Rattle.slice_faults.specs.Held.{AreFree}
 use Rattle.slice_faults.proofs.enums.declare_entries.Given as goal
 

@@ -6,7 +6,7 @@ use Rattle.slice_meaning.specs.Names.{Declared}
 use Rattle.slice_meaning.specs.Uses.{fault_at}
 use Rattle.slice_meaning.specs.Meaning.{undefined}
 use Rattle.slice_meaning.specs.Checking.{at_end, earlier}
-use Rattle.slice_names.specs.Numbers.{stands_at}
+use Rattle.slice_meaning.specs.Numbers.{stands_at}
 use Rattle.slice_faults.specs.Held.{known_of}
 use Rattle.slice_faults.specs.Answer.{answer_of}
 use Rattle.slice_faults.proofs.files.never_defined.Goals as goal

@@ -1,7 +1,7 @@
 use Rattle.std.proofs.Common.{◌≡◌, ℕ, suc, ap, ◌∙◌, arith}
 use Rattle.slice_meaning.specs.Names.{Scope}
 use Rattle.slice_meaning.specs.Known as meaning
-use Rattle.slice_names.specs.Numbers.{scope_at}
+use Rattle.slice_meaning.specs.Numbers.{scope_at}
 use Rattle.slice_faults.proofs.Entering.{zero_scope}
 use Rattle.slice_faults.proofs.files.next_file.Goals as goal
 

@@ -1,7 +1,7 @@
 use Rattle.std.proofs.Common.{◌≡◌, ◌++◌, map, string_bytes}
 use Rattle.std.specs.Vec.{vec_len}
 use Rattle.slice_meaning.specs.Names.{Scope}
-use Rattle.slice_names.specs.Numbers.{scope_at}
+use Rattle.slice_meaning.specs.Numbers.{scope_at}
 use Rattle.slice_faults.proofs.Parts.{parts}
 use Rattle.slice_faults.proofs.ids.new_id.Given as goal
 

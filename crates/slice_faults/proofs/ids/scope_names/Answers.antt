@@ -1,6 +1,6 @@
 use Rattle.std.proofs.Common.{◌++◌, map, sym, ap, ◌∙◌}
 use Rattle.std.proofs.lemmas.List.{append-nil}
-use Rattle.slice_names.specs.Numbers.{scope_at}
+use Rattle.slice_meaning.specs.Numbers.{scope_at}
 use Rattle.slice_faults.proofs.Entering.{zero_scope}
 use Rattle.slice_faults.proofs.ids.scope_names.Goals as goal
 

@@ -3,8 +3,8 @@ use Rattle.std.specs.Prelude.{Bool, ◌∷◌, [], filter, option_map}
 use Rattle.slice_meaning.specs.Names.{Declared}
 use Rattle.slice_meaning.specs.Meaning.{is_undefined}
 use Rattle.slice_meaning.specs.Checking.{earlier}
-use Rattle.slice_names.specs.Numbers.{declared_at}
-use Rattle.slice_names.specs.Numbers.{stands_at}
+use Rattle.slice_meaning.specs.Numbers.{declared_at}
+use Rattle.slice_meaning.specs.Numbers.{stands_at}
 use Rattle.slice_faults.specs.Held.{known_of}
 use Rattle.slice_faults.proofs.Earliest.{up_to, up_to_all, up_to_none, next, earlier_next}
 use Rattle.slice_faults.proofs.undefined.first_undefined.Goals as goal

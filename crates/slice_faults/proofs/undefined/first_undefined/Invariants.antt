@@ -3,7 +3,7 @@ use Rattle.std.specs.Prelude.{filter, option_map}
 use Rattle.slice_meaning.specs.Names.{Declared}
 use Rattle.slice_meaning.specs.Meaning.{is_undefined, undefined}
 use Rattle.slice_meaning.specs.Checking.{earlier}
-use Rattle.slice_names.specs.Numbers.{stands_at}
+use Rattle.slice_meaning.specs.Numbers.{stands_at}
 use Rattle.slice_faults.specs.Held.{known_of}
 use Rattle.slice_faults.proofs.Earliest.{up_to}
 use Rattle.slice_faults.proofs.undefined.first_undefined.Given as goal

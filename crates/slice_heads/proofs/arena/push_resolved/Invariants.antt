@@ -1,5 +1,5 @@
 use Rattle.std.proofs.Common.{◌≡◌, ◌++◌, drop}
-use Rattle.ice_graphs.specs.References.{resolved}
+use Rattle.ice_encoding.specs.References.{resolved}
 use Rattle.slice_heads.specs.Seen.{view_references}
 use Rattle.slice_heads.proofs.arena.push_resolved.Given as goal
 

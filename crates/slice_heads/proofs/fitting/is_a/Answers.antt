@@ -1,5 +1,5 @@
 use Rattle.std.proofs.Common.{ℕ, ◌≡◌, ◌∙◌, ◌-◌, suc, ap, sym, arith}
-use Rattle.ice_graphs.specs.Classes.{leads_to}
+use Rattle.ice_encoding.specs.Classes.{leads_to}
 use Rattle.slice_heads.proofs.Chains.{leads_here, leads_on, leads_nowhere, leads_no_further}
 use Rattle.slice_heads.proofs.fitting.is_a.Goals as goal
 

@@ -1,5 +1,5 @@
 use Rattle.std.proofs.Common.{◌≡◌, suc, length}
-use Rattle.ice_graphs.specs.Classes.{leads_to}
+use Rattle.ice_encoding.specs.Classes.{leads_to}
 use Rattle.slice_heads.proofs.fitting.is_a.Given as goal
 
 abbrev pub invariant-loop-class : goal.invariant-loop-class

@@ -1,5 +1,5 @@
 use Rattle.std.proofs.Common.{◌≡◌, ◌≤◌, map, drop, length}
-use Rattle.ice_graphs.specs.Instances.{misfit}
+use Rattle.ice_encoding.specs.Instances.{misfit}
 use Rattle.graph_arena.specs.Seen.{view_instance}
 use Rattle.slice_heads.specs.Seen.{view_references}
 use Rattle.slice_heads.proofs.fitting.misfit.Given as goal

@@ -1,6 +1,6 @@
 use Rattle.std.proofs.Common.{refl, subst, None, Some}
 use Rattle.graph_arena.specs.Seen.{view_content}
-use Rattle.ice_values.specs.Shapes.{shape_seen}
+use Rattle.value_parts.specs.Shapes.{shape_seen}
 use Rattle.value_checks.specs.First.{IsFirstInstance}
 use Rattle.value_checks.proofs.FirstIll.{all_typed, are_roots, ill_not_typed, instance_first, not_roots, on_err, roots_first}
 use Rattle.value_checks.proofs.first.first_ill_typed.Goals as goal

@@ -1,7 +1,7 @@
 use Rattle.std.proofs.Common.{◌↔◌, drop}
-use Rattle.ice_graphs.specs.Typed.{AreBases, RefersIn}
+use Rattle.ice_encoding.specs.TypedGraph.{AreBases, RefersIn}
 use Rattle.graph_arena.specs.Seen.{view_slices}
-use Rattle.ice_values.specs.SlicedType.{rows_of}
+use Rattle.value_parts.specs.SlicedType.{rows_of}
 use Rattle.value_checks.proofs.instances.are_bases.Given as goal
 
 abbrev pub invariant-loop-slice : goal.invariant-loop-slice

@@ -1,5 +1,5 @@
 use Rattle.std.proofs.Common.{◌↔◌, drop}
-use Rattle.ice_graphs.specs.Typed.{AreReferred, RefersIn}
+use Rattle.ice_encoding.specs.TypedGraph.{AreReferred, RefersIn}
 use Rattle.value_checks.proofs.instances.are_referred.Given as goal
 
 abbrev pub invariant-loop-name : goal.invariant-loop-name

@@ -1,6 +1,6 @@
 use Rattle.std.proofs.Common.{◌∷◌, ◌+◌, ◌∙◌, drop, ap}
-use Rattle.ice_graphs.specs.Typed.{RefersIn}
-use Rattle.ice_values.specs.SlicedType.{rows_of}
+use Rattle.ice_encoding.specs.TypedGraph.{RefersIn}
+use Rattle.value_parts.specs.SlicedType.{rows_of}
 use Rattle.value_checks.proofs.Membered.{from_here}
 use Rattle.value_checks.proofs.Sliced.{known_next}
 use Rattle.value_checks.proofs.instances.are_slices.Goals as goal

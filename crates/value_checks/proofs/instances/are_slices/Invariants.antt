@@ -1,7 +1,7 @@
 use Rattle.std.proofs.Common.{◌↔◌, drop}
-use Rattle.ice_graphs.specs.Typed.{RefersIn}
+use Rattle.ice_encoding.specs.TypedGraph.{RefersIn}
 use Rattle.graph_arena.specs.Seen.{view_slices}
-use Rattle.ice_values.specs.SlicedType.{rows_of}
+use Rattle.value_parts.specs.SlicedType.{rows_of}
 use Rattle.value_checks.specs.First.{AreSlices}
 use Rattle.value_checks.proofs.instances.are_slices.Given as goal
 

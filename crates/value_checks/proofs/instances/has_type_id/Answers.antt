@@ -1,5 +1,5 @@
 use Rattle.std.proofs.Common.{◌↔◌, IsTrue, not, sym, subst}
-use Rattle.ice_graphs.specs.UserExceptionTyped.{HasTypeId}
+use Rattle.ice_encoding.specs.UserExceptionTyped.{HasTypeId}
 use Rattle.graph_arena.specs.declared.instance.Slice.{Slice}
 use Rattle.graph_arena.specs.Seen.{view_slice}
 use Rattle.value_checks.proofs.Sliced.{plain_told}

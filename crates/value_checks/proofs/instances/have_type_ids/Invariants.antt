@@ -1,5 +1,5 @@
 use Rattle.std.proofs.Common.{◌↔◌, drop}
-use Rattle.ice_graphs.specs.UserExceptionTyped.{HaveTypeIds}
+use Rattle.ice_encoding.specs.UserExceptionTyped.{HaveTypeIds}
 use Rattle.graph_arena.specs.Seen.{view_slices}
 use Rattle.value_checks.proofs.instances.have_type_ids.Given as goal
 

@@ -1,6 +1,6 @@
 use Rattle.graph_arena.specs.Seen.{view_slices}
-use Rattle.ice_graphs.specs.Typed.{RefersIn}
-use Rattle.ice_values.specs.SlicedType.{rows_of}
+use Rattle.ice_encoding.specs.TypedGraph.{RefersIn}
+use Rattle.value_parts.specs.SlicedType.{rows_of}
 use Rattle.value_checks.proofs.Sliced.{not_empty, some_slices}
 use Rattle.value_checks.proofs.instances.is_instance.Goals as goal
 

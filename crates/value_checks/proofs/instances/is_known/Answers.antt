@@ -1,8 +1,8 @@
 use Rattle.std.proofs.Common.{ap}
-use Rattle.ice_graphs.specs.Typed.{RefersIn}
+use Rattle.ice_encoding.specs.TypedGraph.{RefersIn}
 use Rattle.graph_arena.specs.Seen.{view_content}
-use Rattle.ice_values.specs.Shapes.{shape_seen, told_apart}
-use Rattle.ice_values.specs.SlicedType.{rows_of}
+use Rattle.value_parts.specs.Shapes.{shape_seen, told_apart}
+use Rattle.value_parts.specs.SlicedType.{rows_of}
 use Rattle.value_checks.proofs.Rowed.{known_told, unknown_row}
 use Rattle.value_checks.proofs.instances.is_known.Goals as goal
 

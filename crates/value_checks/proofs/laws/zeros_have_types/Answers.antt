@@ -1,5 +1,5 @@
 use Rattle.ice_types.specs.declared.schema.TheConstants.{MOST_DEPTH}
-use Rattle.ice_graphs.specs.Typed.{RefersIn}
+use Rattle.ice_encoding.specs.TypedGraph.{RefersIn}
 use Rattle.value_checks.specs.References.{AnyRefers}
 use Rattle.value_checks.proofs.ZeroTyped.{zero_typed}
 use Rattle.value_checks.proofs.laws.zeros_have_types.Goals as goal

@@ -1,7 +1,7 @@
 use Rattle.std.proofs.Common.{sym, ◌∙◌}
 use Rattle.std.proofs.lemmas.Bool.{false≢true}
-use Rattle.ice_graphs.specs.Typed.{RefersIn}
-use Rattle.ice_values.specs.Shapes.{with_tag}
+use Rattle.ice_encoding.specs.TypedGraph.{RefersIn}
+use Rattle.value_parts.specs.Shapes.{with_tag}
 use Rattle.value_checks.proofs.Membered.{from_here, next_option, no_option, no_rise}
 use Rattle.value_checks.proofs.members.are_options.Goals as goal
 

@@ -1,7 +1,7 @@
 use Rattle.std.proofs.Common.{◌↔◌, drop, None}
-use Rattle.ice_graphs.specs.Typed.{AreOptions, RefersIn}
+use Rattle.ice_encoding.specs.TypedGraph.{AreOptions, RefersIn}
 use Rattle.graph_arena.specs.Seen.{view_present}
-use Rattle.ice_values.specs.Shapes.{with_tag}
+use Rattle.value_parts.specs.Shapes.{with_tag}
 use Rattle.value_checks.proofs.members.are_options.Given as goal
 
 abbrev pub invariant-loop-option : goal.invariant-loop-option

@@ -2,7 +2,7 @@ use Rattle.std.proofs.Common.{sym, ◌∙◌, arith}
 use Rattle.std.proofs.lemmas.Bool.{false≢true}
 use Rattle.ice_types.specs.declared.schema.TheConstants.{MOST_DEPTH}
 use Rattle.ice_encoding.specs.Typed.{HasType}
-use Rattle.ice_graphs.specs.Typed.{RefersIn}
+use Rattle.ice_encoding.specs.TypedGraph.{RefersIn}
 use Rattle.value_checks.proofs.Membered.{fails, from_here, goes_on, required_end}
 use Rattle.value_checks.proofs.members.are_required.Goals as goal
 

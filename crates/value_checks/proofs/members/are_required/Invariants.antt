@@ -1,9 +1,9 @@
 use Rattle.std.proofs.Common.{◌↔◌, ◌≤◌, drop, length, map}
 use Rattle.ice_types.specs.declared.schema.TheConstants.{MOST_DEPTH}
 use Rattle.ice_encoding.specs.Typed.{EachOf, HasType}
-use Rattle.ice_graphs.specs.Typed.{RefersIn}
+use Rattle.ice_encoding.specs.TypedGraph.{RefersIn}
 use Rattle.graph_arena.specs.View.{view_all}
-use Rattle.ice_values.specs.Shapes.{without_tag}
+use Rattle.value_parts.specs.Shapes.{without_tag}
 use Rattle.value_checks.proofs.members.are_required.Given as goal
 
 abbrev pub invariant-loop-member : goal.invariant-loop-member

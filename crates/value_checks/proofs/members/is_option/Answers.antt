@@ -1,10 +1,10 @@
 use Rattle.std.proofs.Common.{◌<◌, ◌^◌, sym}
 use Rattle.ice_types.specs.declared.schema.TheConstants.{MOST_DEPTH}
 use Rattle.ice_encoding.specs.Typed.{HasType}
-use Rattle.ice_graphs.specs.Optionals.{kind_tagged}
-use Rattle.ice_graphs.specs.Typed.{RefersIn}
+use Rattle.ice_encoding.specs.Optionals.{kind_tagged}
+use Rattle.ice_encoding.specs.TypedGraph.{RefersIn}
 use Rattle.graph_arena.specs.View.{view}
-use Rattle.ice_values.specs.Shapes.{with_tag}
+use Rattle.value_parts.specs.Shapes.{with_tag}
 use Rattle.value_checks.proofs.Membered.{option_told}
 use Rattle.value_checks.proofs.members.is_option.Goals as goal
 

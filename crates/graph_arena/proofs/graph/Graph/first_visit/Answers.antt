@@ -1,6 +1,6 @@
 use Rattle.std.proofs.Common.{◌≡◌, ◌++◌, ap, sym, subst, ◌∙◌, length}
 use Rattle.std.proofs.lemmas.List.{append-nil}
-use Rattle.ice_graphs.specs.Visiting.{most, order, visit_at, visit_each}
+use Rattle.ice_encoding.specs.Visiting.{most, order, visit_at, visit_each}
 use Rattle.graph_arena.specs.Arena.{AreBelow}
 use Rattle.graph_arena.specs.Listing.{Listed, from_top}
 use Rattle.graph_arena.proofs.Listed.{new-is, same-is}

@@ -1,5 +1,5 @@
 use Rattle.std.proofs.Common.{◌≡◌, length}
-use Rattle.ice_graphs.specs.Visiting.{most, order, visit_at, visit_each}
+use Rattle.ice_encoding.specs.Visiting.{most, order, visit_at, visit_each}
 use Rattle.graph_arena.specs.Arena.{AreBelow}
 use Rattle.graph_arena.specs.Listing.{from_top}
 use Rattle.graph_arena.proofs.Visits.{work}

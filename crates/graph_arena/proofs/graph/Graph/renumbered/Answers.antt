@@ -1,8 +1,8 @@
 use Rattle.std.proofs.Common.{◌≡◌, ◌≤◌, ◌∙◌, ap, arith, length, List, map, subst, sym, ℕ}
 use Rattle.std.proofs.lemmas.List.{length-map}
-use Rattle.ice_graphs.specs.Graph.{Slice}
-use Rattle.ice_graphs.specs.Same.{HasEachOnce}
-use Rattle.ice_graphs.specs.Visiting.{order}
+use Rattle.ice_encoding.specs.Graph.{Slice}
+use Rattle.ice_encoding.specs.SameGraph.{HasEachOnce}
+use Rattle.ice_encoding.specs.Visiting.{order}
 use Rattle.graph_arena.specs.Arena.{AreBelow, IsSound}
 use Rattle.graph_arena.specs.Seen.{view_content, view_instance}
 use Rattle.graph_arena.proofs.Closed.{order-is}

@@ -1,6 +1,6 @@
 use Rattle.std.proofs.Common.{ℕ, ◌≡◌, ◌≤◌}
 use Rattle.ice_encoding.specs.Pausing.{Inside}
-use Rattle.ice_graphs.specs.References.{State}
+use Rattle.ice_encoding.specs.References.{State}
 use Rattle.instance_reading.specs.Unfinished.{left_slices, room, work_left}
 use Rattle.instance_reading.proofs.unfinished.Unfinished.go.Given as goal
 

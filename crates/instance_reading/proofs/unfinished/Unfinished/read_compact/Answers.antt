@@ -1,9 +1,9 @@
 use Rattle.std.proofs.Common.{ℕ, List, Result, sym, subst, ◌∙◌}
 use Rattle.ice_prims.specs.declared.fault.Fault.{Fault}
 use Rattle.ice_prims.specs.Rest.{Rest}
-use Rattle.ice_graphs.specs.Graph.{Slice}
-use Rattle.ice_graphs.specs.References.{State}
-use Rattle.ice_values.specs.Shapes.{handed}
+use Rattle.ice_encoding.specs.Graph.{Slice}
+use Rattle.ice_encoding.specs.References.{State}
+use Rattle.value_parts.specs.Shapes.{handed}
 use Rattle.instance_reading.specs.Unfinished.{Advances}
 use Rattle.instance_reading.proofs.Places.{fault_along}
 use Rattle.instance_reading.proofs.Stages.{members_whole, members_paused, members_fail, left_same}

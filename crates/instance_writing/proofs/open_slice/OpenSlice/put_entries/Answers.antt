@@ -1,5 +1,5 @@
 use Rattle.std.proofs.Common.{sym, subst, ◌∙◌, arith}
-use Rattle.ice_graphs.specs.Visiting.{most}
+use Rattle.ice_encoding.specs.Visiting.{most}
 use Rattle.graph_arena.specs.Arena.{AreBelow}
 use Rattle.value_writing.proofs.WritingSteps.{grows-longer}
 use Rattle.instance_writing.specs.declared.open_slice.OpenSlice.{OpenSlice}

@@ -1,6 +1,6 @@
 use Rattle.std.proofs.Common.{◌≡◌, ◌≤◌, ℕ, length}
 use Rattle.ice_types.specs.Tables.{Tables}
-use Rattle.ice_graphs.specs.Canonical.{Pen}
+use Rattle.ice_encoding.specs.CanonicalGraph.{Pen}
 use Rattle.graph_arena.specs.Arena.{AreBelow}
 use Rattle.value_writing.specs.Putting.{InsideWritten}
 use Rattle.instance_writing.specs.Pens.{room}

@@ -1,7 +1,7 @@
 use Rattle.std.proofs.Common.{◌≡◌, Bor, length, List, [], ◌∷◌, ℕ, map, string_bytes, None, sym, ap, ◌∙◌, subst, arith}
 use Rattle.std.proofs.lemmas.List.{length-map, map-append}
-use Rattle.ice_graphs.specs.Canonical.{Pen}
-use Rattle.ice_graphs.specs.Classes.{place_of}
+use Rattle.ice_encoding.specs.CanonicalGraph.{Pen}
+use Rattle.ice_encoding.specs.Classes.{place_of}
 use Rattle.instance_writing.specs.Pens.{place_in}
 use Rattle.instance_writing.proofs.Ids.{placed-more}
 use Rattle.instance_writing.proofs.pen.Pen.add.Goals as goal

@@ -1,5 +1,5 @@
 use Rattle.std.proofs.Common.{ap}
-use Rattle.ice_graphs.specs.Canonical.{Pen}
+use Rattle.ice_encoding.specs.CanonicalGraph.{Pen}
 use Rattle.instance_writing.proofs.Ids.{full-is}
 use Rattle.instance_writing.proofs.pen.Pen.is_full.Goals as goal
 

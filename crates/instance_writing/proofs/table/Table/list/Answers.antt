@@ -1,5 +1,5 @@
 use Rattle.std.proofs.Common.{◌<◌, ◌≤◌, sym, subst, arith}
-use Rattle.ice_graphs.specs.Visiting.{place}
+use Rattle.ice_encoding.specs.Visiting.{place}
 use Rattle.instance_writing.specs.Tabling.{Listed}
 use Rattle.instance_writing.proofs.Tables.{indexed-is}
 use Rattle.instance_writing.proofs.table.Table.list.Goals as goal

@@ -1,6 +1,6 @@
 use Rattle.std.proofs.Common.{ap, refl}
 use Rattle.graph_arena.specs.Seen.{view_slice, view_slices}
-use Rattle.ice_values.specs.SlicedType.{rows_of}
+use Rattle.value_parts.specs.SlicedType.{rows_of}
 use Rattle.instance_writing.specs.Formats.{view_format}
 use Rattle.instance_writing.specs.Opened.{is_first, refer_to}
 use Rattle.instance_writing.proofs.Steps.{first-below, begun-next, begun-fits, none-left}

@@ -1,6 +1,6 @@
 use Rattle.std.proofs.Common.{ℕ, ◌-◌, ap, subst, ◌∙◌, arith}
-use Rattle.ice_graphs.specs.Visiting.{most}
-use Rattle.ice_values.specs.SlicedType.{rows_of}
+use Rattle.ice_encoding.specs.Visiting.{most}
+use Rattle.value_parts.specs.SlicedType.{rows_of}
 use Rattle.instance_writing.specs.Formats.{view_format}
 use Rattle.instance_writing.specs.Tabling.{Listed}
 use Rattle.instance_writing.specs.Remains.{Fits}

@@ -1,7 +1,7 @@
 use Rattle.std.proofs.Common.{◌≡◌, ◌≤◌, length}
-use Rattle.ice_graphs.specs.Canonical.{Pen}
+use Rattle.ice_encoding.specs.CanonicalGraph.{Pen}
 use Rattle.value_writing.specs.Putting.{InsideWritten}
-use Rattle.ice_values.specs.SlicedType.{rows_of}
+use Rattle.value_parts.specs.SlicedType.{rows_of}
 use Rattle.instance_writing.specs.Formats.{view_format}
 use Rattle.instance_writing.specs.Pens.{room}
 use Rattle.instance_writing.specs.Remains.{instance_left, Fits}

@@ -2,7 +2,7 @@ use Rattle.std.proofs.Common.{Bor, Option, Some, subst}
 use Rattle.std.specs.Prelude.{MatchOption}
 use Rattle.ice_types.specs.declared.proxy.Proxy.{Proxy}
 use Rattle.ice_encoding.specs.Proxy.{HasProxySizes}
-use Rattle.ice_graphs.specs.Graph.{Graph}
+use Rattle.ice_encoding.specs.Graph.{Graph}
 use Rattle.object_adapter.specs.declared.seeking.Sought.{Sought}
 use Rattle.object_adapter.specs.Places.{Known}
 use Rattle.object_adapter.specs.Locators.{IsSought}

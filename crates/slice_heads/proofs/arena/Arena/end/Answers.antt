@@ -1,5 +1,5 @@
 use Rattle.std.proofs.Common.{map, ◌∙◌, ap}
-use Rattle.ice_graphs.specs.References.{with_ended}
+use Rattle.ice_encoding.specs.References.{with_ended}
 use Rattle.graph_arena.specs.Seen.{view_instance, view_slice}
 use Rattle.slice_heads.specs.Seen.{view_references}
 use Rattle.slice_heads.proofs.Arenas.{map-replaced}

@@ -1,7 +1,7 @@
 use Rattle.std.proofs.Common.{ℕ, ◌≡◌, ◌∙◌, subst, refl, [], ◌∷◌, length, length-append, ap, arith, Ok}
 use Rattle.ice_prims.specs.Number.{size_at}
-use Rattle.ice_graphs.specs.Instances.{most_instances}
-use Rattle.ice_graphs.specs.References.{State}
+use Rattle.ice_encoding.specs.Instances.{most_instances}
+use Rattle.ice_encoding.specs.References.{State}
 use Rattle.slice_heads.proofs.Arenas.{inline-begins, inline-full, most_is}
 use Rattle.slice_heads.proofs.arena.ArenaRefPort.take_ref.Goals as goal
 

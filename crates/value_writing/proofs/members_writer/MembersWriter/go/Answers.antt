@@ -1,6 +1,6 @@
 use Rattle.std.proofs.Common.{◌≡◌, ◌++◌, ◌∷◌, ℕ, List, sym, ap, ◌∙◌, subst, arith}
 use Rattle.ice_prims.specs.Bytes.{Grows}
-use Rattle.ice_graphs.specs.Optionals.{kind_tagged}
+use Rattle.ice_encoding.specs.Optionals.{kind_tagged}
 use Rattle.graph_arena.specs.View.{view}
 use Rattle.graph_arena.specs.Seen.{view_present}
 use Rattle.value_writing.specs.Putting.{lists}

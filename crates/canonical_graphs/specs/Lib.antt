@@ -1,9 +1,0 @@
-pub mod Standing
-pub mod Tables
-pub mod Fitting
-pub mod Places
-pub mod Heads
-pub mod Slices
-pub mod Frames
-pub mod Looks
-pub mod Written

@@ -1,3 +1,0 @@
-pub mod Counts
-pub mod Words
-pub mod OneInterface

@@ -1,9 +1,0 @@
-pub mod Frames
-pub mod Costs
-pub mod Keys
-pub mod Plain
-pub mod ByteSequences
-pub mod Joined
-pub mod RequiredParts
-pub mod OptionParts
-pub mod Stages

@@ -1,5 +1,0 @@
-use Rattle.value_reading.proofs.Costs.{members-fewer}
-use Rattle.value_reading.proofs.begun.begun_struct.Goals as goal
-
-pub returns-clause-less : goal.returns-clause-less
-returns-clause-less c = members-fewer c.args.schema.now c.args.levels _ c.args.at _

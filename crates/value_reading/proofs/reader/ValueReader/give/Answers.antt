@@ -1,6 +1,0 @@
-use Rattle.std.proofs.Common.{refl}
-use Rattle.std.proofs.lemmas.Result.{on_ok_weaker}
-use Rattle.value_reading.proofs.reader.ValueReader.give.Goals as goal
-
-pub returns : goal.returns
-returns c = on_ok_weaker c.give.result (λ e. (refl, e)) c.give.ensures

@@ -1,3 +1,0 @@
-pub mod Shares
-mod Rows
-pub mod Working
