@@ -1,8 +1,8 @@
 //! What all worlds that show a capture have in common. Their objects may give any reply.
 
 ghost use Rattle.call_world.specs.Service.{free_rules};
-ghost use Rattle.call_world.specs.CaptureLaws.{AtMostOnce, OnceAnswered, NeverRefused, NeverClosed, CanShow, EitherOpen};
-ghost use Rattle.call_world.specs.CaptureLaws.{AnswersInOrder};
+ghost use Rattle.call_world.specs.CaptureLaws.{AnswersInOrder, AtMostOnce, CanShow, EitherOpen, NeverClosed};
+ghost use Rattle.call_world.specs.CaptureLaws.{NeverRefused, OnceAnswered};
 
 use crate::capture::Capture;
 

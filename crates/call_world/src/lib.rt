@@ -1,12 +1,12 @@
 //! What can become of calls over connections that may be lost at any moment: clients and servers as one
 //! world, its events one by one, and what every list of events keeps (`laws`); and what a capture of both directions of
 //! one connection tells of the calls on it: in all worlds of calls that show the capture, how often a call was
-//! dispatched (`capture_laws`). The definitions stand in `specs/`; the functions here have no bodies, and each has a law
-//! of the definitions as its contract.
+//! dispatched (`capture_laws`). The definitions stand in `specs/`; the functions here have no bodies, and each has a
+//! law of the definitions as its contract.
 //!
 //! The bytes of a message, its numbers and the calls in it are no part of this world: a call, a reply and the objects
-//! are what `Service` says of them. Of a capture they are what `Capture` says, and a client's message is one call or the
-//! calls of a batch.
+//! are what `Service` says of them. Of a capture they are what `Capture` says, and a client's message is one call or
+//! the calls of a batch.
 //!
 //! Forms, and why they are so:
 //!

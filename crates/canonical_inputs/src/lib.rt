@@ -1,7 +1,7 @@
 //! Whether an input is the canonical encapsulation already of the graph that it holds. Then relaying leaves it as it
 //! is, and comparing it with another such input is comparing bytes. A value without instances is passed over by
-//! `canonical_values`; a reference to an instance here, with all instances that begin in it: one pass over the bytes goes
-//! by the classes of the slices and builds no graph.
+//! `canonical_values`; a reference to an instance here, with all instances that begin in it: one pass over the bytes
+//! goes by the classes of the slices and builds no graph.
 //!
 //! Forms, and why they are so:
 //!

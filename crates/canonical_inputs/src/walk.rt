@@ -20,7 +20,8 @@ pub fn is_canonical_instance(
     declared: Option<u32>,
     content: &[u8],
 ) -> bool
-    ensures { IsTrue result → (name : List ℕ) → IsWritten schema.now (one_member name (kinds.Class declared)) content.now }
+    ensures { IsTrue result → (name : List ℕ)
+        → IsWritten schema.now (one_member name (kinds.Class declared)) content.now }
 {
     let mut needs = Vec::new(alloc);
     if needs.push(declared).is_err() {

@@ -1,11 +1,11 @@
 //! Values without parts.
 
-ghost use Rattle.std.specs.Prelude.{◌≡◌, ◌≤◌, IfSome, IsTrue, length, take};
-ghost use Rattle.ice_encoding.specs.Enum.{HasNumber};
+ghost use Rattle.std.specs.Prelude.{◌≡◌, ◌≤◌, IfSome, length, take};
 ghost use Rattle.canonical_values.specs.Standing.{number_length, is_leaf, LeafStands};
 
 use crate::front::{bool_length, size_front, text_length};
-use ice_types::{Entry, Schema, TypeRef};
+use ice_types::{Schema, TypeRef};
+use value_parts::has_number;
 
 /// Whether a value of the type has no parts.
 pub(crate) fn is_leaf(kind: TypeRef) -> bool
@@ -67,16 +67,4 @@ fn other_length(schema: &Schema, kind: TypeRef, bytes: &[u8]) -> Option<usize>
         },
         _ => None,
     }
-}
-
-/// Whether one of the entries has the number: mostly the one at the place of the number.
-fn has_number(entries: &[Entry], number: u32) -> bool
-    ensures { IsTrue result → HasNumber entries.now number }
-{
-    if let Some(entry) = entries.get(number as usize)
-        && entry.number == number
-    {
-        return true;
-    }
-    entries.iter().any(|entry| entry.number == number)
 }

@@ -1,7 +1,7 @@
 //! Encapsulations that are opened and wrapped, the tags of optional members, and the values of unknown ones, which are
-//! passed over by their format; proxies as bytes, which hold encapsulations: read with the first fault, and written, and
-//! their endpoints that can be used; and the parts that proxies, messages and encapsulations share: sizes, the end of a
-//! bound, and facets. (Ice manual, "The Ice Encoding".)
+//! passed over by their format; proxies as bytes, which hold encapsulations: read with the first fault, and written,
+//! and their endpoints that can be used; and the parts that proxies, messages and encapsulations share: sizes, the end
+//! of a bound, and facets. (Ice manual, "The Ice Encoding".)
 #![tactic(auto)]
 
 mod encapsulation;

@@ -14,6 +14,7 @@ use ice_proxy::print_text;
 use ice_types::{Entry, Proxy, Schema};
 use json::Writer;
 use std::alloc::{AllocError, Global};
+use value_parts::likely_place;
 
 pub(crate) fn write_null(out: &mut Writer) -> Result<(), AllocError>
     ensures { OnOk result (Prints null out.old out.new) }
@@ -77,12 +78,12 @@ pub(crate) fn write_enumerator(
     }
 }
 
-/// The enumerator with this number, None where there is none: mostly the one at the place of the number.
+/// The enumerator with this number, None where there is none.
 fn entry_numbered(entries: &[Entry], number: u32) -> Option<&Entry>
     requires { EnumFits entries.now }
     ensures { option_map (λ e. e.now.name) result ≡ spec.name_numbered number entries.now }
 {
-    if let Some(entry) = entries.get(number as usize)
+    if let Some(entry) = entries.get(likely_place(entries, number))
         && entry.number == number
     {
         return Some(entry);

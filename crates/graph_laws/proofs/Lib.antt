@@ -39,6 +39,7 @@ pub mod Schemas
 pub mod UserExceptionTexts
 pub mod UserExceptionStates
 pub mod SoundExceptions
+pub mod GraphSamples
 pub mod Samples
 pub mod WrittenUserException
 pub mod UserExceptionForms

@@ -11,7 +11,7 @@ use Rattle.ice_encoding.specs.CanonicalGraph.{sliced, compact}
 use Rattle.ice_encoding.specs.Exceptions.{UserException}
 use Rattle.ice_encoding.specs.Graph.{Slice, known, unknown}
 use Rattle.ice_encoding.specs.Visiting.{order, most}
-use Rattle.ice_encoding.proofs.GraphSamples.{always, tagged, classes, node_id, values, to, node}
+use Rattle.ice_encoding.proofs.SampleClasses.{always, tagged, classes, node_id, values, to, node}
 use Rattle.ice_encoding.specs.UserExceptionWritten.{form_of, canonical_user_exception, exception_bytes}
 
 -- exception Bad {} exception F { int code; } exception G extends F { string why; } exception H { N held; } exception I { optional(1) int more; }

@@ -37,7 +37,7 @@ pub mod Ports
 pub mod Exceptions
 pub mod Reopening
 pub mod Agreeing
-pub mod GraphSamples
+pub mod SampleClasses
 mod UserExceptionSamples
 pub mod Stepping
 pub mod Prefixed

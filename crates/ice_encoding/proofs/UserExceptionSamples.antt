@@ -18,7 +18,7 @@ use Rattle.ice_encoding.specs.Graph.{Slice, known, unknown}
 use Rattle.ice_encoding.specs.Flags.{Reach, all_slices, known_classes}
 use Rattle.ice_encoding.specs.Instances.{most_instances}
 use Rattle.ice_encoding.specs.Exceptions.{UserException, user_exception_at, exception_at}
-use Rattle.ice_encoding.proofs.GraphSamples.{always, tagged, classes, node_id, point_id, values, to, node}
+use Rattle.ice_encoding.proofs.SampleClasses.{always, tagged, classes, node_id, point_id, values, to, node}
 
 -- exception E {} exception F { int code; } exception G extends F { string why; } exception H { N held; } exception I { optional(1) int more; }
 abbrev exceptions : List ExceptionDecl

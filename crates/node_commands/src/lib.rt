@@ -1,7 +1,8 @@
 //! What the program does for the words of the command line: which command they ask for, which type a word
 //! names, what each command finds before any of it is written, or why it finds nothing, and the status and
-//! the line of each answer. And what `call`, `serve` and `gate`, which stand above, share: how connections end that were
-//! served or forwarded, the lines on the standard output, the interface that a word names, and limits of their words.
+//! the line of each answer. And what `call`, `serve` and `gate`, which stand above, share: how connections end that
+//! were served or forwarded, the lines on the standard output, the interface that a word names, and limits of their
+//! words.
 //!
 //! Forms, and why they are so:
 //!

@@ -15,9 +15,8 @@
 //!   it before the instance is read. With a second call for the instance a port would have something pending
 //!   between the two; so its model is the definitions' state and nothing else. It stands here, so that what
 //!   remembers references does not wait for what reads values.
-//! - An enumerator is looked up at the place of its number, and else in order among those of its enum. So an
-//!   enum of tens of thousands that leaves numbers out is quadratic; an index beside its row in the schema would
-//!   end that.
+//! - An enumerator is looked up at the place of its number, then by halving, and in order only where numbers do
+//!   not rise from one enumerator to the next: so an enum of tens of thousands wants no index beside its row.
 //! - Slices of instances are of classes, and those of exceptions of exceptions: what a schema declares of either is
 //!   found by one type (`SlicedType`), so that what reads, writes and checks slices is told of it and does not ask.
 //! - A class hands over its members as both lists (`DeclaredMembers`): required ones are those without a tag,
@@ -34,7 +33,7 @@ mod slice_id;
 mod sliced_type;
 mod tagged;
 
-pub use enumerator::has_number;
+pub use enumerator::{has_number, likely_place};
 pub use fields::{DeclaredMembers, Optionals};
 pub use numbers::Numbers;
 pub use paused::{Paused, Step};

@@ -11,9 +11,9 @@ ghost use Rattle.value_writing.specs.Putting.{InsideWritten, Values, lists};
 ghost use Rattle.value_parts.specs.Pauses.{NarrowsOnPause};
 ghost use Rattle.value_writing.specs.Pauses.{GoesOnWriting};
 ghost use Rattle.value_writing.specs.WritingLengths.{GoesOnFrom, IsBehind};
-ghost use Rattle.value_writing.specs.WritingMembers.{remaining, all_of, is_marked, marker, members_left, members_written};
-ghost use Rattle.value_writing.specs.WritingMembers.{ContentCanBeWritten, RemainingFits, values_of, place_of, tag_bytes};
-ghost use Rattle.value_writing.specs.WritingMembers.{held_bytes, WritesPiece};
+ghost use Rattle.value_writing.specs.WritingMembers.{ContentCanBeWritten, RemainingFits, WritesPiece, all_of};
+ghost use Rattle.value_writing.specs.WritingMembers.{held_bytes, is_marked, marker, members_left, members_written};
+ghost use Rattle.value_writing.specs.WritingMembers.{place_of, remaining, tag_bytes, values_of};
 
 use crate::ending::Ending;
 use crate::length_place::LengthPlace;

@@ -7,17 +7,15 @@ use Rattle.std.specs.Fmt.{digits}
 use Rattle.ice_types.specs.Measures.{measure}
 use Rattle.ice_types.specs.declared.kind.TypeRef.{TypeRef}
 use Rattle.ice_types.specs.declared.kind.TypeRef.TheVariants as kinds
-use Rattle.ice_types.specs.declared.declarations.Member.{Member}
 use Rattle.ice_types.specs.declared.declarations.Shape.{Shape}
-use Rattle.ice_types.specs.declared.declarations.ClassDecl.{ClassDecl}
 use Rattle.ice_types.specs.Tables.{Tables, no_types}
 use Rattle.ice_prims.specs.declared.fault.Fault.{Fault}
 use Rattle.ice_prims.specs.declared.fault.Kind.{Kind}
 use Rattle.ice_prims.specs.declared.fault.Kind.TheVariants as faults
 use Rattle.ice_prims.specs.Rest.{fault, whole}
 use Rattle.ice_encoding.specs.Opening.{encapsulated_bytes}
-use Rattle.ice_encoding.specs.Tree.{short, int, byte, sequence, struct, text, reference, Trees, none, tree}
-use Rattle.ice_encoding.specs.OptionalMembers.{Members, with_optional, content_at}
+use Rattle.ice_encoding.specs.Tree.{short, int, byte, sequence, struct, text, reference, none, tree}
+use Rattle.ice_encoding.specs.OptionalMembers.{with_optional, content_at}
 use Rattle.ice_encoding.specs.Graph.{Slice, known, unknown, Graph}
 use Rattle.ice_encoding.specs.References.{opening}
 use Rattle.ice_encoding.specs.Flags.{Reach, all_slices, known_classes}
@@ -26,29 +24,15 @@ use Rattle.ice_encoding.specs.Visiting.{most, order}
 use Rattle.ice_encoding.specs.SameGraph.{form}
 use Rattle.ice_encoding.specs.CanonicalGraph.{sliced, compact, canonical_graph, graph_bytes}
 use Rattle.ice_encoding.specs.Reopening.{reopened}
+use Rattle.ice_encoding.proofs.SampleClasses.{always, tagged, classes, node_id, point_id, values, to, node}
 
 -- ---- the types
 
-abbrev pub always : TypeRef → Member
-always kind = record { name = codes "r"; kind = kind; tag = None }
-
-abbrev pub tagged : ℕ → TypeRef → Member
-tagged number kind = record { name = codes "m"; kind = kind; tag = Some number }
-
 -- a content of one value
-abbrev pub one : TypeRef → Shape
+abbrev one : TypeRef → Shape
 one kind = record { required = always kind ∷ []; optional = [] }
 
--- class N { int v; N next; } class P { int p; } class O { optional(1) int a; } class B { int b; } class D extends B { string d; B other; } class T { N a; N b; }
-abbrev pub classes : List ClassDecl
-classes = record { id = codes "::M::N"; base = None; compact = None; members = always kinds.Int ∷ always (kinds.Class (Some 0)) ∷ [] }
-    ∷ record { id = codes "::M::P"; base = None; compact = None; members = always kinds.Int ∷ [] }
-    ∷ record { id = codes "::M::O"; base = None; compact = None; members = tagged 1 kinds.Int ∷ [] }
-    ∷ record { id = codes "::M::B"; base = None; compact = None; members = always kinds.Int ∷ [] }
-    ∷ record { id = codes "::M::D"; base = Some 3; compact = None; members = always kinds.Text ∷ always (kinds.Class (Some 3)) ∷ [] }
-    ∷ record { id = codes "::M::T"; base = None; compact = None; members = always (kinds.Class (Some 0)) ∷ always (kinds.Class (Some 0)) ∷ [] } ∷ []
-
-abbrev pub tables : Tables
+abbrev tables : Tables
 tables = record no_types { seqs = record { id = codes "::M::Bytes"; element = kinds.Byte } ∷ []; classes = classes }
 
 -- B alone
@@ -69,19 +53,13 @@ numbered = record no_types { classes = record { id = codes "::M::N"; base = None
 
 -- type ids as texts
 
-abbrev pub node_id : List ℕ
-node_id = 6 ∷ codes "::M::N"
-
-abbrev pub point_id : List ℕ
-point_id = 6 ∷ codes "::M::P"
-
-abbrev pub option_id : List ℕ
+abbrev option_id : List ℕ
 option_id = 6 ∷ codes "::M::O"
 
-abbrev pub base_id : List ℕ
+abbrev base_id : List ℕ
 base_id = 6 ∷ codes "::M::B"
 
-abbrev pub derived_id : List ℕ
+abbrev derived_id : List ℕ
 derived_id = 6 ∷ codes "::M::D"
 
 abbrev two_id : List ℕ
@@ -102,17 +80,8 @@ read_to reach t kind content = numbered_at t reach (one kind) (whole (encapsulat
 abbrev read : Tables → TypeRef → List ℕ → Result Graph Fault
 read = read_to all_slices
 
-abbrev pub values : Trees → Members
-values vs = with_optional vs []
-
-abbrev pub to : ℕ → Trees
-to n = tree (reference (Some n)) none
-
 abbrev graph : List (List Slice) → Graph
 graph is = record { roots = values (to 0); instances = is }
-
-abbrev pub node : ℕ → ℕ → List Slice
-node v next = known 0 (values (tree (int (pos v)) (to next))) ∷ []
 
 -- a node that has no next
 abbrev leaf : ℕ → List Slice
