@@ -1,7 +1,8 @@
 //! The definitions of the Ice encoding: which bytes spell a proxy, a tag, an encapsulation, a value of a type, the
 //! optional members of a shape, a slice, a class instance, a graph of them and a user exception, the first fault of
-//! bytes that spell none, and the canonical bytes of each. They stand in `specs/`; here are the limits that they name, and
-//! functions without bodies, each with a law of the definitions as its contract. (Ice manual, "The Ice Encoding".)
+//! bytes that spell none, and the canonical bytes of each. They stand in `specs/`; here are the limits that they
+//! name, and functions without bodies, each with a law of the definitions as its contract. (Ice manual, "The Ice
+//! Encoding".)
 //!
 //! - Parts (`part_laws`): identities, facets, proxies, what an encapsulation bounds, and what stands
 //!   before an optional member.

@@ -1,8 +1,8 @@
 //! Tests of the parts of the program over public calls, one module a subject: values, graphs, proxies and tags;
-//! messages, both ends of a call, and turns on one object; inputs and user exceptions, and what inputs come by: files,
-//! streams, and connections over the loopback, alone and many at once, and in memory. They try what no contract says and no case can
-//! bring about, calls that no command makes, and each call once on values that are written out. The crate has no
-//! functions of its own.
+//! messages, both ends of a call, and turns on one object; inputs and user exceptions, and what inputs come by:
+//! files, streams, and connections over the loopback, alone and many at once, and in memory. They try what no
+//! contract says and no case can bring about, calls that no command makes, and each call once on values that are
+//! written out. The crate has no functions of its own.
 #![tactic(auto)]
 
 #[cfg(test)]
