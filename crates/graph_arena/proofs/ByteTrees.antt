@@ -1,5 +1,5 @@
 -- Bytes as the items of a sequence: they compare as bytes, hold no dictionary, and name nothing.
-use Rattle.std.proofs.Common.{◌≡◌, ◌≤◌, ◌<◌, ℕ, zero, suc, nat_cmp, List, [], ◌∷◌, length, drop, false, refl, sym, ap, ◌∙◌, arith}
+use Rattle.std.proofs.Common.{◌≡◌, ◌≤◌, ◌<◌, ℕ, zero, suc, nat_cmp, List, [], ◌∷◌, length, drop, refl, sym, ap, ◌∙◌, arith}
 use Rattle.std.specs.Ordering.{ordering_then, ordering_reverse}
 use Rattle.std.specs.Cmp.Lexicographic.{slice_cmp}
 use Rattle.std.specs.declared.cmp.Ordering.{Ordering}
@@ -10,7 +10,6 @@ use Rattle.ice_encoding.proofs.Order.{turns}
 use Rattle.ice_encoding.specs.Names.{names_each, renamed_each}
 use Rattle.graph_arena.specs.declared.value.Value.{Value}
 use Rattle.graph_arena.specs.declared.value.Value.TheVariants as variants
-use Rattle.graph_arena.specs.Sorted.{sorted, sorted_each, has_equal_keys, some_has_equal_keys}
 use Rattle.graph_arena.specs.View.{view, view_all, byte_trees}
 use Rattle.graph_arena.proofs.Comparisons.{zero_first, both_more}
 use Rattle.graph_arena.proofs.Shapes.{view_seq, view_bytes}
@@ -50,14 +49,6 @@ pub bytes_renamed : (f : ℕ → ℕ) (bytes : List ℕ) → renamed_each f (byt
 bytes_renamed f [] = refl
 bytes_renamed f (n ∷ bytes) = ap (tree (byte n)) (bytes_renamed f bytes)
 
-pub bytes_sorted : (bytes : List ℕ) → sorted_each (byte_trees bytes) ≡ byte_trees bytes
-bytes_sorted [] = refl
-bytes_sorted (n ∷ bytes) = ap (tree (byte n)) (bytes_sorted bytes)
-
-pub bytes_have_no_keys : (bytes : List ℕ) → some_has_equal_keys (byte_trees bytes) ≡ false
-bytes_have_no_keys [] = refl
-bytes_have_no_keys (n ∷ bytes) = bytes_have_no_keys bytes
-
 -- ---- of a value that holds bytes
 
 pub bytes_beside_bytes : (v w : Value) (a b s u : List ℕ) (o : Ordering) → v ≡ variants.Bytes a → w ≡ variants.Bytes b → s ≡ a → u ≡ b → o ≡ slice_cmp nat_cmp s u → o ≡ tree_cmp (view v) (view w)
@@ -66,8 +57,3 @@ bytes_beside_bytes v w a b s u o p q e f h = rw (p, q, view_bytes a, view_bytes 
 pub seq_beside_bytes : (v w : Value) (a s : List Value) (b u : List ℕ) (o turned : Ordering) → v ≡ variants.Seq a → w ≡ variants.Bytes b → s ≡ a → u ≡ b → o ≡ ordering_reverse turned → turned ≡ trees_cmp (byte_trees u) (view_all s) → o ≡ tree_cmp (view v) (view w)
 seq_beside_bytes v w a s b u o turned p q e f h g =
     rw (p, q, view_seq a, view_bytes b, ← e, ← f) (h ∙ (ap ordering_reverse g ∙ sym (turns (sequence (view_all s)) (sequence (byte_trees u)))))
-
-pub bytes_copied : (v : Value) (bytes copy : List ℕ) → v ≡ variants.Bytes bytes → copy ≡ bytes → (has_equal_keys (view v) ≡ false) × (view (variants.Bytes copy) ≡ sorted (view v))
-bytes_copied v bytes copy is same =
-    let shape : view v ≡ sequence (byte_trees bytes) = ap view is ∙ view_bytes bytes in
-    (ap has_equal_keys shape ∙ bytes_have_no_keys bytes, ap (λ (l : List ℕ). view (variants.Bytes l)) same ∙ (view_bytes bytes ∙ (ap sequence (sym (bytes_sorted bytes)) ∙ ap sorted (sym shape))))

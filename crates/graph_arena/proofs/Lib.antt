@@ -3,8 +3,6 @@ pub mod Comparisons
 pub mod ByteTrees
 pub mod Rising
 pub mod Sorting
-pub mod SortedLaws
-pub mod SortedKeys
 pub mod RisingPairs
 pub mod Fitting
 pub mod Listed

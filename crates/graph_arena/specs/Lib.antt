@@ -1,8 +1,6 @@
 pub mod View
 pub mod Comparing
-pub mod Sorted
 pub mod Sorting
-pub mod Keys
 pub mod Stored
 pub mod Seen
 pub mod Arena

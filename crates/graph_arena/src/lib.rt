@@ -17,21 +17,14 @@
 //!   `Seq`.
 //! - `Value` has the order of keys by hand (`impl Ord`, proved to be `tree_cmp`): a derived order is not to be
 //!   had for a type that holds itself through `List`.
-//! - `sort_pairs` asks nothing of its value: keys that hold dictionaries are sorted too, and two keys are equal
-//!   where they are so once sorted. That this is "two pairs of one dictionary have the same key" is a law for
-//!   values whose keys hold no dictionary out of order (`equal_keys_repeat`).
-//! - `sort_pairs` copies a value that is not in order, and puts the copy in its place at the end: a refusal or
-//!   out of memory then leaves the value as it was. A value in order is left alone.
 #![tactic(auto)]
 
 mod compare;
 mod graph;
 mod instance;
-mod laws;
 mod listing;
 mod names;
 mod order;
-mod proxy_copy;
 mod proxy_order;
 mod renumbering;
 mod resolving;
@@ -41,10 +34,9 @@ mod visiting;
 
 pub use graph::{Graph, MOST_PLACES};
 pub use instance::{Instance, Members, Slice, class_of};
-pub use laws::{equal_keys_repeat, sorting_keeps_the_value};
 pub use names::push_slices;
 pub use order::{is_above, is_rising, is_sorted};
 pub use renumbering::{index_of, resolve_slices};
 pub use resolving::{resolve, resolve_members};
-pub use sort::{in_order, keyed, put, sort_pairs};
+pub use sort::{in_order, keyed, put};
 pub use value::Value;

@@ -1,8 +1,9 @@
-use graph_arena::{Value, is_sorted, sort_pairs};
+use graph_arena::{Value, is_sorted};
 use ice_proxy::parse_text;
 use ice_types::{Bytes, List, Name};
 use std::alloc::{AllocError, Global};
 use std::test::Fail;
+use value_writing::sort_pairs;
 
 /// A key, as a table can hold it.
 #[derive(Clone, Copy)]

@@ -3,3 +3,6 @@ pub mod Plain
 pub mod ByteSequences
 pub mod WritingSteps
 mod Listed
+pub mod Sorting
+pub mod SortedLaws
+pub mod SortedKeys

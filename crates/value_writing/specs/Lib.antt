@@ -5,3 +5,6 @@ pub mod Putting
 pub mod Pauses
 pub mod WritingLengths
 pub mod WritingMembers
+pub mod Sorted
+pub mod Sorting
+pub mod Keys

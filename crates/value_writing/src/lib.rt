@@ -1,6 +1,7 @@
 //! Values, and the members of a shape, required and optional ones: written in pieces. At a reference that
-//! begins a class instance the work pauses, and goes on once the caller has dealt with the instance. (Ice
-//! manual, "Data Encoding for Class and Exception Types" and "Data Encoding for Optional Values".)
+//! begins a class instance the work pauses, and goes on once the caller has dealt with the instance. And dictionaries
+//! put into the order in which they are written. (Ice manual, "Data Encoding for Class and Exception Types" and "Data
+//! Encoding for Optional Values".)
 //!
 //! Forms, and why they are so:
 //!
@@ -21,6 +22,11 @@
 //!   it, and no encapsulation has room for it. A fault of its own would be one that no input can bring about.
 //! - A tag that no member has writes nothing. So the call asks for no more than sizes and tags, and need not be
 //!   told that the members are of the shape.
+//! - `sort_pairs` asks nothing of its value: keys that hold dictionaries are sorted too, and two keys are equal
+//!   where they are so once sorted. That this is "two pairs of one dictionary have the same key" is a law for
+//!   values whose keys hold no dictionary out of order (`equal_keys_repeat`).
+//! - `sort_pairs` copies a value that is not in order, and puts the copy in its place at the end: a refusal or
+//!   out of memory then leaves the value as it was. A value in order is left alone.
 #![tactic(auto)]
 
 mod byte_sequence;
@@ -30,13 +36,16 @@ mod leaf;
 mod length_place;
 mod members_writer;
 mod numbers;
+mod proxy_copy;
 mod put_port;
+mod sort;
 mod value;
 mod writer;
 
 pub use ending::Ending;
-pub use laws::written_by_number;
+pub use laws::{equal_keys_repeat, sorting_keeps_the_value, written_by_number};
 pub use members_writer::{MembersWriter, write_members};
 pub use put_port::PutPort;
+pub use sort::sort_pairs;
 pub use value::write_value;
 pub use writer::ValueWriter;

@@ -4,8 +4,8 @@ use Rattle.ice_encoding.specs.Tree.{Tree, boolean, byte, short, int, long, text,
 use Rattle.ice_encoding.specs.Order.{IsRising, KeysRise, IsOrdered, insert, has_key, AreBelow}
 use Rattle.ice_encoding.proofs.Order.{less_then, is_new, has_none, insert_rising}
 use Rattle.ice_encoding.proofs.Inserting.{insert_inside, join, join_none, join_join, insert_last, lacks_above}
-use Rattle.graph_arena.specs.Sorted.{sorted, sorted_each, sorted_onto, has_equal_keys, some_has_equal_keys}
-use Rattle.graph_arena.proofs.Sorting.{equal_onto, equal_is}
+use Rattle.value_writing.specs.Sorted.{sorted, sorted_each, sorted_onto, has_equal_keys, some_has_equal_keys}
+use Rattle.value_writing.proofs.Sorting.{equal_onto, equal_is}
 
 neither : (a b : Bool) → (a || b) ≡ false → (a ≡ false) × (b ≡ false)
 neither true b e = absurd cc

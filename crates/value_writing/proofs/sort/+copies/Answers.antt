@@ -1,8 +1,8 @@
 use Rattle.std.proofs.Common.{refl, ap, arith, ◌∙◌}
 use Rattle.graph_arena.specs.View.{view_pairs}
-use Rattle.graph_arena.proofs.ByteTrees.{bytes_copied}
-use Rattle.graph_arena.proofs.Sorting.{equal_is, items_copied, pairs_copied}
-use Rattle.graph_arena.proofs.sort.+copies.Goals as goal
+use Rattle.value_writing.proofs.Sorting.{bytes_copied}
+use Rattle.value_writing.proofs.Sorting.{equal_is, items_copied, pairs_copied}
+use Rattle.value_writing.proofs.sort.+copies.Goals as goal
 
 pub by_key-loop-pair-init : goal.by_key-loop-pair-init
 by_key-loop-pair-init t c = record {

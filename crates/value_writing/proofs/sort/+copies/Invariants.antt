@@ -1,9 +1,9 @@
 use Rattle.std.proofs.Common.{◌≡◌, map, take, drop}
 use Rattle.ice_encoding.specs.Tree.{no_entry}
-use Rattle.graph_arena.specs.Sorted.{sorted, sorted_onto, some_has_equal_keys, have_equal_keys}
+use Rattle.value_writing.specs.Sorted.{sorted, sorted_onto, some_has_equal_keys, have_equal_keys}
 use Rattle.graph_arena.specs.View.{view, view_all, view_pairs}
-use Rattle.graph_arena.proofs.Sorting.{equal_onto}
-use Rattle.graph_arena.proofs.sort.+copies.Given as goal
+use Rattle.value_writing.proofs.Sorting.{equal_onto}
+use Rattle.value_writing.proofs.sort.+copies.Given as goal
 
 abbrev pub invariant-sorted_items-loop-item : goal.invariant-sorted_items-loop-item
 invariant-sorted_items-loop-item l = record {

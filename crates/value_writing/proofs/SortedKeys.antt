@@ -8,9 +8,9 @@ use Rattle.ice_encoding.specs.Order.{tree_cmp, insert}
 use Rattle.ice_encoding.specs.Same.{Same, SomePair, SameEach, AreAmong}
 use Rattle.ice_encoding.proofs.Order.{equal_is, equal_self}
 use Rattle.ice_encoding.proofs.Inserting.{by_test, insert_count}
-use Rattle.graph_arena.specs.Sorted.{sorted, sorted_each, sorted_onto, has_sorted_key, has_equal_keys, some_has_equal_keys, have_equal_keys}
-use Rattle.graph_arena.specs.Keys.{Somewhere, InSome, InSomePair, HasKey, HasKeyTwice, RepeatsKey, AreOrderedKeys, HasOrderedKeys}
-use Rattle.graph_arena.proofs.SortedLaws.{stays}
+use Rattle.value_writing.specs.Sorted.{sorted, sorted_each, sorted_onto, has_sorted_key, has_equal_keys, some_has_equal_keys, have_equal_keys}
+use Rattle.value_writing.specs.Keys.{Somewhere, InSome, InSomePair, HasKey, HasKeyTwice, RepeatsKey, AreOrderedKeys, HasOrderedKeys}
+use Rattle.value_writing.proofs.SortedLaws.{stays}
 
 -- ---- the same value
 

@@ -1,7 +1,7 @@
 use Rattle.std.proofs.Common.{sym}
 use Rattle.graph_arena.specs.View.{view}
-use Rattle.graph_arena.proofs.SortedLaws.{stays, differ}
-use Rattle.graph_arena.proofs.sort.sort_pairs.Goals as goal
+use Rattle.value_writing.proofs.SortedLaws.{stays, differ}
+use Rattle.value_writing.proofs.sort.sort_pairs.Goals as goal
 
 pub returns-then-is_sorted-clause-sorts : goal.returns-then-is_sorted-clause-sorts
 returns-then-is_sorted-clause-sorts c =

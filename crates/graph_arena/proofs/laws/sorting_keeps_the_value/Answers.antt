@@ -1,9 +1,0 @@
-use Rattle.graph_arena.proofs.SortedKeys.{same_sorted}
-use Rattle.graph_arena.proofs.SortedLaws.{sorted_is}
-use Rattle.graph_arena.proofs.laws.sorting_keeps_the_value.Goals as goal
-
-pub returns-clause-same : goal.returns-clause-same
-returns-clause-same c = same_sorted
-
-pub returns-clause-ordered : goal.returns-clause-ordered
-returns-clause-ordered c = sorted_is
