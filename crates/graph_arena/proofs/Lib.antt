@@ -1,3 +1,4 @@
+pub mod Stepping
 pub mod Shapes
 pub mod Comparisons
 pub mod ByteTrees

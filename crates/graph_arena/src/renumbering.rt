@@ -5,7 +5,8 @@ ghost use Rattle.ice_encoding.specs.Instances.{slices_of};
 ghost use Rattle.ice_encoding.specs.Names.{renamed_slice};
 ghost use Rattle.ice_encoding.specs.References.{entry_in};
 ghost use Rattle.ice_encoding.specs.SameGraph.{HasEachOnce, form};
-ghost use Rattle.graph_arena.specs.Arena.{AreBelow};
+ghost use Rattle.ice_encoding.specs.Visiting.{order};
+ghost use Rattle.graph_arena.specs.Arena.{AreBelow, IsSound};
 ghost use Rattle.graph_arena.specs.Renumbering.{IsIndex};
 ghost use Rattle.graph_arena.specs.Seen.{view_instance, view_slice, view_slices};
 
@@ -23,15 +24,44 @@ impl Graph {
     pub fn renumbered(self) -> Result<Graph, AllocError>
         ensures { IfOk result (λ graph. graph ≡ form self) }
     {
+        match self.visited() {
+            Ok((visits, index)) => self.by_visits(visits.as_slice(), index.as_slice()),
+            Err(error) => {
+                drop(self);
+                Err(error)
+            }
+        }
+    }
+
+    /// The first visits, and for each name its place among them.
+    fn visited(&self) -> Result<(List<u32>, Vec<u32>), AllocError>
+        ensures sound { IsSound self.now }
+        ensures visits { IfOk result (λ found. found.0 ≡ order self.now) }
+        ensures index { IfOk result (λ found. IsIndex (length self.now.instances) (order self.now) found.1.items) }
+    {
+        let count = self.len();
+        let visits = self.first_visit()?;
+        let index = index_of(self.alloc(), count, visits.as_slice())?;
+        Ok((visits, index))
+    }
+
+    /// The instances of these first visits in their order, each named by its place in the table.
+    fn by_visits(self, visits: &[u32], index: &[u32]) -> Result<Graph, AllocError>
+        requires sound { IsSound self }
+        requires visits { visits.now ≡ order self }
+        requires index { IsIndex (length self.instances) (order self) index.now }
+        ensures { IfOk result (λ graph. graph ≡ form self) }
+    {
         let alloc = self.alloc();
-        let order = self.first_visit()?;
-        let index = index_of(alloc, self.len(), order.as_slice())?;
         let (mut roots, instances) = self.into_parts();
-        resolve_members(&mut roots, index.as_slice());
-        Ok(Graph::of(
-            roots,
-            in_order(alloc, instances, order.as_slice(), index.as_slice())?,
-        ))
+        resolve_members(&mut roots, index);
+        match in_order(alloc, instances, visits, index) {
+            Ok(taken) => Ok(Graph::of(roots, taken)),
+            Err(error) => {
+                drop(roots);
+                Err(error)
+            }
+        }
     }
 }
 

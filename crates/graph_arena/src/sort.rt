@@ -14,7 +14,10 @@ use std::collections::BTreeMap;
 pub fn put(map: &mut BTreeMap<Value, Value>, key: Value, value: Value) -> Result<bool, AllocError>
     ensures { IfOk result (Puts (view key) (view value) (view_pairs map.old.entries) (view_pairs map.new.entries)) }
 {
-    Ok(map.insert(key, value)?.is_none())
+    let before = map.insert(key, value)?;
+    let is_new = before.is_none();
+    drop(before);
+    Ok(is_new)
 }
 
 /// A map of pairs that stand in strictly rising key order.

@@ -1,7 +1,8 @@
 //! The order in which instances are visited first.
 
-ghost use Rattle.std.specs.Prelude.{◌≡◌, ◌++◌, IfOk, OnOk};
+ghost use Rattle.std.specs.Prelude.{◌≡◌, ◌++◌, [], IfOk, OnOk, length};
 ghost use Rattle.ice_encoding.specs.Visiting.{order};
+ghost use Rattle.graph_arena.specs.Arena.{IsSound};
 ghost use Rattle.graph_arena.specs.Listing.{from_top};
 
 use crate::graph::Graph;
@@ -18,13 +19,32 @@ impl Graph {
         let alloc = self.alloc();
         let mut listing = Listing::new(alloc, self.len())?;
         let mut pending = List::new(alloc);
-        put_on_top(&mut pending, self.root_refs()?)?;
-        while let Some(place) = pending.pop() {
-            if listing.list(place)? {
-                put_on_top(&mut pending, self.refs(place)?)?;
+        let listed = self.list_visits(&mut listing, &mut pending);
+        drop(pending);
+        match listed {
+            Ok(()) => Ok(listing.into_places()),
+            Err(error) => {
+                drop(listing);
+                Err(error)
             }
         }
-        Ok(listing.into_places())
+    }
+
+    /// Lists the places of the instances that the roots lead to, with a stack of the names that are
+    /// not visited yet.
+    fn list_visits(&self, listing: &mut Listing, pending: &mut List<u32>) -> Result<(), AllocError>
+        requires sound { IsSound self.now }
+        requires none { listing.old ≡ record { count = length self.now.instances; places = [] } }
+        requires empty { pending.old ≡ [] }
+        ensures { OnOk result (listing.new.places ≡ order self.now) }
+    {
+        put_on_top(pending, self.root_refs()?)?;
+        while let Some(place) = pending.pop() {
+            if listing.list(place)? {
+                put_on_top(pending, self.refs(place)?)?;
+            }
+        }
+        Ok(())
     }
 }
 

@@ -7,4 +7,4 @@ use Rattle.graph_arena.proofs.sort.put.Goals as goal
 
 pub returns : goal.returns
 returns c =
-    puts (on view tree_cmp) (λ a b. refl) c.args.key c.args.value c.args.map.now.entries c.insert.new.self.entries c.in_ok-insert.field-0 c.is_none.result c.in_ok-insert.ensures.old c.in_ok-insert.ensures.entries c.is_none.ensures
+    puts (on view tree_cmp) (λ a b. refl) c.args.key c.args.value c.args.map.now.entries c.insert.new.self.entries c.in_ok-before.before c.is_none-is_new.result c.in_ok-before.ensures.old c.in_ok-before.ensures.entries c.is_none-is_new.ensures

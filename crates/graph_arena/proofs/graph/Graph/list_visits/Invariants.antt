@@ -3,7 +3,7 @@ use Rattle.ice_encoding.specs.Visiting.{most, order, visit_at, visit_each}
 use Rattle.graph_arena.specs.Arena.{AreBelow}
 use Rattle.graph_arena.specs.Listing.{from_top}
 use Rattle.graph_arena.proofs.Visits.{work}
-use Rattle.graph_arena.proofs.graph.Graph.first_visit.Given as goal
+use Rattle.graph_arena.proofs.graph.Graph.list_visits.Given as goal
 
 abbrev pub invariant-loop-place : goal.invariant-loop-place
 invariant-loop-place l = record {
