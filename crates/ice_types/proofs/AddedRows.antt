@@ -110,6 +110,10 @@ module _ (t : Tables) (beside : Beside) (kept : IsKept t beside) (new : Exceptio
         interfaces = kept.interfaces;
       }
 
+-- the tables that contracts see then
+pub view_exception : (old : TableRows) (after : Rows ExceptionDecl ℕ) (t : Tables) → tables_of old ≡ t → (new : ExceptionDecl) → after.decls ≡ old.exceptions.decls ++ new ∷ [] → with_exception t new ≡ tables_of (record old { exceptions = after })
+view_exception old after t view_is new row = rw (row, ← view_is) refl
+
 -- the same of a schema's fields, where contracts see them as these tables
 pub added_exception : (old : TableRows) (after : Rows ExceptionDecl ℕ) (t : Tables) (row_of now : List ℕ → Option RowRef) → IsHeld (tables_of old) (beside_of old) row_of → tables_of old ≡ t → (new : ExceptionDecl) (bases : ℕ)
     → after.decls ≡ old.exceptions.decls ++ new ∷ [] → after.beside ≡ old.exceptions.beside ++ bases ∷ [] → (at : ℕ) → at ≡ length old.exceptions.decls
@@ -117,7 +121,7 @@ pub added_exception : (old : TableRows) (after : Rows ExceptionDecl ℕ) (t : Ta
     → length t.exceptions + 1 < 100000000 → IsTypeId new.id → IsNewId t new.id → ExceptionFits t new.base new.members → HasBasesFrom (exception_base t) new.base bases → bases ≤ length t.exceptions
     → IsHeld (tables_of (record old { exceptions = after })) (beside_of (record old { exceptions = after })) now
 added_exception old after t row_of now held view_is new bases row beside at end put room type_id lacks fits from most =
-    let pushed : with_exception t new ≡ tables_of (record old { exceptions = after }) = rw (row, ← view_is) refl in
+    let pushed = view_exception old after t view_is new row in
     let was : IsHeld t (beside_of old) row_of = subst (λ (t : Tables). IsHeld t (beside_of old) row_of) view_is held in
     rw beside (subst (λ (u : Tables). IsHeld u (record (beside_of old) { exceptions = old.exceptions.beside ++ bases ∷ [] }) now) pushed (record {
       kept = kept_exception t (beside_of old) was.kept new bases from most room type_id lacks fits;

@@ -98,12 +98,16 @@ kept_seq t beside kept new m room type_id lacks fits is =
       interfaces = kept.interfaces;
     }
 
+-- the tables that contracts see then
+pub view_seq : (old : TableRows) (after : Rows SeqDecl Measure) (t : Tables) → tables_of old ≡ t → (new : SeqDecl) → after.decls ≡ old.seqs.decls ++ new ∷ [] → with_seq t new ≡ tables_of (record old { seqs = after })
+view_seq old after t view_is new row = rw (row, ← view_is) refl
+
 -- the same of a schema's fields, where contracts see them as these tables
 pub added_seq : (old : TableRows) (after : Rows SeqDecl Measure) (t : Tables) (row_of now : List ℕ → Option RowRef) → IsHeld (tables_of old) (beside_of old) row_of → tables_of old ≡ t → (new : SeqDecl) (m : Measure)
     → after.decls ≡ old.seqs.decls ++ new ∷ [] → after.beside ≡ old.seqs.beside ++ m ∷ [] → (at : ℕ) → at ≡ length old.seqs.decls → ((id : List ℕ) → now id ≡ cond (bytes_eq new.id id) (Some (rows.Seq at)) (row_of id))
     → length t.seqs + 1 < 100000000 → IsTypeId new.id → IsNewId t new.id → SeqFits t new.element → Some m ≡ sequence_of (measure t 99 new.element) → IsHeld (tables_of (record old { seqs = after })) (beside_of (record old { seqs = after })) now
 added_seq old after t row_of now held view_is new m row beside at end put room type_id lacks fits is =
-    let pushed : with_seq t new ≡ tables_of (record old { seqs = after }) = rw (row, ← view_is) refl in
+    let pushed = view_seq old after t view_is new row in
     let was : IsHeld t (beside_of old) row_of = subst (λ (t : Tables). IsHeld t (beside_of old) row_of) view_is held in
     rw beside (subst (λ (u : Tables). IsHeld u (record (beside_of old) { seqs = old.seqs.beside ++ m ∷ [] }) now) pushed (record {
       kept = kept_seq t (beside_of old) was.kept new m room type_id lacks fits is;
@@ -183,12 +187,16 @@ kept_dict t beside kept new m room type_id lacks fits is =
       interfaces = kept.interfaces;
     }
 
+-- the tables that contracts see then
+pub view_dict : (old : TableRows) (after : Rows DictDecl Measure) (t : Tables) → tables_of old ≡ t → (new : DictDecl) → after.decls ≡ old.dicts.decls ++ new ∷ [] → with_dict t new ≡ tables_of (record old { dicts = after })
+view_dict old after t view_is new row = rw (row, ← view_is) refl
+
 -- the same of a schema's fields, where contracts see them as these tables
 pub added_dict : (old : TableRows) (after : Rows DictDecl Measure) (t : Tables) (row_of now : List ℕ → Option RowRef) → IsHeld (tables_of old) (beside_of old) row_of → tables_of old ≡ t → (new : DictDecl) (m : Measure)
     → after.decls ≡ old.dicts.decls ++ new ∷ [] → after.beside ≡ old.dicts.beside ++ m ∷ [] → (at : ℕ) → at ≡ length old.dicts.decls → ((id : List ℕ) → now id ≡ cond (bytes_eq new.id id) (Some (rows.Dict at)) (row_of id))
     → length t.dicts + 1 < 100000000 → IsTypeId new.id → IsNewId t new.id → DictFits t new.key new.value → Some m ≡ dictionary_of (measure t 98 new.key) (measure t 98 new.value) → IsHeld (tables_of (record old { dicts = after })) (beside_of (record old { dicts = after })) now
 added_dict old after t row_of now held view_is new m row beside at end put room type_id lacks fits is =
-    let pushed : with_dict t new ≡ tables_of (record old { dicts = after }) = rw (row, ← view_is) refl in
+    let pushed = view_dict old after t view_is new row in
     let was : IsHeld t (beside_of old) row_of = subst (λ (t : Tables). IsHeld t (beside_of old) row_of) view_is held in
     rw beside (subst (λ (u : Tables). IsHeld u (record (beside_of old) { dicts = old.dicts.beside ++ m ∷ [] }) now) pushed (record {
       kept = kept_dict t (beside_of old) was.kept new m room type_id lacks fits is;
@@ -267,12 +275,16 @@ kept_struct t beside kept new m room type_id lacks fits is =
       interfaces = kept.interfaces;
     }
 
+-- the tables that contracts see then
+pub view_struct : (old : TableRows) (after : Rows StructDecl Measure) (t : Tables) → tables_of old ≡ t → (new : StructDecl) → after.decls ≡ old.structs.decls ++ new ∷ [] → with_struct t new ≡ tables_of (record old { structs = after })
+view_struct old after t view_is new row = rw (row, ← view_is) refl
+
 -- the same of a schema's fields, where contracts see them as these tables
 pub added_struct : (old : TableRows) (after : Rows StructDecl Measure) (t : Tables) (row_of now : List ℕ → Option RowRef) → IsHeld (tables_of old) (beside_of old) row_of → tables_of old ≡ t → (new : StructDecl) (m : Measure)
     → after.decls ≡ old.structs.decls ++ new ∷ [] → after.beside ≡ old.structs.beside ++ m ∷ [] → (at : ℕ) → at ≡ length old.structs.decls → ((id : List ℕ) → now id ≡ cond (bytes_eq new.id id) (Some (rows.Struct at)) (row_of id))
     → length t.structs + 1 < 100000000 → IsTypeId new.id → IsNewId t new.id → StructFits t new.members → Some m ≡ struct_of (small_members t new.members) → IsHeld (tables_of (record old { structs = after })) (beside_of (record old { structs = after })) now
 added_struct old after t row_of now held view_is new m row beside at end put room type_id lacks fits is =
-    let pushed : with_struct t new ≡ tables_of (record old { structs = after }) = rw (row, ← view_is) refl in
+    let pushed = view_struct old after t view_is new row in
     let was : IsHeld t (beside_of old) row_of = subst (λ (t : Tables). IsHeld t (beside_of old) row_of) view_is held in
     rw beside (subst (λ (u : Tables). IsHeld u (record (beside_of old) { structs = old.structs.beside ++ m ∷ [] }) now) pushed (record {
       kept = kept_struct t (beside_of old) was.kept new m room type_id lacks fits is;
@@ -349,12 +361,16 @@ kept_enum t beside kept new m room type_id lacks fits is =
       interfaces = kept.interfaces;
     }
 
+-- the tables that contracts see then
+pub view_enum : (old : TableRows) (after : Rows EnumDecl Measure) (t : Tables) → tables_of old ≡ t → (new : EnumDecl) → after.decls ≡ old.enums.decls ++ new ∷ [] → with_enum t new ≡ tables_of (record old { enums = after })
+view_enum old after t view_is new row = rw (row, ← view_is) refl
+
 -- the same of a schema's fields, where contracts see them as these tables
 pub added_enum : (old : TableRows) (after : Rows EnumDecl Measure) (t : Tables) (row_of now : List ℕ → Option RowRef) → IsHeld (tables_of old) (beside_of old) row_of → tables_of old ≡ t → (new : EnumDecl) (m : Measure)
     → after.decls ≡ old.enums.decls ++ new ∷ [] → after.beside ≡ old.enums.beside ++ m ∷ [] → (at : ℕ) → at ≡ length old.enums.decls → ((id : List ℕ) → now id ≡ cond (bytes_eq new.id id) (Some (rows.Enum at)) (row_of id))
     → length t.enums + 1 < 100000000 → IsTypeId new.id → IsNewId t new.id → EnumFits new.entries → m ≡ enumeration → IsHeld (tables_of (record old { enums = after })) (beside_of (record old { enums = after })) now
 added_enum old after t row_of now held view_is new m row beside at end put room type_id lacks fits is =
-    let pushed : with_enum t new ≡ tables_of (record old { enums = after }) = rw (row, ← view_is) refl in
+    let pushed = view_enum old after t view_is new row in
     let was : IsHeld t (beside_of old) row_of = subst (λ (t : Tables). IsHeld t (beside_of old) row_of) view_is held in
     rw beside (subst (λ (u : Tables). IsHeld u (record (beside_of old) { enums = old.enums.beside ++ m ∷ [] }) now) pushed (record {
       kept = kept_enum t (beside_of old) was.kept new m room type_id lacks fits is;

@@ -37,6 +37,14 @@ numbered_same {t} {u} {class_of} {room} classes flags was = record {
   enough = rw (← classes, ← flags) was.enough;
 }
 
+-- with more room
+pub roomier : {t : Tables} {class_of now : ℕ → Option ℕ} {was_room room : ℕ} → ((number : ℕ) → now number ≡ class_of number) → was_room ≤ room → AreNumbered t class_of was_room → AreNumbered t now room
+roomier {t} {class_of} {now} {was_room} {room} same more was = record {
+  found = λ number. subst (Finds (HasCompactId t number)) (sym (same number)) (was.found number);
+  declared = was.declared;
+  enough = omega (arith, more, was.enough);
+}
+
 -- ---- a class that is only declared
 
 among_old : (ids : List (Option ℕ)) (number at : ℕ) → slice_get (ids ++ None ∷ []) at ≡ Some (Some number) → slice_get ids at ≡ Some (Some number)

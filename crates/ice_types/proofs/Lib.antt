@@ -26,3 +26,4 @@ pub mod Searching
 pub mod Counted
 pub mod RowIdentity
 pub mod Alike
+pub mod Told

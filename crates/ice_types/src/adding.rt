@@ -33,9 +33,9 @@ impl Schema {
             &mut self.ids,
             decl,
             measure,
+            at,
             RowRef::Seq(at),
-        )?;
-        Ok(at)
+        )
     }
 
     /// Adds a dictionary and answers its place. Out of memory leaves the schema as it was.
@@ -57,9 +57,9 @@ impl Schema {
             &mut self.ids,
             decl,
             measure,
+            at,
             RowRef::Dict(at),
-        )?;
-        Ok(at)
+        )
     }
 
     /// Adds a struct and answers its place. Out of memory leaves the schema as it was.
@@ -81,9 +81,9 @@ impl Schema {
             &mut self.ids,
             decl,
             measure,
+            at,
             RowRef::Struct(at),
-        )?;
-        Ok(at)
+        )
     }
 
     /// Adds an enum and answers its place. Out of memory leaves the schema as it was.
@@ -102,9 +102,9 @@ impl Schema {
             &mut self.ids,
             decl,
             Measure::enumeration(),
+            at,
             RowRef::Enum(at),
-        )?;
-        Ok(at)
+        )
     }
 
     /// Adds an exception and answers its place. Out of memory leaves the schema as it was.
@@ -125,8 +125,8 @@ impl Schema {
             &mut self.ids,
             decl,
             bases,
+            at,
             RowRef::Exception(at),
-        )?;
-        Ok(at)
+        )
     }
 }

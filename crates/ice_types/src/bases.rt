@@ -82,7 +82,7 @@ impl Schema {
 }
 
 /// The number beside the row at this place, 0 where the row is only declared.
-fn counted(beside: &List<Option<u32>>, at: u32) -> u32
+pub(crate) fn counted(beside: &List<Option<u32>>, at: u32) -> u32
     ensures { result ≡ counted beside.now at }
 {
     match beside.get(at as usize) {

@@ -38,9 +38,9 @@ impl Schema {
             &mut self.ids,
             decl,
             None,
+            at,
             RowRef::Class(at),
-        )?;
-        Ok(at)
+        )
     }
 
     /// Defines a class that is only declared so far. It takes no memory.
@@ -87,9 +87,9 @@ impl Schema {
             &mut self.ids,
             decl,
             None,
+            at,
             RowRef::Interface(at),
-        )?;
-        Ok(at)
+        )
     }
 
     /// Defines an interface that is only declared so far. It takes no memory.

@@ -7,7 +7,9 @@ ghost use Rattle.ice_types.specs.Measures.{bases_in};
 ghost use Rattle.ice_types.specs.Inherited.{CountsBases, CountsClassBases, InterfaceIsA, IsA, base_in, bases_by_path};
 ghost use Rattle.ice_types.specs.Inherited.{first_named, located, operations, ops_in};
 
+use crate::bases::counted;
 use crate::declarations::{ClassDecl, InterfaceDecl, OpDecl};
+use crate::list::List;
 use crate::schema::Schema;
 
 impl Schema {
@@ -16,13 +18,8 @@ impl Schema {
     pub fn is_a(&self, class: u32, base: u32) -> bool
         ensures { IsTrue result ↔ IsA self.now.classes class base }
     {
-        let classes = &self.rows.classes;
-        derives_from(
-            classes.decls.as_slice(),
-            classes.beside.as_slice(),
-            class,
-            base,
-        )
+        let rows = &self.rows.classes;
+        derives_from(&rows.decls, &rows.beside, class, base)
     }
 
     /// Whether the interface at the first place is the one at the second, or is derived from it. An
@@ -31,12 +28,7 @@ impl Schema {
         ensures { IsTrue result ↔ InterfaceIsA self.now.interfaces interface base }
     {
         let rows = &self.rows.interfaces;
-        is_or_has_base(
-            rows.decls.as_slice(),
-            rows.beside.as_slice(),
-            interface,
-            base,
-        )
+        is_or_has_base(&rows.decls, &rows.beside, interface, base)
     }
 
     /// The operation of this name that the interface has: the first one among its own and those of its
@@ -45,17 +37,17 @@ impl Schema {
         ensures { option_copied result ≡ first_named name.now (operations self.now.interfaces interface) }
     {
         let rows = &self.rows.interfaces;
-        operation_of(
-            rows.decls.as_slice(),
-            rows.beside.as_slice(),
-            interface,
-            name,
-        )
+        operation_of(&rows.decls, &rows.beside, interface, name)
     }
 }
 
 /// Whether the class is the other, or derived from it.
-fn derives_from(classes: &[ClassDecl], counts: &[Option<u32>], class: u32, base: u32) -> bool
+fn derives_from(
+    classes: &List<ClassDecl>,
+    counts: &List<Option<u32>>,
+    class: u32,
+    base: u32,
+) -> bool
     requires { CountsClassBases classes.now counts.now }
     ensures { IsTrue result ↔ IsA classes.now class base }
 {
@@ -70,7 +62,7 @@ fn derives_from(classes: &[ClassDecl], counts: &[Option<u32>], class: u32, base:
 }
 
 /// The base of the class at a place, None where it has none.
-fn base_of(classes: &[ClassDecl], at: u32) -> Option<u32>
+fn base_of(classes: &List<ClassDecl>, at: u32) -> Option<u32>
     ensures { result ≡ base_in classes.now at }
 {
     classes.get(at as usize)?.base
@@ -78,8 +70,8 @@ fn base_of(classes: &[ClassDecl], at: u32) -> Option<u32>
 
 /// Whether the interface is the other, or has it among all its bases.
 fn is_or_has_base(
-    interfaces: &[InterfaceDecl],
-    counts: &[Option<u32>],
+    interfaces: &List<InterfaceDecl>,
+    counts: &List<Option<u32>>,
     interface: u32,
     base: u32,
 ) -> bool
@@ -89,7 +81,7 @@ fn is_or_has_base(
     if interface == base {
         return true;
     }
-    for place in 0..count_of(counts, interface) {
+    for place in 0..counted(counts, interface) {
         if base_at(interfaces, counts, interface, place) == Some(base) {
             return true;
         }
@@ -99,8 +91,8 @@ fn is_or_has_base(
 
 /// The first operation of this name, in the interface itself and then in its bases.
 fn operation_of<'a>(
-    interfaces: &'a [InterfaceDecl],
-    counts: &[Option<u32>],
+    interfaces: &'a List<InterfaceDecl>,
+    counts: &List<Option<u32>>,
     interface: u32,
     name: &str,
 ) -> Option<&'a OpDecl>
@@ -110,7 +102,7 @@ fn operation_of<'a>(
     if let Some(found) = named(ops_of(interfaces, interface), name) {
         return Some(found);
     }
-    for place in 0..count_of(counts, interface) {
+    for place in 0..counted(counts, interface) {
         let base = base_at(interfaces, counts, interface, place)?;
         if let Some(found) = named(ops_of(interfaces, base), name) {
             return Some(found);
@@ -127,7 +119,7 @@ fn named<'a>(ops: &'a [OpDecl], name: &str) -> Option<&'a OpDecl>
 }
 
 /// The operations of the interface at a place itself, none where no interface is.
-fn ops_of(interfaces: &[InterfaceDecl], at: u32) -> &[OpDecl]
+fn ops_of(interfaces: &List<InterfaceDecl>, at: u32) -> &[OpDecl]
     ensures { result.now ≡ ops_in interfaces.now at }
 {
     match interfaces.get(at as usize) {
@@ -137,7 +129,7 @@ fn ops_of(interfaces: &[InterfaceDecl], at: u32) -> &[OpDecl]
 }
 
 /// The bases of the interface at a place, none where no interface is.
-fn bases_of(interfaces: &[InterfaceDecl], at: u32) -> &[u32]
+fn bases_of(interfaces: &List<InterfaceDecl>, at: u32) -> &[u32]
     ensures { result.now ≡ bases_in interfaces.now at }
 {
     match interfaces.get(at as usize) {
@@ -149,8 +141,8 @@ fn bases_of(interfaces: &[InterfaceDecl], at: u32) -> &[u32]
 /// The base at a place among all bases of an interface: each base, and then its own bases, before the
 /// next. The counts say which of the bases it is behind, and how far; so it is found going down alone.
 fn base_at(
-    interfaces: &[InterfaceDecl],
-    counts: &[Option<u32>],
+    interfaces: &List<InterfaceDecl>,
+    counts: &List<Option<u32>>,
     interface: u32,
     place: u32,
 ) -> Option<u32>
@@ -166,27 +158,17 @@ fn base_at(
 
 /// In whose section a place falls, and how far into it, where each base has a section of one place
 /// more than is counted of it. None behind the last section.
-fn section(bases: &[u32], counts: &[Option<u32>], place: u32) -> Option<(u32, u32)>
+fn section(bases: &[u32], counts: &List<Option<u32>>, place: u32) -> Option<(u32, u32)>
     ensures found { result ≡ located (counted counts.now) bases.now place }
     ensures within { IfSome result (λ found. found.1 ≤ place) }
 {
     let mut left = place;
     for base in bases {
-        let count = count_of(counts, *base);
+        let count = counted(counts, *base);
         if left <= count {
             return Some((*base, left));
         }
         left = left - count - 1;
     }
     None
-}
-
-/// What is counted at a place, 0 where nothing is.
-fn count_of(counts: &[Option<u32>], at: u32) -> u32
-    ensures { result ≡ counted counts.now at }
-{
-    match counts.get(at as usize) {
-        Some(count) => count.unwrap_or(0),
-        None => 0,
-    }
 }

@@ -1,11 +1,13 @@
 //! What a schema finds by name and by place.
 
-ghost use Rattle.std.specs.Prelude.{◌≡◌, ◌↔◌, IfSome, IsTrue};
+ghost use Rattle.std.specs.Prelude.{◌≡◌, ◌↔◌, IfSome, IsTrue, map};
+ghost use Rattle.std.specs.Option.{is_some};
 ghost use Rattle.ice_types.specs.Tables.{IsTypeId, IsNewId, Names, HasTypeId, HasRowId, Finds, FindsKind, HasId};
 ghost use Rattle.ice_types.specs.Tables.{class_ids, exception_ids, interface_ids, is_defined};
 ghost use Rattle.ice_types.specs.declared.kind.TypeRef.{TypeRef};
 
 use crate::kind::{RowRef, TypeRef};
+use crate::list::List;
 use crate::schema::Schema;
 
 impl Schema {
@@ -96,17 +98,25 @@ impl Schema {
     pub fn is_class_defined(&self, at: u32) -> bool
         ensures { result ≡ is_defined self.now.defined_classes at }
     {
-        matches!(self.rows.classes.beside.get(at as usize), Some(Some(_)))
+        has_count(&self.rows.classes.beside, at)
     }
 
     /// Whether the interface at this place is there and defined. Others are only declared.
     pub fn is_interface_defined(&self, at: u32) -> bool
         ensures { result ≡ is_defined self.now.defined_interfaces at }
     {
-        matches!(self.rows.interfaces.beside.get(at as usize), Some(Some(_)))
+        has_count(&self.rows.interfaces.beside, at)
     }
 }
 
+/// Whether a number stands beside the row at a place, as where it is defined.
+fn has_count(beside: &List<Option<u32>>, at: u32) -> bool
+    ensures { result ≡ is_defined (map is_some beside.now) at }
+{
+    matches!(beside.get(at as usize), Some(Some(_)))
+}
+
+/// Whether the text begins with `::`, as every type id does.
 fn is_type_id(id: &str) -> bool
     ensures { IsTrue result ↔ IsTypeId id.now }
 {

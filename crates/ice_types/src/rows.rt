@@ -1,6 +1,6 @@
 //! The rows of the tables by place, and what the schema says of each.
 
-ghost use Rattle.std.specs.Prelude.{◌≡◌, ◌<◌, ◌++◌, [], ◌∷◌, List, ℕ, MatchOption, OnOk, OnErr, Some, None, cond};
+ghost use Rattle.std.specs.Prelude.{◌≡◌, ◌<◌, ◌++◌, [], ◌∷◌, List, ℕ, MatchOption, IfOk, OnOk, OnErr, Some, None, cond};
 ghost use Rattle.std.specs.Prelude.{bytes_eq, length, map};
 ghost use Rattle.ice_types.specs.Ids.{row_in};
 ghost use Rattle.ice_types.specs.Tables.{changed, no_types};
@@ -113,37 +113,42 @@ impl<T: Drop, S: Drop> Rows<T, S> {
         ensures err { OnErr result (self.new ≡ self.old) }
     {
         self.beside.push(beside)?;
-        let pushed = self.decls.push(decl);
-        if pushed.is_err() {
-            self.beside.pop();
+        match self.decls.push(decl) {
+            Ok(()) => Ok(()),
+            Err(error) => {
+                self.beside.pop();
+                Err(error)
+            }
         }
-        pushed
     }
 }
 
-/// Adds a row with what stands beside it, and its id. Out of memory leaves all as it was.
+/// Adds a row with what stands beside it, and its id, and answers its place. Out of memory leaves all as it was.
 pub(crate) fn add_row<T: Row + Drop, S: Drop>(
     rows: &mut Rows<T, S>,
     ids: &mut Ids,
     decl: T,
     beside: S,
+    at: u32,
     row: RowRef,
-) -> Result<(), AllocError>
-    ensures decls { OnOk result (rows.new.decls ≡ rows.old.decls ++ decl ∷ []) }
-    ensures beside { OnOk result (rows.new.beside ≡ rows.old.beside ++ beside ∷ []) }
-    ensures ids { OnOk result ((id : List ℕ) →
-        row_in ids.new id ≡ cond (bytes_eq (T.id_of decl) id) (Some row) (row_in ids.old id)) }
-    ensures err_rows { OnErr result (rows.new ≡ rows.old) }
-    ensures err_ids { OnErr result ((id : List ℕ) → row_in ids.new id ≡ row_in ids.old id) }
+) -> Result<u32, AllocError>
+    ensures ok { IfOk result (λ place. (place ≡ at)
+        × (rows.new.decls ≡ rows.old.decls ++ decl ∷ []) × (rows.new.beside ≡ rows.old.beside ++ beside ∷ [])
+        × ((id : List ℕ) →
+        row_in ids.new id ≡ cond (bytes_eq (T.id_of decl) id) (Some row) (row_in ids.old id))) }
+    ensures err { OnErr result ((rows.new ≡ rows.old)
+        × ((id : List ℕ) → row_in ids.new id ≡ row_in ids.old id)) }
 {
     let id = ids.copied(decl.id())?;
     rows.add(decl, beside)?;
-    let added = ids.insert(id, row);
-    if added.is_err() {
-        rows.decls.pop();
-        rows.beside.pop();
+    match ids.insert(id, row) {
+        Ok(()) => Ok(at),
+        Err(error) => {
+            rows.decls.pop();
+            rows.beside.pop();
+            Err(error)
+        }
     }
-    added
 }
 
 /// Puts a base, a compact id and members into the class at this place.

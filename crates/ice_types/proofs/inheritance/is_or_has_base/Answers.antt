@@ -22,6 +22,6 @@ returns-then-eq c =
 pub returns : goal.returns
 returns c = (
   λ e. absurd cc,
-  λ h. absurd (lacks_base c.args.interfaces.now c.args.counts.now c.requires c.args.interface c.args.base c.count_of-place-end.result c.count_of-place-end.ensures
+  λ h. absurd (lacks_base c.args.interfaces.now c.args.counts.now c.requires c.args.interface c.args.base c.counted-place-end.result c.counted-place-end.ensures
       (λ e. c.if-interface-base.false (sym e)) (λ k lt. c.loop-place.invariant k (omega (arith, lt, c.loop-place-test.false))) h),
 )

@@ -51,6 +51,6 @@ pub returns : goal.returns
 returns c =
     let interfaces = c.args.interfaces.now in
     let bases = bases_by_path interfaces c.args.interface in
-    let past : length bases ≤ c.loop-place.place = omega (arith, bases_counted interfaces c.args.counts.now c.requires c.args.interface, c.count_of-place-end.ensures, c.loop-place-test.false) in
+    let past : length bases ≤ c.loop-place.place = omega (arith, bases_counted interfaces c.args.counts.now c.requires c.args.interface, c.counted-place-end.ensures, c.loop-place-test.false) in
     no_base_left (has_name c.args.name.now) (ops_in interfaces) bases c.loop-place.place (slice_get_past bases c.loop-place.place past)
     ∙ c.loop-place.invariant

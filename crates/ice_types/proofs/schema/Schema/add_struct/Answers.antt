@@ -1,18 +1,37 @@
-use Rattle.std.proofs.Common.{refl, sym, ap, ◌∙◌}
+use Rattle.std.proofs.Common.{length, refl, sym, ap, subst, ◌∙◌}
+use Rattle.ice_types.specs.declared.declarations.StructDecl.{StructDecl}
+use Rattle.ice_types.specs.declared.measure.Measure.{Measure}
+use Rattle.ice_types.specs.declared.rows.Rows.{Rows}
+use Rattle.ice_types.specs.Tables.{Tables}
+use Rattle.ice_types.specs.Kept.{beside_of, tables_of}
 use Rattle.ice_types.specs.Measures.{struct_of}
 use Rattle.ice_types.specs.Fits.{small_members}
-use Rattle.ice_types.specs.Ids.{row_in}
-use Rattle.ice_types.proofs.AddedTypes.{added_struct}
+use Rattle.ice_types.specs.Ids.{IsHeld, row_in}
+use Rattle.ice_types.proofs.AddedTypes.{added_struct, view_struct}
 use Rattle.ice_types.proofs.CompactIds.{numbered_same}
+use Rattle.ice_types.proofs.Told.{told, if_ok, on_err, held_same}
 use Rattle.ice_types.proofs.schema.Schema.add_struct.Goals as goal
 
-pub invariant_of-self-2 : goal.invariant_of-self-2
-invariant_of-self-2 c = (
-  added_struct c.self.inside.rows c.add_row.new.rows c.args.self.now (row_in c.self.inside.ids) (row_in c.add_row.new.ids) c.self.invariant.0 c.self.view_is c.args.decl c.in-Some.measure
-      c.in_ok-add_row.ensures.decls c.in_ok-add_row.ensures.beside c.len-at.result c.len-at.ensures c.in_ok-add_row.ensures.ids
-      c.requires.room c.requires.type_id c.requires.new_id c.requires.fits (sym c.in-Some.is ∙ c.measure_struct.ensures ∙ ap (λ members. struct_of (small_members c.args.self.now members)) c.as_slice.ensures),
-  numbered_same refl refl c.self.invariant.1,
-)
+pub invariant_of-self : goal.invariant_of-self
+invariant_of-self c =
+    let old = c.self.inside.rows in
+    let was = row_in c.self.inside.ids in
+    let now = row_in c.add_row.new.ids in (
+      told c.add_row.result c.add_row.ensures.ok c.add_row.ensures.err
+          (λ place is. added_struct old c.add_row.new.rows c.args.self.now was now c.self.invariant.0 c.self.view_is c.args.decl c.in-Some.measure is.1 is.2 c.len-at.result c.len-at.ensures is.3
+          c.requires.room c.requires.type_id c.requires.new_id c.requires.fits (sym c.in-Some.is ∙ c.measure_struct.ensures ∙ ap (λ members. struct_of (small_members c.args.self.now members)) c.as_slice.ensures))
+          (λ same. subst (λ (after : Rows StructDecl Measure). IsHeld (tables_of (record old { structs = after })) (beside_of (record old { structs = after })) now) (sym same.0)
+          (held_same (tables_of old) (beside_of old) was now same.1 c.self.invariant.0)),
+      numbered_same refl refl c.self.invariant.1,
+    )
+
+pub returns-clause-ok : goal.returns-clause-ok
+returns-clause-ok c = if_ok c.add_row.result c.add_row.ensures.ok
+    (λ place is. (is.0 ∙ (c.len-at.ensures ∙ ap (λ (t : Tables). length t.structs) c.self.view_is), sym (view_struct c.self.inside.rows c.add_row.new.rows c.args.self.now c.self.view_is c.args.decl is.1)))
+
+pub returns-clause-err : goal.returns-clause-err
+returns-clause-err c = on_err c.add_row.result c.add_row.ensures.err
+    (λ same. ap (λ (after : Rows StructDecl Measure). tables_of (record c.self.inside.rows { structs = after })) same.0 ∙ c.self.view_is)
 
 pub returns-clause-rules : goal.returns-clause-rules
-returns-clause-rules c = (invariant_of-self-2 c).0.kept.rules
+returns-clause-rules c = (invariant_of-self c).0.kept.rules

@@ -5,4 +5,4 @@ use Rattle.ice_types.proofs.schema.Schema.interface_is_a.Goals as goal
 pub is_or_has_base-requires : goal.is_or_has_base-requires
 is_or_has_base-requires c =
     let rows = c.self.inside.rows in
-    rw (c.as_slice.ensures, c.as_slice-2.ensures) (interface_counts (tables_of rows) (beside_of rows) c.self.invariant.0.kept)
+    interface_counts (tables_of rows) (beside_of rows) c.self.invariant.0.kept

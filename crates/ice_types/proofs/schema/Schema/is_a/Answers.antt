@@ -5,4 +5,4 @@ use Rattle.ice_types.proofs.schema.Schema.is_a.Goals as goal
 pub derives_from-requires : goal.derives_from-requires
 derives_from-requires c =
     let rows = c.self.inside.rows in
-    rw (c.as_slice.ensures, c.as_slice-2.ensures) (class_counts (tables_of rows) (beside_of rows) c.self.invariant.0.kept)
+    class_counts (tables_of rows) (beside_of rows) c.self.invariant.0.kept

@@ -1,0 +1,26 @@
+-- What holds after a call that may fail, by what holds where it does not and where it does.
+use Rattle.std.proofs.Common.{◌≡◌, ℕ, List, Option, sym, subst}
+use Rattle.std.specs.Prelude.{Result, Ok, Err, IfOk, OnErr}
+use Rattle.ice_types.specs.declared.kind.RowRef.{RowRef}
+use Rattle.ice_types.specs.Tables.{Tables, HasRowId, Finds}
+use Rattle.ice_types.specs.Rules.{Beside}
+use Rattle.ice_types.specs.Ids.{IsHeld}
+
+pub told : {A E P Y : Type 0} {Q : A → Type 0} (r : Result A E) → IfOk r Q → OnErr r Y → ((x : A) → Q x → P) → (Y → P) → P
+told (Ok x) q y ok err = ok x q
+told (Err e) q y ok err = err y
+
+pub if_ok : {A E : Type 0} {Q P : A → Type 0} (r : Result A E) → IfOk r Q → ((x : A) → Q x → P x) → IfOk r P
+if_ok (Ok x) q more = more x q
+if_ok (Err e) q more = tt
+
+pub on_err : {A E P Y : Type 0} (r : Result A E) → OnErr r Y → (Y → P) → OnErr r P
+on_err (Ok x) y more = tt
+on_err (Err e) y more = more y
+
+-- ids that are held as they were
+pub held_same : (t : Tables) (beside : Beside) (row_of now : List ℕ → Option RowRef) → ((id : List ℕ) → now id ≡ row_of id) → IsHeld t beside row_of → IsHeld t beside now
+held_same t beside row_of now same held = record {
+  kept = held.kept;
+  found = λ id. subst (Finds (HasRowId t id)) (sym (same id)) (held.found id);
+}
