@@ -1,10 +1,11 @@
 -- Bases by the paths that lead to them.
-use Rattle.std.proofs.Common.{ℕ, zero, suc, ◌-◌, ◌<◌, ◌≤◌, ◌≡◌, Bool, true, false, List, [], ◌∷◌, ◌++◌, length, Option, None, Some, refl, sym, ap, ◌∙◌, subst, arith, inl, inr, ◌⊎◌, length-append}
+use Rattle.std.proofs.Common.{ℕ, zero, suc, ◌+◌, ◌-◌, drop, get_or, ◌<◌, ◌≤◌, ◌≡◌, Bool, true, false, List, [], ◌∷◌, ◌++◌, length, Option, None, Some, refl, sym, ap, ◌∙◌, subst, arith, inl, inr, ◌⊎◌, length-append}
 use Rattle.std.specs.Prelude.{nat_le, slice_get}
 use Rattle.std.specs.List.{flat_map, sum_by, Contains}
 use Rattle.std.proofs.lemmas.List.Elements.{Contains-append_cases, Contains-append_left, Contains-append_right}
 use Rattle.std.specs.Option.{option_and_then}
 use Rattle.std.proofs.lemmas.Grind.{common_steps}
+use Rattle.std.proofs.lemmas.List.{at_drop_more}
 use Rattle.std.proofs.lemmas.List.Sums.{sum_by-cons}
 use Rattle.ice_types.specs.Measures.{bases_in}
 use Rattle.ice_types.specs.Inherited.{Reaches, Here, Onward, all_bases, located, bases_by_path, CountsBases, InterfaceIsA}
@@ -27,6 +28,24 @@ le-from_test a b e = grind (arith, common_steps)
 
 lt-from_test : (a b : ℕ) → nat_le a b ≡ false → b < a
 lt-from_test a b e = grind (arith, common_steps)
+
+-- the first section that is left is that of the next base
+module _ (f : ℕ → ℕ) (bs : List ℕ) (i left : ℕ) (lt : i < length bs) (count : ℕ) (is : count ≡ f (get_or bs i 0)) where
+  pub located_here : left ≤ count → Some (get_or bs i 0, left) ≡ located f (drop i bs) left
+  located_here le = sym (at_drop_more (λ l. located f l left) bs i 0 lt ∙ by_test (nat_le left (f (get_or bs i 0))) refl)
+    where
+      by_test : (test : Bool) → nat_le left (f (get_or bs i 0)) ≡ test
+          → ◌≡◌ {A = Option (ℕ × ℕ)} (elim test [ true ↦ Some (get_or bs i 0, left) | false ↦ located f (drop (i + 1) bs) (left - suc (f (get_or bs i 0))) ]) (Some (get_or bs i 0, left))
+      by_test true e = refl
+      by_test false e = absurd (omega (arith, lt-from_test left (f (get_or bs i 0)) e, le, is))
+
+  pub located_later : count < left → located f (drop (i + 1) bs) (left - count - 1) ≡ located f (drop i bs) left
+  located_later more = sym (at_drop_more (λ l. located f l left) bs i 0 lt ∙ by_test (nat_le left (f (get_or bs i 0))) refl)
+    where
+      by_test : (test : Bool) → nat_le left (f (get_or bs i 0)) ≡ test
+          → ◌≡◌ {A = Option (ℕ × ℕ)} (elim test [ true ↦ Some (get_or bs i 0, left) | false ↦ located f (drop (i + 1) bs) (left - suc (f (get_or bs i 0))) ]) (located f (drop (i + 1) bs) (left - count - 1))
+      by_test true e = absurd (omega (arith, le-from_test left (f (get_or bs i 0)) e, more, is))
+      by_test false e = let same : left - suc (f (get_or bs i 0)) ≡ left - count - 1 = omega (arith, is) in ap (located f (drop (i + 1) bs)) same
 
 -- each section is at most as long as all together
 flat_same : (f g : ℕ → List ℕ) (count : ℕ → ℕ) (most : ℕ) (xs : List ℕ) → sum_by (λ b. suc (count b)) xs ≤ most → ((b : ℕ) → suc (count b) ≤ most → f b ≡ g b) → flat_map f xs ≡ flat_map g xs

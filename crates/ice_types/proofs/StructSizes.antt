@@ -1,11 +1,12 @@
 -- Members that are small enough for a struct.
-use Rattle.std.proofs.Common.{◌≡◌, ◌≢◌, Bool, true, false, List, [], Option, Some, None, refl, rules, tests}
+use Rattle.std.proofs.Common.{◌≡◌, ◌≢◌, Bool, true, false, List, [], Option, Some, None, refl, sym, ◌∙◌, rules, tests}
 use Rattle.std.specs.Prelude.{IsTrue, ◌↔◌, is_some, if◌then◌else◌}
 use Rattle.ice_types.specs.declared.declarations.Member.{Member}
+use Rattle.ice_types.specs.declared.kind.TypeRef.{TypeRef}
 use Rattle.ice_types.specs.declared.measure.Measure.{Measure}
 use Rattle.ice_types.specs.Tables.{Tables}
 use Rattle.ice_types.specs.Measures.{measure, measured, measure_members, struct_of}
-use Rattle.ice_types.specs.Fits.{small_members, is_small, names_of, AreRequired, StructFits}
+use Rattle.ice_types.specs.Fits.{small_members, is_small, names_of, AreRequired, DictFits, StructFits}
 use Rattle.ice_types.specs.Names.{AreNew}
 
 -- members that a struct may have are small enough
@@ -22,3 +23,11 @@ fits_struct_is t members some names required = (fits (measure_members (measure t
         by_size : (small : Bool) → is_small x ≡ small → IsTrue (is_some (struct_of (if small then Some x else None))) → StructFits t members
         by_size true small found = (x, e, search (rules, tests), some, names, required)
         by_size false small found = absurd cc
+
+-- a dictionary of a key that may be one fits where its value does
+pub dict_fits_is : (t : Tables) (key value : TypeRef) (k : Measure) → measure t 98 key ≡ Some k → k.is_key ≡ true → (v : Option Measure) → v ≡ measure t 98 value → (fits : Bool) → fits ≡ is_some v → IsTrue fits ↔ DictFits t key value
+dict_fits_is t key value k found is_key None e fits is = (
+  λ h. let clash : false ≡ true = sym is ∙ h in absurd cc,
+  λ fit. let clash : None ≡ Some fit.1 = e ∙ fit.4 in absurd cc,
+)
+dict_fits_is t key value k found is_key (Some v) e fits is = (λ _. (k, v, found, is_key, sym e), λ _. is)

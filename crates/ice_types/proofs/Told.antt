@@ -1,8 +1,9 @@
 -- What holds after a call that may fail, by what holds where it does not and where it does.
-use Rattle.std.proofs.Common.{◌≡◌, ℕ, List, Option, sym, subst}
+use Rattle.std.proofs.Common.{◌≡◌, ℕ, List, Bool, true, false, not, Option, Some, None, IsTrue, ◌↔◌, refl, sym, subst}
+use Rattle.std.specs.Option.{is_some}
 use Rattle.std.specs.Prelude.{Result, Ok, Err, IfOk, OnErr}
 use Rattle.ice_types.specs.declared.kind.RowRef.{RowRef}
-use Rattle.ice_types.specs.Tables.{Tables, HasRowId, Finds}
+use Rattle.ice_types.specs.Tables.{Tables, HasRowId, Finds, IsTypeId, IsNewId}
 use Rattle.ice_types.specs.Rules.{Beside}
 use Rattle.ice_types.specs.Ids.{IsHeld}
 
@@ -24,3 +25,10 @@ held_same t beside row_of now same held = record {
   kept = held.kept;
   found = λ id. subst (Finds (HasRowId t id)) (sym (same id)) (held.found id);
 }
+
+-- a type id is new where no row is found by it
+pub new_row : (t : Tables) (id : List ℕ) → IsTypeId id → (row : Option RowRef) → Finds (HasRowId t id) row → (none : Bool) → is_some row ≡ not none → IsTrue none ↔ (IsTypeId id × IsNewId t id)
+new_row t id is None found true e = (λ _. (is, found), λ _. refl)
+new_row t id is None found false e = absurd cc
+new_row t id is (Some row) found true e = absurd cc
+new_row t id is (Some row) found false e = (λ h. absurd cc, λ h. absurd (h.1 row found))

@@ -1,4 +1,7 @@
-use Rattle.std.proofs.Common.{sym}
+use Rattle.std.proofs.Common.{◌<◌, length, arith, sym, subst}
+use Rattle.std.specs.Option.{is_some}
+use Rattle.std.proofs.lemmas.List.{length-map}
+use Rattle.ice_types.specs.Tables.{Tables}
 use Rattle.ice_types.specs.Ids.{class_in, room_in, row_in}
 use Rattle.ice_types.proofs.Defined.{defined_class, filled_with, filled_without, room_for_one, view_class}
 use Rattle.ice_types.proofs.schema.Schema.define_class.Goals as goal
@@ -37,3 +40,12 @@ returns-in_default-clause-filled c = sym (view_class c.self.inside.rows c.fill_c
 
 pub returns-in_default-clause-rules : goal.returns-in_default-clause-rules
 returns-in_default-clause-rules c = (invariant_of-self-in_default c).0.kept.rules
+
+pub fill_class-requires : goal.fill_class-requires
+fill_class-requires c = subst (λ (t : Tables). c.args.at < length t.classes) (sym c.self.view_is) c.requires.there
+
+pub put-requires : goal.put-requires
+put-requires c =
+    let rows = c.self.inside.rows.classes in
+    let there : c.args.at < length rows.decls = subst (λ (t : Tables). c.args.at < length t.classes) (sym c.self.view_is) c.requires.there in
+    omega (arith, there, length-map rows.beside is_some, c.self.invariant.0.kept.rules.class_flags)

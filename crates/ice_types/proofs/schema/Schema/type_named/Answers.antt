@@ -36,3 +36,27 @@ pub returns-in_default-clause-only : goal.returns-in_default-clause-only
 returns-in_default-clause-only c =
     let other = c.in_default in
     id_only c.args.self.now c.args.text.now other.not-bool other.not-byte other.not-short other.not-int other.not-long other.not-string other.not-Object other.not-text c.rules.ensures c.type_of_id.result c.type_of_id.ensures
+
+pub returns-in-bool-clause-named : goal.returns-in-bool-clause-named
+returns-in-bool-clause-named c = c.in-bool.is
+
+pub returns-in-byte-clause-named : goal.returns-in-byte-clause-named
+returns-in-byte-clause-named c = c.in-byte.is
+
+pub returns-in-short-clause-named : goal.returns-in-short-clause-named
+returns-in-short-clause-named c = c.in-short.is
+
+pub returns-in-int-clause-named : goal.returns-in-int-clause-named
+returns-in-int-clause-named c = c.in-int.is
+
+pub returns-in-long-clause-named : goal.returns-in-long-clause-named
+returns-in-long-clause-named c = c.in-long.is
+
+pub returns-in-string-clause-named : goal.returns-in-string-clause-named
+returns-in-string-clause-named c = c.in-string.is
+
+pub returns-in-Object-clause-named : goal.returns-in-Object-clause-named
+returns-in-Object-clause-named c = c.in-Object.is
+
+pub returns-in-text-clause-named : goal.returns-in-text-clause-named
+returns-in-text-clause-named c = c.in-text.is
