@@ -7,7 +7,7 @@ ghost use Rattle.graph_json.specs.declared.fault.JsonFault.TheVariants as faults
 use std::alloc::AllocError;
 
 /// Why a text is refused. The earlier one decides.
-#[derive(Clone, Copy, Debug, PartialEq, Eq)]
+#[derive(Clone, Copy)]
 pub enum JsonKind {
     /// It has more than 16,777,216 bytes.
     TooLong,
@@ -34,7 +34,7 @@ impl JsonKind {
 }
 
 /// Why a text gives no graph.
-#[derive(Clone, Copy, Debug, PartialEq, Eq)]
+#[derive(Clone, Copy)]
 pub enum JsonFault {
     /// It is refused.
     Refused(JsonKind),

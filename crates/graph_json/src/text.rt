@@ -1,6 +1,6 @@
 //! Texts of graphs.
 
-ghost use Rattle.std.specs.Prelude.{◌≡◌, ◌↔◌, IsTrue, IfOk, IfSome, Err, map, option_map, string_bytes};
+ghost use Rattle.std.specs.Prelude.{◌≡◌, ◌↔◌, ℕ, List, IsTrue, IfOk, IfSome, Ok, Err, map, option_map, string_bytes};
 ghost use Rattle.std.specs.Option.{is_some};
 ghost use Rattle.serde_json.specs.View.{view as json_view, items_view};
 ghost use Rattle.ice_encoding.specs.Graph.{Graph};
@@ -50,7 +50,9 @@ pub fn to_text(
 {
     schema.rules();
     let graph = graph.renumbered()?;
-    printed(alloc, schema, fields, &graph)
+    let text = printed(alloc, schema, fields, &graph);
+    drop(graph);
+    text
 }
 
 /// The text of the graph, with its instances as they stand.
@@ -99,20 +101,43 @@ fn parsed(
     requires { HasOwnNames (shape_seen fields) }
     ensures { Parses schema.now (shape_seen fields.entry) text.now result }
 {
-    schema.rules();
     let json = json_of(alloc, text)?;
-    if lists_too_many(&json) {
+    let graph = graph_in(alloc, schema, fields, &json);
+    drop(json);
+    graph
+}
+
+/// The graph that the JSON of a text lists, or why there is none.
+fn graph_in(
+    alloc: Global,
+    schema: &Schema,
+    fields: DeclaredMembers<'_>,
+    json: &Json,
+) -> Result<Graph, JsonFault>
+    requires { HasOwnNames (shape_seen fields) }
+    ensures { (text : List ℕ) → ReadsJson text (Ok json.now)
+        → Parses schema.now (shape_seen fields.entry) text result }
+{
+    schema.rules();
+    if lists_too_many(json) {
         return Err(JsonFault::Refused(JsonKind::TooMany));
     }
-    let Some(listed) = listed_of(alloc, schema, fields, &json)? else {
+    let Some(listed) = listed_of(alloc, schema, fields, json)? else {
         return Err(JsonFault::Refused(JsonKind::Misfit));
     };
     let Some(graph) = graph_of(alloc, listed)? else {
         return Err(JsonFault::Refused(JsonKind::Misfit));
     };
-    match first_ill_typed(alloc, schema, fields, &graph)? {
-        None => Ok(graph),
-        Some(_) => Err(JsonFault::Refused(JsonKind::Misfit)),
+    match first_ill_typed(alloc, schema, fields, &graph) {
+        Ok(None) => Ok(graph),
+        Ok(Some(_)) => {
+            drop(graph);
+            Err(JsonFault::Refused(JsonKind::Misfit))
+        }
+        Err(AllocError) => {
+            drop(graph);
+            Err(JsonFault::Memory)
+        }
     }
 }
 

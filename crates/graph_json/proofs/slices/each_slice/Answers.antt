@@ -1,0 +1,28 @@
+use Rattle.std.proofs.Common.{◌≡◌, ◌+◌, ◌++◌, [], ◌∷◌, option_map, drop, subst}
+use Rattle.std.proofs.lemmas.List.{map_push}
+use Rattle.serde_json.specs.View.{view as json_view, items_view}
+use Rattle.graph_arena.specs.Seen.{view_slice, view_slices}
+use Rattle.graph_json.specs.Reading.{items_of, slice_of}
+use Rattle.graph_json.proofs.Walking.{items_go_on, items_stop, items_done}
+use Rattle.graph_json.proofs.WalkingValues.{item_left, no_item_left, some_is}
+use Rattle.graph_json.proofs.slices.each_slice.Goals as goal
+
+pub loop-item-preserved : goal.loop-item-preserved
+loop-item-preserved c =
+    let of = slice_of c.args.schema.now in
+    let pushed : view_slices c.push.new.self ≡ view_slices c.loop-item.slices ++ view_slice c.in-Some.slice ∷ [] = rw c.in_ok-push.ensures.ok (map_push view_slice c.loop-item.slices c.in-Some.slice) in
+    let left = item_left c.args.items.now c.loop-item.item-index c.item-item.result c.loop-item-test.true c.item-item.is in
+    rw pushed (items_go_on of (items_view (drop c.loop-item.item-index c.args.items.now)) (items_view (drop (c.loop-item.item-index + 1) c.args.items.now)) (json_view c.item-item.result) left (view_slices c.loop-item.slices)
+    (items_of of (items_view c.args.items.now)) c.loop-item.invariant (view_slice c.in-Some.slice) (some_is view_slice c.in_ok-slice.field-0 c.in-Some.slice _ c.in-Some.is c.in_ok-slice.ensures))
+
+pub returns-in_default : goal.returns-in_default
+returns-in_default c =
+    let of = slice_of c.args.schema.now in
+    let left = item_left c.args.items.now c.loop-item.item-index c.item-item.result c.loop-item-test.true c.item-item.is in
+    items_stop of (items_view (drop c.loop-item.item-index c.args.items.now)) (items_view (drop (c.loop-item.item-index + 1) c.args.items.now)) (json_view c.item-item.result) left (view_slices c.loop-item.slices)
+    (items_of of (items_view c.args.items.now)) c.loop-item.invariant (subst (λ o. option_map view_slice o ≡ of (json_view c.item-item.result)) c.in_default.is c.in_ok-slice.ensures)
+
+pub returns : goal.returns
+returns c =
+    let of = slice_of c.args.schema.now in
+    items_done of (items_view (drop c.loop-item.item-index c.args.items.now)) (view_slices c.loop-item.slices) (items_of of (items_view c.args.items.now)) (no_item_left c.args.items.now c.loop-item.item-index c.loop-item-test.false) c.loop-item.invariant
