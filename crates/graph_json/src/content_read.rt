@@ -37,11 +37,14 @@ pub fn content_of(
         return Ok(None);
     };
     let Some(optional) = optional_of(alloc, schema, fields.optional, found)? else {
+        drop(required);
         return Ok(None);
     };
     if is_sum(found.len(), required.len(), optional.len()) {
         Ok(Some(Members { required, optional }))
     } else {
+        drop(required);
+        drop(optional);
         Ok(None)
     }
 }
@@ -69,6 +72,7 @@ fn required_of(
             continue;
         }
         let Some(value) = member_of(alloc, schema, member, found)? else {
+            drop(values);
             return Ok(None);
         };
         values.push(value)?;
@@ -112,9 +116,10 @@ fn optional_of(
             continue;
         };
         let Some(value) = value_of(alloc, schema, member.kind, json)? else {
+            drop(values);
             return Ok(None);
         };
-        values.insert(tag, value)?;
+        drop(values.insert(tag, value)?);
     }
     Ok(Some(by_tag(alloc, values)?))
 }

@@ -10,7 +10,8 @@ ghost use Rattle.graph_json.specs.Reading.{at_name, items_of, list_of, listed_gr
 ghost use Rattle.graph_json.specs.Listed.{view_listed};
 
 use crate::content_read::content_of;
-use crate::slices::{named, slices_of};
+use crate::leaves::named;
+use crate::slices::slices_of;
 use graph_arena::{Instance, Members};
 use ice_types::Schema;
 use serde_json::{Map, Value as Json};
@@ -42,11 +43,19 @@ pub(crate) fn listed_of(
         return Ok(None);
     };
     let Some(inside) = named(found, "roots") else {
+        drop(instances);
         return Ok(None);
     };
-    match content_of(alloc, schema, fields, inside)? {
-        Some(roots) => Ok(Some(Listed { roots, instances })),
-        None => Ok(None),
+    match content_of(alloc, schema, fields, inside) {
+        Ok(Some(roots)) => Ok(Some(Listed { roots, instances })),
+        Ok(None) => {
+            drop(instances);
+            Ok(None)
+        }
+        Err(AllocError) => {
+            drop(instances);
+            Err(AllocError)
+        }
     }
 }
 
@@ -103,6 +112,7 @@ fn each_instance(
     let mut instances = Vec::with_capacity(alloc, items.len())?;
     for item in items {
         let Some(instance) = instance_of(alloc, schema, item)? else {
+            drop(instances);
             return Ok(None);
         };
         instances.push(instance)?;

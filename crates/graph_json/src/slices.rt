@@ -2,7 +2,7 @@
 
 ghost use Rattle.std.specs.Prelude.{◌≡◌, IfOk, codes, option_map};
 ghost use Rattle.hex.specs.Hex.{decode_of};
-ghost use Rattle.serde_json.specs.Find.{as_bool, as_str, get_member};
+ghost use Rattle.serde_json.specs.Find.{as_bool, as_str};
 ghost use Rattle.serde_json.specs.View.{view as json_view, items_view, members_view};
 ghost use Rattle.graph_arena.specs.Seen.{view_slice, view_slices};
 ghost use Rattle.graph_json.specs.ReadingValues as values;
@@ -10,7 +10,7 @@ ghost use Rattle.graph_json.specs.Reading as spec;
 ghost use Rattle.graph_json.specs.Reading.{at_name, items_of, list_of};
 
 use crate::content_read::content_of;
-use crate::leaves::name_of;
+use crate::leaves::{name_of, named};
 use graph_arena::Slice;
 use hex::FromHexError;
 use ice_types::{Bytes, List, Name, Schema};
@@ -42,6 +42,7 @@ fn each_slice(
     let mut slices = List::new(alloc);
     for item in items {
         let Some(slice) = slice_of(alloc, schema, item)? else {
+            drop(slices);
             return Ok(None);
         };
         slices.push(slice)?;
@@ -187,11 +188,4 @@ fn each_name(alloc: Global, items: &[Json]) -> Result<Option<List<u32>>, AllocEr
         names.push(name)?;
     }
     Ok(Some(names))
-}
-
-/// What stands at a name.
-pub(crate) fn named<'a>(found: &'a Map<String, Json>, name: &str) -> Option<&'a Json>
-    ensures { option_map (λ x. json_view x.now) result ≡ get_member name.now (members_view found.now.entries) }
-{
-    found.get(name)
 }

@@ -17,8 +17,8 @@ ghost use Rattle.graph_json.specs.declared.fault.JsonFault.TheVariants as faults
 ghost use Rattle.graph_json.specs.declared.fault.JsonKind.TheVariants as kinds;
 
 use crate::fault::{JsonFault, JsonKind};
+use crate::leaves::named;
 use crate::listing::{Listed, listed_of};
-use crate::slices::named;
 use crate::writing::write_graph;
 use graph_arena::{Graph, Instance, Members, Slice, push_slices};
 use ice_types::{List, Schema};
