@@ -1,6 +1,6 @@
 //! A value with parts, before the first of them.
 
-ghost use Rattle.std.specs.Prelude.{◌<◌, ◌^◌, suc, IfOk};
+ghost use Rattle.std.specs.Prelude.{◌≡◌, ◌<◌, ◌^◌, [], suc, IfOk};
 ghost use Rattle.ice_types.specs.declared.kind.TypeRef.TheVariants as kinds;
 ghost use Rattle.ice_values.specs.Cost.{wants, weight};
 ghost use Rattle.ice_values.specs.Frames.{opened};
@@ -12,7 +12,7 @@ use crate::left::Left;
 use crate::sorted::SortedPairs;
 use ice_prims::{Cursor, Kind, ReadFault};
 use ice_types::{List, Schema, TypeRef};
-use std::alloc::Global;
+use std::alloc::{AllocError, Global};
 
 /// A value of the type, whose parts nest at most so deep: its size is read, where it has one. A type
 /// without parts is a fault.
@@ -105,15 +105,24 @@ fn begun_struct(
     let nowhere = cursor.fault(Kind::LeftOver);
     let decl = schema.structs().get(at as usize).ok_or(nowhere)?;
     // The schema says how many, and not the input.
-    let members = Vec::with_capacity(alloc, decl.members.len())?;
-    Ok(Frame {
-        levels,
-        parts: Parts::Each(Each {
-            sort: Assembly::Members,
-            left: Left::Members(at, 0),
-            done: List::from_vec(members),
+    match with_room(alloc, decl.members.len()) {
+        Ok(done) => Ok(Frame {
+            levels,
+            parts: Parts::Each(Each {
+                sort: Assembly::Members,
+                left: Left::Members(at, 0),
+                done,
+            }),
         }),
-    })
+        Err(_) => Err(ReadFault::Memory),
+    }
+}
+
+/// An empty list with room for so many.
+fn with_room<T: Drop>(alloc: Global, count: usize) -> Result<List<T>, AllocError>
+    ensures { IfOk result (λ items. items ≡ []) }
+{
+    Ok(List::from_vec(Vec::with_capacity(alloc, count)?))
 }
 
 /// A number of the type is below the type's end.

@@ -18,18 +18,18 @@ pub(crate) fn enter<'a>(
 {
     match prefix {
         Prefix::NoLength => Ok(None),
-        Prefix::OwnSize => {
-            bound_by_size(&mut cursor.fork())?;
-            Ok(None)
-        }
-        Prefix::AsSize => {
-            let bound = bound_by_size(cursor)?;
-            Ok(Some(bounded(bound, cursor)))
-        }
-        Prefix::AsInt => {
-            let bound = bound_by_int(cursor)?;
-            Ok(Some(bounded(bound, cursor)))
-        }
+        Prefix::OwnSize => match bound_by_size(&mut cursor.fork()) {
+            Ok(_) => Ok(None),
+            Err(fault) => Err(fault),
+        },
+        Prefix::AsSize => match bound_by_size(cursor) {
+            Ok(bound) => Ok(Some(bounded(bound, cursor))),
+            Err(fault) => Err(fault),
+        },
+        Prefix::AsInt => match bound_by_int(cursor) {
+            Ok(bound) => Ok(Some(bounded(bound, cursor))),
+            Err(fault) => Err(fault),
+        },
     }
 }
 

@@ -1,6 +1,6 @@
 //! The pairs of a dictionary, put at their places while they are read.
 
-ghost use Rattle.std.specs.Prelude.{◌≡◌, true, [], None, OnOk, IfOk, not};
+ghost use Rattle.std.specs.Prelude.{◌≡◌, true, [], None, Some, OnOk, IfOk, not, if◌then◌else◌};
 ghost use Rattle.std.specs.Option.{is_some};
 ghost use Rattle.ice_encoding.specs.Order.{has_key, insert};
 ghost use Rattle.graph_arena.specs.View.{view, view_pairs};
@@ -124,11 +124,16 @@ impl SortedPairs {
         ensures { IfOk result (PutsKey (view key) self.old self.new) }
     {
         drop(self.waits.take());
-        let is_new = self.kept.is_new(alloc, &key)?;
-        if is_new {
-            drop(self.waits.replace(key));
+        match self.kept.is_new(alloc, &key) {
+            Ok(is_new) => {
+                hold(&mut self.waits, key, is_new);
+                Ok(is_new)
+            }
+            Err(error) => {
+                drop(key);
+                Err(error)
+            }
         }
-        Ok(is_new)
     }
 
     /// Puts the pair of the key that waits and its value at its place.
@@ -137,7 +142,10 @@ impl SortedPairs {
     {
         match mem::replace(&mut self.waits, None) {
             Some(key) => self.kept.put(key, value),
-            None => Ok(()),
+            None => {
+                drop(value);
+                Ok(())
+            }
         }
     }
 
@@ -146,5 +154,16 @@ impl SortedPairs {
         ensures { IfOk result (λ pairs. view_pairs pairs ≡ view_pairs self.0) }
     {
         self.kept.into_list(alloc)
+    }
+}
+
+/// Holds the item where this says so, and else lets it go.
+fn hold<T: Drop>(held: &mut Option<T>, item: T, holds: bool)
+    ensures { held.new ≡ (if holds then Some item else held.old) }
+{
+    if holds {
+        drop(held.replace(item));
+    } else {
+        drop(item);
     }
 }
