@@ -43,15 +43,20 @@ pub(crate) fn only_id(alloc: Global, kind: TypeRef) -> Result<Shape, AllocError>
 {
     let name = Name::of(alloc, "id")?;
     let mut required = List::new(alloc);
-    required.push(Member {
+    match required.push(Member {
         name,
         kind,
         tag: None,
-    })?;
-    Ok(Shape {
-        required,
-        optional: List::new(alloc),
-    })
+    }) {
+        Ok(()) => Ok(Shape {
+            required,
+            optional: List::new(alloc),
+        }),
+        Err(error) => {
+            drop(required);
+            Err(error)
+        }
+    }
 }
 
 /// Whether an operation that may be called again, or not, takes this mode.

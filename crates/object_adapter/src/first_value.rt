@@ -43,11 +43,19 @@ fn zeros(alloc: Global, schema: &Schema, kind: TypeRef) -> Result<Graph, AllocEr
 {
     schema.rules();
     zeros_have_types();
+    let value = zero(alloc, schema, kind)?;
     let mut required = List::new(alloc);
-    required.push(zero(alloc, schema, kind)?)?;
-    let roots = Members {
-        required,
-        optional: List::new(alloc),
-    };
-    Ok(Graph::of(roots, Vec::new(alloc)))
+    match required.push(value) {
+        Ok(()) => {
+            let roots = Members {
+                required,
+                optional: List::new(alloc),
+            };
+            Ok(Graph::of(roots, Vec::new(alloc)))
+        }
+        Err(error) => {
+            drop(required);
+            Err(error)
+        }
+    }
 }

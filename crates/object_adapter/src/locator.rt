@@ -37,10 +37,13 @@ impl Locator {
     pub fn new(alloc: Global, places: Places) -> Result<Locator, AllocError>
         ensures { IfOk result (λ locator. locator.places ≡ places) }
     {
-        Ok(Locator {
-            schema: locator_schema(alloc)?,
-            places,
-        })
+        match locator_schema(alloc) {
+            Ok(schema) => Ok(Locator { schema, places }),
+            Err(error) => {
+                drop(places);
+                Err(error)
+            }
+        }
     }
 
     /// What a locator gives at a call, or why the call is refused.
@@ -52,7 +55,9 @@ impl Locator {
             return Err(Unanswered::Refused(Refusal::NoOperation));
         };
         let shape = sought_shape(alloc, sought)?;
-        self.find(alloc, sought, &shape, call)
+        let answer = self.find(alloc, sought, &shape, call);
+        drop(shape);
+        answer
     }
 
     /// What a locator gives at a call that seeks this, or why the call is refused.
@@ -69,7 +74,9 @@ impl Locator {
         ensures writable { IfOk result IsReply }
     {
         let arguments = admit(alloc, &self.schema, true, shape, call)?;
-        self.give(alloc, sought, &arguments)
+        let answer = self.give(alloc, sought, &arguments);
+        drop(arguments);
+        answer
     }
 
     /// The proxy of what these arguments seek, or the exception that says that its place is not known.

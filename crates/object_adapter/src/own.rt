@@ -23,7 +23,7 @@ use ice_types::{List, Schema, Shape, TypeRef};
 use std::alloc::{AllocError, Global};
 
 /// An operation that every object has.
-#[derive(Clone, Copy, PartialEq, Eq)]
+#[derive(Clone, Copy)]
 pub enum Own {
     /// Does nothing.
     Ping,
@@ -60,7 +60,9 @@ pub(crate) fn act_own(
         (OwnRefuses schema.now interface own call.now) result }
 {
     let shape = own_shape(alloc, own)?;
-    act_by(alloc, schema, interface, own, &shape, call)
+    let results = act_by(alloc, schema, interface, own, &shape, call);
+    drop(shape);
+    results
 }
 
 /// The same, with the arguments that it takes.
@@ -77,7 +79,9 @@ fn act_by(
         (OwnRefuses schema.now interface own call.now) result }
 {
     let arguments = admit(alloc, schema, true, shape, call)?;
-    give(alloc, schema, interface, own, &arguments)
+    let results = give(alloc, schema, interface, own, &arguments);
+    drop(arguments);
+    results
 }
 
 /// The results with these arguments.
@@ -100,13 +104,13 @@ fn give(
 fn own_shape(alloc: Global, own: Own) -> Result<Shape, AllocError>
     ensures { IfOk result (λ shape. shape ≡ own_shape own) }
 {
-    if own == Own::IsA {
-        return only_id(alloc, TypeRef::Text);
+    match own {
+        Own::IsA => only_id(alloc, TypeRef::Text),
+        Own::Ping | Own::Id | Own::Ids => Ok(Shape {
+            required: List::new(alloc),
+            optional: List::new(alloc),
+        }),
     }
-    Ok(Shape {
-        required: List::new(alloc),
-        optional: List::new(alloc),
-    })
 }
 
 /// What the results hold.

@@ -105,11 +105,16 @@ fn not_found(alloc: Global, sought: Sought) -> Result<UserException, AllocError>
     };
     let class = exception_of(sought);
     let mut slices = List::new(alloc);
-    slices.push(Slice::Known { class, members })?;
-    Ok(UserException {
-        slices,
-        graph: Graph::new(alloc),
-    })
+    match slices.push(Slice::Known { class, members }) {
+        Ok(()) => Ok(UserException {
+            slices,
+            graph: Graph::new(alloc),
+        }),
+        Err(error) => {
+            drop(slices);
+            Err(error)
+        }
+    }
 }
 
 /// The place of that exception in the schema.

@@ -36,12 +36,17 @@ impl Store {
         ensures kept { IfOk result (λ store. IsFirst (arc_value schema) interface store.kept) }
     {
         let types: &Schema = &schema;
-        let value = first_value(alloc, types, interface)?;
-        Ok(Store {
-            schema,
-            interface,
-            kept: Kept { number: 0, value },
-        })
+        match first_value(alloc, types, interface) {
+            Ok(value) => Ok(Store {
+                schema,
+                interface,
+                kept: Kept { number: 0, value },
+            }),
+            Err(error) => {
+                drop(schema);
+                Err(error)
+            }
+        }
     }
 
     /// The results of a call, or why it is refused. A refusal changes nothing.

@@ -12,7 +12,7 @@ returns-clause-acts c =
     let call = c.args.call.now in
     let sought = c.args.sought in
     let g = c.in_ok-arguments.arguments in
-    acted self.places call sought g c.give.result c.requires.named
+    acted self.places call sought g c.give-answer.result c.requires.named
     (subst (λ (t : Tables). Comes t true (sought_shape sought) call g) self.declared
     (subst (λ (s : Shape). Comes self.schema true s call g) c.requires.shape c.in_ok-arguments.ensures.admits))
-    c.give.ensures.gives
+    c.give-answer.ensures.gives
