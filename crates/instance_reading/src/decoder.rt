@@ -43,9 +43,16 @@ pub fn read_content<'a>(
                 roots,
                 instances: arena.into_instances(),
             }),
-            Err(fault) => Err(ReadFault::Broken(fault)),
+            Err(fault) => {
+                drop(roots);
+                drop(arena);
+                Err(ReadFault::Broken(fault))
+            }
         },
-        Err(fault) => Err(fault),
+        Err(fault) => {
+            drop(arena);
+            Err(fault)
+        }
     }
 }
 

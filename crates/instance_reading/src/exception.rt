@@ -48,11 +48,22 @@ pub fn read_user_exception<'a>(
                     slices,
                     instances: arena.into_instances(),
                 }),
-                Err(fault) => Err(ReadFault::Broken(fault)),
+                Err(fault) => {
+                    drop(slices);
+                    drop(arena);
+                    Err(ReadFault::Broken(fault))
+                }
             },
-            Err(fault) => Err(ReadFault::Broken(fault)),
+            Err(fault) => {
+                drop(slices);
+                drop(arena);
+                Err(ReadFault::Broken(fault))
+            }
         },
-        Err(fault) => Err(fault),
+        Err(fault) => {
+            drop(arena);
+            Err(fault)
+        }
     }
 }
 

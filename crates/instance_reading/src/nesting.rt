@@ -1,6 +1,6 @@
 //! An instance with those that begin in it, over an explicit stack of those that are not read whole.
 
-ghost use Rattle.std.specs.Prelude.{◌<◌, ◌≤◌, ◌++◌, ◌∷◌, [], OnOk};
+ghost use Rattle.std.specs.Prelude.{◌≡◌, ◌<◌, ◌≤◌, ◌++◌, ◌∷◌, [], OnOk};
 ghost use Rattle.ice_encoding.specs.Instances.{most_instances};
 ghost use Rattle.instance_reading.specs.Stacked.{ReadsInstance, StepsNesting, instance_within, is_within, stack_left};
 ghost use Rattle.instance_reading.specs.Stacked.{steps_left};
@@ -28,9 +28,29 @@ pub(crate) fn read_instance<'a>(
     ensures room { OnOk result (room arena.new ≤ room arena.old) }
 {
     let mut stack = List::new(alloc);
+    let result = read_over(alloc, schema, name, &mut stack, cursor, arena);
+    drop(stack);
+    result
+}
+
+/// The same over this stack, which is empty.
+fn read_over<'a>(
+    alloc: Global,
+    schema: &Schema,
+    name: u32,
+    stack: &mut List<Unfinished<'a>>,
+    cursor: &mut Cursor<'a>,
+    arena: &mut Arena<'a>,
+) -> Result<(), ReadFault>
+    requires empty { stack.old ≡ [] }
+    requires room { room arena.old < most_instances }
+    ensures reads { ReadsInstance result
+        (instance_within schema.now most_instances name arena.old cursor.old) arena.new cursor.new }
+    ensures room { OnOk result (room arena.new ≤ room arena.old) }
+{
     stack.push(Unfinished::new(alloc, name, cursor))?;
     while let Some(top) = stack.pop() {
-        read_on(alloc, schema, top, &mut stack, cursor, arena)?;
+        read_on(alloc, schema, top, stack, cursor, arena)?;
     }
     Ok(())
 }

@@ -96,7 +96,10 @@ fn reopen_members(
     ) {
         Ok(read) => match end(&bound) {
             Ok(()) => resolve(class, read, table),
-            Err(fault) => Err(ReadFault::Broken(fault)),
+            Err(fault) => {
+                drop(read);
+                Err(ReadFault::Broken(fault))
+            }
         },
         Err(fault) => Err(fault),
     }
@@ -107,10 +110,13 @@ fn resolve(class: u32, mut read: SizedMembers, table: &[u32]) -> Result<Slice, R
     ensures { Resolves class read table.now result }
 {
     match first_outside(read.uses.as_slice(), table.len()) {
-        Some(place) => Err(ReadFault::Broken(Fault {
-            place,
-            kind: Kind::BadReference,
-        })),
+        Some(place) => {
+            drop(read);
+            Err(ReadFault::Broken(Fault {
+                place,
+                kind: Kind::BadReference,
+            }))
+        }
         None => {
             resolve_members(&mut read.members, table);
             Ok(Slice::Known {

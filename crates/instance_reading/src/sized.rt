@@ -89,7 +89,10 @@ pub(crate) fn open_sized<'a>(
             table: List::new(alloc),
             left,
         }),
-        Err(fault) => Err(ReadFault::Broken(fault)),
+        Err(fault) => {
+            drop(read);
+            Err(ReadFault::Broken(fault))
+        }
     }
 }
 
@@ -152,7 +155,10 @@ fn read_sized(
     match read_in_bound(alloc, sort, schema, class, flags, &mut bound) {
         Ok(read) => match end(&bound) {
             Ok(()) => Ok(read),
-            Err(fault) => Err(ReadFault::Broken(fault)),
+            Err(fault) => {
+                drop(read);
+                Err(ReadFault::Broken(fault))
+            }
         },
         Err(fault) => Err(fault),
     }

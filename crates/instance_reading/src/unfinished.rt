@@ -301,7 +301,13 @@ fn push_slice(
     ensures ok { OnOk result (slices.new ≡ slices.old ++ slice ∷ []) }
 {
     if is_last && slices.is_empty() {
-        *slices = List::from_vec(Vec::with_capacity(alloc, 1)?);
+        match Vec::with_capacity(alloc, 1) {
+            Ok(room) => drop(mem::replace(slices, List::from_vec(room))),
+            Err(error) => {
+                drop(slice);
+                return Err(error);
+            }
+        }
     }
     slices.push(slice)
 }
@@ -321,11 +327,16 @@ fn closed(
             class,
             mut members,
             uses,
-        } => {
-            arena.meet_all(uses.as_slice(), table.as_slice())?;
-            resolve_members(&mut members, table.as_slice());
-            Ok(Slice::Known { class, members })
-        }
+        } => match arena.meet_all(uses.as_slice(), table.as_slice()) {
+            Ok(()) => {
+                resolve_members(&mut members, table.as_slice());
+                Ok(Slice::Known { class, members })
+            }
+            Err(error) => {
+                drop(members);
+                Err(error)
+            }
+        },
         Body::Unknown { id, part } => keep(alloc, id.kept(alloc)?, &part, table),
     }
 }

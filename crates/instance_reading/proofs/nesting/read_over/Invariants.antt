@@ -2,7 +2,7 @@ use Rattle.std.proofs.Common.{◌≡◌, ◌≤◌}
 use Rattle.ice_encoding.specs.Instances.{most_instances}
 use Rattle.instance_reading.specs.Stacked.{instance_within, is_within, stack_left, steps_left}
 use Rattle.instance_reading.specs.Unfinished.{room}
-use Rattle.instance_reading.proofs.nesting.read_instance.Given as goal
+use Rattle.instance_reading.proofs.nesting.read_over.Given as goal
 
 abbrev pub invariant-loop-top : goal.invariant-loop-top
 invariant-loop-top l = record {
