@@ -4,7 +4,7 @@ use Rattle.std.proofs.lemmas.List.{take_all}
 use Rattle.ice_types.specs.Tables.{Tables}
 use Rattle.ice_encoding.specs.Tree.{InEach, reference, tree}
 use Rattle.ice_encoding.specs.Order.{KeysRise}
-use Rattle.ice_encoding.specs.OptionalMembers.{Members, with_optional}
+use Rattle.ice_encoding.specs.OptionalMembers.{Members}
 use Rattle.ice_encoding.specs.Exceptions.{of_exceptions, UserException}
 use Rattle.ice_encoding.specs.Graph.{Slice, Graph}
 use Rattle.ice_encoding.specs.Names.{names_of, instance_names, renamed_slice}
@@ -17,7 +17,6 @@ use Rattle.ice_encoding.specs.Visiting.{order, place}
 use Rattle.graph_laws.proofs.Ranged.{instance_below, in_instances}
 use Rattle.graph_arena.specs.Arena.{AreBelow, ContentFits, IsSound}
 use Rattle.graph_arena.specs.Renumbering.{IsIndex}
-use Rattle.graph_arena.specs.Seen.{view_present}
 use Rattle.graph_arena.specs.View.{trees_of, view, view_all}
 use Rattle.graph_arena.specs.declared.value.Value.{Value}
 use Rattle.graph_arena.proofs.Agreeing.{slices-agree}
@@ -39,14 +38,9 @@ references-rise : (ns : List ℕ) → InEach KeysRise (references_to ns)
 references-rise [] = tt
 references-rise (n ∷ ns) = (tt, references-rise ns)
 
-roots-fit : (count : ℕ) (x : UserException) (roots : Members) → roots ≡ (graph_of x).roots → AreBelow count (instance_names x.slices) → ContentFits count roots
+pub roots-fit : (count : ℕ) (x : UserException) (roots : Members) → roots ≡ (graph_of x).roots → AreBelow count (instance_names x.slices) → ContentFits count roots
 roots-fit count x roots is names =
     subst (ContentFits count) (sym is) (record { names = subst (AreBelow count) (sym (root_names x)) names; order = (references-rise (instance_names x.slices), tt) })
-
-pub roots-put : (count : ℕ) (x : UserException) (values : List Value) (options : List (ℕ × Value)) (names : List ℕ) → view_all values ≡ references_to names → names ≡ instance_names x.slices → options ≡ [] → AreBelow count (instance_names x.slices)
-    → ContentFits count (with_optional (view_all values) (view_present options))
-roots-put count x values options names put are none names_below =
-    roots-fit count x (with_optional (view_all values) (view_present options)) (λ i. with_optional ((put ∙ ap references_to are) i) (view_present (none i))) names_below
 
 -- ---- its form
 

@@ -8,7 +8,7 @@ use crate::write_fault::WriteFault;
 use std::alloc::AllocError;
 
 /// Why a graph is not encoded.
-#[derive(Clone, Copy, Debug, PartialEq, Eq)]
+#[derive(Clone, Copy)]
 pub enum EncodeFault {
     /// The first part that is not of its type: an instance by its place, or the roots, which are None.
     IllTyped(Option<u32>),

@@ -27,8 +27,15 @@ pub fn encode(
 ) -> Result<Vec<u8>, EncodeFault>
     ensures { EncodesGraph schema.now (shape_seen fields.entry) (view_format format) graph limit result }
 {
-    if let Some(at) = first_ill_typed(alloc, schema, fields, &graph)? {
-        return Err(EncodeFault::IllTyped(at));
+    match first_ill_typed(alloc, schema, fields, &graph) {
+        Ok(None) => Ok(encode_typed(alloc, schema, fields, graph, format, limit)?),
+        Ok(Some(at)) => {
+            drop(graph);
+            Err(EncodeFault::IllTyped(at))
+        }
+        Err(error) => {
+            drop(graph);
+            Err(EncodeFault::from(error))
+        }
     }
-    Ok(encode_typed(alloc, schema, fields, graph, format, limit)?)
 }

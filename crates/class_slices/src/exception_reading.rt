@@ -37,12 +37,19 @@ pub fn read_exception(
     // A text is of its type since what is read are bytes.
     left_are_bytes(&cursor);
     let content = take_content(alloc, schema, &mut cursor)?;
-    end(&cursor)?;
-    schema.rules();
-    Ok(UserException {
-        slices: content.slices,
-        graph: Graph::of(none(alloc), content.instances),
-    })
+    match end(&cursor) {
+        Ok(()) => {
+            schema.rules();
+            Ok(UserException {
+                slices: content.slices,
+                graph: Graph::of(none(alloc), content.instances),
+            })
+        }
+        Err(fault) => {
+            drop(content);
+            Err(ReadFault::Broken(fault))
+        }
+    }
 }
 
 /// What the encapsulation that begins here holds, whatever follows it. The cursor goes on after it; a fault

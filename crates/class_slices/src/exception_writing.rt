@@ -1,7 +1,11 @@
 //! The encapsulation of an exception, or why there is none.
 
+ghost use Rattle.std.specs.Prelude.{◌≡◌, ◌++◌, [], IfOk};
 ghost use Rattle.ice_encoding.specs.UserExceptionTyped.{OfUserException};
+ghost use Rattle.ice_encoding.specs.UserExceptionWritten.{user_exception_bytes};
 ghost use Rattle.instance_writing.specs.Formats.{view_format};
+ghost use Rattle.instance_writing.specs.Writable.{UserExceptionCanBeWritten};
+ghost use Rattle.class_slices.specs.Enclosing.{unsized};
 ghost use Rattle.class_slices.specs.ExceptionEncoding.{EncodesException};
 ghost use Rattle.class_slices.specs.Seen.{IsRooted, view_user_exception};
 
@@ -12,7 +16,7 @@ use crate::user_exception::UserException;
 use crate::user_exception_fault::UserExceptionFault;
 use ice_types::Schema;
 use instance_writing::{Format, write_user_exception};
-use std::alloc::Global;
+use std::alloc::{AllocError, Global};
 use value_checks::{first_ill_instance, is_user_exception};
 
 /// The canonical encapsulation of the exception in the format, where the exception is of its type, the format
@@ -34,13 +38,21 @@ pub fn write_exception(
         &user_exception.graph,
         user_exception.slices.as_slice(),
     ) {
+        drop(user_exception);
         return Err(UserExceptionFault::IllTyped(None));
     }
     let user_exception = rooted(alloc, user_exception)?;
-    if let Some(place) = first_ill_instance(alloc, schema, &user_exception.graph)? {
-        return Err(UserExceptionFault::IllTyped(Some(place)));
+    match first_ill_instance(alloc, schema, &user_exception.graph) {
+        Ok(None) => write_typed(alloc, schema, user_exception, format, limit),
+        Ok(Some(place)) => {
+            drop(user_exception);
+            Err(UserExceptionFault::IllTyped(Some(place)))
+        }
+        Err(_) => {
+            drop(user_exception);
+            Err(UserExceptionFault::Memory)
+        }
     }
-    write_typed(alloc, schema, user_exception, format, limit)
 }
 
 /// The same of an exception of its type, whose slices stand for the roots of its graph.
@@ -57,12 +69,39 @@ fn write_typed(
 {
     // Its contract says what every graph keeps.
     user_exception.graph.len();
-    allow(
+    match allow(
         user_exception.slices.as_slice(),
         &user_exception.graph,
         format,
-    )?;
+    ) {
+        Ok(()) => {}
+        Err(fault) => {
+            drop(user_exception);
+            return Err(fault);
+        }
+    }
     let numbered = numbered(alloc, user_exception)?;
+    let begun = begun_with(alloc, schema, format, &numbered);
+    drop(numbered);
+    let out = begun?;
+    match end_encaps(out, limit) {
+        Ok(out) => Ok(out),
+        Err(length) => Err(UserExceptionFault::TooLong(length)),
+    }
+}
+
+/// An encapsulation that has begun, with the bytes of an exception whose instances are named by the order of
+/// their first visits.
+fn begun_with(
+    alloc: Global,
+    schema: &Schema,
+    format: Format,
+    numbered: &UserException,
+) -> Result<Vec<u8>, AllocError>
+    requires { UserExceptionCanBeWritten schema.now (view_user_exception numbered.now) }
+    ensures { IfOk result (λ out. out.items
+        ≡ unsized [] ++ user_exception_bytes schema.now (view_format format) (view_user_exception numbered.now)) }
+{
     let mut out = begin_encaps(alloc)?;
     write_user_exception(
         alloc,
@@ -72,8 +111,5 @@ fn write_typed(
         &numbered.graph,
         &mut out,
     )?;
-    match end_encaps(out, limit) {
-        Ok(out) => Ok(out),
-        Err(length) => Err(UserExceptionFault::TooLong(length)),
-    }
+    Ok(out)
 }

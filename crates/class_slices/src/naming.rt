@@ -1,16 +1,19 @@
 //! The names in an exception: its own slices stand for the roots of its graph.
 
-ghost use Rattle.std.specs.Prelude.{◌≡◌, IfOk, Some, length};
+ghost use Rattle.std.specs.Prelude.{◌≡◌, [], IfOk, Some, length};
 ghost use Rattle.ice_encoding.specs.Tree.{reference};
 ghost use Rattle.ice_encoding.specs.Names.{instance_names};
+ghost use Rattle.ice_encoding.specs.OptionalMembers.{with_optional};
 ghost use Rattle.ice_encoding.specs.UserExceptionWritten.{form_of, references_to};
-ghost use Rattle.graph_arena.specs.Arena.{AreBelow};
-ghost use Rattle.graph_arena.specs.Seen.{view_slices};
+ghost use Rattle.ice_encoding.specs.Visiting.{order};
+ghost use Rattle.graph_arena.specs.Arena.{AreBelow, IsSound};
+ghost use Rattle.graph_arena.specs.Renumbering.{IsIndex};
+ghost use Rattle.graph_arena.specs.Seen.{view_content, view_slices};
 ghost use Rattle.graph_arena.specs.View.{view, view_all};
 ghost use Rattle.class_slices.specs.Seen.{IsRooted, view_user_exception};
 
 use crate::user_exception::UserException;
-use graph_arena::{Members, Value, index_of, push_slices, resolve_slices};
+use graph_arena::{Graph, Members, Slice, Value, index_of, push_slices, resolve_slices};
 use ice_types::List;
 use std::alloc::{AllocError, Global};
 
@@ -18,23 +21,34 @@ use std::alloc::{AllocError, Global};
 /// order of occurrence.
 pub(crate) fn rooted(
     alloc: Global,
-    user_exception: UserException,
+    mut user_exception: UserException,
 ) -> Result<UserException, AllocError>
     requires { AreBelow (length user_exception.graph.instances) (instance_names (view_slices user_exception.slices)) }
     ensures same { IfOk result (λ rooted. view_user_exception rooted ≡ view_user_exception user_exception) }
     ensures rooted { IfOk result IsRooted }
 {
+    match roots_of(alloc, user_exception.slices.as_slice()) {
+        Ok(roots) => {
+            user_exception.graph.set_roots(roots);
+            Ok(user_exception)
+        }
+        Err(error) => {
+            drop(user_exception);
+            Err(error)
+        }
+    }
+}
+
+/// A reference to each instance that the slices name, slice by slice in order of occurrence, as members.
+fn roots_of(alloc: Global, slices: &[Slice]) -> Result<Members, AllocError>
+    ensures { IfOk result (λ roots.
+        view_content roots ≡ with_optional (references_to (instance_names (view_slices slices.now))) []) }
+{
     let mut names = List::new(alloc);
-    push_slices(&mut names, user_exception.slices.as_slice())?;
-    let roots = Members {
+    push_slices(&mut names, slices)?;
+    Ok(Members {
         required: references(alloc, names.as_slice())?,
         optional: List::new(alloc),
-    };
-    let mut graph = user_exception.graph;
-    graph.set_roots(roots);
-    Ok(UserException {
-        slices: user_exception.slices,
-        graph,
     })
 }
 
@@ -65,11 +79,33 @@ pub(crate) fn numbered(
     requires { IsRooted user_exception }
     ensures { IfOk result (λ numbered. view_user_exception numbered ≡ form_of (view_user_exception user_exception)) }
 {
-    let count = user_exception.graph.len();
-    let order = user_exception.graph.first_visit()?;
+    match index_by_visits(alloc, &user_exception.graph) {
+        Ok(index) => {
+            let mut slices = user_exception.slices;
+            resolve_slices(slices.as_mut_slice(), index.as_slice());
+            match user_exception.graph.renumbered() {
+                Ok(graph) => Ok(UserException { slices, graph }),
+                Err(error) => {
+                    drop(slices);
+                    Err(error)
+                }
+            }
+        }
+        Err(error) => {
+            drop(user_exception);
+            Err(error)
+        }
+    }
+}
+
+/// For each instance its place in the order of the first visits.
+fn index_by_visits(alloc: Global, graph: &Graph) -> Result<Vec<u32>, AllocError>
+    ensures index { IfOk result (λ index.
+        IsIndex (length graph.now.instances) (order graph.now) index.items) }
+    ensures sound { IsSound graph.now }
+{
+    let count = graph.len();
+    let order = graph.first_visit()?;
     let index = index_of(alloc, count, order.as_slice())?;
-    let mut slices = user_exception.slices;
-    resolve_slices(slices.as_mut_slice(), index.as_slice());
-    let graph = user_exception.graph.renumbered()?;
-    Ok(UserException { slices, graph })
+    Ok(index)
 }

@@ -46,8 +46,13 @@ pub fn decode_rest(
     ensures typed { IfOk result (λ graph. OfType schema.now (shape_seen fields.entry) graph) }
 {
     let graph = take_graph(alloc, schema, fields, &mut cursor)?;
-    end(&cursor)?;
-    Ok(graph)
+    match end(&cursor) {
+        Ok(()) => Ok(graph),
+        Err(fault) => {
+            drop(graph);
+            Err(ReadFault::Broken(fault))
+        }
+    }
 }
 
 /// The same of the encapsulation that begins here, whatever follows it. The cursor goes on after it; a
@@ -67,8 +72,15 @@ pub fn take_graph(
     let mut ahead = cursor.fork();
     let mut inside = open_encaps(&mut ahead)?;
     let content = read_content(alloc, schema, fields, &mut inside)?;
-    end(&inside)?;
-    schema.rules();
-    *cursor = ahead;
-    Ok(Graph::of(content.roots, content.instances))
+    match end(&inside) {
+        Ok(()) => {
+            schema.rules();
+            *cursor = ahead;
+            Ok(Graph::of(content.roots, content.instances))
+        }
+        Err(fault) => {
+            drop(content);
+            Err(ReadFault::Broken(fault))
+        }
+    }
 }

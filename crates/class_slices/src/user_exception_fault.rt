@@ -6,7 +6,7 @@ ghost use Rattle.class_slices.specs.declared.user_exception_fault.UserExceptionF
 use std::alloc::AllocError;
 
 /// Why an exception is not written.
-#[derive(Clone, Copy, Debug, PartialEq, Eq)]
+#[derive(Clone, Copy)]
 pub enum UserExceptionFault {
     /// The first part that is not of its type: an instance by its place, or the exception's own slices, which
     /// are None.

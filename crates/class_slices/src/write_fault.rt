@@ -6,7 +6,7 @@ ghost use Rattle.class_slices.specs.declared.write_fault.WriteFault.TheVariants 
 use std::alloc::AllocError;
 
 /// Why a graph of a type is not written.
-#[derive(Clone, Copy, Debug, PartialEq, Eq)]
+#[derive(Clone, Copy)]
 pub enum WriteFault {
     /// Compact format has no place for a slice of a class that is not known: the first instance that has one,
     /// by its place, of those that the roots lead to, in the order of their first visits.

@@ -10,9 +10,9 @@ use Rattle.class_slices.proofs.reading.take_graph.Goals as goal
 
 pub of-requires : goal.of-requires
 of-requires c = (steps-typed c.args.schema.now all_slices (shape_seen c.args.fields) c.fork-ahead.result c.in_ok-inside.inside c.open_encaps.new.cursor c.read_content.new.cursor
-    (view_graph c.in_ok-content.content) c.rules.ensures (subst IsBytes (sym (ap (λ (r : Rest). r.bytes) c.fork-ahead.ensures)) c.left_are_bytes.ensures) c.in_ok-inside.ensures c.in_ok-content.ensures c.in_ok-end.ensures).1
+    (view_graph c.in_ok-content.content) c.rules.ensures (subst IsBytes (sym (ap (λ (r : Rest). r.bytes) c.fork-ahead.ensures)) c.left_are_bytes.ensures) c.in_ok-inside.ensures c.in_ok-content.ensures c.in-Ok.ensures).1
 
-pub returns-clause-typed : goal.returns-clause-typed
-returns-clause-typed c = subst (λ (g : Graph). OfType c.args.schema.now (shape_seen c.args.fields) g) (sym c.of.ensures)
+pub returns-in-Ok-clause-typed : goal.returns-in-Ok-clause-typed
+returns-in-Ok-clause-typed c = subst (λ (g : Graph). OfType c.args.schema.now (shape_seen c.args.fields) g) (sym c.of.ensures)
     (steps-typed c.args.schema.now all_slices (shape_seen c.args.fields) c.fork-ahead.result c.in_ok-inside.inside c.open_encaps.new.cursor c.read_content.new.cursor
-    (view_graph c.in_ok-content.content) c.rules.ensures (subst IsBytes (sym (ap (λ (r : Rest). r.bytes) c.fork-ahead.ensures)) c.left_are_bytes.ensures) c.in_ok-inside.ensures c.in_ok-content.ensures c.in_ok-end.ensures).0
+    (view_graph c.in_ok-content.content) c.rules.ensures (subst IsBytes (sym (ap (λ (r : Rest). r.bytes) c.fork-ahead.ensures)) c.left_are_bytes.ensures) c.in_ok-inside.ensures c.in_ok-content.ensures c.in-Ok.ensures).0
