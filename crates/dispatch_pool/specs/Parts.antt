@@ -15,6 +15,7 @@ use Rattle.dispatch_pool.specs.declared.object.Object.{Object}
 use Rattle.talking.specs.declared.end.End.{End}
 use Rattle.dispatch_pool.specs.Rows.{RowGrew}
 use Rattle.dispatch_pool.specs.Handled.{Keys, Outcome, Asked, Handled, IsOutcome, AreOutcomes, answer_of, turn_of, turns_of, asked, asking, reply_steps, replies}
+use Rattle.dispatch_pool.specs.ServerDid.{ServerDid}
 
 -- ---- what is left of a message's calls and replies
 
@@ -60,6 +61,12 @@ module _ {g : Ghosts Object Call Answer} (keys : Keys) (ps qs : List (Pass Objec
     pub grew : RowGrew ps qs (turns_of handled)
     pub said : IsSaid (Validate ∷ replies handled) t.taken
     pub fine : IsFine t
+
+  -- so many messages were taken and their calls handled, or the connection ended before
+  abbrev pub Took : {E : Type 0} → (most : ℕ) → Talk → List ℕ → Result (Option End) E → Type 0
+  Took most t held (Ok None) = Part t held most
+  Took most t held (Ok (Some end)) = (handled : List Handled) × RowGrew ps qs (turns_of handled) × ServerDid keys most t handled (Some end)
+  Took most t held (Err e) = (handled : List Handled) × RowGrew ps qs (turns_of handled) × ServerDid keys most t handled None
 
   -- of these bytes a message was taken and its calls handled, or the connection ends
   pub record Next {E : Type 0} (t : Talk) (bytes held : List ℕ) (r : Result (Option End) E) : Type 0 where

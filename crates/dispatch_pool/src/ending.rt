@@ -1,7 +1,7 @@
 //! Why accepting has ended.
 
 /// Why accepting has ended, where it has.
-#[derive(Clone, Copy, PartialEq, Eq)]
+#[derive(Clone, Copy)]
 pub enum Ending {
     /// It goes on.
     Open,

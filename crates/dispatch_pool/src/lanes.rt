@@ -1,7 +1,8 @@
 //! A turnstile for each object, and a pass of each for each caller.
 
 ghost use Rattle.std.specs.Prelude.{◌≡◌, ◌≢◌, ◌<◌, ◌≤◌, ℕ, [], length, vec_len, vec_capacity, slice_index_or};
-ghost use Rattle.std.specs.Prelude.{IsOk, IfOk, IfErr, OnErr};
+ghost use Rattle.std.specs.Prelude.{IsOk, IfOk, IfErr, OnErr, OnOk};
+ghost use Rattle.std.specs.Vec.Iter.{into_iter_items};
 ghost use Rattle.object_adapter.specs.declared.keys.TheConstants.{MOST_OBJECTS};
 
 use crate::gate::{AtGate, Gate};
@@ -10,6 +11,7 @@ use ice_messages::{Answer, Call};
 use object_adapter::{Adapter, Keys, Servant};
 use std::alloc::{AllocError, Global};
 use std::sync::Wait;
+use std::vec::IntoIter;
 use turnstile::{Pass, Stray, Turnstile};
 
 /// The objects of an adapter, each behind a turnstile of its own, so that different objects answer at once and each
@@ -41,7 +43,9 @@ pub enum Unclosed {
 
 impl Lanes {
     ghost use Rattle.dispatch_pool.specs.Rows.{Fits, RowFits, HasSplit, HasJoined};
-    ghost use Rattle.dispatch_pool.specs.Lanes.{AreOf, AreNew, AreWhole, RowIsWhole, Opens, DidSplit, DidJoinAll};
+    ghost use Rattle.dispatch_pool.specs.Abreast.{Beside};
+    ghost use Rattle.dispatch_pool.specs.Lanes.{AreOf, AreNew, AreWhole, RowIsNew, RowIsWhole, Begins, Opens};
+    ghost use Rattle.dispatch_pool.specs.Lanes.{DidSplit, DidJoinAll};
     ghost use Rattle.dispatch_pool.specs.Turns.{DidTurnAt, Grew};
     ghost use Rattle.dispatch_pool.specs.Ends.{ClosesAll, RowCloses, Remains, StaysOpen, IsMemory};
 
@@ -58,15 +62,45 @@ impl Lanes {
         let mut servants = servants.into_iter();
         let mut stiles = Vec::new(alloc);
         let mut passes = Vec::new(alloc);
+        let seated = Lanes::seat_all(alloc, count, &mut servants, &mut stiles, &mut passes);
+        drop(servants);
+        match seated {
+            Ok(()) => Ok((Lanes { keys, stiles }, LanePasses { passes })),
+            Err(error) => {
+                drop(keys);
+                drop(stiles);
+                drop(passes);
+                Err(error)
+            }
+        }
+    }
+
+    // A turnstile for each object, and the first pass of each.
+    fn seat_all(
+        alloc: Global,
+        count: usize,
+        servants: &mut IntoIter<Servant>,
+        stiles: &mut Vec<Turnstile<Object>>,
+        passes: &mut Vec<Pass<Object>>,
+    ) -> Result<(), AllocError>
+        requires count { count ≡ length (into_iter_items servants.old) }
+        requires empty { (stiles.old.items ≡ []) × (passes.old.items ≡ []) }
+        ensures opens { OnOk result (Beside Begins (into_iter_items servants.old) stiles.new.items) }
+        ensures of { OnOk result (RowFits stiles.new.items passes.new.items) }
+        ensures new { OnOk result (RowIsNew passes.new.items) }
+        ensures whole { OnOk result (RowIsWhole passes.new.items) }
+    {
+        stiles.reserve(count)?;
+        passes.reserve(count)?;
         for i in 0..count {
             let Some(servant) = servants.next() else {
                 unreachable!()
             };
             let (stile, pass) = Turnstile::new(alloc, Object { alloc, servant })?;
-            stiles.push(stile)?;
-            passes.push(pass)?;
+            stiles.push_reserved(stile);
+            passes.push_reserved(pass);
         }
-        Ok((Lanes { keys, stiles }, LanePasses { passes }))
+        Ok(())
     }
 
     /// Passes for a further caller: they have seen the same, and no call is their own. Each share is cut in two. Out of
@@ -79,7 +113,10 @@ impl Lanes {
         ensures err { OnErr result (passes.new ≡ passes.old) }
     {
         let mut made = Vec::new(alloc);
-        made.reserve(self.stiles.len())?;
+        if made.reserve(self.stiles.len()).is_err() {
+            drop(made);
+            return Err(AllocError);
+        }
         for i in 0..self.stiles.len() {
             let pass = self.split_at(passes, i);
             made.push_reserved(pass);
@@ -119,6 +156,7 @@ impl Lanes {
             };
             self.join_at(passes, i, pass);
         }
+        drop(others);
     }
 
     // Joins a pass of the turnstile at a place.
@@ -153,16 +191,16 @@ impl Lanes {
         self.stiles[at].turn_around(rt, &mut passes.passes[at], call, &AtGate { gate })
     }
 
-    // The objects, or the first place whose turnstile cannot be closed.
+    // Takes the object of each turnstile, or answers the first place whose turnstile cannot be closed.
     fn close_all(
         stiles: Vec<Turnstile<Object>>,
         passes: Vec<Pass<Object>>,
-        mut servants: Vec<Servant>,
-    ) -> Result<Vec<Servant>, (usize, Stray)>
+        servants: &mut Vec<Servant>,
+    ) -> Result<(), (usize, Stray)>
         requires of { RowFits stiles.items passes.items }
-        requires empty { servants.items ≡ [] }
-        requires room { vec_len stiles ≤ vec_capacity servants }
-        ensures ok { IfOk result (λ closed. RowCloses stiles.items passes.items closed.items) }
+        requires empty { servants.old.items ≡ [] }
+        requires room { vec_len stiles ≤ vec_capacity servants.old }
+        ensures ok { OnOk result (RowCloses stiles.items passes.items servants.new.items) }
         ensures err { IfErr result (λ stray. StaysOpen stiles.items passes.items stray.0 stray.1) }
         ensures whole { RowIsWhole passes.items → IsOk result }
     {
@@ -178,10 +216,16 @@ impl Lanes {
             };
             match stile.close(pass) {
                 Ok(object) => servants.push_reserved(object.servant),
-                Err(stray) => return Err((i, stray)),
+                Err(stray) => {
+                    drop(stiles);
+                    drop(passes);
+                    return Err((i, stray));
+                }
             }
         }
-        Ok(servants)
+        drop(stiles);
+        drop(passes);
+        Ok(())
     }
 
     /// The adapter with its objects as the histories left them, where each turn was passed on and the passes made all
@@ -195,6 +239,7 @@ impl Lanes {
     {
         let mut servants = Vec::new(alloc);
         if servants.reserve(self.stiles.len()).is_err() {
+            drop(servants);
             return Err(Unclosed::Memory {
                 lanes: self,
                 passes,
@@ -202,12 +247,16 @@ impl Lanes {
         }
         let Lanes { keys, stiles } = self;
         let LanePasses { passes } = passes;
-        match Lanes::close_all(stiles, passes, servants) {
-            Ok(servants) => Ok(Adapter::from_parts(keys, servants)),
-            Err((object, stray)) => Err(Unclosed::Stray {
-                object: object as u32,
-                stray,
-            }),
+        match Lanes::close_all(stiles, passes, &mut servants) {
+            Ok(()) => Ok(Adapter::from_parts(keys, servants)),
+            Err((object, stray)) => {
+                drop(keys);
+                drop(servants);
+                Err(Unclosed::Stray {
+                    object: object as u32,
+                    stray,
+                })
+            }
         }
     }
 }

@@ -3,6 +3,7 @@
 ghost use Rattle.std.specs.Prelude.{◌≡◌, ◌++◌, [], ℕ, List, None, IfOk, IfSome};
 ghost use Rattle.ice_ports.specs.Talks.{adds};
 ghost use Rattle.ice_ports.specs.declared.talk.Talk.{Talk};
+ghost use Rattle.ice_messages.specs.Framing.{nothing_held};
 ghost use Rattle.ice_messages.specs.Messages.{SpellsMessage};
 ghost use Rattle.retry_core.specs.declared.server.ServerState.TheVariants as states;
 ghost use Rattle.talking.specs.Hearing.{IsGoing};
@@ -12,7 +13,7 @@ ghost use Rattle.dispatch_pool.specs.Lanes.{AreOf};
 ghost use Rattle.dispatch_pool.specs.Turns.{Grew};
 ghost use Rattle.dispatch_pool.specs.Handled.{Handled, turns_of};
 ghost use Rattle.dispatch_pool.specs.ServerDid.{ServerDid};
-ghost use Rattle.dispatch_pool.specs.Parts.{Next};
+ghost use Rattle.dispatch_pool.specs.Parts.{Next, Took};
 
 use crate::gate::Gate;
 use crate::handling::{Service, serve_batch, serve_request};
@@ -114,6 +115,38 @@ fn serve_next<R: Wait, L: Link, G: Gate>(
     }
 }
 
+/// Says validate, takes so many messages, and handles them. None where the connection goes on.
+fn take_all<R: Wait, L: Link, G: Gate>(
+    service: &Service<'_, R, G>,
+    passes: &mut LanePasses,
+    link: &mut L,
+    server: &mut Server,
+    frames: &mut Frames,
+    messages: u64,
+) -> Result<Option<End>, AllocError>
+    requires of { AreOf service.now.lanes.now passes.old }
+    requires reading { server.old ≡ states.Reading }
+    requires fresh { frames.old ≡ nothing_held }
+    ensures of { AreOf service.now.lanes.now passes.new }
+    ensures did { (t : Talk) × (L.talk link.new ≡ adds (L.talk link.old) t)
+        × Took service.now.lanes.now.keys passes.old.passes.items passes.new.passes.items messages t
+        frames.new.bytes result }
+    ensures counts { Counts (fails_next result) (L.Source.failures link.old, L.Sink.failures link.old)
+        (L.Source.failures link.new, L.Sink.failures link.new) }
+    ensures state { IfOk result (λ end. end ≡ None → server.new ≡ states.Reading) }
+{
+    if !say(service.alloc, link, Message::Validate)? {
+        server.step(ServerEvent::Lost);
+        return Ok(Some(End::LinkFailed));
+    }
+    for taken in 0..messages {
+        if let Some(end) = serve_next(service, passes, link, server, frames)? {
+            return Ok(Some(end));
+        }
+    }
+    Ok(None)
+}
+
 /// Serves a connection from its validate on.
 fn serve<R: Wait, L: Link, G: Gate>(
     service: &Service<'_, R, G>,
@@ -131,17 +164,12 @@ fn serve<R: Wait, L: Link, G: Gate>(
     ensures counts { Counts (is_link_failed result) (L.Source.failures link.old, L.Sink.failures link.old)
         (L.Source.failures link.new, L.Sink.failures link.new) }
 {
-    if !say(service.alloc, link, Message::Validate)? {
-        server.step(ServerEvent::Lost);
-        return Ok(End::LinkFailed);
-    }
     let mut frames = Frames::new(service.alloc);
-    for taken in 0..messages {
-        if let Some(end) = serve_next(service, passes, link, server, &mut frames)? {
-            return Ok(end);
-        }
-    }
+    let taken = take_all(service, passes, link, server, &mut frames, messages);
     drop(frames);
+    if let Some(end) = taken? {
+        return Ok(end);
+    }
     server.step(ServerEvent::EnoughRead);
     if say(service.alloc, link, Message::Close)? {
         Ok(End::Enough)

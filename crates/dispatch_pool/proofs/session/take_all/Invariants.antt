@@ -6,7 +6,7 @@ use Rattle.talking.specs.Hearing.{IsGoing}
 use Rattle.talking.specs.Said.{Counts}
 use Rattle.dispatch_pool.specs.Lanes.{AreOf}
 use Rattle.dispatch_pool.specs.Parts.{Part}
-use Rattle.dispatch_pool.proofs.session.serve.Given as goal
+use Rattle.dispatch_pool.proofs.session.take_all.Given as goal
 
 abbrev pub invariant-loop-taken : goal.invariant-loop-taken
 invariant-loop-taken g l = record {
