@@ -6,6 +6,7 @@ ghost use Rattle.std.specs.Arc.{arc_value};
 ghost use Rattle.ice_types.specs.declared.identity.Identity.{Identity};
 ghost use Rattle.ice_proxy.specs.IdentityText.{identity_text};
 ghost use Rattle.object_adapter.specs.Adapters.{HasKey};
+ghost use Rattle.object_adapter.specs.Objects.{no_objects};
 ghost use Rattle.object_adapter.specs.declared.keys.TheConstants.{MOST_OBJECTS};
 ghost use Rattle.node_commands.specs.Words.{IsWord, Word};
 ghost use Rattle.serve_command.specs.declared.apart.Named.{Named};
@@ -41,9 +42,16 @@ pub(crate) fn lanes_of<'a, H: Shelf>(
 {
     let objects = command.objects.as_slice();
     let schema = load_schema(alloc, command.file, shelf)?;
-    check_all(alloc, &schema, objects)?;
-    let adapter = adapter_of(alloc, schema, objects)?;
-    Ok(Lanes::new(alloc, adapter)?)
+    match check_all(alloc, &schema, objects) {
+        Ok(()) => {
+            let adapter = adapter_of(alloc, schema, objects)?;
+            Ok(Lanes::new(alloc, adapter)?)
+        }
+        Err(outcome) => {
+            drop(schema);
+            Err(outcome)
+        }
+    }
 }
 
 /// Refuses the first word whose INTERFACE names no interface of the schema, and then the first text that stands for
@@ -73,13 +81,40 @@ fn adapter_of<'a>(
 {
     let schema = match Arc::new(alloc, schema) {
         Ok(schema) => schema,
-        Err(_) => return Err(Outcome::Memory),
+        Err(failed) => {
+            drop(failed);
+            return Err(Outcome::Memory);
+        }
     };
     let mut adapter = Adapter::new(alloc);
-    for object in objects {
-        put_object(alloc, &schema, objects, object, &mut adapter)?;
+    let put = put_all(alloc, &schema, objects, &mut adapter);
+    drop(schema);
+    match put {
+        Ok(()) => Ok(adapter),
+        Err(outcome) => {
+            drop(adapter);
+            Err(outcome)
+        }
     }
-    Ok(adapter)
+}
+
+/// Adds the objects of the words.
+fn put_all<'a>(
+    alloc: Global,
+    schema: &Arc<Schema>,
+    objects: &[ObjectWord<'a>],
+    adapter: &mut Adapter,
+) -> Result<(), Outcome<'a>>
+    requires words { AreSound (objects_of objects.now) }
+    requires names { Never (LacksInterface (arc_value schema.now)) (objects_of objects.now) }
+    requires none { adapter.old ≡ no_objects }
+    ensures ok { OnOk result (IsAdapter (arc_value schema.now) (objects_of objects.now) adapter.new) }
+    ensures err { IsStarved result }
+{
+    for object in objects {
+        put_object(alloc, schema, objects, object, adapter)?;
+    }
+    Ok(())
 }
 
 /// Adds the object of the word, where it asks for one.
@@ -189,5 +224,11 @@ fn key_of(alloc: Global, text: &str) -> Result<(Identity, Name), Outcome<'static
     ensures err { IsStarved result }
 {
     let identity = identity_of(alloc, text)?;
-    Ok((identity, Name::of(alloc, "")?))
+    match Name::of(alloc, "") {
+        Ok(facet) => Ok((identity, facet)),
+        Err(_) => {
+            drop(identity);
+            Err(Outcome::Memory)
+        }
+    }
 }

@@ -1,6 +1,6 @@
 //! Whether the words name each object, and each place, once.
 
-ghost use Rattle.std.specs.Prelude.{◌≡◌, ◌↔◌, IsTrue, IfOk, Some};
+ghost use Rattle.std.specs.Prelude.{◌≡◌, ◌↔◌, IsTrue, IfOk, Some, []};
 ghost use Rattle.ice_proxy.specs.IdentityText.{identity_text};
 ghost use Rattle.std.specs.List.{AllByRecursion};
 ghost use Rattle.node_commands.specs.Words.{IsWord};
@@ -28,9 +28,25 @@ pub(crate) fn are_apart(alloc: Global, objects: &[ObjectWord<'_>]) -> Result<boo
     ensures { IfOk result (λ apart. IsTrue apart ↔ AreApart (objects_of objects.now)) }
 {
     let mut names = Vec::new(alloc);
+    let apart = name_all(alloc, objects, &mut names);
+    drop(names);
+    apart
+}
+
+/// Gathers what the words name. Whether no two of them name the same.
+fn name_all(
+    alloc: Global,
+    objects: &[ObjectWord<'_>],
+    names: &mut Vec<Option<Named>>,
+) -> Result<bool, AllocError>
+    requires short { AllByRecursion AreShort (objects_of objects.now) }
+    requires none { names.old.items ≡ [] }
+    ensures { IfOk result (λ apart. IsTrue apart ↔ AreApart (objects_of objects.now)) }
+{
     for object in objects {
         let named = named_by(alloc, object)?;
         if holds(names.as_slice(), &named) {
+            drop(named);
             return Ok(false);
         }
         names.push(named)?;

@@ -4,7 +4,7 @@ ghost use Rattle.std.specs.Prelude.{codes, ◌++◌, ◌≢◌};
 ghost use Rattle.serve_command.specs.ObjectWords.{LacksEquals, Spells};
 
 /// What one word asks for.
-#[derive(Clone, Copy, PartialEq, Eq)]
+#[derive(Clone, Copy)]
 pub enum ObjectWord<'a> {
     /// `store=IDENTITY=INTERFACE`: an object that keeps a number and a value.
     Store {

@@ -3,6 +3,7 @@
 ghost use Rattle.std.specs.Prelude.{◌≡◌, ◌<◌, ℕ, Some, IfErr, IfOk, IsOk, OnOk, length};
 ghost use Rattle.object_adapter.specs.declared.add_fault.AddFault.TheVariants as add_faults;
 ghost use Rattle.object_adapter.specs.declared.places.TheConstants.{MOST_PLACES};
+ghost use Rattle.object_adapter.specs.Places.{no_places};
 ghost use Rattle.serve_command.specs.declared.apart.Named.{Named};
 ghost use Rattle.serve_command.specs.ObjectWords.{AreShort, named_by, object_of};
 ghost use Rattle.serve_command.specs.Words.{objects_of};
@@ -26,10 +27,30 @@ pub(crate) fn places_of(
     ensures err { IsStarved result }
 {
     let mut places = Places::new(alloc);
-    for object in objects {
-        put_place(alloc, object, &mut places)?;
+    match put_all(alloc, objects, &mut places) {
+        Ok(()) => Ok(places),
+        Err(outcome) => {
+            drop(places);
+            Err(outcome)
+        }
     }
-    Ok(places)
+}
+
+/// Adds the places of the words.
+fn put_all(
+    alloc: Global,
+    objects: &[ObjectWord<'_>],
+    places: &mut Places,
+) -> Result<(), Outcome<'static>>
+    requires words { AreSound (objects_of objects.now) }
+    requires none { places.old ≡ no_places }
+    ensures ok { OnOk result (ArePlacesOf (objects_of objects.now) places.new) }
+    ensures err { IsStarved result }
+{
+    for object in objects {
+        put_place(alloc, object, places)?;
+    }
+    Ok(())
 }
 
 /// Adds the place of the word, where it has one.
@@ -48,13 +69,23 @@ fn put_place(
     match object {
         ObjectWord::Place { identity, proxy } => {
             let identity = identity_of(alloc, identity)?;
-            let proxy = proxy_of(alloc, proxy)?;
-            added(places.add_object(identity, proxy))
+            match proxy_of(alloc, proxy) {
+                Ok(proxy) => added(places.add_object(identity, proxy)),
+                Err(outcome) => {
+                    drop(identity);
+                    Err(outcome)
+                }
+            }
         }
         ObjectWord::Adapter { id, proxy } => {
             let id = Name::of(alloc, id)?;
-            let proxy = proxy_of(alloc, proxy)?;
-            added(places.add_adapter(id, proxy))
+            match proxy_of(alloc, proxy) {
+                Ok(proxy) => added(places.add_adapter(id, proxy)),
+                Err(outcome) => {
+                    drop(id);
+                    Err(outcome)
+                }
+            }
         }
         ObjectWord::Store { .. } | ObjectWord::Echo { .. } | ObjectWord::Locator { .. } => Ok(()),
     }

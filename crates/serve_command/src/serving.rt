@@ -38,6 +38,7 @@ pub fn serve<R: Threads + Wait + Sync, H: Shelf, K: Sink, E: Sink, N: Net>(
         (network (N.told net.new) (N.listen_failures net.new)) result }
 {
     let ending = end_of(rt, alloc, &command, shelf, sink, net);
+    drop(command);
     report_ending(ending, errors)
 }
 
@@ -61,7 +62,11 @@ fn end_of<'a, R: Threads + Wait + Sync, H: Shelf, K: Sink, N: Net>(
         (network (N.told net.new) (N.listen_failures net.new)) (end_of result bytes) }
 {
     match lanes_of(alloc, command, shelf) {
-        Ok((lanes, passes)) => listen(rt, alloc, command, lanes, passes, sink, net),
+        Ok((lanes, passes)) => {
+            let ending = listen(rt, alloc, command, &lanes, passes, sink, net);
+            drop(lanes);
+            ending
+        }
         Err(outcome) => Ending::Known(outcome),
     }
 }
@@ -71,22 +76,25 @@ fn listen<R: Threads + Wait + Sync, K: Sink, N: Net>(
     rt: &R,
     alloc: Global,
     command: &ServeCommand<'_>,
-    lanes: Lanes,
+    lanes: &Lanes,
     passes: LanePasses,
     sink: &mut K,
     net: &mut N,
 ) -> Ending<'static>
-    requires of { AreOf lanes passes }
+    requires of { AreOf lanes.now passes }
     requires whole { AreWhole passes }
     requires workers { 0 < command.now.workers }
-    ensures { Asks (command_of command.now) lanes passes
+    ensures { Asks (command_of command.now) lanes.now passes
         (K.taken sink.old) (K.taken sink.new) (K.failures sink.old) (K.failures sink.new)
         (network (N.told net.old) (N.listen_failures net.old))
         (network (N.told net.new) (N.listen_failures net.new)) result }
 {
     match net.listen(command.host, command.port) {
         Ok(listener) => serve_at(rt, alloc, command, lanes, passes, listener, sink, net),
-        Err(Failed) => Ending::NetworkFailed,
+        Err(Failed) => {
+            drop(passes);
+            Ending::NetworkFailed
+        }
     }
 }
 
@@ -95,17 +103,17 @@ fn serve_at<R: Threads + Wait + Sync, K: Sink, N: Net>(
     rt: &R,
     alloc: Global,
     command: &ServeCommand<'_>,
-    lanes: Lanes,
+    lanes: &Lanes,
     passes: LanePasses,
     listener: N::Listener,
     sink: &mut K,
     net: &mut N,
 ) -> Ending<'static>
-    requires of { AreOf lanes passes }
+    requires of { AreOf lanes.now passes }
     requires whole { AreWhole passes }
     requires workers { 0 < command.now.workers }
     requires new { (N.Listener.failures listener ≡ 0) }
-    ensures { Listens (command_of command.now) lanes passes (N.Listener.told listener) (N.Listener.port listener)
+    ensures { Listens (command_of command.now) lanes.now passes (N.Listener.told listener) (N.Listener.port listener)
         (K.taken sink.old) (K.taken sink.new) (K.failures sink.old) (K.failures sink.new)
         (network (N.told net.old) (N.listen_failures net.old))
         (network (N.told net.new) (N.listen_failures net.new)) result }
@@ -113,6 +121,7 @@ fn serve_at<R: Threads + Wait + Sync, K: Sink, N: Net>(
     if tell(sink, "listening ", u64::from(listener.port())) {
         return serve_links(rt, alloc, command, lanes, passes, listener, sink, net);
     }
+    drop(passes);
     net.retire(listener);
     Ending::Known(Outcome::WriteFailed)
 }
@@ -122,17 +131,17 @@ fn serve_links<R: Threads + Wait + Sync, K: Sink, N: Net>(
     rt: &R,
     alloc: Global,
     command: &ServeCommand<'_>,
-    lanes: Lanes,
+    lanes: &Lanes,
     passes: LanePasses,
     listener: N::Listener,
     sink: &mut K,
     net: &mut N,
 ) -> Ending<'static>
-    requires of { AreOf lanes passes }
+    requires of { AreOf lanes.now passes }
     requires whole { AreWhole passes }
     requires workers { 0 < command.now.workers }
     requires new { (N.Listener.failures listener ≡ 0) }
-    ensures { Serves (command_of command.now) lanes passes (N.Listener.told listener)
+    ensures { Serves (command_of command.now) lanes.now passes (N.Listener.told listener)
         (K.taken sink.old) (K.taken sink.new) (K.failures sink.old) (K.failures sink.new)
         (network (N.told net.old) (N.listen_failures net.old))
         (network (N.told net.new) (N.listen_failures net.new)) result }
@@ -140,7 +149,7 @@ fn serve_links<R: Threads + Wait + Sync, K: Sink, N: Net>(
     let served = serve_all(
         rt,
         alloc,
-        &lanes,
+        lanes,
         passes,
         &OpenGate,
         listener,
@@ -150,11 +159,12 @@ fn serve_links<R: Threads + Wait + Sync, K: Sink, N: Net>(
     );
     let dispatch_pool::Served {
         door,
-        passes: _,
+        passes,
         accepted,
         failed,
         starved,
     } = served;
+    drop(passes);
     net.retire(door);
     end_with(accepted, failed, starved, sink)
 }

@@ -36,14 +36,14 @@ fn read(alloc: Global, object: &ObjectWord<'_>) -> Result<(), Outcome<'static>>
         ObjectWord::Store { identity, .. }
         | ObjectWord::Echo { identity, .. }
         | ObjectWord::Locator { identity } => {
-            identity_of(alloc, identity)?;
+            drop(identity_of(alloc, identity)?);
         }
         ObjectWord::Place { identity, proxy } => {
-            identity_of(alloc, identity)?;
-            proxy_of(alloc, proxy)?;
+            drop(identity_of(alloc, identity)?);
+            drop(proxy_of(alloc, proxy)?);
         }
         ObjectWord::Adapter { id: _, proxy } => {
-            proxy_of(alloc, proxy)?;
+            drop(proxy_of(alloc, proxy)?);
         }
     }
     Ok(())

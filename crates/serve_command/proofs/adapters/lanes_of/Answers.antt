@@ -1,7 +1,6 @@
 use Rattle.std.proofs.Common.{List, sym, subst}
 use Rattle.std.specs.List.{AllByRecursion}
 use Rattle.std.specs.Prelude.{Err}
-use Rattle.std.proofs.lemmas.Result.{err_from_is_err_and}
 use Rattle.serve_command.specs.declared.object_words.ObjectWord.{ObjectWord}
 use Rattle.serve_command.specs.ObjectWords.{AreShort}
 use Rattle.serve_command.specs.Words.{command_of, objects_of}
@@ -15,14 +14,12 @@ pub check_all-requires : goal.check_all-requires
 check_all-requires g c =
     subst (λ (z : List ObjectWord). AllByRecursion AreShort (objects_of z)) (sym c.as_slice-objects.ensures.value) (all_texts_short c.requires.0 (command_of c.args.command.now) c.requires.1)
 
-pub returns-in_err-check_all : goal.returns-in_err-check_all
-returns-in_err-check_all g c =
-    let failed = err_from_is_err_and c.from_residual-in_err-check_all.result c.from_residual-in_err-check_all.ensures.1 in
-    rw (failed.1, failed.2)
-    (unchecked (command_of c.args.command.now) (g.H.Shelf.files c.args.shelf.now) (g.H.Shelf.failures c.args.shelf.now) (g.H.Shelf.failures c.load_schema.new.shelf) c.in_ok-schema.schema c.in_ok-schema.ensures.found.0 c.in_ok-schema.ensures.found.1 c.in_err-check_all.field-0.0
-    (subst (λ (z : List ObjectWord). ChecksAll c.in_ok-schema.schema (objects_of z) (Err c.in_err-check_all.field-0.0)) c.as_slice-objects.ensures.value c.in_err-check_all.ensures))
+pub returns-in-Err : goal.returns-in-Err
+returns-in-Err g c =
+    unchecked (command_of c.args.command.now) (g.H.Shelf.files c.args.shelf.now) (g.H.Shelf.failures c.args.shelf.now) (g.H.Shelf.failures c.load_schema.new.shelf) c.in_ok-schema.schema c.in_ok-schema.ensures.found.0 c.in_ok-schema.ensures.found.1 c.in-Err.outcome
+    (subst (λ (z : List ObjectWord). ChecksAll c.in_ok-schema.schema (objects_of z) (Err c.in-Err.outcome)) c.as_slice-objects.ensures.value c.in-Err.ensures)
 
 pub adapter_of-requires-clause-words : goal.adapter_of-requires-clause-words
 adapter_of-requires-clause-words g c =
     subst (λ (z : List ObjectWord). AreSound (objects_of z)) (sym c.as_slice-objects.ensures.value)
-    (sound c.requires.0 (command_of c.args.command.now) c.requires.1 (subst (λ (z : List ObjectWord). Never Breaks (objects_of z)) c.as_slice-objects.ensures.value c.in_ok-check_all.ensures.1))
+    (sound c.requires.0 (command_of c.args.command.now) c.requires.1 (subst (λ (z : List ObjectWord). Never Breaks (objects_of z)) c.as_slice-objects.ensures.value c.in-Ok.ensures.1))

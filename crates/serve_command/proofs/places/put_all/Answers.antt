@@ -5,10 +5,10 @@ use Rattle.serve_command.specs.Adapters.{Breaks, Puts}
 use Rattle.serve_command.proofs.Walking.{all_at, walk_none, walk_more, gone}
 use Rattle.serve_command.proofs.Adding.{new_place, place_room}
 use Rattle.serve_command.proofs.Breaking.{never_at}
-use Rattle.serve_command.proofs.places.places_of.Goals as goal
+use Rattle.serve_command.proofs.places.put_all.Goals as goal
 
 pub loop-object-init : goal.loop-object-init
-loop-object-init c = walk_none Puts object_of c.args.objects.now no_places c.new-places.result c.new-places.ensures
+loop-object-init c = walk_none Puts object_of c.args.objects.now no_places c.args.places.now c.requires.none
 
 pub put_place-requires-clause-short : goal.put_place-requires-clause-short
 put_place-requires-clause-short c = all_at AreShort object_of c.args.objects.now c.loop-object.object-index _ c.loop-object-test.true c.requires.words.short
