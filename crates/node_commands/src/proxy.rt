@@ -21,7 +21,9 @@ pub fn proxy(alloc: Global, text: &str) -> Result<Vec<u8>, Outcome<'static>>
         → FindsBytes (wanted text.now) files input counts counts (bytes_found result) }
 {
     let proxy = parse_text(alloc, text)?;
-    Ok(lines_of(alloc, &proxy)?)
+    let lines = lines_of(alloc, &proxy);
+    drop(proxy);
+    Ok(lines?)
 }
 
 /// The lines that tell a proxy.

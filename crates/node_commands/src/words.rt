@@ -22,7 +22,7 @@ const HELP_WORD: &str = "--help";
 const COMPACT: &str = "--compact";
 
 /// What is done with values that are read.
-#[derive(Clone, Copy, PartialEq, Eq)]
+#[derive(Clone, Copy)]
 pub enum Task {
     /// To relay one, in the format.
     Relay(Format),
@@ -35,7 +35,7 @@ pub enum Task {
 }
 
 /// A page of help: on all commands, or on one.
-#[derive(Clone, Copy, PartialEq, Eq)]
+#[derive(Clone, Copy)]
 pub enum Page {
     All,
     Relay,
@@ -54,7 +54,7 @@ pub enum Page {
 }
 
 /// What the words ask the program to do.
-#[derive(Clone, Copy, PartialEq, Eq)]
+#[derive(Clone, Copy)]
 pub enum Command<'a> {
     /// To do a task with values of the type `kind`, which the Slice file defines.
     Values {
