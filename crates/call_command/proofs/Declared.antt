@@ -10,7 +10,6 @@ use Rattle.ice_types.specs.declared.declarations.InterfaceDecl.{InterfaceDecl}
 use Rattle.ice_types.specs.declared.declarations.OpDecl.{OpDecl}
 use Rattle.ice_types.specs.declared.declarations.Shape.{Shape}
 use Rattle.ice_types.specs.declared.schema.TheConstants.{MOST_NUMBER}
-use Rattle.ice_types.specs.declared.kind.RowRef.TheVariants as rows
 use Rattle.ice_types.specs.Tables.{Tables}
 use Rattle.ice_types.specs.Rules.{IsSchema}
 use Rattle.ice_types.specs.Names.{AreNew}

@@ -74,7 +74,9 @@ fn run<'a, H: Shelf, S: Source, K: Sink, N: Net>(
         (S.left source.old) (S.left source.new) }
 {
     let callee = callee_of(alloc, command.locator, command.proxy)?;
-    with_callee(alloc, command, &callee, shelf, source, sink, net)
+    let came = with_callee(alloc, command, &callee, shelf, source, sink, net);
+    drop(callee);
+    came
 }
 
 /// Goes on where the texts of proxies say this. It has the schema, which it lends to what may end in many ways.
@@ -197,7 +199,9 @@ fn of_known<'a, S: Source, K: Sink, N: Net>(
         (S.left source.old) (S.left source.new) }
 {
     let plan = plan_of(alloc, command, known, callee, source)?;
-    carry_out(alloc, &plan, sink, net)
+    let came = carry_out(alloc, &plan, sink, net);
+    drop(plan);
+    came
 }
 
 /// Does what was planned.

@@ -136,7 +136,9 @@ pub(crate) fn report<E: Sink>(ending: Ending<'_>, errors: &mut E) -> u8
 {
     let mut digits = Buffer::new();
     let _ = write_pieces(errors, &ending.line(&mut digits));
-    ending.status()
+    let status = ending.status();
+    drop(ending);
+    status
 }
 
 impl<'a> From<Outcome<'a>> for Ending<'a> {

@@ -1,6 +1,6 @@
 //! The message that is sent.
 
-ghost use Rattle.std.specs.Prelude.{◌≡◌, ◌<◌, [], IfOk, length, replicate};
+ghost use Rattle.std.specs.Prelude.{◌≡◌, ◌<◌, [], IfOk, OnOk, length, replicate};
 ghost use Rattle.ice_messages.specs.declared.message.Message.TheVariants.{Batch};
 ghost use Rattle.ice_messages.specs.Messages.{message_bytes};
 ghost use Rattle.ice_messages.specs.Written.{told};
@@ -50,15 +50,24 @@ pub(crate) fn message_of(
 {
     let length = message_length(mode, &call, times);
     if length > LARGEST as u64 {
+        drop(call);
         return Err(RelayFault::TooLong(length));
     }
     match mode {
         0 => Ok(Message::Request { id: 1, call }),
         1 => Ok(Message::Request { id: 0, call }),
-        _ => Ok(Message::Batch {
-            calls: repeated(alloc, &call, times)?,
-        }),
+        _ => Ok(batch_of(alloc, call, times)?),
     }
+}
+
+/// So many of the call in a batch.
+fn batch_of(alloc: Global, call: Call, times: u32) -> Result<Message, AllocError>
+    requires { call.context ≡ [] }
+    ensures { IfOk result (λ m. m ≡ Batch (replicate times call)) }
+{
+    let calls = repeated(alloc, &call, times);
+    drop(call);
+    Ok(Message::Batch { calls: calls? })
 }
 
 /// How many bytes it has.
@@ -90,10 +99,30 @@ fn repeated(alloc: Global, call: &Call, times: u32) -> Result<List<Call>, AllocE
     ensures { IfOk result (λ calls. calls ≡ replicate times call.now) }
 {
     let mut calls = List::new(alloc);
+    match push_calls(alloc, &mut calls, call, times) {
+        Ok(()) => Ok(calls),
+        Err(e) => {
+            drop(calls);
+            Err(e)
+        }
+    }
+}
+
+/// Puts the call so many times into a list that has none.
+fn push_calls(
+    alloc: Global,
+    calls: &mut List<Call>,
+    call: &Call,
+    times: u32,
+) -> Result<(), AllocError>
+    requires context { call.now.context ≡ [] }
+    requires none { calls.old ≡ [] }
+    ensures { OnOk result (calls.new ≡ replicate times call.now) }
+{
     for _ in 0..times {
         calls.push(copy_of(alloc, call)?)?;
     }
-    Ok(calls)
+    Ok(())
 }
 
 /// A copy of a call without a context.

@@ -1,6 +1,6 @@
 //! The messages, one after the other.
 
-ghost use Rattle.std.specs.Prelude.{◌≡◌, IfOk, List};
+ghost use Rattle.std.specs.Prelude.{◌≡◌, [], IfOk, List};
 ghost use Rattle.std.specs.Option.{option_copied};
 ghost use Rattle.ice_client.specs.ClientDid.{Rises};
 ghost use Rattle.locator.specs.Rounds.{Round, WereMade};
@@ -32,10 +32,34 @@ pub(crate) fn perform<K: Sink, N: Net>(
         (net_seen (N.told net.new) (N.failures net.new) (N.listen_failures net.new)) result }
 {
     let mut cache = Cache::new(alloc);
+    let came = perform_with(alloc, plan, &mut cache, sink, net);
+    drop(cache);
+    came
+}
+
+/// The same, with no places told so far.
+fn perform_with<K: Sink, N: Net>(
+    alloc: Global,
+    plan: &Plan<'_>,
+    cache: &mut Cache,
+    sink: &mut K,
+    net: &mut N,
+) -> Result<(), Stop>
+    requires sendable { CanBeSent plan.now }
+    requires untold { cache.old ≡ [] }
+    ensures { Performs (seen plan.now) (sink_seen (K.taken sink.old) (K.failures sink.old))
+        (sink_seen (K.taken sink.new) (K.failures sink.new))
+        (net_seen (N.told net.old) (N.failures net.old) (N.listen_failures net.old))
+        (net_seen (N.told net.new) (N.failures net.new) (N.listen_failures net.new)) result }
+{
     for _ in 0..plan.rounds {
-        let through = deliver(alloc, plan, &mut cache, net)?;
-        let line = line_of(alloc, plan, through)?;
-        print(line.as_slice(), sink)?;
+        let through = deliver(alloc, plan, cache, net)?;
+        let told = line_of(alloc, plan, &through);
+        drop(through);
+        let line = told?;
+        let went = print(line.as_slice(), sink);
+        drop(line);
+        went?;
     }
     Ok(())
 }

@@ -32,22 +32,22 @@ use std::alloc::{AllocError, Global};
 use value_parts::DeclaredMembers;
 
 /// The line on a message that succeeded, or what stops the call.
-pub(crate) fn line_of(alloc: Global, plan: &Plan<'_>, through: Through) -> Result<Vec<u8>, Stop>
+pub(crate) fn line_of(alloc: Global, plan: &Plan<'_>, through: &Through) -> Result<Vec<u8>, Stop>
     requires fits { ShapeFits plan.now.expected.schema.now plan.now.expected.results.now }
-    requires in_vain { IsInVain through }
-    ensures { Tells (seen plan.now) through result }
+    requires in_vain { IsInVain through.now }
+    ensures { Tells (seen plan.now) through.now result }
 {
     match through {
-        Through::Invoked(invoked) => outcome_line(alloc, plan.expected, invoked.outcome),
+        Through::Invoked(invoked) => outcome_line(alloc, plan.expected, &invoked.outcome),
         Through::NotLocated => Err(Stop::Ended(Reason::NotLocated)),
-        Through::LocatorFailed(invoked) => Err(locator_stop(alloc, invoked.outcome)),
+        Through::LocatorFailed(invoked) => Err(locator_stop(alloc, &invoked.outcome)),
     }
 }
 
 /// What stops a call for which a locator was asked in vain, by what that came to.
-fn locator_stop(alloc: Global, outcome: Outcome) -> Stop
-    requires { (line : List ℕ) → replies.IsLine of_locator outcome line → ⊥ }
-    ensures { LacksLine of_locator outcome result }
+fn locator_stop(alloc: Global, outcome: &Outcome) -> Stop
+    requires { (line : List ℕ) → replies.IsLine of_locator outcome.now line → ⊥ }
+    ensures { LacksLine of_locator outcome.now result }
 {
     match locator_line(alloc, outcome) {
         Ok(_) => unreachable!(),
@@ -57,8 +57,8 @@ fn locator_stop(alloc: Global, outcome: Outcome) -> Stop
 
 /// The line on what a question to a locator came to, if it was a success. Both operations of a locator have the same
 /// results.
-fn locator_line(alloc: Global, outcome: Outcome) -> Result<Vec<u8>, Stop>
-    ensures { TellsOutcome of_locator outcome result }
+fn locator_line(alloc: Global, outcome: &Outcome) -> Result<Vec<u8>, Stop>
+    ensures { TellsOutcome of_locator outcome.now result }
 {
     let schema = locator_schema(alloc)?;
     schema.rules();
@@ -70,13 +70,15 @@ fn locator_line(alloc: Global, outcome: Outcome) -> Result<Vec<u8>, Stop>
         results: &operation.results,
         calls: 1,
     };
-    outcome_line(alloc, expected, outcome)
+    let line = outcome_line(alloc, expected, outcome);
+    drop(schema);
+    line
 }
 
 /// The line on an outcome that is a success, or what stops the call.
-fn outcome_line(alloc: Global, expected: Expected<'_>, outcome: Outcome) -> Result<Vec<u8>, Stop>
+fn outcome_line(alloc: Global, expected: Expected<'_>, outcome: &Outcome) -> Result<Vec<u8>, Stop>
     requires { ShapeFits expected.schema.now expected.results.now }
-    ensures { TellsOutcome (expected_of expected.entry) outcome result }
+    ensures { TellsOutcome (expected_of expected.entry) outcome.now result }
 {
     match outcome {
         Outcome::Replied(answer) => answer_line(alloc, expected, answer),
@@ -84,7 +86,7 @@ fn outcome_line(alloc: Global, expected: Expected<'_>, outcome: Outcome) -> Resu
         Outcome::NetFailed => Err(Stop::NetFailed),
         Outcome::Ended => Err(Stop::Ended(Reason::Ended)),
         Outcome::Closed => Err(Stop::Ended(Reason::Closed)),
-        Outcome::Broke(fault) => Err(Stop::Ended(Reason::Broke(fault))),
+        Outcome::Broke(fault) => Err(Stop::Ended(Reason::Broke(*fault))),
         Outcome::NoEndpoint => Err(Stop::Ended(Reason::NoEndpoint)),
     }
 }
@@ -102,17 +104,20 @@ fn sent_line(alloc: Global, calls: u32) -> Result<Vec<u8>, AllocError>
 }
 
 /// The line on an answer, or what stops the call.
-fn answer_line(alloc: Global, expected: Expected<'_>, answer: Answer) -> Result<Vec<u8>, Stop>
+fn answer_line(alloc: Global, expected: Expected<'_>, answer: &Answer) -> Result<Vec<u8>, Stop>
     requires { ShapeFits expected.schema.now expected.results.now }
-    ensures { TellsOutcome (expected_of expected.entry) (outcomes.Replied answer) result }
+    ensures { TellsOutcome (expected_of expected.entry) (outcomes.Replied answer.now) result }
 {
     match answer {
         Answer::Done(body) => results_line(alloc, expected, body.as_slice()),
         Answer::Raised(body) => Err(raised(alloc, expected.schema, body.as_slice())),
-        Answer::Missing { status, .. } => Err(Stop::Ended(Reason::Missing(status))),
+        Answer::Missing { status, .. } => Err(Stop::Ended(Reason::Missing(*status))),
         Answer::Unknown { status, text } => {
             let text = quote(alloc, text.as_str())?;
-            Err(Stop::Ended(Reason::Unknown { status, text }))
+            Err(Stop::Ended(Reason::Unknown {
+                status: *status,
+                text,
+            }))
         }
     }
 }

@@ -20,9 +20,9 @@ returns-in_err-plan-clause-taken g c =
 pub returns-clause-comes : goal.returns-clause-comes
 returns-clause-comes g c = λ shelf.
     let planned = c.in_ok-plan.ensures.plan in
-    carried_so (seen c.args.command) (g.S.Source.left c.args.source.now) (operation_seen c.args.known) c.args.callee.now shelf (g.S.Source.failures c.args.source.now) (g.S.Source.failures c.plan_of.new.source) (g.K.Sink.failures c.args.sink.now) (g.K.Sink.failures c.carry_out.new.sink)
-    (g.K.Sink.taken c.args.sink.now) (g.K.Sink.taken c.carry_out.new.sink) (net_seen (g.N.Net.told c.args.net.now) (g.N.Net.failures c.args.net.now) (g.N.Net.listen_failures c.args.net.now))
-    (net_seen (g.N.Net.told c.carry_out.new.net) (g.N.Net.failures c.carry_out.new.net) (g.N.Net.listen_failures c.carry_out.new.net)) (plan_seen c.in_ok-plan.plan) planned.0 planned.1 (ended_of c.carry_out.result) c.carry_out.ensures
+    carried_so (seen c.args.command) (g.S.Source.left c.args.source.now) (operation_seen c.args.known) c.args.callee.now shelf (g.S.Source.failures c.args.source.now) (g.S.Source.failures c.plan_of.new.source) (g.K.Sink.failures c.args.sink.now) (g.K.Sink.failures c.carry_out-came.new.sink)
+    (g.K.Sink.taken c.args.sink.now) (g.K.Sink.taken c.carry_out-came.new.sink) (net_seen (g.N.Net.told c.args.net.now) (g.N.Net.failures c.args.net.now) (g.N.Net.listen_failures c.args.net.now))
+    (net_seen (g.N.Net.told c.carry_out-came.new.net) (g.N.Net.failures c.carry_out-came.new.net) (g.N.Net.listen_failures c.carry_out-came.new.net)) (plan_seen c.in_ok-plan.plan) planned.0 planned.1 (ended_of c.carry_out-came.result) c.carry_out-came.ensures
 
 pub returns-clause-taken : goal.returns-clause-taken
 returns-clause-taken g c =

@@ -1,7 +1,7 @@
 use Rattle.std.proofs.Common.{◌≡◌, List, length}
 use Rattle.call_command.specs.Planning.{seen}
 use Rattle.call_command.specs.Rounds.{Delivery, Printed, IsUsed, rounds_of, net_seen, sink_seen}
-use Rattle.call_command.proofs.performing.perform.Given as goal
+use Rattle.call_command.proofs.performing.perform_with.Given as goal
 
 abbrev pub invariant-loop : goal.invariant-loop
 invariant-loop g l = record {
