@@ -32,8 +32,13 @@ pub(crate) fn callee_of(
         (spec.callee_of (option_map proxy_text (option_copied locator.entry)) (proxy_text proxy.now)) result }
 {
     let proxy = listed(parsed(alloc, proxy)?)?;
-    let locator = located(alloc, locator)?;
-    Ok(both(locator, proxy))
+    match located(alloc, locator) {
+        Ok(locator) => Ok(both(locator, proxy)),
+        Err(ending) => {
+            drop(proxy);
+            Err(ending)
+        }
+    }
 }
 
 /// The proxy of the text, or the place of the first word that cannot stand.

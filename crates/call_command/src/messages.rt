@@ -10,7 +10,7 @@ ghost use Rattle.call_command.specs.Steps.{MakesMessage};
 use ice_encoding::LARGEST;
 use ice_messages::{Call, Message, request_length};
 use ice_relay::RelayFault;
-use ice_types::{Bytes, List, Name, Proxy};
+use ice_types::{Bytes, Identity, List, Name, Proxy};
 use std::alloc::{AllocError, Global};
 
 /// How many bytes a message of calls has beside them: its header, and the id or the count.
@@ -26,9 +26,31 @@ pub(crate) fn call_with(
 ) -> Result<Call, AllocError>
     ensures { IfOk result (λ c. c ≡ call_of proxy.now operation.now mode body) }
 {
+    let facet = proxy.facet.as_str();
+    call_to(alloc, &proxy.identity, facet, operation, mode, body)
+}
+
+/// The call of the operation of the object with this identity and facet, with these arguments.
+fn call_to(
+    alloc: Global,
+    identity: &Identity,
+    facet: &str,
+    operation: &str,
+    mode: u8,
+    body: Bytes,
+) -> Result<Call, AllocError>
+    ensures { IfOk result (λ c. c ≡ record {
+      identity = identity.now;
+      facet = facet.now;
+      operation = operation.now;
+      mode = mode;
+      context = [];
+      body = body;
+    }) }
+{
     Ok(Call {
-        identity: proxy.identity.copied(alloc)?,
-        facet: Name::of(alloc, proxy.facet.as_str())?,
+        identity: identity.copied(alloc)?,
+        facet: Name::of(alloc, facet)?,
         operation: Name::of(alloc, operation)?,
         mode,
         context: List::new(alloc),
@@ -132,12 +154,8 @@ fn copy_of(alloc: Global, call: &Call) -> Result<Call, AllocError>
 {
     let mut body = Vec::new(alloc);
     body.extend_from_slice(call.body.as_slice())?;
-    Ok(Call {
-        identity: call.identity.copied(alloc)?,
-        facet: Name::of(alloc, call.facet.as_str())?,
-        operation: Name::of(alloc, call.operation.as_str())?,
-        mode: call.mode,
-        context: List::new(alloc),
-        body: Bytes::from_vec(body),
-    })
+    let facet = call.facet.as_str();
+    let operation = call.operation.as_str();
+    let body = Bytes::from_vec(body);
+    call_to(alloc, &call.identity, facet, operation, call.mode, body)
 }
