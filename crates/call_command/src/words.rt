@@ -25,7 +25,7 @@ const COMPACT: &str = "--compact";
 const LOCATOR: &str = "--locator";
 
 /// `call [--retries R] [--times T] [--compact] [--locator PROXY] FILE INTERFACE PROXY OPERATION`
-#[derive(Clone, Copy, PartialEq, Eq)]
+#[derive(Clone, Copy)]
 pub struct CallCommand<'a> {
     /// How often a message is tried again, at most.
     pub retries: u32,
@@ -42,7 +42,7 @@ pub struct CallCommand<'a> {
 }
 
 /// The options that were given.
-#[derive(Clone, Copy, PartialEq, Eq)]
+#[derive(Clone, Copy)]
 pub struct Options<'a> {
     pub retries: Option<u32>,
     pub times: Option<u32>,
