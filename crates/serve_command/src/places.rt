@@ -69,23 +69,13 @@ fn put_place(
     match object {
         ObjectWord::Place { identity, proxy } => {
             let identity = identity_of(alloc, identity)?;
-            match proxy_of(alloc, proxy) {
-                Ok(proxy) => added(places.add_object(identity, proxy)),
-                Err(outcome) => {
-                    drop(identity);
-                    Err(outcome)
-                }
-            }
+            let proxy = proxy_of(alloc, proxy)?;
+            added(places.add_object(identity, proxy))
         }
         ObjectWord::Adapter { id, proxy } => {
             let id = Name::of(alloc, id)?;
-            match proxy_of(alloc, proxy) {
-                Ok(proxy) => added(places.add_adapter(id, proxy)),
-                Err(outcome) => {
-                    drop(id);
-                    Err(outcome)
-                }
-            }
+            let proxy = proxy_of(alloc, proxy)?;
+            added(places.add_adapter(id, proxy))
         }
         ObjectWord::Store { .. } | ObjectWord::Echo { .. } | ObjectWord::Locator { .. } => Ok(()),
     }
