@@ -21,7 +21,7 @@ pub fn take_facet(alloc: Global, cursor: &mut Cursor<'_>) -> Result<Name, ReadFa
 }
 
 /// The same as a text that is lent, empty for the default facet.
-fn facet_text<'a>(cursor: &mut Cursor<'a>) -> Result<&'a str, Fault>
+pub(crate) fn facet_text<'a>(cursor: &mut Cursor<'a>) -> Result<&'a str, Fault>
     ensures { Sees (λ text. text.now) result cursor.new (facet.read cursor.old) }
 {
     let wrong = cursor.fault(Kind::BadFacet);

@@ -8,7 +8,7 @@ ghost use Rattle.ice_encoding.specs.Endpoint.{endpoint};
 ghost use Rattle.ice_encoding.specs.Proxy as form;
 ghost use Rattle.encaps_optionals.specs.ProxyAnswers.{ReadsPart, Sees, IsThere};
 
-use crate::facet::take_facet;
+use crate::facet::facet_text;
 use crate::read_endpoint::take_endpoint;
 use crate::take::{take_text, take_version};
 use ice_prims::{Cursor, Fault, Kind, ReadFault};
@@ -48,27 +48,31 @@ fn take_proxy(alloc: Global, cursor: &mut Cursor<'_>) -> Result<Option<Proxy>, R
             Err(ReadFault::Broken(wrong))
         };
     }
-    let identity = Identity {
-        name: Name::of(alloc, name)?,
-        category: Name::of(alloc, category)?,
-    };
-    take_details(alloc, identity, cursor)
+    take_details(alloc, name, category, cursor)
 }
 
-/// A proxy of this identity, from what follows it.
+/// A proxy of this name and category, from what follows them. What takes memory comes last, so that little is
+/// let go where a later part is refused.
 fn take_details(
     alloc: Global,
-    identity: Identity,
+    name: &str,
+    category: &str,
     cursor: &mut Cursor<'_>,
 ) -> Result<Option<Proxy>, ReadFault>
     ensures { ReadsPart result cursor.new
-        ((made (form.proxy_of identity) form.details_of form.details).read cursor.old) }
+        ((made (form.proxy_of (record { name = name.now; category = category.now })) form.details_of form.details).read
+        cursor.old) }
 {
-    let facet = take_facet(alloc, cursor)?;
+    let facet = facet_text(cursor)?;
     let mode = take_mode(cursor)?;
     let secure = cursor.take_bool()?;
     let protocol = take_version(cursor)?;
     let encoding = take_version(cursor)?;
+    let identity = Identity {
+        name: Name::of(alloc, name)?,
+        category: Name::of(alloc, category)?,
+    };
+    let facet = Name::of(alloc, facet)?;
     let (endpoints, adapter) = take_location(alloc, cursor)?;
     Ok(Some(Proxy {
         identity,

@@ -7,10 +7,10 @@ ghost use Rattle.encaps_optionals.specs.ProxyAnswers.{ReadsPart};
 
 use crate::ending::end;
 use crate::size::claimed_size;
-use crate::take::{take_text, take_version};
+use crate::take::take_version;
 use ice_encoding::{SIZE_BYTES, SMALLEST};
 use ice_prims::{Cursor, ReadFault};
-use ice_types::{Bytes, Endpoint};
+use ice_types::{Bytes, Endpoint, Name};
 use std::alloc::Global;
 
 /// An endpoint: its type, and what it says in a bound of its own.
@@ -56,10 +56,14 @@ fn take_whole_tcp(alloc: Global, cursor: &mut Cursor<'_>) -> Result<Endpoint, Re
 fn take_tcp(alloc: Global, cursor: &mut Cursor<'_>) -> Result<Endpoint, ReadFault>
     ensures { ReadsPart result cursor.new (form.tcp.read cursor.old) }
 {
+    let host = cursor.take_str()?;
+    let port = cursor.take_int()?;
+    let timeout = cursor.take_int()?;
+    let compress = cursor.take_bool()?;
     Ok(Endpoint::Tcp {
-        host: take_text(alloc, cursor)?,
-        port: cursor.take_int()?,
-        timeout: cursor.take_int()?,
-        compress: cursor.take_bool()?,
+        host: Name::of(alloc, host)?,
+        port,
+        timeout,
+        compress,
     })
 }
