@@ -1,6 +1,6 @@
 //! A proxy from bytes. (Ice manual, "Data Encoding for Proxies".)
 
-ghost use Rattle.std.specs.Prelude.{◌≡◌, Err};
+ghost use Rattle.std.specs.Prelude.{◌≡◌, Err, IfOk};
 ghost use Rattle.ice_prims.specs.Number.{text_at};
 ghost use Rattle.ice_prims.specs.Taking.{TakesUnlessMemory};
 ghost use Rattle.ice_encoding.specs.Parts.{made, read_times};
@@ -13,7 +13,7 @@ use crate::read_endpoint::take_endpoint;
 use crate::take::{take_text, take_version};
 use ice_prims::{Cursor, Fault, Kind, ReadFault};
 use ice_types::{Endpoint, Identity, List, Name, Proxy};
-use std::alloc::Global;
+use std::alloc::{AllocError, Global};
 
 /// The proxy at the front, None for null, with the first fault from the left. A refusal leaves the
 /// cursor as it was. Memory is taken for what is read, never for what a size merely claims: it can run
@@ -68,10 +68,7 @@ fn take_details(
     let secure = cursor.take_bool()?;
     let protocol = take_version(cursor)?;
     let encoding = take_version(cursor)?;
-    let identity = Identity {
-        name: Name::of(alloc, name)?,
-        category: Name::of(alloc, category)?,
-    };
+    let identity = identity_of(alloc, name, category)?;
     let facet = Name::of(alloc, facet)?;
     let (endpoints, adapter) = take_location(alloc, cursor)?;
     Ok(Some(Proxy {
@@ -84,6 +81,16 @@ fn take_details(
         endpoints,
         adapter,
     }))
+}
+
+/// The identity of this name and category.
+fn identity_of(alloc: Global, name: &str, category: &str) -> Result<Identity, AllocError>
+    ensures { IfOk result (λ i. i ≡ record { name = name.now; category = category.now }) }
+{
+    Ok(Identity {
+        name: Name::of(alloc, name)?,
+        category: Name::of(alloc, category)?,
+    })
 }
 
 /// 0 twoway, 1 oneway, 2 batch oneway, 3 datagram, 4 batch datagram.
