@@ -19,10 +19,17 @@ pub const MOST_PLACES: u32 = 100_000_000;
 
 /// Members, which are the roots, and instances, each named by its place. Every name in it is the place
 /// of an instance, and every dictionary stands in rising key order.
-#[derive(Drop)]
 pub struct Graph {
     roots: Members,
     instances: Vec<Instance>,
+}
+
+impl Drop for Graph {
+    fn drop(self) {
+        let Graph { roots, instances } = self;
+        drop(roots);
+        drop(instances);
+    }
 }
 
 impl Model for Graph {

@@ -27,11 +27,23 @@ pub const MOST_BASES: u32 = 1_000;
 pub const MOST_NUMBER: u32 = 2_147_483_647;
 
 /// Which types, exceptions and interfaces a Slice text defines. Contracts see its tables.
-#[derive(Drop)]
 pub struct Schema {
     pub(crate) rows: TableRows,
     pub(crate) ids: Ids,
     pub(crate) compact_ids: CompactIds,
+}
+
+impl Drop for Schema {
+    fn drop(self) {
+        let Schema {
+            rows,
+            ids,
+            compact_ids,
+        } = self;
+        drop(rows);
+        drop(ids);
+        drop(compact_ids);
+    }
 }
 
 impl Model for Schema {

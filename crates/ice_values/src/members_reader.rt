@@ -20,12 +20,23 @@ use std::mem;
 use value_parts::{DeclaredMembers, Optionals, Paused, RefPort};
 
 /// Members that are being read. It takes memory for what is read, and never for what a size merely claims.
-#[derive(Drop)]
 pub struct MembersReader<'a> {
     optionals: Optionals,
     required: RequiredReader,
     /// The optional members, from where the required ones end.
     options: Option<OptionsReader<'a>>,
+}
+
+impl Drop for MembersReader<'_> {
+    fn drop(self) {
+        let MembersReader {
+            optionals: _,
+            required,
+            options,
+        } = self;
+        drop(required);
+        drop(options);
+    }
 }
 
 impl<'a> MembersReader<'a> {

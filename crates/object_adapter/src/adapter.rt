@@ -20,10 +20,17 @@ use std::alloc::{AllocError, Global};
 use std::marker::Model;
 
 /// The objects of a server by identity and facet.
-#[derive(Drop)]
 pub struct Adapter {
     keys: Keys,
     servants: Vec<Servant>,
+}
+
+impl Drop for Adapter {
+    fn drop(self) {
+        let Adapter { keys, servants } = self;
+        drop(keys);
+        drop(servants);
+    }
 }
 
 impl Model for Adapter {

@@ -30,9 +30,15 @@ pub enum Found {
 
 /// The keys of objects: identities with facets, each once, in rising order.
 /// (Ice manual, "Object Identity" and "Facets".)
-#[derive(Drop)]
 pub struct Keys {
     keys: Vec<(Identity, Name)>,
+}
+
+impl Drop for Keys {
+    fn drop(self) {
+        let Keys { keys } = self;
+        drop(keys);
+    }
 }
 
 impl Model for Keys {

@@ -20,11 +20,20 @@ use std::alloc::{AllocError, Global};
 use std::sync::Arc;
 
 /// An object of a server, by what it does.
-#[derive(Drop)]
 pub enum Servant {
     Store(Store),
     Echo(Echo),
     Locator(Locator),
+}
+
+impl Drop for Servant {
+    fn drop(self) {
+        match self {
+            Servant::Store(store) => drop(store),
+            Servant::Echo(echo) => drop(echo),
+            Servant::Locator(locator) => drop(locator),
+        }
+    }
 }
 
 impl Servant {

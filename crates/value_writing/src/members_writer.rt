@@ -28,7 +28,6 @@ use std::slice::from_ref;
 use value_parts::{Paused, kind_tagged, prefix_of};
 
 /// Members of a shape that are being written.
-#[derive(Drop)]
 pub struct MembersWriter<'a> {
     /// What is left of the required values, or of the optional value that has begun.
     values: ValueWriter<'a>,
@@ -38,6 +37,18 @@ pub struct MembersWriter<'a> {
     optional: &'a [(u32, Value)],
     /// Whether the marker stands behind them.
     marked: bool,
+}
+
+impl Drop for MembersWriter<'_> {
+    fn drop(self) {
+        let MembersWriter {
+            values,
+            place: _,
+            optional: _,
+            marked: _,
+        } = self;
+        drop(values);
+    }
 }
 
 impl<'a> MembersWriter<'a> {
