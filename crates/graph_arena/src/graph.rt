@@ -76,7 +76,8 @@ impl Graph {
         ensures roots { view_content result.0 ≡ self.roots }
         ensures instances { map view_instance result.1.items ≡ self.instances }
     {
-        (self.roots, self.instances)
+        let Graph { roots, instances } = self;
+        (roots, instances)
     }
 
     /// How many instances there are.

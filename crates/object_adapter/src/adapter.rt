@@ -113,7 +113,8 @@ impl Adapter {
         ensures servants { result.1.items ≡ self.servants }
         ensures one_each { length self.servants ≡ length self.keys }
     {
-        (self.keys, self.servants)
+        let Adapter { keys, servants } = self;
+        (keys, servants)
     }
 
     /// The objects of these keys, an object for each at the same place: what `into_parts` took apart. It
