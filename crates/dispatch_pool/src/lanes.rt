@@ -16,6 +16,7 @@ use turnstile::{Pass, Stray, Turnstile};
 
 /// The objects of an adapter, each behind a turnstile of its own, so that different objects answer at once and each
 /// takes one call at a time. Threads share lanes by reference.
+#[derive(Drop)]
 pub struct Lanes {
     pub(crate) keys: Keys,
     pub(crate) stiles: Vec<Turnstile<Object>>,
@@ -23,25 +24,11 @@ pub struct Lanes {
     ghost few: { vec_len stiles ≤ MOST_OBJECTS },
 }
 
-impl Drop for Lanes {
-    fn drop(self) {
-        let Lanes { keys, stiles } = self;
-        drop(keys);
-        drop(stiles);
-    }
-}
-
 /// One caller's passes of lanes, one for each object. They have seen a prefix of each object's history, and know which
 /// calls in it are their own.
+#[derive(Drop)]
 pub struct LanePasses {
     pub(crate) passes: Vec<Pass<Object>>,
-}
-
-impl Drop for LanePasses {
-    fn drop(self) {
-        let LanePasses { passes } = self;
-        drop(passes);
-    }
 }
 
 /// Why lanes were not closed.
