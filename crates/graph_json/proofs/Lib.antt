@@ -1,3 +1,6 @@
+pub mod Halving
+pub mod Turns
+pub mod Views
 pub mod Listed
 pub mod Tagged
 pub mod Fitting

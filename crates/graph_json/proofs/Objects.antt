@@ -8,8 +8,9 @@ use Rattle.serde_json.specs.Data as json
 use Rattle.serde_json.specs.Data.{Data}
 use Rattle.serde_json.specs.Find.{as_object}
 use Rattle.serde_json.specs.Events.{members_len}
-use Rattle.serde_json.specs.View.{members_view}
-use Rattle.serde_json.proofs.Views.{Entry, members_len-members_view}
+use Rattle.graph_json.specs.View.{members_view}
+use Rattle.graph_json.specs.View.{Entry}
+use Rattle.graph_json.proofs.Views.{members_len-members_view}
 use Rattle.ice_types.specs.Tables.{Tables}
 use Rattle.graph_arena.specs.declared.instance.Slice.{Slice}
 use Rattle.graph_arena.specs.Seen.{view_slice}

@@ -7,9 +7,10 @@ use Rattle.std.proofs.lemmas.Str.{is_utf8-from_IsUtf8}
 use Rattle.serde_json.specs.Data.{Data, Items, Members}
 use Rattle.serde_json.specs.Find.{as_array, as_number, as_object, get_member}
 use Rattle.serde_json.specs.Events.{items_len, members_len}
-use Rattle.serde_json.specs.View.{items_view, members_view}
-use Rattle.serde_json.specs.declared.value.Value.{Value as Json}
-use Rattle.serde_json.proofs.Views.{Entry, items_len-items_view, members_len-members_view}
+use Rattle.graph_json.specs.View.{items_view, members_view}
+use Rattle.graph_json.specs.declared.tree.Json.{Json}
+use Rattle.graph_json.specs.View.{Entry}
+use Rattle.graph_json.proofs.Views.{items_len-items_view, members_len-members_view}
 use Rattle.ice_encoding.specs.Tree.{Tree, text, sequence, dictionary, struct, Trees, Entries}
 use Rattle.graph_arena.specs.declared.value.Value.{Value, the_lemmas}
 use Rattle.graph_arena.specs.declared.value.Value.TheVariants as variants

@@ -3,8 +3,8 @@ use Rattle.std.proofs.Common.{◌≡◌, ℕ, zero, suc, true, false, length, ge
 use Rattle.std.proofs.lemmas.List.{drop_more}
 use Rattle.serde_json.specs.Data.{Data, Items, no_items, item, Members}
 use Rattle.serde_json.specs.Find.{get_member}
-use Rattle.serde_json.specs.View.{view as json_view, items_view}
-use Rattle.serde_json.specs.declared.value.Value.{Value as Json}
+use Rattle.graph_json.specs.View.{view as json_view, items_view}
+use Rattle.graph_json.specs.declared.tree.Json.{Json}
 use Rattle.ice_types.specs.declared.kind.TypeRef.{TypeRef}
 use Rattle.ice_types.specs.declared.declarations.Member.{Member}
 use Rattle.ice_encoding.specs.Tree.{Tree, Trees, none, tree, Entries}

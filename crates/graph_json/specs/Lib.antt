@@ -10,3 +10,5 @@ pub mod CanonicalValues
 pub mod Printing
 pub mod Contents
 pub mod TypedValues
+pub mod View
+pub mod Parsing

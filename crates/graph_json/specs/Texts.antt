@@ -5,9 +5,7 @@ use Rattle.serde_json.specs.Data.{Data, Items, depth}
 use Rattle.serde_json.specs.Find.{as_array, as_object, get_member}
 use Rattle.serde_json.specs.Events.{items_len}
 use Rattle.serde_json.specs.Read.{max_depth, read}
-use Rattle.serde_json.specs.View.{view}
 use Rattle.serde_json.specs.Written.{compact_text}
-use Rattle.serde_json.specs.declared.value.Value.{Value as Json}
 use Rattle.ice_types.specs.declared.declarations.Shape.{Shape}
 use Rattle.ice_types.specs.Fits.{AreOf}
 use Rattle.ice_types.specs.Tables.{Tables}
@@ -19,6 +17,8 @@ use Rattle.graph_json.specs.declared.fault.JsonFault.TheVariants as faults
 use Rattle.graph_json.specs.declared.fault.JsonKind.{JsonKind}
 use Rattle.graph_json.specs.declared.fault.JsonKind.TheVariants as kinds
 use Rattle.graph_json.specs.declared.text.TheConstants.{MOST_TEXT}
+use Rattle.graph_json.specs.declared.tree.Json.{Json}
+use Rattle.graph_json.specs.View.{view}
 use Rattle.graph_json.specs.Notation.{NotesGraph}
 use Rattle.graph_json.specs.Reading.{listed_graph}
 use Rattle.graph_json.specs.Canonical.{canonical_noted}

@@ -2,18 +2,18 @@
 
 ghost use Rattle.std.specs.Prelude.{◌≡◌, ◌+◌, ◌==◌, [], IfOk, option_map, option_and_then};
 ghost use Rattle.serde_json.specs.Find.{get_member};
-ghost use Rattle.serde_json.specs.View.{view as json_view, members_view};
+ghost use Rattle.graph_json.specs.View.{view as json_view, members_view};
 ghost use Rattle.graph_arena.specs.View.{view, view_all};
 ghost use Rattle.graph_arena.specs.Seen.{view_content, view_present};
 ghost use Rattle.value_parts.specs.Shapes.{shape_seen, with_tag, without_tag};
 ghost use Rattle.graph_json.specs.ReadingValues.{members_of, noted_value};
 ghost use Rattle.graph_json.specs.Contents.{noted_content, options_of};
 
-use crate::leaves::named;
+use crate::found::{Found, named, object_in};
 use crate::read::value_of;
+use crate::tree::Json;
 use graph_arena::{Members, Value};
 use ice_types::{List, Member, Schema};
-use serde_json::{Map, Value as Json};
 use std::alloc::{AllocError, Global};
 use std::collections::BTreeMap;
 use value_parts::DeclaredMembers;
@@ -25,12 +25,12 @@ pub fn content_of(
     alloc: Global,
     schema: &Schema,
     fields: DeclaredMembers<'_>,
-    json: &Json,
+    json: &Json<'_>,
 ) -> Result<Option<Members>, AllocError>
     ensures { IfOk result (λ o. option_map view_content o
         ≡ noted_content schema.now (shape_seen fields.entry) (json_view json.now)) }
 {
-    let Some(found) = json.as_object() else {
+    let Some(found) = object_in(json) else {
         return Ok(None);
     };
     let Some(required) = required_of(alloc, schema, fields.required, found)? else {
@@ -61,10 +61,10 @@ fn required_of(
     alloc: Global,
     schema: &Schema,
     members: &[Member],
-    found: &Map<String, Json>,
+    found: Found<'_, '_>,
 ) -> Result<Option<List<Value>>, AllocError>
     ensures { IfOk result (λ o. option_map view_all o
-        ≡ members_of (noted_value schema.now) (without_tag members.now) (members_view found.now.entries)) }
+        ≡ members_of (noted_value schema.now) (without_tag members.now) (members_view found.entry.entries.now)) }
 {
     let mut values = List::new(alloc);
     for member in members {
@@ -85,11 +85,11 @@ fn member_of(
     alloc: Global,
     schema: &Schema,
     member: &Member,
-    found: &Map<String, Json>,
+    found: Found<'_, '_>,
 ) -> Result<Option<Value>, AllocError>
     ensures { IfOk result (λ o. option_map view o
         ≡ option_and_then (noted_value schema.now member.now.kind)
-        (get_member member.now.name (members_view found.now.entries))) }
+        (get_member member.now.name (members_view found.entry.entries.now))) }
 {
     match named(found, member.name.as_str()) {
         Some(json) => value_of(alloc, schema, member.kind, json),
@@ -102,10 +102,10 @@ fn optional_of(
     alloc: Global,
     schema: &Schema,
     members: &[Member],
-    found: &Map<String, Json>,
+    found: Found<'_, '_>,
 ) -> Result<Option<List<(u32, Value)>>, AllocError>
     ensures { IfOk result (λ o. option_map view_present o
-        ≡ options_of (noted_value schema.now) (with_tag members.now) (members_view found.now.entries) []) }
+        ≡ options_of (noted_value schema.now) (with_tag members.now) (members_view found.entry.entries.now) []) }
 {
     let mut values = BTreeMap::new(alloc);
     for member in members {

@@ -2,25 +2,26 @@
 
 ghost use Rattle.std.specs.Prelude.{◌≡◌, option_map, option_and_then, slice_get, IfOk};
 ghost use Rattle.std.specs.Int.{w16, w32, w64};
-ghost use Rattle.serde_json.specs.Find.{as_bool, as_number, as_str, get_member};
-ghost use Rattle.serde_json.specs.View.{view as json_view, members_view};
+ghost use Rattle.serde_json.specs.Find.{as_bool, as_number, as_str};
+ghost use Rattle.graph_json.specs.View.{view as json_view};
 ghost use Rattle.ice_encoding.specs.Tree.{boolean, short, int, long, proxy, reference};
 ghost use Rattle.graph_arena.specs.View.{view};
 ghost use Rattle.graph_json.specs.ReadingValues as spec;
 
+use crate::found::{named, object_in};
+use crate::tree::Json;
 use graph_arena::Value;
 use ice_proxy::{TextFault, parse_text};
 use ice_types::{Entry, Name, Proxy, Schema};
-use serde_json::{Map, Value as Json};
 use std::alloc::{AllocError, Global};
 
-pub(crate) fn bool_of(json: &Json) -> Option<Value>
+pub(crate) fn bool_of(json: &Json<'_>) -> Option<Value>
     ensures { option_map view result ≡ option_map boolean (as_bool (json_view json.now)) }
 {
     Some(Value::Bool(json.as_bool()?))
 }
 
-pub(crate) fn byte_of(json: &Json) -> Option<Value>
+pub(crate) fn byte_of(json: &Json<'_>) -> Option<Value>
     ensures { option_map view result ≡ option_and_then spec.byte_from (spec.integer_of (json_view json.now)) }
 {
     let n = json.as_i64()?;
@@ -31,7 +32,7 @@ pub(crate) fn byte_of(json: &Json) -> Option<Value>
     }
 }
 
-pub(crate) fn short_of(json: &Json) -> Option<Value>
+pub(crate) fn short_of(json: &Json<'_>) -> Option<Value>
     ensures { option_map view result ≡ spec.signed_of w16 short (json_view json.now) }
 {
     let n = json.as_i64()?;
@@ -42,7 +43,7 @@ pub(crate) fn short_of(json: &Json) -> Option<Value>
     }
 }
 
-pub(crate) fn int_of(json: &Json) -> Option<Value>
+pub(crate) fn int_of(json: &Json<'_>) -> Option<Value>
     ensures { option_map view result ≡ spec.signed_of w32 int (json_view json.now) }
 {
     let n = json.as_i64()?;
@@ -53,13 +54,13 @@ pub(crate) fn int_of(json: &Json) -> Option<Value>
     }
 }
 
-pub(crate) fn long_of(json: &Json) -> Option<Value>
+pub(crate) fn long_of(json: &Json<'_>) -> Option<Value>
     ensures { option_map view result ≡ spec.signed_of w64 long (json_view json.now) }
 {
     Some(Value::Long(json.as_i64()?))
 }
 
-pub(crate) fn text_of(alloc: Global, json: &Json) -> Result<Option<Value>, AllocError>
+pub(crate) fn text_of(alloc: Global, json: &Json<'_>) -> Result<Option<Value>, AllocError>
     ensures { IfOk result (λ o. option_map view o ≡ option_and_then spec.text_from (as_str (json_view json.now))) }
 {
     match json.as_str() {
@@ -80,7 +81,7 @@ fn short_text(alloc: Global, text: &str) -> Result<Option<Value>, AllocError>
 }
 
 /// An enumerator of the enum at this place of the schema's table.
-pub(crate) fn enumerator_of(schema: &Schema, at: u32, json: &Json) -> Option<Value>
+pub(crate) fn enumerator_of(schema: &Schema, at: u32, json: &Json<'_>) -> Option<Value>
     ensures { option_map view result
         ≡ option_and_then (λ e. spec.enumerator_of e.entries (json_view json.now)) (slice_get schema.now.enums at) }
 {
@@ -102,7 +103,7 @@ fn number_named(entries: &[Entry], name: &str) -> Option<u32>
 }
 
 /// A proxy from its text, the null proxy from null. (Ice manual, "Proxy and Endpoint Syntax".)
-pub(crate) fn proxy_of(alloc: Global, json: &Json) -> Result<Option<Value>, AllocError>
+pub(crate) fn proxy_of(alloc: Global, json: &Json<'_>) -> Result<Option<Value>, AllocError>
     ensures { IfOk result (λ o. option_map view o ≡ option_map proxy (spec.proxy_of (json_view json.now))) }
 {
     if json.is_null() {
@@ -139,7 +140,7 @@ fn text_proxy(alloc: Global, text: &str) -> Result<Option<Proxy>, AllocError>
     }
 }
 
-pub(crate) fn reference_of(json: &Json) -> Option<Value>
+pub(crate) fn reference_of(json: &Json<'_>) -> Option<Value>
     ensures { option_map view result ≡ option_map reference (spec.reference_of (json_view json.now)) }
 {
     if json.is_null() {
@@ -149,10 +150,10 @@ pub(crate) fn reference_of(json: &Json) -> Option<Value>
 }
 
 /// The name of an instance, counted from 0, or None where the JSON notes none.
-pub fn name_of(json: &Json) -> Option<u32>
+pub fn name_of(json: &Json<'_>) -> Option<u32>
     ensures { result ≡ spec.name_of (json_view json.now) }
 {
-    let found = json.as_object()?;
+    let found = object_in(json)?;
     if found.len() == 1 {
         name_from(named(found, "$")?)
     } else {
@@ -160,15 +161,8 @@ pub fn name_of(json: &Json) -> Option<u32>
     }
 }
 
-/// What stands at a name.
-pub(crate) fn named<'a>(found: &'a Map<String, Json>, name: &str) -> Option<&'a Json>
-    ensures { option_map (λ x. json_view x.now) result ≡ get_member name.now (members_view found.now.entries) }
-{
-    found.get(name)
-}
-
 /// The name of the instance with this number, from 2 to 2,147,483,648.
-fn name_from(json: &Json) -> Option<u32>
+fn name_from(json: &Json<'_>) -> Option<u32>
     ensures { result ≡ option_and_then spec.name_from (as_number (json_view json.now)) }
 {
     let number = json.as_u64()?;

@@ -41,13 +41,18 @@
 
 mod content_read;
 mod fault;
+mod found;
 mod laws;
 mod leaves;
 mod listing;
+mod numbers;
+mod parsing;
 mod read;
 mod rows;
 mod slices;
+mod sorting;
 mod text;
+mod tree;
 mod value_laws;
 mod write;
 mod write_leaves;
@@ -62,6 +67,7 @@ pub use laws::{
 pub use leaves::name_of;
 pub use read::value_of;
 pub use text::{MOST_TEXT, from_text, to_text};
+pub use tree::Json;
 pub use value_laws::{
     content_apart, content_canonical, content_found, content_only, content_typed, noted_apart,
     noted_canonical, noted_found, noted_only, noted_typed,

@@ -1,7 +1,7 @@
 //! The graph that JSON lists, before it is known whether its names are those of instances.
 
 ghost use Rattle.std.specs.Prelude.{◌≡◌, IfOk, codes, map, option_map};
-ghost use Rattle.serde_json.specs.View.{view as json_view, items_view, members_view};
+ghost use Rattle.graph_json.specs.View.{view as json_view, items_view, members_view};
 ghost use Rattle.graph_arena.specs.Seen.{view_instance};
 ghost use Rattle.value_parts.specs.Shapes.{shape_seen};
 ghost use Rattle.graph_json.specs.ReadingValues.{some};
@@ -10,11 +10,11 @@ ghost use Rattle.graph_json.specs.Reading.{at_name, items_of, list_of, listed_gr
 ghost use Rattle.graph_json.specs.Listed.{view_listed};
 
 use crate::content_read::content_of;
-use crate::leaves::named;
+use crate::found::{Found, named, object_in};
 use crate::slices::slices_of;
+use crate::tree::Json;
 use graph_arena::{Instance, Members};
 use ice_types::Schema;
-use serde_json::{Map, Value as Json};
 use std::alloc::{AllocError, Global};
 use value_parts::DeclaredMembers;
 
@@ -31,7 +31,7 @@ pub(crate) fn listed_of(
     alloc: Global,
     schema: &Schema,
     fields: DeclaredMembers<'_>,
-    json: &Json,
+    json: &Json<'_>,
 ) -> Result<Option<Listed>, AllocError>
     ensures { IfOk result (λ o. option_map view_listed o
         ≡ listed_graph schema.now (shape_seen fields.entry) (json_view json.now)) }
@@ -60,11 +60,11 @@ pub(crate) fn listed_of(
 }
 
 /// The object, where it has so many names.
-fn object_of(json: &Json, count: usize) -> Option<&Map<String, Json>>
-    ensures { option_map (λ found. members_view found.now.entries) result
+fn object_of<'a, 'b>(json: &'a Json<'b>, count: usize) -> Option<Found<'a, 'b>>
+    ensures { option_map (λ found. members_view found.entries.now) result
         ≡ spec.of_object count some (json_view json.now) }
 {
-    let found = json.as_object()?;
+    let found = object_in(json)?;
     if found.len() == count {
         Some(found)
     } else {
@@ -76,10 +76,10 @@ fn object_of(json: &Json, count: usize) -> Option<&Map<String, Json>>
 fn instances_in(
     alloc: Global,
     schema: &Schema,
-    found: &Map<String, Json>,
+    found: Found<'_, '_>,
 ) -> Result<Option<Vec<Instance>>, AllocError>
     ensures { IfOk result (λ o. option_map (λ l. map view_instance l.items) o
-        ≡ at_name (codes "instances") (list_of (spec.instance_of schema.now)) (members_view found.now.entries)) }
+        ≡ at_name (codes "instances") (list_of (spec.instance_of schema.now)) (members_view found.entry.entries.now)) }
 {
     match named(found, "instances") {
         Some(json) => instances_of(alloc, schema, json),
@@ -90,7 +90,7 @@ fn instances_in(
 fn instances_of(
     alloc: Global,
     schema: &Schema,
-    json: &Json,
+    json: &Json<'_>,
 ) -> Result<Option<Vec<Instance>>, AllocError>
     ensures { IfOk result (λ o. option_map (λ l. map view_instance l.items) o
         ≡ list_of (spec.instance_of schema.now) (json_view json.now)) }
@@ -104,7 +104,7 @@ fn instances_of(
 fn each_instance(
     alloc: Global,
     schema: &Schema,
-    items: &[Json],
+    items: &[Json<'_>],
 ) -> Result<Option<Vec<Instance>>, AllocError>
     ensures { IfOk result (λ o. option_map (λ l. map view_instance l.items) o
         ≡ items_of (spec.instance_of schema.now) (items_view items.now)) }
@@ -121,7 +121,11 @@ fn each_instance(
 }
 
 /// An instance: an object whose one name has its slices.
-fn instance_of(alloc: Global, schema: &Schema, json: &Json) -> Result<Option<Instance>, AllocError>
+fn instance_of(
+    alloc: Global,
+    schema: &Schema,
+    json: &Json<'_>,
+) -> Result<Option<Instance>, AllocError>
     ensures { IfOk result (λ o. option_map view_instance o ≡ spec.instance_of schema.now (json_view json.now)) }
 {
     let Some(found) = object_of(json, 1) else {

@@ -1,7 +1,7 @@
 //! A value of a type from JSON.
 
 ghost use Rattle.std.specs.Prelude.{◌≡◌, length, option_map, IfOk};
-ghost use Rattle.serde_json.specs.View.{view as json_view, items_view, members_view};
+ghost use Rattle.graph_json.specs.View.{view as json_view, items_view, members_view};
 ghost use Rattle.ice_types.specs.declared.kind.TypeRef.TheVariants as kinds;
 ghost use Rattle.ice_encoding.specs.Tree.{no_entry, sequence, dictionary, struct};
 ghost use Rattle.graph_arena.specs.View.{view, view_all, view_pair, view_pairs};
@@ -9,13 +9,13 @@ ghost use Rattle.graph_json.specs.ReadingValues as spec;
 ghost use Rattle.graph_json.specs.ReadingValues.{both_of, each_of, few, members_of, noted_value, pairs_of};
 ghost use Rattle.graph_json.specs.ReadingValues.{value_levels, value_step, whole};
 
+use crate::found::{Found, named, object_in};
 use crate::leaves::{
-    bool_of, byte_of, enumerator_of, int_of, long_of, named, proxy_of, reference_of, short_of,
-    text_of,
+    bool_of, byte_of, enumerator_of, int_of, long_of, proxy_of, reference_of, short_of, text_of,
 };
+use crate::tree::Json;
 use graph_arena::{Value, in_order, put};
 use ice_types::{DictDecl, List, MOST_DEPTH, Member, Schema, TypeRef};
-use serde_json::{Map, Value as Json};
 use std::alloc::{AllocError, Global};
 use std::collections::BTreeMap;
 
@@ -25,7 +25,7 @@ pub fn value_of(
     alloc: Global,
     schema: &Schema,
     kind: TypeRef,
-    json: &Json,
+    json: &Json<'_>,
 ) -> Result<Option<Value>, AllocError>
     ensures { IfOk result (λ o. option_map view o ≡ noted_value schema.now kind (json_view json.now)) }
 {
@@ -39,7 +39,7 @@ fn read_level(
     schema: &Schema,
     levels: u32,
     kind: TypeRef,
-    json: &Json,
+    json: &Json<'_>,
 ) -> Result<Option<Value>, AllocError>
     ensures { IfOk result (λ o. option_map view o ≡ value_levels schema.now levels kind (json_view json.now)) }
 {
@@ -56,7 +56,7 @@ fn read_parts(
     schema: &Schema,
     levels: u32,
     kind: TypeRef,
-    json: &Json,
+    json: &Json<'_>,
 ) -> Result<Option<Value>, AllocError>
     ensures { IfOk result (λ o. option_map view o
         ≡ value_step schema.now (value_levels schema.now levels) kind (json_view json.now)) }
@@ -84,7 +84,7 @@ fn read_sequence(
     schema: &Schema,
     levels: u32,
     at: u32,
-    json: &Json,
+    json: &Json<'_>,
 ) -> Result<Option<Value>, AllocError>
     ensures { IfOk result (λ o. option_map view o
         ≡ value_step schema.now (value_levels schema.now levels) (kinds.Seq at) (json_view json.now)) }
@@ -105,7 +105,7 @@ fn read_dictionary(
     schema: &Schema,
     levels: u32,
     at: u32,
-    json: &Json,
+    json: &Json<'_>,
 ) -> Result<Option<Value>, AllocError>
     ensures { IfOk result (λ o. option_map view o
         ≡ value_step schema.now (value_levels schema.now levels) (kinds.Dict at) (json_view json.now)) }
@@ -126,7 +126,7 @@ fn read_struct(
     schema: &Schema,
     levels: u32,
     at: u32,
-    json: &Json,
+    json: &Json<'_>,
 ) -> Result<Option<Value>, AllocError>
     ensures { IfOk result (λ o. option_map view o
         ≡ value_step schema.now (value_levels schema.now levels) (kinds.Struct at) (json_view json.now)) }
@@ -134,7 +134,7 @@ fn read_struct(
     let Some(decl) = schema.structs().get(at as usize) else {
         return Ok(None);
     };
-    let Some(found) = json.as_object() else {
+    let Some(found) = object_in(json) else {
         return Ok(None);
     };
     read_whole(alloc, schema, levels, decl.members.as_slice(), found)
@@ -147,7 +147,7 @@ fn read_items(
     schema: &Schema,
     levels: u32,
     kind: TypeRef,
-    items: &Vec<Json>,
+    items: &Vec<Json<'_>>,
 ) -> Result<Option<Value>, AllocError>
     ensures { IfOk result (λ o. option_map view o
         ≡ few (λ ds. option_map sequence (each_of (value_levels schema.now levels kind) ds))
@@ -170,7 +170,7 @@ fn read_entries(
     schema: &Schema,
     levels: u32,
     decl: &DictDecl,
-    items: &Vec<Json>,
+    items: &Vec<Json<'_>>,
 ) -> Result<Option<Value>, AllocError>
     ensures { IfOk result (λ o. option_map view o
         ≡ few (λ ds. option_map dictionary
@@ -194,12 +194,12 @@ fn read_whole(
     schema: &Schema,
     levels: u32,
     members: &[Member],
-    found: &Map<String, Json>,
+    found: Found<'_, '_>,
 ) -> Result<Option<Value>, AllocError>
     ensures { IfOk result (λ o. option_map view o
         ≡ whole (length members.now)
         (λ ms. option_map struct (members_of (value_levels schema.now levels) members.now ms))
-        (members_view found.now.entries)) }
+        (members_view found.entry.entries.now)) }
 {
     if found.len() == members.len() {
         match read_members(alloc, schema, levels, members, found)? {
@@ -218,7 +218,7 @@ fn read_each(
     schema: &Schema,
     levels: u32,
     kind: TypeRef,
-    items: &[Json],
+    items: &[Json<'_>],
 ) -> Result<Option<List<Value>>, AllocError>
     ensures { IfOk result (λ o. option_map view_all o
         ≡ each_of (value_levels schema.now levels kind) (items_view items.now)) }
@@ -240,10 +240,10 @@ fn read_members(
     schema: &Schema,
     levels: u32,
     members: &[Member],
-    found: &Map<String, Json>,
+    found: Found<'_, '_>,
 ) -> Result<Option<List<Value>>, AllocError>
     ensures { IfOk result (λ o. option_map view_all o
-        ≡ members_of (value_levels schema.now levels) members.now (members_view found.now.entries)) }
+        ≡ members_of (value_levels schema.now levels) members.now (members_view found.entry.entries.now)) }
 {
     let mut values = List::new(alloc);
     for member in members {
@@ -265,7 +265,7 @@ fn read_pairs(
     schema: &Schema,
     levels: u32,
     decl: &DictDecl,
-    items: &[Json],
+    items: &[Json<'_>],
 ) -> Result<Option<List<(Value, Value)>>, AllocError>
     ensures { IfOk result (λ o. option_map view_pairs o
         ≡ pairs_of (value_levels schema.now levels decl.now.key)
@@ -290,7 +290,7 @@ fn read_pair(
     schema: &Schema,
     levels: u32,
     decl: &DictDecl,
-    item: &Json,
+    item: &Json<'_>,
 ) -> Result<Option<(Value, Value)>, AllocError>
     ensures { IfOk result (λ o. option_map view_pair o
         ≡ both_of (value_levels schema.now levels decl.now.key) (value_levels schema.now levels decl.now.value)
@@ -309,7 +309,7 @@ fn read_pair(
 }
 
 /// The two items of an array of two.
-fn pair_of(json: &Json) -> Option<(&Json, &Json)>
+fn pair_of<'a, 'b>(json: &'a Json<'b>) -> Option<(&'a Json<'b>, &'a Json<'b>)>
     ensures { option_map (λ p. (json_view p.0.now, json_view p.1.now)) result ≡ spec.pair_of (json_view json.now) }
 {
     let items = json.as_array()?;

@@ -3,18 +3,19 @@
 ghost use Rattle.std.specs.Prelude.{◌≡◌, IfOk, codes, option_map};
 ghost use Rattle.hex.specs.Hex.{decode_of};
 ghost use Rattle.serde_json.specs.Find.{as_bool, as_str};
-ghost use Rattle.serde_json.specs.View.{view as json_view, items_view, members_view};
+ghost use Rattle.graph_json.specs.View.{view as json_view, items_view, members_view};
 ghost use Rattle.graph_arena.specs.Seen.{view_slice, view_slices};
 ghost use Rattle.graph_json.specs.ReadingValues as values;
 ghost use Rattle.graph_json.specs.Reading as spec;
 ghost use Rattle.graph_json.specs.Reading.{at_name, items_of, list_of};
 
 use crate::content_read::content_of;
-use crate::leaves::{name_of, named};
+use crate::found::{Found, named, object_in};
+use crate::leaves::name_of;
+use crate::tree::Json;
 use graph_arena::Slice;
 use hex::FromHexError;
 use ice_types::{Bytes, List, Name, Schema};
-use serde_json::{Map, Value as Json};
 use std::alloc::{AllocError, Global};
 use value_parts::{DeclaredMembers, SlicedType};
 
@@ -22,7 +23,7 @@ use value_parts::{DeclaredMembers, SlicedType};
 pub(crate) fn slices_of(
     alloc: Global,
     schema: &Schema,
-    json: &Json,
+    json: &Json<'_>,
 ) -> Result<Option<List<Slice>>, AllocError>
     ensures { IfOk result (λ o. option_map view_slices o ≡ list_of (spec.slice_of schema.now) (json_view json.now)) }
 {
@@ -35,7 +36,7 @@ pub(crate) fn slices_of(
 fn each_slice(
     alloc: Global,
     schema: &Schema,
-    items: &[Json],
+    items: &[Json<'_>],
 ) -> Result<Option<List<Slice>>, AllocError>
     ensures { IfOk result (λ o. option_map view_slices o ≡ items_of (spec.slice_of schema.now) (items_view items.now)) }
 {
@@ -51,10 +52,10 @@ fn each_slice(
 }
 
 /// A slice: an object of two names is that of a known class, and one of four is kept.
-fn slice_of(alloc: Global, schema: &Schema, json: &Json) -> Result<Option<Slice>, AllocError>
+fn slice_of(alloc: Global, schema: &Schema, json: &Json<'_>) -> Result<Option<Slice>, AllocError>
     ensures { IfOk result (λ o. option_map view_slice o ≡ spec.slice_of schema.now (json_view json.now)) }
 {
-    let Some(found) = json.as_object() else {
+    let Some(found) = object_in(json) else {
         return Ok(None);
     };
     let count = found.len();
@@ -71,9 +72,9 @@ fn slice_of(alloc: Global, schema: &Schema, json: &Json) -> Result<Option<Slice>
 fn known_in(
     alloc: Global,
     schema: &Schema,
-    found: &Map<String, Json>,
+    found: Found<'_, '_>,
 ) -> Result<Option<Slice>, AllocError>
-    ensures { IfOk result (λ o. option_map view_slice o ≡ spec.known_in schema.now (members_view found.now.entries)) }
+    ensures { IfOk result (λ o. option_map view_slice o ≡ spec.known_in schema.now (members_view found.entry.entries.now)) }
 {
     let Some(class) = class_in(schema, found) else {
         return Ok(None);
@@ -93,16 +94,16 @@ fn known_in(
 }
 
 /// The class whose type id stands there.
-fn class_in(schema: &Schema, found: &Map<String, Json>) -> Option<u32>
-    ensures { result ≡ at_name (codes "class") (spec.class_of schema.now) (members_view found.now.entries) }
+fn class_in(schema: &Schema, found: Found<'_, '_>) -> Option<u32>
+    ensures { result ≡ at_name (codes "class") (spec.class_of schema.now) (members_view found.entry.entries.now) }
 {
     let id = named(found, "class")?.as_str()?;
     SlicedType::Class.row_named(schema, id)
 }
 
 /// An unknown slice, from its bytes, its type id, whether optional members stand in the bytes, and its table.
-fn unknown_in(alloc: Global, found: &Map<String, Json>) -> Result<Option<Slice>, AllocError>
-    ensures { IfOk result (λ o. option_map view_slice o ≡ spec.unknown_in (members_view found.now.entries)) }
+fn unknown_in(alloc: Global, found: Found<'_, '_>) -> Result<Option<Slice>, AllocError>
+    ensures { IfOk result (λ o. option_map view_slice o ≡ spec.unknown_in (members_view found.entry.entries.now)) }
 {
     let Some(bytes) = bytes_in(alloc, found)? else {
         return Ok(None);
@@ -125,22 +126,22 @@ fn unknown_in(alloc: Global, found: &Map<String, Json>) -> Result<Option<Slice>,
 }
 
 /// The text at a name.
-fn text_in<'a>(found: &'a Map<String, Json>, name: &str) -> Option<&'a str>
-    ensures { option_map (λ text. text.now) result ≡ at_name name.now as_str (members_view found.now.entries) }
+fn text_in<'b>(found: Found<'_, 'b>, name: &str) -> Option<&'b str>
+    ensures { option_map (λ text. text.now) result ≡ at_name name.now as_str (members_view found.entry.entries.now) }
 {
     named(found, name)?.as_str()
 }
 
 /// The truth value at a name.
-fn bool_in(found: &Map<String, Json>, name: &str) -> Option<bool>
-    ensures { result ≡ at_name name.now as_bool (members_view found.now.entries) }
+fn bool_in(found: Found<'_, '_>, name: &str) -> Option<bool>
+    ensures { result ≡ at_name name.now as_bool (members_view found.entry.entries.now) }
 {
     named(found, name)?.as_bool()
 }
 
 /// The bytes that stand in hexadecimal digits, in either case of letters.
-fn bytes_in(alloc: Global, found: &Map<String, Json>) -> Result<Option<Bytes>, AllocError>
-    ensures { IfOk result (λ o. o ≡ at_name (codes "bytes") spec.bytes_of (members_view found.now.entries)) }
+fn bytes_in(alloc: Global, found: Found<'_, '_>) -> Result<Option<Bytes>, AllocError>
+    ensures { IfOk result (λ o. o ≡ at_name (codes "bytes") spec.bytes_of (members_view found.entry.entries.now)) }
 {
     match text_in(found, "bytes") {
         Some(digits) => decoded(alloc, digits),
@@ -159,8 +160,8 @@ fn decoded(alloc: Global, digits: &str) -> Result<Option<Bytes>, AllocError>
 }
 
 /// The names of instances in a table.
-fn table_in(alloc: Global, found: &Map<String, Json>) -> Result<Option<List<u32>>, AllocError>
-    ensures { IfOk result (λ o. o ≡ at_name (codes "table") (list_of values.name_of) (members_view found.now.entries)) }
+fn table_in(alloc: Global, found: Found<'_, '_>) -> Result<Option<List<u32>>, AllocError>
+    ensures { IfOk result (λ o. o ≡ at_name (codes "table") (list_of values.name_of) (members_view found.entry.entries.now)) }
 {
     match named(found, "table") {
         Some(json) => names_of(alloc, json),
@@ -168,7 +169,7 @@ fn table_in(alloc: Global, found: &Map<String, Json>) -> Result<Option<List<u32>
     }
 }
 
-fn names_of(alloc: Global, json: &Json) -> Result<Option<List<u32>>, AllocError>
+fn names_of(alloc: Global, json: &Json<'_>) -> Result<Option<List<u32>>, AllocError>
     ensures { IfOk result (λ o. o ≡ list_of values.name_of (json_view json.now)) }
 {
     match json.as_array() {
@@ -177,7 +178,7 @@ fn names_of(alloc: Global, json: &Json) -> Result<Option<List<u32>>, AllocError>
     }
 }
 
-fn each_name(alloc: Global, items: &[Json]) -> Result<Option<List<u32>>, AllocError>
+fn each_name(alloc: Global, items: &[Json<'_>]) -> Result<Option<List<u32>>, AllocError>
     ensures { IfOk result (λ o. o ≡ items_of values.name_of (items_view items.now)) }
 {
     let mut names = List::new(alloc);

@@ -2,7 +2,7 @@
 
 ghost use Rattle.std.specs.Prelude.{◌≡◌, ◌↔◌, ℕ, List, IsTrue, IfOk, IfSome, Ok, Err, map, option_map, string_bytes};
 ghost use Rattle.std.specs.Option.{is_some};
-ghost use Rattle.serde_json.specs.View.{view as json_view, items_view};
+ghost use Rattle.graph_json.specs.View.{view as json_view, items_view};
 ghost use Rattle.ice_encoding.specs.Graph.{Graph};
 ghost use Rattle.ice_encoding.specs.Names.{instance_names, names_of};
 ghost use Rattle.graph_arena.specs.Arena.{AreBelow};
@@ -17,13 +17,14 @@ ghost use Rattle.graph_json.specs.declared.fault.JsonFault.TheVariants as faults
 ghost use Rattle.graph_json.specs.declared.fault.JsonKind.TheVariants as kinds;
 
 use crate::fault::{JsonFault, JsonKind};
-use crate::leaves::named;
+use crate::found::{named, object_in};
 use crate::listing::{Listed, listed_of};
+use crate::parsing::json_of;
+use crate::tree::Json;
 use crate::writing::write_graph;
 use graph_arena::{Graph, Instance, Members, Slice, push_slices};
 use ice_types::{List, Schema};
-use json::Writer;
-use serde_json::Value as Json;
+use json::{Scratch, Writer};
 use std::alloc::{AllocError, Global};
 use value_checks::first_ill_typed;
 use value_parts::DeclaredMembers;
@@ -101,7 +102,8 @@ fn parsed(
     requires { HasOwnNames (shape_seen fields) }
     ensures { Parses schema.now (shape_seen fields.entry) text.now result }
 {
-    let json = json_of(alloc, text)?;
+    let mut scratch = Scratch::new(alloc);
+    let json = json_of(alloc, text, &mut scratch)?;
     let graph = graph_in(alloc, schema, fields, &json);
     drop(json);
     graph
@@ -112,7 +114,7 @@ fn graph_in(
     alloc: Global,
     schema: &Schema,
     fields: DeclaredMembers<'_>,
-    json: &Json,
+    json: &Json<'_>,
 ) -> Result<Graph, JsonFault>
     requires { HasOwnNames (shape_seen fields) }
     ensures { (text : List ℕ) → ReadsJson text (Ok json.now)
@@ -141,22 +143,8 @@ fn graph_in(
     }
 }
 
-/// The JSON of a text.
-fn json_of(alloc: Global, text: &[u8]) -> Result<Json, JsonFault>
-    ensures { ReadsJson text.now result }
-{
-    if text.len() > MOST_TEXT {
-        return Err(JsonFault::Refused(JsonKind::TooLong));
-    }
-    match Json::from_slice(alloc, text) {
-        Ok(json) => Ok(json),
-        Err(error) if error.is_memory() => Err(JsonFault::Memory),
-        Err(_) => Err(JsonFault::Refused(JsonKind::NotJson)),
-    }
-}
-
 /// Whether more instances are listed than a text may list, whatever else is wrong.
-fn lists_too_many(json: &Json) -> bool
+fn lists_too_many(json: &Json<'_>) -> bool
     ensures { IsTrue result ↔ ListsTooMany (json_view json.now) }
 {
     match listed_items(json) {
@@ -166,10 +154,10 @@ fn lists_too_many(json: &Json) -> bool
 }
 
 /// What an object has in its array of instances.
-fn listed_items(json: &Json) -> Option<&Vec<Json>>
+fn listed_items<'a, 'b>(json: &'a Json<'b>) -> Option<&'a Vec<Json<'b>>>
     ensures { option_map (λ items. items_view items.now.items) result ≡ listed_in (json_view json.now) }
 {
-    named(json.as_object()?, "instances")?.as_array()
+    named(object_in(json)?, "instances")?.as_array()
 }
 
 /// The graph that is listed, or None where a name is that of no instance.

@@ -1,5 +1,5 @@
 use Rattle.std.proofs.Common.{◌≡◌, ◌+◌, [], drop, ap, ◌∙◌}
-use Rattle.serde_json.specs.View.{view as json_view, members_view}
+use Rattle.graph_json.specs.View.{view as json_view, members_view}
 use Rattle.graph_arena.specs.View.{view}
 use Rattle.graph_arena.specs.Seen.{view_present}
 use Rattle.value_parts.specs.Shapes.{with_tag}
@@ -12,7 +12,7 @@ use Rattle.graph_json.proofs.content_read.optional_of.Goals as goal
 pub loop-member-preserved : goal.loop-member-preserved
 loop-member-preserved c =
     let of = noted_value c.args.schema.now in
-    let found = members_view c.args.found.now.entries in
+    let found = members_view c.args.found.entries.now in
     let put : view_present c.insert.new.self.entries ≡ put_at c.in-Some.tag (view c.in-Some-2.value) (view_present c.loop-member.values.entries) =
     ap view_present c.in_ok-insert.ensures.entries ∙ present_put c.loop-member.values.entries c.in-Some.tag c.in-Some-2.value in
     let left = member_left c.args.members.now c.loop-member.member-index c.member-item.result c.loop-member-test.true c.member-item.is in

@@ -1,5 +1,5 @@
 use Rattle.std.proofs.Common.{◌≡◌, drop, map}
-use Rattle.serde_json.specs.View.{items_view}
+use Rattle.graph_json.specs.View.{items_view}
 use Rattle.graph_arena.specs.Seen.{view_instance}
 use Rattle.graph_json.specs.Reading.{items_of, instance_of}
 use Rattle.graph_json.proofs.Walking.{joined}

@@ -1,6 +1,6 @@
 use Rattle.std.proofs.Common.{◌≡◌, ℕ, suc, ◌+◌, ◌-◌, drop, length, IfOk, option_map, subst, arith}
 use Rattle.std.proofs.lemmas.List.{map_push}
-use Rattle.serde_json.specs.View.{view as json_view, items_view, members_view}
+use Rattle.graph_json.specs.View.{view as json_view, items_view, members_view}
 use Rattle.ice_encoding.specs.Tree.{none, tree, no_entry, sequence, dictionary}
 use Rattle.graph_arena.specs.View.{view, view_all}
 use Rattle.graph_json.specs.ReadingValues.{value_levels, each_of, members_of, pairs_of}
@@ -32,11 +32,11 @@ read_entries-returns-else-len-lt2147483648 t c =
 
 pub read_whole-returns-in-Some : goal.read_whole-returns-in-Some
 read_whole-returns-in-Some t c =
-    struct_is (members_of (value_levels c.args.schema.now c.args.levels) c.args.members.now) c.args.found.now.entries c.len.result (length c.args.members.now) c.in_ok-items.field-0 c.in-Some.items c.in-Some.is c.len.ensures.len (omega arith) c.in_ok-items.ensures
+    struct_is (members_of (value_levels c.args.schema.now c.args.levels) c.args.members.now) c.args.found.entries.now c.len.result (length c.args.members.now) c.in_ok-items.field-0 c.in-Some.items c.in-Some.is c.len.ensures (omega arith) c.in_ok-items.ensures
 
 pub read_whole-returns-else-len-members : goal.read_whole-returns-else-len-members
 read_whole-returns-else-len-members t c =
-    struct_is_not (members_of (value_levels c.args.schema.now c.args.levels) c.args.members.now) c.args.found.now.entries c.len.result (length c.args.members.now) c.len.ensures.len (λ e. absurd (omega (arith, e)))
+    struct_is_not (members_of (value_levels c.args.schema.now c.args.levels) c.args.members.now) c.args.found.entries.now c.len.result (length c.args.members.now) c.len.ensures (λ e. absurd (omega (arith, e)))
 
 pub read_each-loop-item-preserved : goal.read_each-loop-item-preserved
 read_each-loop-item-preserved t c =
@@ -54,7 +54,7 @@ read_each-returns t c =
 pub read_members-loop-member-preserved : goal.read_members-loop-member-preserved
 read_members-loop-member-preserved t c =
     let of = value_levels c.args.schema.now c.args.levels in
-    let found = members_view c.args.found.now.entries in
+    let found = members_view c.args.found.entries.now in
     let pushed : view_all c.push.new.self ≡ join (view_all c.loop-member.values) (tree (view c.in-Some-2.value) none) = rw (c.in_ok-push.ensures.ok, map_push view c.loop-member.values c.in-Some-2.value) (trees-push _ _) in
     let left = member_left c.args.members.now c.loop-member.member-index c.member-item.result c.loop-member-test.true c.member-item.is in
     rw pushed (members_go_on of (drop c.loop-member.member-index c.args.members.now) (drop (c.loop-member.member-index + 1) c.args.members.now) c.member-item.result left found (view_all c.loop-member.values)
@@ -63,4 +63,4 @@ read_members-loop-member-preserved t c =
 pub read_members-returns : goal.read_members-returns
 read_members-returns t c =
     let of = value_levels c.args.schema.now c.args.levels in
-    members_done of (drop c.loop-member.member-index c.args.members.now) (members_view c.args.found.now.entries) (view_all c.loop-member.values) (members_of of c.args.members.now (members_view c.args.found.now.entries)) (no_member_left c.args.members.now c.loop-member.member-index c.loop-member-test.false) c.loop-member.invariant
+    members_done of (drop c.loop-member.member-index c.args.members.now) (members_view c.args.found.entries.now) (view_all c.loop-member.values) (members_of of c.args.members.now (members_view c.args.found.entries.now)) (no_member_left c.args.members.now c.loop-member.member-index c.loop-member-test.false) c.loop-member.invariant

@@ -1,5 +1,5 @@
 use Rattle.std.proofs.Common.{◌≡◌, ◌+◌, ◌*◌, drop, option_map}
-use Rattle.serde_json.specs.View.{items_view, members_view}
+use Rattle.graph_json.specs.View.{items_view, members_view}
 use Rattle.ice_encoding.specs.Tree.{no_entry}
 use Rattle.graph_arena.specs.View.{view_all, view_pairs}
 use Rattle.graph_json.specs.ReadingValues.{each_of, members_of, pairs_of, value_levels}
@@ -50,8 +50,8 @@ invariant-read_each-loop-item l =
 
 abbrev pub invariant-read_members-loop-member : goal.invariant-read_members-loop-member
 invariant-read_members-loop-member l =
-    option_map (join (view_all l.values)) (members_of (value_levels l.schema l.levels) (drop l.member-index l.members) (members_view l.found.entries))
-    ≡ members_of (value_levels l.schema l.levels) l.members (members_view l.found.entries)
+    option_map (join (view_all l.values)) (members_of (value_levels l.schema l.levels) (drop l.member-index l.members) (members_view l.found.entries.now))
+    ≡ members_of (value_levels l.schema l.levels) l.members (members_view l.found.entries.now)
 
 -- the pairs so far, and those that are still read
 abbrev pub invariant-read_pairs-loop-item : goal.invariant-read_pairs-loop-item

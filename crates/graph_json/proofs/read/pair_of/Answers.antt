@@ -1,5 +1,5 @@
 use Rattle.std.proofs.Common.{arith}
-use Rattle.serde_json.specs.View.{view as json_view}
+use Rattle.graph_json.specs.View.{view as json_view}
 use Rattle.graph_json.proofs.Sizes.{no_pair}
 use Rattle.graph_json.proofs.read.pair_of.Goals as goal
 

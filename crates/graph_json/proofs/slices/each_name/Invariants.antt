@@ -1,5 +1,5 @@
 use Rattle.std.proofs.Common.{◌≡◌, drop}
-use Rattle.serde_json.specs.View.{items_view}
+use Rattle.graph_json.specs.View.{items_view}
 use Rattle.graph_json.specs.ReadingValues.{name_of}
 use Rattle.graph_json.specs.Reading.{items_of}
 use Rattle.graph_json.proofs.Walking.{joined}

@@ -1,6 +1,6 @@
 use Rattle.std.proofs.Common.{◌≡◌, ◌+◌, ◌++◌, [], ◌∷◌, option_map, drop, subst}
 use Rattle.std.proofs.lemmas.List.{map_push}
-use Rattle.serde_json.specs.View.{view as json_view, items_view}
+use Rattle.graph_json.specs.View.{view as json_view, items_view}
 use Rattle.graph_arena.specs.Seen.{view_slice, view_slices}
 use Rattle.graph_json.specs.Reading.{items_of, slice_of}
 use Rattle.graph_json.proofs.Walking.{items_go_on, items_stop, items_done}

@@ -1,6 +1,6 @@
 use Rattle.std.proofs.Common.{subst, sym, ◌∙◌}
 use Rattle.std.proofs.lemmas.Option.{none-some}
-use Rattle.serde_json.specs.View.{view as json_view}
+use Rattle.graph_json.specs.View.{view as json_view}
 use Rattle.ice_encoding.specs.TypedGraph.{OfType}
 use Rattle.value_parts.specs.Shapes.{shape_seen}
 use Rattle.graph_json.proofs.WalkingValues.{some_is}

@@ -1,5 +1,5 @@
 use Rattle.std.proofs.Common.{arith}
-use Rattle.serde_json.specs.View.{view as json_view}
+use Rattle.graph_json.specs.View.{view as json_view}
 use Rattle.graph_json.proofs.Sound.{many_listed}
 use Rattle.graph_json.proofs.text.lists_too_many.Goals as goal
 
