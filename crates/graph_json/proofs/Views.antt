@@ -1,5 +1,5 @@
 -- JSON, level by level, and the names of an object in order.
-use Rattle.std.proofs.Common.{◌≡◌, ℕ, zero, suc, ◌+◌, ◌-◌, ◌<◌, ◌≤◌, List, [], ◌∷◌, ◌++◌, length, get_or, map, Option, None, Some, option_map, Vec, Global, Ordering, Less, Equal, Greater, nat_cmp, is_eq, is_lt, cond, Bool, true, false, Bor, refl, sym, ap, ◌∙◌, subst, rules}
+use Rattle.std.proofs.Common.{◌≡◌, suc, List, [], ◌∷◌, ◌++◌, length, Option, None, Some, option_map, Vec, Global, Ordering, Less, Equal, Greater, nat_cmp, is_eq, cond, Bor, refl, sym, ap, ◌∙◌, subst, rules}
 use Rattle.std.specs.Cmp.Lexicographic.{slice_cmp}
 use Rattle.std.specs.List.{AllByRecursion}
 use Rattle.std.specs.List.Sorted.{IsStrictlySortedBy}
@@ -11,7 +11,7 @@ use Rattle.std.proofs.lemmas.List.{append_assoc, append-nil}
 use Rattle.serde_json.specs.Data.{Data, array, object, Members, no_members, member, put}
 use Rattle.serde_json.specs.Find.{get_member}
 use Rattle.serde_json.specs.Events.{items_len, members_len}
-use Rattle.graph_json.specs.View.{Lent, lent_cmp, Entry, view, items_view, members_of, entry_view, members_view, NamesRise, put_each}
+use Rattle.graph_json.specs.View.{Lent, lent_cmp, Entry, view, items_view, members_view, NamesRise, put_each}
 use Rattle.graph_json.specs.declared.tree.Json.{Json, Array, Object, the_lemmas}
 
 pub view-Array : (v : Vec Json Global) → view (Array v) ≡ array (items_view v.items)

@@ -6,6 +6,12 @@
 //!
 //! - JSON is what `serde_json` reads, so a name that comes twice counts with its last value, and `-0`, `1.0` and
 //!   numbers past 64 bits are no integers.
+//! - It is held as a tree of our own (`Json`), whose texts are lent from the input. `serde_json` holds each object as a
+//!   map, which takes a hundred times as much as a short text. Its `read` stays the measure of what is JSON, and its
+//!   `Data` what all definitions speak of.
+//! - That names rise is no invariant of the tree, since a type that leads back to itself can have none. It is asked of
+//!   an object once, where its members are looked into (`Found`), and then a name is found by halving; in a tree that
+//!   was not read, names in any order are gone through.
 //! - A struct's object has exactly the names of its members: each name is found, and there are as many names as
 //!   members. The same serves the members of classes and operations, where an absent optional member has no
 //!   name.

@@ -12,8 +12,7 @@ use std::collections::BTreeMap;
 /// What stands at each name.
 type Entries<'a> = Vec<(&'a str, Json<'a>)>;
 
-/// Puts the item last. The first one takes room for itself alone, since most arrays and objects of a hostile text
-/// have no more.
+/// Puts the item last. The first one takes room for itself alone, so that many small arrays and objects take little.
 pub(crate) fn put_last<T: Drop>(items: &mut Vec<T>, item: T) -> Result<(), AllocError>
     ensures { OnOk result (items.new.items ≡ items.old.items ++ item ∷ []) }
 {
@@ -53,7 +52,7 @@ fn by_name<'a>(
 fn risen<'a>(alloc: Global, mut map: BTreeMap<&'a str, Json<'a>>) -> Result<Entries<'a>, AllocError>
     ensures { IfOk result (λ v. v.items ≡ map.entry.entries) }
 {
-    let mut entries = Vec::new(alloc);
+    let mut entries = Vec::with_capacity(alloc, map.len())?;
     while let Some(entry) = map.pop_first() {
         entries.push(entry)?;
     }

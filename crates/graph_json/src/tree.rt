@@ -1,6 +1,6 @@
 //! JSON as a tree.
 
-ghost use Rattle.std.specs.Prelude.{◌≡◌, length, option_map, option_and_then};
+ghost use Rattle.std.specs.Prelude.{◌≡◌, option_map, option_and_then};
 ghost use Rattle.std.specs.Option.{is_some};
 ghost use Rattle.serde_json.specs.Find.{as_null, as_bool, as_number, as_str, as_array, as_i64, as_u64};
 

@@ -1,4 +1,4 @@
-use Rattle.std.proofs.Common.{◌-◌, ◌≡◌, true, false, length, ℕ, get_or, ◌<◌, ◌≤◌, nat_cmp, is_lt}
+use Rattle.std.proofs.Common.{◌-◌, ◌≡◌, true, false, length, get_or, ◌<◌, ◌≤◌, nat_cmp, is_lt}
 use Rattle.std.specs.Cmp.Lexicographic.{slice_cmp}
 use Rattle.graph_json.specs.View.{Entry}
 use Rattle.graph_json.proofs.found.place_of.Given as goal
