@@ -74,7 +74,8 @@ fn known_in(
     schema: &Schema,
     found: Found<'_, '_>,
 ) -> Result<Option<Slice>, AllocError>
-    ensures { IfOk result (λ o. option_map view_slice o ≡ spec.known_in schema.now (members_view found.entry.entries.now)) }
+    ensures { IfOk result (λ o. option_map view_slice o
+        ≡ spec.known_in schema.now (members_view found.entry.entries.now)) }
 {
     let Some(class) = class_in(schema, found) else {
         return Ok(None);
@@ -161,7 +162,8 @@ fn decoded(alloc: Global, digits: &str) -> Result<Option<Bytes>, AllocError>
 
 /// The names of instances in a table.
 fn table_in(alloc: Global, found: Found<'_, '_>) -> Result<Option<List<u32>>, AllocError>
-    ensures { IfOk result (λ o. o ≡ at_name (codes "table") (list_of values.name_of) (members_view found.entry.entries.now)) }
+    ensures { IfOk result (λ o. o
+        ≡ at_name (codes "table") (list_of values.name_of) (members_view found.entry.entries.now)) }
 {
     match named(found, "table") {
         Some(json) => names_of(alloc, json),
