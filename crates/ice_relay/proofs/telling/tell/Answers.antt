@@ -33,6 +33,6 @@ returns c =
     let test = slice_eq-Decides Decides-eqb c.as_slice-3.result.now c.as_slice-4.result.now c.eq-same.result c.eq-same.ensures in
     let spells = encoded_spells c.args.schema.now (shape_seen c.args.fields) c.args.graph c.rules.ensures c.requires.typed c.requires.writable c.requires.few c.len.ensures.sound compact c.in_ok-compact.compact c.in_ok-compact.ensures c.as_slice.result.now c.as_slice.ensures.value in
     let again = encoded_spells c.args.schema.now (shape_seen c.args.fields) c.args.graph c.rules.ensures c.requires.typed c.requires.writable c.requires.few c.len.ensures.sound sliced c.in_ok-sliced.sliced (c.in_ok-sliced.ensures c.args.graph spells) c.as_slice-2.result.now c.as_slice-2.ensures.value in
-    tells c.args.schema.now (shape_seen c.args.fields) c.args.graph c.rules.ensures c.requires.typed c.requires.writable c.requires.few c.len.ensures.sound c.args.nodes c.in_ok-compact.compact c.in_ok-sliced.sliced c.in_ok-again.again c.len-reached.result c.len-3.result c.len-4.result c.eq-same.result c.in_ok-line.field-0
+    tells c.args.schema.now (shape_seen c.args.fields) c.args.graph c.rules.ensures c.requires.typed c.requires.writable c.requires.few c.len.ensures.sound c.args.nodes c.in_ok-compact.compact c.in_ok-sliced.sliced c.in_ok-again.again c.len-reached.result c.len-2.result c.len-3.result c.eq-same.result c.in_ok-line.field-0
     c.in_ok-compact.ensures (c.in_ok-sliced.ensures c.args.graph spells) (c.in_ok-again.ensures c.args.graph again)
-    (c.len-reached.ensures ∙ ap length c.in_ok-first_visit.ensures) (c.len-3.ensures ∙ c.in_ok-compact.compact.ok.0) (c.len-4.ensures ∙ c.in_ok-sliced.sliced.ok.0) (λ e. test.1 (c.as_slice-3.ensures.value ∙ e ∙ sym c.as_slice-4.ensures.value)) c.in_ok-line.ensures
+    (c.len-reached.ensures ∙ ap length c.in_ok-first_visit.ensures) (c.len-2.ensures ∙ c.in_ok-compact.compact.ok.0) (c.len-3.ensures ∙ c.in_ok-sliced.sliced.ok.0) (λ e. test.1 (c.as_slice-3.ensures.value ∙ e ∙ sym c.as_slice-4.ensures.value)) c.in_ok-line.ensures
