@@ -54,6 +54,7 @@ mod listing;
 mod numbers;
 mod parsing;
 mod read;
+mod room;
 mod rows;
 mod slices;
 mod sorting;

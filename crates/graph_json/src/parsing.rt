@@ -12,7 +12,8 @@ ghost use Rattle.graph_json.specs.View.{view as json_view, items_view, members_v
 
 use crate::fault::{JsonFault, JsonKind};
 use crate::numbers::number_of;
-use crate::sorting::{in_order, put_last};
+use crate::room::put_last;
+use crate::sorting::in_order;
 use crate::text::MOST_TEXT;
 use crate::tree::Json;
 use json::{Invalid, Reader, Scratch, Token};

@@ -13,6 +13,7 @@ use crate::found::{Found, named, object_in};
 use crate::leaves::{
     bool_of, byte_of, enumerator_of, int_of, long_of, proxy_of, reference_of, short_of, text_of,
 };
+use crate::room::with_room;
 use crate::tree::Json;
 use graph_arena::{Value, in_order, put};
 use ice_types::{DictDecl, List, MOST_DEPTH, Member, Schema, TypeRef};
@@ -223,7 +224,7 @@ fn read_each(
     ensures { IfOk result (λ o. option_map view_all o
         ≡ each_of (value_levels schema.now levels kind) (items_view items.now)) }
 {
-    let mut values = List::new(alloc);
+    let mut values = with_room(alloc, items.len())?;
     for item in items {
         let Some(value) = read_level(alloc, schema, levels, kind, item)? else {
             return Ok(None);
@@ -245,7 +246,7 @@ fn read_members(
     ensures { IfOk result (λ o. option_map view_all o
         ≡ members_of (value_levels schema.now levels) members.now (members_view found.entry.entries.now)) }
 {
-    let mut values = List::new(alloc);
+    let mut values = with_room(alloc, members.len())?;
     for member in members {
         let Some(json) = named(found, member.name.as_str()) else {
             return Ok(None);

@@ -12,6 +12,7 @@ ghost use Rattle.graph_json.specs.Reading.{at_name, items_of, list_of};
 use crate::content_read::content_of;
 use crate::found::{Found, named, object_in};
 use crate::leaves::name_of;
+use crate::room::with_room;
 use crate::tree::Json;
 use graph_arena::Slice;
 use hex::FromHexError;
@@ -40,7 +41,7 @@ fn each_slice(
 ) -> Result<Option<List<Slice>>, AllocError>
     ensures { IfOk result (λ o. option_map view_slices o ≡ items_of (spec.slice_of schema.now) (items_view items.now)) }
 {
-    let mut slices = List::new(alloc);
+    let mut slices = with_room(alloc, items.len())?;
     for item in items {
         let Some(slice) = slice_of(alloc, schema, item)? else {
             drop(slices);
@@ -183,7 +184,7 @@ fn names_of(alloc: Global, json: &Json<'_>) -> Result<Option<List<u32>>, AllocEr
 fn each_name(alloc: Global, items: &[Json<'_>]) -> Result<Option<List<u32>>, AllocError>
     ensures { IfOk result (λ o. o ≡ items_of values.name_of (items_view items.now)) }
 {
-    let mut names = List::new(alloc);
+    let mut names = with_room(alloc, items.len())?;
     for item in items {
         let Some(name) = name_of(item) else {
             return Ok(None);

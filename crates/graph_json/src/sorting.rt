@@ -1,6 +1,6 @@
 //! The members of an object, brought in the order of their names.
 
-ghost use Rattle.std.specs.Prelude.{◌≡◌, ◌++◌, ◌∷◌, [], IfOk, OnOk};
+ghost use Rattle.std.specs.Prelude.{◌≡◌, IfOk};
 ghost use Rattle.serde_json.specs.Data.{no_members};
 ghost use Rattle.graph_json.specs.View.{members_view, put_each};
 
@@ -12,17 +12,6 @@ use std::collections::BTreeMap;
 /// What stands at each name.
 type Entries<'a> = Vec<(&'a str, Json<'a>)>;
 
-/// Puts the item last. The first one takes room for itself alone, so that many small arrays and objects take little.
-pub(crate) fn put_last<T: Drop>(items: &mut Vec<T>, item: T) -> Result<(), AllocError>
-    ensures { OnOk result (items.new.items ≡ items.old.items ++ item ∷ []) }
-{
-    if items.is_empty() {
-        items.reserve_exact(1)?;
-    }
-    items.push(item)?;
-    Ok(())
-}
-
 /// The entries by rising name, where the last one of a name counts.
 pub(crate) fn in_order<'a>(alloc: Global, entries: Entries<'a>) -> Result<Entries<'a>, AllocError>
     ensures { IfOk result (λ v. members_view v.items ≡ put_each entries.entry.items no_members) }
@@ -31,7 +20,7 @@ pub(crate) fn in_order<'a>(alloc: Global, entries: Entries<'a>) -> Result<Entrie
         return Ok(entries);
     }
     let map = by_name(alloc, entries)?;
-    risen(alloc, map)
+    map.into_iter().collect(alloc)
 }
 
 /// The entries in a map, one after another.
@@ -46,15 +35,4 @@ fn by_name<'a>(
         drop(map.insert(name, json)?);
     }
     Ok(map)
-}
-
-/// The entries of a map, in the order of their names.
-fn risen<'a>(alloc: Global, mut map: BTreeMap<&'a str, Json<'a>>) -> Result<Entries<'a>, AllocError>
-    ensures { IfOk result (λ v. v.items ≡ map.entry.entries) }
-{
-    let mut entries = Vec::with_capacity(alloc, map.len())?;
-    while let Some(entry) = map.pop_first() {
-        entries.push(entry)?;
-    }
-    Ok(entries)
 }
