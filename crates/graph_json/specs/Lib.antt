@@ -11,4 +11,4 @@ pub mod Printing
 pub mod Contents
 pub mod TypedValues
 pub mod View
-pub mod Parsing
+pub mod Refusals

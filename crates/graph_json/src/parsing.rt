@@ -5,7 +5,7 @@ ghost use Rattle.json.specs.Json.{value, items, members};
 ghost use Rattle.serde_json.specs.Data.{no_members};
 ghost use Rattle.serde_json.specs.Read as spec;
 ghost use Rattle.serde_json.specs.Read.{converted, of_items, of_json, of_members};
-ghost use Rattle.graph_json.specs.Parsing.{IsRefusal};
+ghost use Rattle.graph_json.specs.Refusals.{IsRefusal};
 ghost use Rattle.graph_json.specs.declared.parsing.Stop.TheVariants as stops;
 ghost use Rattle.graph_json.specs.Texts.{ReadsJson};
 ghost use Rattle.graph_json.specs.View.{view as json_view, items_view, members_view};
