@@ -20,7 +20,9 @@ pub(crate) fn in_order<'a>(alloc: Global, entries: Entries<'a>) -> Result<Entrie
         return Ok(entries);
     }
     let map = by_name(alloc, entries)?;
-    map.into_iter().collect(alloc)
+    let mut entries: Entries<'a> = map.into_iter().collect(alloc)?;
+    entries.shrink_to_fit();
+    Ok(entries)
 }
 
 /// The entries in a map, one after another.
