@@ -274,8 +274,8 @@ def one_proxy_of_escapes():
 
 
 def one_endpoint_of_many_bytes():
-    around = lambda inside: noted(b'"a:opaque -t 9 -e 1.0 -x ' + inside.replace(b",", b"") + b'"')
-    return PROXIES, ("encode", "Object*"), filled(b"0" * 100, around)[0], b"", REFUSED + "Misfit"
+    text, count = filled(b"0" * 100, lambda inside: noted(b'"a:opaque -t 9 -e 1.0 -x ' + inside.replace(b",", b"") + b'"'))
+    return PROXIES, ("encode", "Object*"), text, b"", too_long(6 + 10 + 1 + 8 + 50 * count)
 
 
 def long_enum():
