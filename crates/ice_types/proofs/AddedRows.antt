@@ -9,13 +9,14 @@ use Rattle.ice_types.specs.declared.declarations.ClassDecl.{ClassDecl}
 use Rattle.ice_types.specs.declared.declarations.InterfaceDecl.{InterfaceDecl}
 use Rattle.ice_types.specs.declared.kind.RowRef.{RowRef}
 use Rattle.ice_types.specs.declared.kind.RowRef.TheVariants as rows
+use Rattle.ice_types.specs.declared.rows.Above.{Above}
 use Rattle.ice_types.specs.declared.rows.Rows.{Rows}
 use Rattle.ice_types.specs.declared.rows.TableRows.{TableRows}
 use Rattle.ice_types.specs.Tables.{Tables, with_exception, with_class, with_interface, is_defined, IsTypeId, IsNewId, row_ids, row_at, exception_ids, class_ids, interface_ids}
 use Rattle.ice_types.specs.Measures.{paths_of}
 use Rattle.ice_types.specs.Fits.{SeqFits, DictFits, StructFits, EnumFits, IsOf, MembersFit, ClassFits, ExceptionFits, OpFits, InterfaceFits}
 use Rattle.ice_types.specs.Bases.{HasBases, HasBasesFrom, Lone, class_base, exception_base}
-use Rattle.ice_types.specs.Rules.{Beside, IsSchema, IsKept, defined}
+use Rattle.ice_types.specs.Rules.{Beside, IsSchema, IsKept, bases_by, defined}
 use Rattle.ice_types.specs.Kept.{tables_of, beside_of}
 use Rattle.ice_types.specs.Ids.{AreNumbered, IsHeld}
 use Rattle.ice_types.proofs.Items.{slice_get-front, slice_get-push, slice_get-last}
@@ -28,6 +29,7 @@ use Rattle.ice_types.proofs.BasePaths.{bases_front, no_paths, no_bases, same_pat
 use Rattle.ice_types.proofs.RowIds.{IsLast, ids_of, ids_more, id_last, found_more}
 use Rattle.ice_types.proofs.Grown.{all_old, one_new, IsSchema-grown}
 use Rattle.ice_types.proofs.Measured.{measured_kept}
+use Rattle.ice_types.proofs.FarBases.{far_declared}
 
 -- ---- an exception
 
@@ -125,6 +127,7 @@ added_exception old after t row_of now held view_is new bases row beside at end 
     let was : IsHeld t (beside_of old) row_of = subst (λ (t : Tables). IsHeld t (beside_of old) row_of) view_is held in
     rw beside (subst (λ (u : Tables). IsHeld u (record (beside_of old) { exceptions = old.exceptions.beside ++ bases ∷ [] }) now) pushed (record {
       kept = kept_exception t (beside_of old) was.kept new bases from most room type_id lacks fits;
+      far_bases = was.far_bases;
       found = found_more t (with_exception t new) new.id (rows.Exception (length t.exceptions)) (last_exception t new) row_of now was.found
           (subst (λ (at : ℕ). (id : List ℕ) → now id ≡ cond (bytes_eq new.id id) (Some (rows.Exception at)) (row_of id)) (end ∙ ap (λ (t : Tables). length t.exceptions) view_is) put);
     }))
@@ -185,14 +188,14 @@ schema_class t id kept room type_id lacks counted = IsSchema-grown t (with_class
 }
 
 module _ (t : Tables) (beside : Beside) (kept : IsKept t beside) (id : List ℕ) where
-  counts_class : (at : ℕ) (n : Option ℕ) → slice_get (beside.classes ++ None ∷ []) at ≡ Some n → HasBases (class_base (with_class t id)) at (unwrap_or n 0) × (unwrap_or n 0 ≤ defined (t.defined_classes ++ false ∷ []))
+  counts_class : (at : ℕ) (n : Option Above) → slice_get (beside.classes ++ None ∷ []) at ≡ Some n → HasBases (class_base (with_class t id)) at (bases_by n) × (bases_by n ≤ defined (t.defined_classes ++ false ∷ []))
   counts_class at n e = elim (slice_get-push beside.classes None at n e) [
     | inl there ↦ let was = kept.classes at n there in
-        (bases_grow (class_base t) (class_base (with_class t id)) (mapped_front (λ x. x.base) t.classes (new_class id ∷ [])) at (unwrap_or n 0) was.0, omega (arith, was.1, defined_front t.defined_classes))
+        (bases_grow (class_base t) (class_base (with_class t id)) (mapped_front (λ x. x.base) t.classes (new_class id ∷ [])) at (bases_by n) was.0, omega (arith, was.1, defined_front t.defined_classes))
     | inr last ↦ let place : at ≡ length t.classes = last.0 ∙ sym (length-map beside.classes is_some) ∙ sym (ap length kept.class_flags) ∙ kept.rules.class_flags in (
-      subst (λ (place : ℕ). HasBases (class_base (with_class t id)) place (unwrap_or n 0)) (sym place) (subst (λ (n : Option ℕ). HasBases (class_base (with_class t id)) (length t.classes) (unwrap_or n 0)) last.1
+      subst (λ (place : ℕ). HasBases (class_base (with_class t id)) place (bases_by n)) (sym place) (subst (λ (n : Option Above). HasBases (class_base (with_class t id)) (length t.classes) (bases_by n)) last.1
           (Lone (length t.classes) (ap (option_map (λ x. x.base)) (slice_get-last t.classes (new_class id))))),
-      subst (λ (n : Option ℕ). unwrap_or n 0 ≤ defined (t.defined_classes ++ false ∷ [])) last.1 (omega arith),
+      subst (λ (n : Option Above). bases_by n ≤ defined (t.defined_classes ++ false ∷ [])) last.1 (omega arith),
     )
   ]
 
@@ -202,7 +205,7 @@ module _ (t : Tables) (beside : Beside) (kept : IsKept t beside) (id : List ℕ)
       let as_many : length (beside.classes ++ None ∷ []) ≡ length (t.classes ++ new_class id ∷ []) =
       omega (arith, length-append beside.classes (None ∷ []), length-append t.classes (new_class id ∷ []), length-map beside.classes is_some, ap length kept.class_flags, kept.rules.class_flags) in
       record {
-        rules = schema_class t id kept.rules room type_id lacks (all_counted (t.classes ++ new_class id ∷ []) (beside.classes ++ None ∷ []) (λ n. unwrap_or n 0) (class_base (with_class t id)) as_many (λ at n e. (counts_class at n e).0));
+        rules = schema_class t id kept.rules room type_id lacks (all_counted (t.classes ++ new_class id ∷ []) (beside.classes ++ None ∷ []) (λ n. bases_by n) (class_base (with_class t id)) as_many (λ at n e. (counts_class at n e).0));
         seqs = same.seqs refl;
         dicts = same.dicts refl;
         structs = same.structs refl;
@@ -216,14 +219,14 @@ module _ (t : Tables) (beside : Beside) (kept : IsKept t beside) (id : List ℕ)
       }
 
 -- the tables that contracts see then
-pub view_class : (old : TableRows) (after : Rows ClassDecl (Option ℕ)) (t : Tables) → tables_of old ≡ t → (id : List ℕ) → after.decls ≡ old.classes.decls ++ new_class id ∷ [] → after.beside ≡ old.classes.beside ++ None ∷ []
+pub view_class : (old : TableRows) (after : Rows ClassDecl (Option Above)) (t : Tables) → tables_of old ≡ t → (id : List ℕ) → after.decls ≡ old.classes.decls ++ new_class id ∷ [] → after.beside ≡ old.classes.beside ++ None ∷ []
     → with_class t id ≡ tables_of (record old { classes = after })
 view_class old after t view_is id row beside =
     let flags : map is_some after.beside ≡ map is_some old.classes.beside ++ false ∷ [] = ap (map is_some) beside ∙ map-append is_some old.classes.beside (None ∷ []) in
     rw (row, flags, ← view_is) refl
 
 -- the same of a schema's fields, where contracts see them as these tables
-pub added_class : (old : TableRows) (after : Rows ClassDecl (Option ℕ)) (t : Tables) (row_of now : List ℕ → Option RowRef) → IsHeld (tables_of old) (beside_of old) row_of → tables_of old ≡ t → (id : List ℕ)
+pub added_class : (old : TableRows) (after : Rows ClassDecl (Option Above)) (t : Tables) (row_of now : List ℕ → Option RowRef) → IsHeld (tables_of old) (beside_of old) row_of → tables_of old ≡ t → (id : List ℕ)
     → after.decls ≡ old.classes.decls ++ new_class id ∷ [] → after.beside ≡ old.classes.beside ++ None ∷ [] → (at : ℕ) → at ≡ length old.classes.decls
     → ((other : List ℕ) → now other ≡ cond (bytes_eq id other) (Some (rows.Class at)) (row_of other))
     → length t.classes + 1 < 100000000 → IsTypeId id → IsNewId t id → IsHeld (tables_of (record old { classes = after })) (beside_of (record old { classes = after })) now
@@ -231,12 +234,13 @@ added_class old after t row_of now held view_is id row beside at end put room ty
     let was : IsHeld t (beside_of old) row_of = subst (λ (t : Tables). IsHeld t (beside_of old) row_of) view_is held in
     subst (λ (u : Tables). IsHeld u (beside_of (record old { classes = after })) now) (view_class old after t view_is id row beside) (rw beside (record {
       kept = kept_class t (beside_of old) was.kept id room type_id lacks;
+      far_bases = far_declared t.classes old.classes.beside (new_class id) refl was.far_bases;
       found = found_more t (with_class t id) id (rows.Class (length t.classes)) (last_class t id) row_of now was.found
           (subst (λ (at : ℕ). (other : List ℕ) → now other ≡ cond (bytes_eq id other) (Some (rows.Class at)) (row_of other)) (end ∙ ap (λ (t : Tables). length t.classes) view_is) put);
     }))
 
 -- and of its compact ids, where there is room for one more
-pub numbered_class : (old : TableRows) (after : Rows ClassDecl (Option ℕ)) (t : Tables) (class_of now : ℕ → Option ℕ) (was_room room : ℕ) → AreNumbered (tables_of old) class_of was_room → tables_of old ≡ t → (id : List ℕ)
+pub numbered_class : (old : TableRows) (after : Rows ClassDecl (Option Above)) (t : Tables) (class_of now : ℕ → Option ℕ) (was_room room : ℕ) → AreNumbered (tables_of old) class_of was_room → tables_of old ≡ t → (id : List ℕ)
     → after.decls ≡ old.classes.decls ++ new_class id ∷ [] → after.beside ≡ old.classes.beside ++ None ∷ [] → (at : ℕ) → at ≡ length old.classes.decls
     → ((number : ℕ) → now number ≡ class_of number) → at + 1 ≤ room → AreNumbered (tables_of (record old { classes = after })) now room
 numbered_class old after t class_of now was_room room was view_is id row beside at end same enough =
@@ -339,6 +343,7 @@ added_interface old after t row_of now held view_is id row beside at end put roo
     let was : IsHeld t (beside_of old) row_of = subst (λ (t : Tables). IsHeld t (beside_of old) row_of) view_is held in
     subst (λ (u : Tables). IsHeld u (beside_of (record old { interfaces = after })) now) (view_interface old after t view_is id row beside) (rw beside (record {
       kept = kept_interface t (beside_of old) was.kept id room type_id lacks;
+      far_bases = was.far_bases;
       found = found_more t (with_interface t id) id (rows.Interface (length t.interfaces)) (last_interface t id) row_of now was.found
           (subst (λ (at : ℕ). (other : List ℕ) → now other ≡ cond (bytes_eq id other) (Some (rows.Interface at)) (row_of other)) (end ∙ ap (λ (t : Tables). length t.interfaces) view_is) put);
     }))

@@ -111,6 +111,7 @@ added_seq old after t row_of now held view_is new m row beside at end put room t
     let was : IsHeld t (beside_of old) row_of = subst (λ (t : Tables). IsHeld t (beside_of old) row_of) view_is held in
     rw beside (subst (λ (u : Tables). IsHeld u (record (beside_of old) { seqs = old.seqs.beside ++ m ∷ [] }) now) pushed (record {
       kept = kept_seq t (beside_of old) was.kept new m room type_id lacks fits is;
+      far_bases = was.far_bases;
       found = found_more t (with_seq t new) new.id (rows.Seq (length t.seqs)) (last_seq t new) row_of now was.found
           (subst (λ (at : ℕ). (id : List ℕ) → now id ≡ cond (bytes_eq new.id id) (Some (rows.Seq at)) (row_of id)) (end ∙ ap (λ (t : Tables). length t.seqs) view_is) put);
     }))
@@ -200,6 +201,7 @@ added_dict old after t row_of now held view_is new m row beside at end put room 
     let was : IsHeld t (beside_of old) row_of = subst (λ (t : Tables). IsHeld t (beside_of old) row_of) view_is held in
     rw beside (subst (λ (u : Tables). IsHeld u (record (beside_of old) { dicts = old.dicts.beside ++ m ∷ [] }) now) pushed (record {
       kept = kept_dict t (beside_of old) was.kept new m room type_id lacks fits is;
+      far_bases = was.far_bases;
       found = found_more t (with_dict t new) new.id (rows.Dict (length t.dicts)) (last_dict t new) row_of now was.found
           (subst (λ (at : ℕ). (id : List ℕ) → now id ≡ cond (bytes_eq new.id id) (Some (rows.Dict at)) (row_of id)) (end ∙ ap (λ (t : Tables). length t.dicts) view_is) put);
     }))
@@ -288,6 +290,7 @@ added_struct old after t row_of now held view_is new m row beside at end put roo
     let was : IsHeld t (beside_of old) row_of = subst (λ (t : Tables). IsHeld t (beside_of old) row_of) view_is held in
     rw beside (subst (λ (u : Tables). IsHeld u (record (beside_of old) { structs = old.structs.beside ++ m ∷ [] }) now) pushed (record {
       kept = kept_struct t (beside_of old) was.kept new m room type_id lacks fits is;
+      far_bases = was.far_bases;
       found = found_more t (with_struct t new) new.id (rows.Struct (length t.structs)) (last_struct t new) row_of now was.found
           (subst (λ (at : ℕ). (id : List ℕ) → now id ≡ cond (bytes_eq new.id id) (Some (rows.Struct at)) (row_of id)) (end ∙ ap (λ (t : Tables). length t.structs) view_is) put);
     }))
@@ -374,6 +377,7 @@ added_enum old after t row_of now held view_is new m row beside at end put room 
     let was : IsHeld t (beside_of old) row_of = subst (λ (t : Tables). IsHeld t (beside_of old) row_of) view_is held in
     rw beside (subst (λ (u : Tables). IsHeld u (record (beside_of old) { enums = old.enums.beside ++ m ∷ [] }) now) pushed (record {
       kept = kept_enum t (beside_of old) was.kept new m room type_id lacks fits is;
+      far_bases = was.far_bases;
       found = found_more t (with_enum t new) new.id (rows.Enum (length t.enums)) (last_enum t new) row_of now was.found
           (subst (λ (at : ℕ). (id : List ℕ) → now id ≡ cond (bytes_eq new.id id) (Some (rows.Enum at)) (row_of id)) (end ∙ ap (λ (t : Tables). length t.enums) view_is) put);
     }))

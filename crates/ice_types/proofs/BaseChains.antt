@@ -3,8 +3,9 @@ use Rattle.std.proofs.Common.{◌≡◌, ◌≢◌, ℕ, zero, suc, ◌<◌, ◌
 use Rattle.std.specs.Prelude.{slice_get, unwrap_or, IsTrue, Bool, true, false}
 use Rattle.std.specs.Option.{option_map}
 use Rattle.ice_types.specs.Tables.{is_defined}
-use Rattle.ice_types.specs.Rules.{defined}
-use Rattle.ice_types.specs.Kept.{counted}
+use Rattle.ice_types.specs.declared.rows.Above.{Above}
+use Rattle.ice_types.specs.Rules.{defined, bases_by}
+use Rattle.ice_types.specs.Kept.{above_of, counted}
 use Rattle.ice_types.specs.Bases.{HasBases, HasBasesFrom, Lone, Derived}
 
 pub mapped_front : {A B : Type 0} (g : A → B) (xs ys : List A) (at : ℕ) (x : B) → option_map g (slice_get xs at) ≡ Some x → option_map g (slice_get (xs ++ ys) at) ≡ Some x
@@ -52,6 +53,14 @@ pub counted_by : (beside : List (Option ℕ)) (at : ℕ) (Is : ℕ → Type 0) �
 counted_by [] at Is none each = none refl
 counted_by (n ∷ beside) zero Is none each = each n refl
 counted_by (n ∷ beside) (suc at) Is none each = counted_by beside at Is none each
+
+pub bases_by_row : (beside : List (Option Above)) (at : ℕ) (Is : ℕ → Type 0) → (slice_get beside at ≡ None → Is 0) → ((n : Option Above) → slice_get beside at ≡ Some n → Is (bases_by n)) → Is (above_of beside at).bases
+bases_by_row beside at Is none each = by_row (slice_get beside at) refl
+  where
+    by_row : (row : Option (Option Above)) → slice_get beside at ≡ row → Is (unwrap_or (unwrap_or row None) (record { bases = 0; far = at })).bases
+    by_row None e = none e
+    by_row (Some None) e = each None e
+    by_row (Some (Some above)) e = each (Some above) e
 
 pub defined_within : (flags : List Bool) → defined flags ≤ length flags
 defined_within [] = omega arith

@@ -1,6 +1,6 @@
 -- What a schema keeps beside its rows counts their bases.
 use Rattle.std.proofs.Common.{ℕ, suc, ◌<◌, ◌≤◌, ◌≡◌, List, [], ◌∷◌, length, Option, None, Some, refl, sym, ap, ◌∙◌, subst, arith}
-use Rattle.std.specs.Prelude.{slice_get, unwrap_or}
+use Rattle.std.specs.Prelude.{slice_get}
 use Rattle.std.specs.List.{sum_by}
 use Rattle.std.specs.Option.{option_and_then, option_map, is_some}
 use Rattle.std.proofs.lemmas.List.{length-map}
@@ -11,10 +11,10 @@ use Rattle.ice_types.specs.declared.declarations.InterfaceDecl.{InterfaceDecl}
 use Rattle.ice_types.specs.Tables.{Tables}
 use Rattle.ice_types.specs.Measures.{bases_in, paths_in}
 use Rattle.ice_types.specs.Bases.{class_base, HasBases, Lone, Derived}
-use Rattle.ice_types.specs.Rules.{Beside, IsKept}
+use Rattle.ice_types.specs.Rules.{Beside, IsKept, bases_by}
 use Rattle.ice_types.specs.Inherited.{base_in, CountsClassBases, CountsBases}
-use Rattle.ice_types.specs.Kept.{counted}
-use Rattle.ice_types.proofs.BaseChains.{counted_by}
+use Rattle.ice_types.specs.Kept.{above_of, counted}
+use Rattle.ice_types.proofs.BaseChains.{bases_by_row, counted_by}
 use Rattle.ice_types.proofs.BasePaths.{enough_levels, no_paths, none_in}
 use Rattle.ice_types.proofs.Items.{both_end}
 
@@ -33,9 +33,9 @@ base_is None base e = absurd cc
 base_is (Some c) base e = ap Some e
 
 -- a row that is kept beside a class
-kept_beside : (t : Tables) (beside : Beside) → IsKept t beside → (at bases : ℕ) → HasBases (class_base t) at bases → counted beside.classes at ≡ bases
-kept_beside t beside kept at bases has = counted_by beside.classes at (λ n. n ≡ bases)
-    (λ e. absurd (no_class bases (both_end beside.classes t.classes lengths at e) has)) (λ count e. one_count (class_base t) at (unwrap_or count 0) bases (kept.classes at count e).0 has)
+kept_beside : (t : Tables) (beside : Beside) → IsKept t beside → (at bases : ℕ) → HasBases (class_base t) at bases → (above_of beside.classes at).bases ≡ bases
+kept_beside t beside kept at bases has = bases_by_row beside.classes at (λ n. n ≡ bases)
+    (λ e. absurd (no_class bases (both_end beside.classes t.classes lengths at e) has)) (λ count e. one_count (class_base t) at (bases_by count) bases (kept.classes at count e).0 has)
   where
     lengths : length beside.classes ≡ length t.classes
     lengths = sym (length-map beside.classes (λ b. is_some b)) ∙ ap length (sym kept.class_flags) ∙ kept.rules.class_flags

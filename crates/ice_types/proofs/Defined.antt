@@ -9,12 +9,14 @@ use Rattle.ice_types.specs.declared.declarations.Member.{Member}
 use Rattle.ice_types.specs.declared.declarations.OpDecl.{OpDecl}
 use Rattle.ice_types.specs.declared.kind.RowRef.{RowRef}
 use Rattle.ice_types.specs.declared.kind.RowRef.TheVariants as rows
+use Rattle.ice_types.specs.declared.rows.Above.{Above}
 use Rattle.ice_types.specs.declared.rows.TableRows.{TableRows}
 use Rattle.ice_types.specs.Tables.{Tables, changed, define_class, define_interface, is_defined, row_ids}
 use Rattle.ice_types.specs.Measures.{bases_in, paths_of}
 use Rattle.ice_types.specs.Fits.{SeqFits, DictFits, StructFits, EnumFits, ClassBaseFits, ClassFits, CompactIdFits, ExceptionFits, InterfaceFits, paths_over}
 use Rattle.ice_types.specs.Bases.{HasBases, HasBasesFrom, class_base}
-use Rattle.ice_types.specs.Rules.{Beside, IsSchema, IsKept, defined}
+use Rattle.ice_types.specs.Rules.{Beside, IsSchema, IsKept, bases_by, defined}
+use Rattle.ice_types.specs.Inherited.{IsFarBase}
 use Rattle.ice_types.specs.Kept.{tables_of, beside_of}
 use Rattle.ice_types.specs.Ids.{AreNumbered, IsHeld}
 use Rattle.ice_types.proofs.Items.{set_to, length-changed, map-changed, map-kept, get_other, get_changed, where_from, still_there}
@@ -27,6 +29,7 @@ use Rattle.ice_types.proofs.BasePaths.{bases_other, bases_changed, all_bases, ot
 use Rattle.ice_types.proofs.RowIds.{ids_of, same_ids, same_found}
 use Rattle.ice_types.proofs.Grown.{all_old, IsSchema-grown}
 use Rattle.ice_types.proofs.Measured.{measured_kept}
+use Rattle.ice_types.proofs.FarBases.{base_undefined, far_defined}
 
 -- ---- a class
 
@@ -83,7 +86,7 @@ module _ (t : Tables) (at : ℕ) (base compact : Option ℕ) (members : List Mem
     }
 
 module _ (t : Tables) (beside : Beside) (kept : IsKept t beside) (at : ℕ) (base compact : Option ℕ) (members : List Member) (there : at < length t.classes) (not_yet : is_defined t.defined_classes at ≡ false)
-    (fits : ClassFits t base members) (compact_fits : CompactIdFits t compact) (bases : ℕ) (from : HasBasesFrom (class_base t) base bases) (most : bases ≤ suc (defined t.defined_classes)) where
+    (fits : ClassFits t base members) (compact_fits : CompactIdFits t compact) (above : Above) (from : HasBasesFrom (class_base t) base above.bases) (most : above.bases ≤ suc (defined t.defined_classes)) where
   others : (other : ℕ) → other ≢ at → class_base t other ≡ class_base (define_class t at base compact members) other
   others other apart = ap (option_map (λ c. c.base)) (sym (get_other (filled_class base compact members) t.classes at other apart))
 
@@ -110,34 +113,34 @@ module _ (t : Tables) (beside : Beside) (kept : IsKept t beside) (at : ℕ) (bas
           none_there (x ∷ xs) zero lt e = cc
           none_there (x ∷ xs) (suc at) lt e = none_there xs at (omega (arith, lt)) e
 
-  counts_class : (place : ℕ) (n : Option ℕ) → slice_get (changed (λ _. Some bases) beside.classes at) place ≡ Some n
-      → HasBases (class_base (define_class t at base compact members)) place (unwrap_or n 0) × (unwrap_or n 0 ≤ defined (changed (λ _. true) t.defined_classes at))
+  counts_class : (place : ℕ) (n : Option Above) → slice_get (changed (λ _. Some above) beside.classes at) place ≡ Some n
+      → HasBases (class_base (define_class t at base compact members)) place (bases_by n) × (bases_by n ≤ defined (changed (λ _. true) t.defined_classes at))
   counts_class place n e =
       let more = defined_more t.defined_classes at (omega (arith, there, kept.rules.class_flags)) not_yet in
-      elim (where_from (λ _. Some bases) beside.classes at place n e) [
-        | inl old ↦ let was = kept.classes place n old.1 in (stays_class place (unwrap_or n 0) old.0 was.0, omega (arith, was.1, more))
+      elim (where_from (λ _. Some above) beside.classes at place n e) [
+        | inl old ↦ let was = kept.classes place n old.1 in (stays_class place (bases_by n) old.0 was.0, omega (arith, was.1, more))
         | inr new ↦ (
-          subst (λ (place : ℕ). HasBases (class_base (define_class t at base compact members)) place (unwrap_or n 0)) (sym new.0)
-              (subst (λ (n : Option ℕ). HasBases (class_base (define_class t at base compact members)) at (unwrap_or n 0)) new.1.2
-              (based_on (class_base t) (class_base (define_class t at base compact members)) at bases base (λ over more is h. stays_class over more (no_base_yet over (subst (ClassBaseFits t) is fits.0)) h) filled_base from)),
-          subst (λ (n : Option ℕ). unwrap_or n 0 ≤ defined (changed (λ _. true) t.defined_classes at)) new.1.2 (omega (arith, most, more)),
+          subst (λ (place : ℕ). HasBases (class_base (define_class t at base compact members)) place (bases_by n)) (sym new.0)
+              (subst (λ (n : Option Above). HasBases (class_base (define_class t at base compact members)) at (bases_by n)) new.1.2
+              (based_on (class_base t) (class_base (define_class t at base compact members)) at above.bases base (λ over more is h. stays_class over more (no_base_yet over (subst (ClassBaseFits t) is fits.0)) h) filled_base from)),
+          subst (λ (n : Option Above). bases_by n ≤ defined (changed (λ _. true) t.defined_classes at)) new.1.2 (omega (arith, most, more)),
         )
       ]
 
-  kept_class : IsKept (define_class t at base compact members) (record beside { classes = changed (λ _. Some bases) beside.classes at })
+  kept_class : IsKept (define_class t at base compact members) (record beside { classes = changed (λ _. Some above) beside.classes at })
   kept_class =
       let u = define_class t at base compact members in
       let same = measured_kept t u (types_class t at base compact members) beside kept in
-      let as_many : length (changed (λ _. Some bases) beside.classes at) ≡ length (changed (filled_class base compact members) t.classes at) =
-      omega (arith, length-changed (λ _. Some bases) beside.classes at, length-changed (filled_class base compact members) t.classes at, length-map beside.classes is_some, ap length kept.class_flags, kept.rules.class_flags) in
+      let as_many : length (changed (λ _. Some above) beside.classes at) ≡ length (changed (filled_class base compact members) t.classes at) =
+      omega (arith, length-changed (λ _. Some above) beside.classes at, length-changed (filled_class base compact members) t.classes at, length-map beside.classes is_some, ap length kept.class_flags, kept.rules.class_flags) in
       record {
         rules = schema_class t at base compact members kept.rules there not_yet fits compact_fits
-            (all_counted (changed (filled_class base compact members) t.classes at) (changed (λ _. Some bases) beside.classes at) (λ n. unwrap_or n 0) (class_base u) as_many (λ place n e. (counts_class place n e).0));
+            (all_counted (changed (filled_class base compact members) t.classes at) (changed (λ _. Some above) beside.classes at) (λ n. bases_by n) (class_base u) as_many (λ place n e. (counts_class place n e).0));
         seqs = same.seqs refl;
         dicts = same.dicts refl;
         structs = same.structs refl;
         enums = same.enums refl;
-        class_flags = ap (λ (flags : List Bool). changed (λ _. true) flags at) kept.class_flags ∙ sym (map-changed is_some (λ _. Some bases) (λ _. true) (λ x. refl) beside.classes at);
+        class_flags = ap (λ (flags : List Bool). changed (λ _. true) flags at) kept.class_flags ∙ sym (map-changed is_some (λ _. Some above) (λ _. true) (λ x. refl) beside.classes at);
         interface_flags = kept.interface_flags;
         exceptions_beside = kept.exceptions_beside;
         classes = counts_class;
@@ -146,31 +149,33 @@ module _ (t : Tables) (beside : Beside) (kept : IsKept t beside) (at : ℕ) (bas
       }
 
 -- the tables that contracts see then
-pub view_class : (old : TableRows) (decls : List ClassDecl) (beside : List (Option ℕ)) (t : Tables) → tables_of old ≡ t → (at : ℕ) (base compact : Option ℕ) (members : List Member) (bases : ℕ) → decls ≡ changed (filled_class base compact members) old.classes.decls at → beside ≡ slice_set old.classes.beside at (Some bases)
+pub view_class : (old : TableRows) (decls : List ClassDecl) (beside : List (Option Above)) (t : Tables) → tables_of old ≡ t → (at : ℕ) (base compact : Option ℕ) (members : List Member) (above : Above) → decls ≡ changed (filled_class base compact members) old.classes.decls at → beside ≡ slice_set old.classes.beside at (Some above)
     → define_class t at base compact members ≡ tables_of (record old { classes = record { decls = decls; beside = beside } })
-view_class old decls beside t view_is at base compact members bases row count =
+view_class old decls beside t view_is at base compact members above row count =
     let flags : map is_some beside ≡ changed (λ _. true) (map is_some old.classes.beside) at =
-    ap (map is_some) (count ∙ set_to old.classes.beside at (Some bases)) ∙ map-changed is_some (λ _. Some bases) (λ _. true) (λ x. refl) old.classes.beside at in
+    ap (map is_some) (count ∙ set_to old.classes.beside at (Some above)) ∙ map-changed is_some (λ _. Some above) (λ _. true) (λ x. refl) old.classes.beside at in
     rw (row, flags, ← view_is) refl
 
 -- the same of a schema's fields, where contracts see them as these tables
-pub defined_class : (old : TableRows) (decls : List ClassDecl) (beside : List (Option ℕ)) (t : Tables) (row_of : List ℕ → Option RowRef) → IsHeld (tables_of old) (beside_of old) row_of → tables_of old ≡ t
-    → (at : ℕ) (base compact : Option ℕ) (members : List Member) (bases : ℕ) → decls ≡ changed (filled_class base compact members) old.classes.decls at → beside ≡ slice_set old.classes.beside at (Some bases)
-    → at < length t.classes → is_defined t.defined_classes at ≡ false → ClassFits t base members → CompactIdFits t compact → HasBasesFrom (class_base t) base bases → bases ≤ suc (defined t.defined_classes)
+pub defined_class : (old : TableRows) (decls : List ClassDecl) (beside : List (Option Above)) (t : Tables) (row_of : List ℕ → Option RowRef) → IsHeld (tables_of old) (beside_of old) row_of → tables_of old ≡ t
+    → (at : ℕ) (base compact : Option ℕ) (members : List Member) (above : Above) → decls ≡ changed (filled_class base compact members) old.classes.decls at → beside ≡ slice_set old.classes.beside at (Some above)
+    → at < length t.classes → is_defined t.defined_classes at ≡ false → ClassFits t base members → CompactIdFits t compact → HasBasesFrom (class_base t) base above.bases → above.bases ≤ suc (defined t.defined_classes) → IsFarBase t.classes at base above.far
     → IsHeld (tables_of (record old { classes = record { decls = decls; beside = beside } })) (beside_of (record old { classes = record { decls = decls; beside = beside } })) row_of
-defined_class old decls beside t row_of held view_is at base compact members bases row count there not_yet fits compact_fits from most =
+defined_class old decls beside t row_of held view_is at base compact members above row count there not_yet fits compact_fits from most far =
     let was : IsHeld t (beside_of old) row_of = subst (λ (t : Tables). IsHeld t (beside_of old) row_of) view_is held in
-    let now : changed (λ _. Some bases) old.classes.beside at ≡ beside = sym (count ∙ set_to old.classes.beside at (Some bases)) in
-    subst (λ (u : Tables). IsHeld u (beside_of (record old { classes = record { decls = decls; beside = beside } })) row_of) (view_class old decls beside t view_is at base compact members bases row count)
-    (subst (λ (counts : List (Option ℕ)). IsHeld (define_class t at base compact members) (record (beside_of old) { classes = counts }) row_of) now (record {
-      kept = kept_class t (beside_of old) was.kept at base compact members there not_yet fits compact_fits bases from most;
+    let beside_there : at < length old.classes.beside = omega (arith, there, length-map old.classes.beside is_some, ap length was.kept.class_flags, was.kept.rules.class_flags) in
+    let now : changed (λ _. Some above) old.classes.beside at ≡ beside = sym (count ∙ set_to old.classes.beside at (Some above)) in
+    subst (λ (u : Tables). IsHeld u (beside_of (record old { classes = record { decls = decls; beside = beside } })) row_of) (view_class old decls beside t view_is at base compact members above row count)
+    (subst (λ (rows : List (Option Above)). IsHeld (define_class t at base compact members) (record (beside_of old) { classes = rows }) row_of) now (record {
+      kept = kept_class t (beside_of old) was.kept at base compact members there not_yet fits compact_fits above from most;
+      far_bases = far_defined t.classes old.classes.beside (filled_class base compact members) at above base (λ c. refl) there beside_there (base_undefined t (beside_of old) was.kept at beside_there not_yet) was.far_bases far;
       found = same_found t (define_class t at base compact members) (rows_class t at base compact members) row_of was.found;
     }))
 
 -- and of its compact ids
-module _ (old : TableRows) (decls : List ClassDecl) (beside : List (Option ℕ)) (t : Tables) (row_of : List ℕ → Option RowRef) (held : IsHeld (tables_of old) (beside_of old) row_of) (view_is : tables_of old ≡ t)
-    (class_of : ℕ → Option ℕ) (room : ℕ) (numbered : AreNumbered (tables_of old) class_of room) (at : ℕ) (base compact : Option ℕ) (members : List Member) (bases : ℕ)
-    (row : decls ≡ changed (filled_class base compact members) old.classes.decls at) (count : beside ≡ slice_set old.classes.beside at (Some bases))
+module _ (old : TableRows) (decls : List ClassDecl) (beside : List (Option Above)) (t : Tables) (row_of : List ℕ → Option RowRef) (held : IsHeld (tables_of old) (beside_of old) row_of) (view_is : tables_of old ≡ t)
+    (class_of : ℕ → Option ℕ) (room : ℕ) (numbered : AreNumbered (tables_of old) class_of room) (at : ℕ) (base compact : Option ℕ) (members : List Member) (above : Above)
+    (row : decls ≡ changed (filled_class base compact members) old.classes.decls at) (count : beside ≡ slice_set old.classes.beside at (Some above))
     (there : at < length t.classes) (not_yet : is_defined t.defined_classes at ≡ false) where
   flags_are : length t.defined_classes ≡ length t.classes
   flags_are = (subst (λ (t : Tables). IsHeld t (beside_of old) row_of) view_is held).kept.rules.class_flags
@@ -182,12 +187,12 @@ module _ (old : TableRows) (decls : List ClassDecl) (beside : List (Option ℕ))
   room_for_one = one_more t at base compact members there not_yet flags_are class_of room was_numbered
 
   pub filled_without : compact ≡ None → AreNumbered (tables_of (record old { classes = record { decls = decls; beside = beside } })) class_of room
-  filled_without none = subst (λ (u : Tables). AreNumbered u class_of room) (view_class old decls beside t view_is at base compact members bases row count)
+  filled_without none = subst (λ (u : Tables). AreNumbered u class_of room) (view_class old decls beside t view_is at base compact members above row count)
       (numbered_without t at base compact members there not_yet flags_are class_of room was_numbered none)
 
   pub filled_with : (number : ℕ) → compact ≡ Some number → (now : ℕ → Option ℕ) (left : ℕ) → ((other : ℕ) → now other ≡ cond (nat_eq number other) (Some at) (class_of other)) → room ≤ left + 1
       → AreNumbered (tables_of (record old { classes = record { decls = decls; beside = beside } })) now left
-  filled_with number is now left put spare = subst (λ (u : Tables). AreNumbered u now left) (view_class old decls beside t view_is at base compact members bases row count)
+  filled_with number is now left put spare = subst (λ (u : Tables). AreNumbered u now left) (view_class old decls beside t view_is at base compact members above row count)
       (numbered_with t at base compact members there not_yet flags_are class_of room was_numbered number is now left put spare)
 
 -- ---- an interface
@@ -307,5 +312,6 @@ defined_interface old decls beside t row_of held view_is at bases ops paths row 
     subst (λ (u : Tables). IsHeld u (beside_of (record old { interfaces = record { decls = decls; beside = beside } })) row_of) (view_interface old decls beside t view_is at bases ops paths row count)
     (subst (λ (counts : List (Option ℕ)). IsHeld (define_interface t at bases ops) (record (beside_of old) { interfaces = counts }) row_of) now (record {
       kept = kept_interface t (beside_of old) was.kept at bases ops there not_yet fits paths over;
+      far_bases = was.far_bases;
       found = same_found t (define_interface t at bases ops) (rows_interface t at bases ops) row_of was.found;
     }))

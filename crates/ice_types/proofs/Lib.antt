@@ -24,6 +24,7 @@ pub mod Leading
 pub mod ByPaths
 pub mod Searching
 pub mod Counted
+pub mod FarBases
 pub mod RowIdentity
 pub mod Alike
 pub mod Told

@@ -50,7 +50,7 @@ kept_nothing = record {
 }
 
 pub held_nothing : (row_of : List ℕ → Option RowRef) → ((id : List ℕ) → row_of id ≡ None) → IsHeld no_types nothing row_of
-held_nothing row_of none = record { kept = kept_nothing; found = λ id. subst (Finds (HasRowId no_types id)) (sym (none id)) (λ row h. no_id id row h) }
+held_nothing row_of none = record { kept = kept_nothing; far_bases = λ at. refl; found = λ id. subst (Finds (HasRowId no_types id)) (sym (none id)) (λ row h. no_id id row h) }
 
 pub numbered_nothing : (class_of : ℕ → Option ℕ) (room : ℕ) → ((number : ℕ) → class_of number ≡ None) → AreNumbered no_types class_of room
 numbered_nothing class_of room none = record {

@@ -23,6 +23,7 @@ on_err (Err e) y more = more y
 pub held_same : (t : Tables) (beside : Beside) (row_of now : List ℕ → Option RowRef) → ((id : List ℕ) → now id ≡ row_of id) → IsHeld t beside row_of → IsHeld t beside now
 held_same t beside row_of now same held = record {
   kept = held.kept;
+  far_bases = held.far_bases;
   found = λ id. subst (Finds (HasRowId t id)) (sym (same id)) (held.found id);
 }
 

@@ -7,6 +7,7 @@ use Rattle.ice_types.specs.declared.ids.Ids.{Ids}
 use Rattle.ice_types.specs.declared.kind.RowRef.{RowRef}
 use Rattle.ice_types.specs.Tables.{Tables, HasRowId, HasCompactId, Finds, is_defined}
 use Rattle.ice_types.specs.Rules.{Beside, IsKept, defined}
+use Rattle.ice_types.specs.Inherited.{HasFarBases}
 
 -- the row that is held for this id
 abbrev pub row_in : Ids → List ℕ → Option RowRef
@@ -19,6 +20,7 @@ AreFound t row_of = (id : List ℕ) → Finds (HasRowId t id) (row_of id)
 -- what a schema holds beside its tables is right
 pub record IsHeld (t : Tables) (beside : Beside) (row_of : List ℕ → Option RowRef) : Type 0 where
   pub kept : IsKept t beside
+  pub far_bases : HasFarBases t.classes beside.classes
   pub found : AreFound t row_of
 
 -- ---- compact ids

@@ -4,9 +4,10 @@ use Rattle.std.specs.List.{flat_map}
 use Rattle.ice_types.specs.declared.declarations.ClassDecl.{ClassDecl}
 use Rattle.ice_types.specs.declared.declarations.InterfaceDecl.{InterfaceDecl}
 use Rattle.ice_types.specs.declared.declarations.OpDecl.{OpDecl}
+use Rattle.ice_types.specs.declared.rows.Above.{Above}
 use Rattle.ice_types.specs.declared.schema.TheConstants.{MOST_BASES}
 use Rattle.ice_types.specs.Measures.{bases_in}
-use Rattle.ice_types.specs.Kept.{counted}
+use Rattle.ice_types.specs.Kept.{above_of, counted}
 
 -- a place itself, or one that is reached from it by steps
 pub data Reaches (Step : ℕ → ℕ → Type 0) : ℕ → ℕ → Type 0 where
@@ -49,8 +50,17 @@ first_named name ops = find (λ op. bytes_eq op.name name) ops
 -- ---- how bases are counted
 
 -- a class has more bases than its base
-abbrev pub CountsClassBases : List ClassDecl → List (Option ℕ) → Type 0
-CountsClassBases classes counts = (at base : ℕ) → base_in classes at ≡ Some base → counted counts base < counted counts at
+abbrev pub CountsClassBases : List ClassDecl → List (Option Above) → Type 0
+CountsClassBases classes beside = (at base : ℕ) → base_in classes at ≡ Some base → (above_of beside base).bases < (above_of beside at).bases
+
+-- the far base of a class with this base: that base or one above it; a class without a base is its own
+abbrev pub IsFarBase : List ClassDecl → ℕ → Option ℕ → ℕ → Type 0
+IsFarBase classes at None far = far ≡ at
+IsFarBase classes at (Some base) far = IsA classes base far
+
+-- beside each class stands its far base
+abbrev pub HasFarBases : List ClassDecl → List (Option Above) → Type 0
+HasFarBases classes beside = (at : ℕ) → IsFarBase classes at (base_in classes at) (above_of beside at).far
 
 -- each interface's bases are counted, each with its own bases
 abbrev pub CountsBases : List InterfaceDecl → List (Option ℕ) → Type 0

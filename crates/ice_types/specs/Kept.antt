@@ -1,6 +1,7 @@
 -- The tables as a schema keeps them.
 use Rattle.std.specs.Prelude.{ℕ, List, Option, None, map, slice_get, unwrap_or}
 use Rattle.std.specs.Option.{is_some}
+use Rattle.ice_types.specs.declared.rows.Above.{Above}
 use Rattle.ice_types.specs.declared.rows.TableRows.{TableRows}
 use Rattle.ice_types.specs.Tables.{Tables}
 use Rattle.ice_types.specs.Rules.{Beside}
@@ -30,6 +31,10 @@ beside_of r = record {
   exceptions = r.exceptions.beside;
   interfaces = r.interfaces.beside;
 }
+
+-- what stands beside the class at this place; one that is only declared has no base, and is its own far base
+abbrev pub above_of : List (Option Above) → ℕ → Above
+above_of beside at = unwrap_or (unwrap_or (slice_get beside at) None) (record { bases = 0; far = at })
 
 -- the number beside the row at this place; 0 where the row is only declared
 abbrev pub counted : List (Option ℕ) → ℕ → ℕ

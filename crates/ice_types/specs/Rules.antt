@@ -1,10 +1,11 @@
 -- What every schema keeps.
-use Rattle.std.specs.Prelude.{ℕ, suc, ◌≡◌, ◌≤◌, ◌<◌, Bool, true, false, List, [], ◌∷◌, length, map, Option, Some, slice_get, unwrap_or}
+use Rattle.std.specs.Prelude.{ℕ, suc, ◌≡◌, ◌≤◌, ◌<◌, Bool, true, false, List, [], ◌∷◌, length, map, Option, None, Some, slice_get, unwrap_or}
 use Rattle.std.specs.Option.{is_some}
 use Rattle.ice_types.specs.declared.kind.TypeRef.{TypeRef}
 use Rattle.ice_types.specs.declared.kind.TypeRef.TheVariants as kinds
 use Rattle.ice_types.specs.declared.kind.RowRef.{RowRef}
 use Rattle.ice_types.specs.declared.measure.Measure.{Measure}
+use Rattle.ice_types.specs.declared.rows.Above.{Above}
 use Rattle.ice_types.specs.declared.rows.TheConstants.{MOST_ROWS}
 use Rattle.ice_types.specs.declared.schema.TheConstants.{MOST_DEPTH, MOST_BASES, MOST_NUMBER}
 use Rattle.ice_types.specs.Tables.{Tables, HasRowId, HasCompactId, IsTypeId}
@@ -53,14 +54,14 @@ pub record IsSchema (t : Tables) : Type 0 where
 
 -- ---- what is kept beside the rows
 
--- at the same place: what the schema says of each type, how many bases each class and exception has, and by paths each interface;
--- None beside a class or interface that is only declared
+-- at the same place: what the schema says of each type, how many bases each class and exception has, and by paths each interface,
+-- and the far base of each class; None beside a class or interface that is only declared
 pub record Beside : Type 0 where
   pub seqs : List Measure
   pub dicts : List Measure
   pub structs : List Measure
   pub enums : List Measure
-  pub classes : List (Option ℕ)
+  pub classes : List (Option Above)
   pub exceptions : List ℕ
   pub interfaces : List (Option ℕ)
 
@@ -78,6 +79,11 @@ defined [] = 0
 defined (true ∷ flags) = suc (defined flags)
 defined (false ∷ flags) = defined flags
 
+-- how many bases a class has by what stands beside it, none where it is only declared
+abbrev pub bases_by : Option Above → ℕ
+bases_by None = 0
+bases_by (Some above) = above.bases
+
 -- what stands beside the rows is right
 pub record IsKept (t : Tables) (beside : Beside) : Type 0 where
   pub rules : IsSchema t
@@ -89,6 +95,6 @@ pub record IsKept (t : Tables) (beside : Beside) : Type 0 where
   pub interface_flags : t.defined_interfaces ≡ map is_some beside.interfaces
   pub exceptions_beside : length beside.exceptions ≡ length t.exceptions
   -- no class has more bases than there are defined classes, and no exception as many as stand before it
-  pub classes : (at : ℕ) (bases : Option ℕ) → slice_get beside.classes at ≡ Some bases → HasBases (class_base t) at (unwrap_or bases 0) × (unwrap_or bases 0 ≤ defined t.defined_classes)
+  pub classes : (at : ℕ) (above : Option Above) → slice_get beside.classes at ≡ Some above → HasBases (class_base t) at (bases_by above) × (bases_by above ≤ defined t.defined_classes)
   pub exceptions : (at bases : ℕ) → slice_get beside.exceptions at ≡ Some bases → HasBases (exception_base t) at bases × (bases ≤ at)
   pub interfaces : (at : ℕ) (paths : Option ℕ) → slice_get beside.interfaces at ≡ Some paths → unwrap_or paths 0 ≡ paths_of t (suc MOST_BASES) at

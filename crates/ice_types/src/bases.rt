@@ -5,10 +5,11 @@ ghost use Rattle.ice_types.specs.Measures.{paths_of};
 ghost use Rattle.ice_types.specs.Fits.{ClassBaseFits, ExceptionBaseFits, paths_over};
 ghost use Rattle.ice_types.specs.Bases.{HasBases, HasBasesFrom, class_base, exception_base};
 ghost use Rattle.ice_types.specs.Rules.{defined};
-ghost use Rattle.ice_types.specs.Kept.{counted};
+ghost use Rattle.ice_types.specs.Kept.{above_of, counted};
+ghost use Rattle.ice_types.specs.Inherited.{CountsClassBases, HasFarBases, IsA, IsFarBase};
 
 use crate::list::List;
-use crate::rows::MOST_ROWS;
+use crate::rows::{Above, ClassRows, MOST_ROWS};
 use crate::schema::{MOST_BASES, Schema};
 
 impl Schema {
@@ -39,7 +40,7 @@ impl Schema {
         ensures most { result ≤ defined self.now.defined_classes }
         ensures room { result < MOST_ROWS }
     {
-        counted(&self.rows.classes.beside, at)
+        above_of(&self.rows.classes.beside, at).bases
     }
 
     /// How many bases the exception at this place has, one above the other.
@@ -67,6 +68,16 @@ impl Schema {
         }
     }
 
+    /// The far base of the class at this place, once this is its base.
+    pub(crate) fn far_base(&self, at: u32, base: Option<u32>) -> u32
+        ensures { IsFarBase self.now.classes at base result }
+    {
+        match base {
+            Some(base) => far_over(&self.rows.classes, base),
+            None => at,
+        }
+    }
+
     /// How many bases an exception has whose base is this one.
     pub(crate) fn exception_bases_from(&self, base: Option<u32>) -> u32
         requires { ExceptionBaseFits self.now base }
@@ -78,6 +89,34 @@ impl Schema {
             Some(base) => self.exception_bases(base) + 1,
             None => 0,
         }
+    }
+}
+
+/// The far base of a class whose base is this one: the end of the next two leaps where these are of one
+/// length, else this base. So leaps grow as numbers do in binary, and few lead to any base.
+fn far_over(rows: &ClassRows, base: u32) -> u32
+    requires counts { CountsClassBases rows.now.decls rows.now.beside }
+    requires far { HasFarBases rows.now.decls rows.now.beside }
+    ensures { IsA rows.now.decls base result }
+{
+    let first = above_of(&rows.beside, base);
+    let second = above_of(&rows.beside, first.far);
+    let third = above_of(&rows.beside, second.far);
+    if first.bases - second.bases == second.bases - third.bases {
+        second.far
+    } else {
+        base
+    }
+}
+
+/// What stands beside the class at this place. One that is only declared has no base, and is its own far base.
+pub(crate) fn above_of(beside: &List<Option<Above>>, at: u32) -> Above
+    ensures { result ≡ above_of beside.now at }
+{
+    let declared = Above { bases: 0, far: at };
+    match beside.get(at as usize) {
+        Some(above) => above.unwrap_or(declared),
+        None => declared,
     }
 }
 

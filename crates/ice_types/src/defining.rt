@@ -10,7 +10,7 @@ use crate::declarations::{ClassDecl, InterfaceDecl, Member, OpDecl};
 use crate::kind::RowRef;
 use crate::list::List;
 use crate::name::Name;
-use crate::rows::{MOST_ROWS, add_row, fill_class, fill_interface};
+use crate::rows::{Above, MOST_ROWS, add_row, fill_class, fill_interface};
 use crate::schema::Schema;
 use std::alloc::AllocError;
 
@@ -59,8 +59,12 @@ impl Schema {
         ensures rules { IsSchema self.new }
     {
         let bases = self.class_bases_from(base);
+        let far = self.far_base(at, base);
         fill_class(&mut self.rows.classes.decls, at, base, compact, members);
-        self.rows.classes.beside.put(at as usize, Some(bases));
+        self.rows
+            .classes
+            .beside
+            .put(at as usize, Some(Above { bases, far }));
         if let Some(number) = compact {
             self.compact_ids.put(number, at);
         }

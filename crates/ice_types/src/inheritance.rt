@@ -2,24 +2,26 @@
 
 ghost use Rattle.std.specs.Prelude.{◌≡◌, ◌≤◌, ◌↔◌, IfSome, IsTrue, slice_get};
 ghost use Rattle.std.specs.Option.{option_copied};
-ghost use Rattle.ice_types.specs.Kept.{counted};
+ghost use Rattle.ice_types.specs.Kept.{above_of, counted};
 ghost use Rattle.ice_types.specs.Measures.{bases_in};
-ghost use Rattle.ice_types.specs.Inherited.{CountsBases, CountsClassBases, InterfaceIsA, IsA, base_in, bases_by_path};
+ghost use Rattle.ice_types.specs.Inherited.{CountsBases, CountsClassBases, HasFarBases, InterfaceIsA, IsA, base_in};
+ghost use Rattle.ice_types.specs.Inherited.{bases_by_path};
 ghost use Rattle.ice_types.specs.Inherited.{first_named, located, operations, ops_in};
 
-use crate::bases::counted;
+use crate::bases::{above_of, counted};
 use crate::declarations::{ClassDecl, InterfaceDecl, OpDecl};
 use crate::list::List;
+use crate::rows::ClassRows;
 use crate::schema::Schema;
 
 impl Schema {
     /// Whether the class at the first place is the one at the second, or is derived from it. A class
-    /// that is only declared has no base. (Ice manual, "Class Inheritance".)
+    /// that is only declared has no base. It takes about three steps, at most, for each binary digit of how
+    /// many bases the class has. (Ice manual, "Class Inheritance".)
     pub fn is_a(&self, class: u32, base: u32) -> bool
         ensures { IsTrue result ↔ IsA self.now.classes class base }
     {
-        let rows = &self.rows.classes;
-        derives_from(&rows.decls, &rows.beside, class, base)
+        derives_from(&self.rows.classes, class, base)
     }
 
     /// Whether the interface at the first place is the one at the second, or is derived from it. An
@@ -41,24 +43,28 @@ impl Schema {
     }
 }
 
-/// Whether the class is the other, or derived from it.
-fn derives_from(
-    classes: &List<ClassDecl>,
-    counts: &List<Option<u32>>,
-    class: u32,
-    base: u32,
-) -> bool
-    requires { CountsClassBases classes.now counts.now }
-    ensures { IsTrue result ↔ IsA classes.now class base }
+/// Whether the class is the other, or derived from it. The way up goes to the far base wherever that has at
+/// least as many bases as the other, and so is not above it, and else to the base.
+fn derives_from(rows: &ClassRows, class: u32, base: u32) -> bool
+    requires counts { CountsClassBases rows.now.decls rows.now.beside }
+    requires far { HasFarBases rows.now.decls rows.now.beside }
+    ensures { IsTrue result ↔ IsA rows.now.decls class base }
 {
+    let wanted = above_of(&rows.beside, base).bases;
     let mut at = class;
-    while at != base {
-        match base_of(classes, at) {
-            Some(next) => at = next,
-            None => return false,
-        }
+    let mut here = above_of(&rows.beside, at);
+    while here.bases > wanted {
+        let Some(next) = base_of(&rows.decls, at) else {
+            return false;
+        };
+        let far = above_of(&rows.beside, here.far);
+        (at, here) = if far.bases >= wanted {
+            (here.far, far)
+        } else {
+            (next, above_of(&rows.beside, next))
+        };
     }
-    true
+    at == base
 }
 
 /// The base of the class at a place, None where it has none.

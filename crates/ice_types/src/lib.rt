@@ -10,9 +10,12 @@
 //!   is right is in the schema's invariant (`AreFound`); no definition above mentions it.
 //! - A row is added by one function for all tables (`add_row`): the copy of the id is made first, the row is put
 //!   in, then the id; where the id finds no memory, the row is taken off again.
-//! - Beside a class or interface stands `Option` of a number: None while it is only declared, then how many
-//!   bases it has. The flags that contracts see are read off it, so that both cannot part. Those numbers fall
-//!   along bases, by which look-ups follow bases without recursion.
+//! - Beside a class or interface stands an `Option`: None while it is only declared, then how many bases it
+//!   has. The flags that contracts see are read off it, so that both cannot part. Those numbers fall along
+//!   bases, by which look-ups follow bases without recursion.
+//! - Beside a class stands its far base too, by which `is_a` leaps: over 10,000 bases it takes fewer than forty
+//!   steps. The invariant says of it only that it is the base or one above that (`HasFarBases`), which is all
+//!   that a right answer needs; how far up it lies is the code's own affair.
 //! - The classes by compact id are a hash map (`CompactIds`), since `define_*` cannot fail: `add_class` takes the
 //!   room for one of each class that is not yet defined, and an ordered map has no room to take beforehand.
 //! - A compact id that stands in place of a type id is the text `#n` where an id is kept as a text: no type id

@@ -98,19 +98,19 @@ impl Schema {
     pub fn is_class_defined(&self, at: u32) -> bool
         ensures { result ≡ is_defined self.now.defined_classes at }
     {
-        has_count(&self.rows.classes.beside, at)
+        has_beside(&self.rows.classes.beside, at)
     }
 
     /// Whether the interface at this place is there and defined. Others are only declared.
     pub fn is_interface_defined(&self, at: u32) -> bool
         ensures { result ≡ is_defined self.now.defined_interfaces at }
     {
-        has_count(&self.rows.interfaces.beside, at)
+        has_beside(&self.rows.interfaces.beside, at)
     }
 }
 
-/// Whether a number stands beside the row at a place, as where it is defined.
-fn has_count(beside: &List<Option<u32>>, at: u32) -> bool
+/// Whether something stands beside the row at a place, as where it is defined.
+fn has_beside<S>(beside: &List<Option<S>>, at: u32) -> bool
     ensures { result ≡ is_defined (map is_some beside.now) at }
 {
     matches!(beside.get(at as usize), Some(Some(_)))

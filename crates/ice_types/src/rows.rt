@@ -184,6 +184,18 @@ pub(crate) fn fill_interface(
     interface.ops = ops;
 }
 
+/// What stands beside a class that is defined.
+#[derive(Clone, Copy)]
+pub(crate) struct Above {
+    /// How many bases it has, one above the other.
+    pub bases: u32,
+    /// Its far base: its base or one above that, and the class itself where it has no base.
+    pub far: u32,
+}
+
+/// The rows of the classes. What stands beside one is None while it is only declared.
+pub(crate) type ClassRows = Rows<ClassDecl, Option<Above>>;
+
 /// The rows of all tables.
 #[derive(Drop)]
 pub(crate) struct TableRows {
@@ -191,8 +203,7 @@ pub(crate) struct TableRows {
     pub dicts: Rows<DictDecl, Measure>,
     pub structs: Rows<StructDecl, Measure>,
     pub enums: Rows<EnumDecl, Measure>,
-    /// Beside each class how many bases it has, None while it is only declared.
-    pub classes: Rows<ClassDecl, Option<u32>>,
+    pub classes: ClassRows,
     /// Beside each exception how many bases it has.
     pub exceptions: Rows<ExceptionDecl, u32>,
     /// Beside each interface how many bases it has by paths, None while it is only declared.
