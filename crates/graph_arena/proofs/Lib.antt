@@ -14,3 +14,4 @@ pub mod Agreeing
 pub mod Keeping
 pub mod Formed
 pub mod Taking
+pub mod Lone

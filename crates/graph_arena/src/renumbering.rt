@@ -19,11 +19,14 @@ use std::mem;
 
 impl Graph {
     /// The instances that the roots lead to, in the order in which they are named first, each named by
-    /// its place in that order; the others are left out. What they hold is moved, and not copied. (Ice
-    /// manual, "Data Encoding for Class and Exception Types".)
+    /// its place in that order; the others are left out. What they hold is moved, and not copied, and a graph
+    /// without instances is not gone through. (Ice manual, "Data Encoding for Class and Exception Types".)
     pub fn renumbered(self) -> Result<Graph, AllocError>
         ensures { IfOk result (λ graph. graph ≡ form self) }
     {
+        if self.len() == 0 {
+            return Ok(self);
+        }
         match self.visited() {
             Ok((visits, index)) => self.by_visits(visits.as_slice(), index.as_slice()),
             Err(error) => {
