@@ -9,8 +9,9 @@ ghost use Rattle.value_parts.specs.Shapes.{shape_seen, with_tag, without_tag};
 ghost use Rattle.graph_json.specs.ReadingValues.{members_of, noted_value};
 ghost use Rattle.graph_json.specs.Contents.{noted_content, options_of};
 
+use crate::enum_names::EnumNames;
 use crate::found::{Found, named, object_in};
-use crate::read::value_of;
+use crate::read::value_with;
 use crate::tree::Json;
 use graph_arena::{Members, Value};
 use ice_types::{List, Member, Schema};
@@ -30,13 +31,27 @@ pub fn content_of(
     ensures { IfOk result (λ o. option_map view_content o
         ≡ noted_content schema.now (shape_seen fields.entry) (json_view json.now)) }
 {
+    content_with(alloc, schema, &EnumNames::none(alloc), fields, json)
+}
+
+/// The same, with hints where the enumerators stand.
+pub(crate) fn content_with(
+    alloc: Global,
+    schema: &Schema,
+    names: &EnumNames,
+    fields: DeclaredMembers<'_>,
+    json: &Json<'_>,
+) -> Result<Option<Members>, AllocError>
+    ensures { IfOk result (λ o. option_map view_content o
+        ≡ noted_content schema.now (shape_seen fields.entry) (json_view json.now)) }
+{
     let Some(found) = object_in(json) else {
         return Ok(None);
     };
-    let Some(required) = required_of(alloc, schema, fields.required, found)? else {
+    let Some(required) = required_of(alloc, schema, names, fields.required, found)? else {
         return Ok(None);
     };
-    let Some(optional) = optional_of(alloc, schema, fields.optional, found)? else {
+    let Some(optional) = optional_of(alloc, schema, names, fields.optional, found)? else {
         drop(required);
         return Ok(None);
     };
@@ -60,6 +75,7 @@ fn is_sum(whole: usize, a: usize, b: usize) -> bool
 fn required_of(
     alloc: Global,
     schema: &Schema,
+    names: &EnumNames,
     members: &[Member],
     found: Found<'_, '_>,
 ) -> Result<Option<List<Value>>, AllocError>
@@ -71,7 +87,7 @@ fn required_of(
         if member.tag.is_some() {
             continue;
         }
-        let Some(value) = member_of(alloc, schema, member, found)? else {
+        let Some(value) = member_of(alloc, schema, names, member, found)? else {
             drop(values);
             return Ok(None);
         };
@@ -84,6 +100,7 @@ fn required_of(
 fn member_of(
     alloc: Global,
     schema: &Schema,
+    names: &EnumNames,
     member: &Member,
     found: Found<'_, '_>,
 ) -> Result<Option<Value>, AllocError>
@@ -92,7 +109,7 @@ fn member_of(
         (get_member member.now.name (members_view found.entry.entries.now))) }
 {
     match named(found, member.name.as_str()) {
-        Some(json) => value_of(alloc, schema, member.kind, json),
+        Some(json) => value_with(alloc, schema, names, member.kind, json),
         None => Ok(None),
     }
 }
@@ -101,6 +118,7 @@ fn member_of(
 fn optional_of(
     alloc: Global,
     schema: &Schema,
+    names: &EnumNames,
     members: &[Member],
     found: Found<'_, '_>,
 ) -> Result<Option<List<(u32, Value)>>, AllocError>
@@ -115,7 +133,7 @@ fn optional_of(
         let Some(json) = named(found, member.name.as_str()) else {
             continue;
         };
-        let Some(value) = value_of(alloc, schema, member.kind, json)? else {
+        let Some(value) = value_with(alloc, schema, names, member.kind, json)? else {
             drop(values);
             return Ok(None);
         };

@@ -8,11 +8,12 @@ ghost use Rattle.ice_encoding.specs.Tree.{boolean, short, int, long, proxy, refe
 ghost use Rattle.graph_arena.specs.View.{view};
 ghost use Rattle.graph_json.specs.ReadingValues as spec;
 
+use crate::enum_names::{EnumNames, number_named};
 use crate::found::{named, object_in};
 use crate::tree::Json;
 use graph_arena::Value;
 use ice_proxy::{TextFault, parse_text};
-use ice_types::{Entry, Name, Proxy, Schema};
+use ice_types::{Name, Proxy, Schema};
 use std::alloc::{AllocError, Global};
 
 pub(crate) fn bool_of(json: &Json<'_>) -> Option<Value>
@@ -81,25 +82,19 @@ fn short_text(alloc: Global, text: &str) -> Result<Option<Value>, AllocError>
 }
 
 /// An enumerator of the enum at this place of the schema's table.
-pub(crate) fn enumerator_of(schema: &Schema, at: u32, json: &Json<'_>) -> Option<Value>
+pub(crate) fn enumerator_of(
+    schema: &Schema,
+    names: &EnumNames,
+    at: u32,
+    json: &Json<'_>,
+) -> Option<Value>
     ensures { option_map view result
         ≡ option_and_then (λ e. spec.enumerator_of e.entries (json_view json.now)) (slice_get schema.now.enums at) }
 {
+    schema.rules();
     let decl = schema.enums().get(at as usize)?;
     let name = json.as_str()?;
-    Some(Value::Enum(number_named(decl.entries.as_slice(), name)?))
-}
-
-/// The number of the enumerator with this name, None where there is none.
-fn number_named(entries: &[Entry], name: &str) -> Option<u32>
-    ensures { result ≡ spec.number_named name.now entries.now }
-{
-    for entry in entries {
-        if entry.name.as_str() == name {
-            return Some(entry.number);
-        }
-    }
-    None
+    Some(Value::Enum(number_named(names, at, decl.entries.as_slice(), name)?))
 }
 
 /// A proxy from its text, the null proxy from null. (Ice manual, "Proxy and Endpoint Syntax".)

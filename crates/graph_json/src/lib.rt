@@ -46,6 +46,7 @@
 #![tactic(auto)]
 
 mod content_read;
+mod enum_names;
 mod fault;
 mod found;
 mod laws;

@@ -9,7 +9,8 @@ ghost use Rattle.graph_json.specs.Reading as spec;
 ghost use Rattle.graph_json.specs.Reading.{at_name, items_of, list_of, listed_graph};
 ghost use Rattle.graph_json.specs.Listed.{view_listed};
 
-use crate::content_read::content_of;
+use crate::content_read::content_with;
+use crate::enum_names::EnumNames;
 use crate::found::{Found, named, object_in};
 use crate::slices::slices_of;
 use crate::tree::Json;
@@ -30,6 +31,7 @@ pub(crate) struct Listed {
 pub(crate) fn listed_of(
     alloc: Global,
     schema: &Schema,
+    names: &EnumNames,
     fields: DeclaredMembers<'_>,
     json: &Json<'_>,
 ) -> Result<Option<Listed>, AllocError>
@@ -39,14 +41,14 @@ pub(crate) fn listed_of(
     let Some(found) = object_of(json, 2) else {
         return Ok(None);
     };
-    let Some(instances) = instances_in(alloc, schema, found)? else {
+    let Some(instances) = instances_in(alloc, schema, names, found)? else {
         return Ok(None);
     };
     let Some(inside) = named(found, "roots") else {
         drop(instances);
         return Ok(None);
     };
-    match content_of(alloc, schema, fields, inside) {
+    match content_with(alloc, schema, names, fields, inside) {
         Ok(Some(roots)) => Ok(Some(Listed { roots, instances })),
         Ok(None) => {
             drop(instances);
@@ -76,13 +78,14 @@ fn object_of<'a, 'b>(json: &'a Json<'b>, count: usize) -> Option<Found<'a, 'b>>
 fn instances_in(
     alloc: Global,
     schema: &Schema,
+    names: &EnumNames,
     found: Found<'_, '_>,
 ) -> Result<Option<Vec<Instance>>, AllocError>
     ensures { IfOk result (λ o. option_map (λ l. map view_instance l.items) o
         ≡ at_name (codes "instances") (list_of (spec.instance_of schema.now)) (members_view found.entry.entries.now)) }
 {
     match named(found, "instances") {
-        Some(json) => instances_of(alloc, schema, json),
+        Some(json) => instances_of(alloc, schema, names, json),
         None => Ok(None),
     }
 }
@@ -90,13 +93,14 @@ fn instances_in(
 fn instances_of(
     alloc: Global,
     schema: &Schema,
+    names: &EnumNames,
     json: &Json<'_>,
 ) -> Result<Option<Vec<Instance>>, AllocError>
     ensures { IfOk result (λ o. option_map (λ l. map view_instance l.items) o
         ≡ list_of (spec.instance_of schema.now) (json_view json.now)) }
 {
     match json.as_array() {
-        Some(items) => each_instance(alloc, schema, items.as_slice()),
+        Some(items) => each_instance(alloc, schema, names, items.as_slice()),
         None => Ok(None),
     }
 }
@@ -104,6 +108,7 @@ fn instances_of(
 fn each_instance(
     alloc: Global,
     schema: &Schema,
+    names: &EnumNames,
     items: &[Json<'_>],
 ) -> Result<Option<Vec<Instance>>, AllocError>
     ensures { IfOk result (λ o. option_map (λ l. map view_instance l.items) o
@@ -111,7 +116,7 @@ fn each_instance(
 {
     let mut instances = Vec::with_capacity(alloc, items.len())?;
     for item in items {
-        let Some(instance) = instance_of(alloc, schema, item)? else {
+        let Some(instance) = instance_of(alloc, schema, names, item)? else {
             drop(instances);
             return Ok(None);
         };
@@ -124,6 +129,7 @@ fn each_instance(
 fn instance_of(
     alloc: Global,
     schema: &Schema,
+    names: &EnumNames,
     json: &Json<'_>,
 ) -> Result<Option<Instance>, AllocError>
     ensures { IfOk result (λ o. option_map view_instance o ≡ spec.instance_of schema.now (json_view json.now)) }
@@ -134,7 +140,7 @@ fn instance_of(
     let Some(inside) = named(found, "slices") else {
         return Ok(None);
     };
-    match slices_of(alloc, schema, inside)? {
+    match slices_of(alloc, schema, names, inside)? {
         Some(slices) => Ok(Some(Instance { slices })),
         None => Ok(None),
     }

@@ -9,6 +9,7 @@ ghost use Rattle.graph_json.specs.ReadingValues as spec;
 ghost use Rattle.graph_json.specs.ReadingValues.{both_of, each_of, few, members_of, noted_value, pairs_of};
 ghost use Rattle.graph_json.specs.ReadingValues.{value_levels, value_step, whole};
 
+use crate::enum_names::EnumNames;
 use crate::found::{Found, named, object_in};
 use crate::leaves::{
     bool_of, byte_of, enumerator_of, int_of, long_of, proxy_of, reference_of, short_of, text_of,
@@ -30,7 +31,20 @@ pub fn value_of(
 ) -> Result<Option<Value>, AllocError>
     ensures { IfOk result (λ o. option_map view o ≡ noted_value schema.now kind (json_view json.now)) }
 {
-    read_level(alloc, schema, MOST_DEPTH, kind, json)
+    value_with(alloc, schema, &EnumNames::none(alloc), kind, json)
+}
+
+/// The same, with hints where the enumerators stand.
+pub(crate) fn value_with(
+    alloc: Global,
+    schema: &Schema,
+    names: &EnumNames,
+    kind: TypeRef,
+    json: &Json<'_>,
+) -> Result<Option<Value>, AllocError>
+    ensures { IfOk result (λ o. option_map view o ≡ noted_value schema.now kind (json_view json.now)) }
+{
+    read_level(alloc, schema, names, MOST_DEPTH, kind, json)
 }
 
 /// The value of a type that nests at most so deep.
@@ -38,6 +52,7 @@ pub fn value_of(
 fn read_level(
     alloc: Global,
     schema: &Schema,
+    names: &EnumNames,
     levels: u32,
     kind: TypeRef,
     json: &Json<'_>,
@@ -47,7 +62,7 @@ fn read_level(
     if levels == 0 {
         return Ok(None);
     }
-    read_parts(alloc, schema, levels - 1, kind, json)
+    read_parts(alloc, schema, names, levels - 1, kind, json)
 }
 
 /// The value of a type whose parts nest at most so deep.
@@ -55,6 +70,7 @@ fn read_level(
 fn read_parts(
     alloc: Global,
     schema: &Schema,
+    names: &EnumNames,
     levels: u32,
     kind: TypeRef,
     json: &Json<'_>,
@@ -69,10 +85,10 @@ fn read_parts(
         TypeRef::Int => Ok(int_of(json)),
         TypeRef::Long => Ok(long_of(json)),
         TypeRef::Text => text_of(alloc, json),
-        TypeRef::Seq(at) => read_sequence(alloc, schema, levels, at, json),
-        TypeRef::Dict(at) => read_dictionary(alloc, schema, levels, at, json),
-        TypeRef::Struct(at) => read_struct(alloc, schema, levels, at, json),
-        TypeRef::Enum(at) => Ok(enumerator_of(schema, at, json)),
+        TypeRef::Seq(at) => read_sequence(alloc, schema, names, levels, at, json),
+        TypeRef::Dict(at) => read_dictionary(alloc, schema, names, levels, at, json),
+        TypeRef::Struct(at) => read_struct(alloc, schema, names, levels, at, json),
+        TypeRef::Enum(at) => Ok(enumerator_of(schema, names, at, json)),
         TypeRef::Proxy(_) => proxy_of(alloc, json),
         TypeRef::Class(_) => Ok(reference_of(json)),
     }
@@ -83,6 +99,7 @@ fn read_parts(
 fn read_sequence(
     alloc: Global,
     schema: &Schema,
+    names: &EnumNames,
     levels: u32,
     at: u32,
     json: &Json<'_>,
@@ -96,7 +113,7 @@ fn read_sequence(
     let Some(items) = json.as_array() else {
         return Ok(None);
     };
-    read_items(alloc, schema, levels, decl.element, items)
+    read_items(alloc, schema, names, levels, decl.element, items)
 }
 
 /// A value of the dictionary at this place of the schema's table.
@@ -104,6 +121,7 @@ fn read_sequence(
 fn read_dictionary(
     alloc: Global,
     schema: &Schema,
+    names: &EnumNames,
     levels: u32,
     at: u32,
     json: &Json<'_>,
@@ -117,7 +135,7 @@ fn read_dictionary(
     let Some(items) = json.as_array() else {
         return Ok(None);
     };
-    read_entries(alloc, schema, levels, decl, items)
+    read_entries(alloc, schema, names, levels, decl, items)
 }
 
 /// A value of the struct at this place of the schema's table.
@@ -125,6 +143,7 @@ fn read_dictionary(
 fn read_struct(
     alloc: Global,
     schema: &Schema,
+    names: &EnumNames,
     levels: u32,
     at: u32,
     json: &Json<'_>,
@@ -138,7 +157,7 @@ fn read_struct(
     let Some(found) = object_in(json) else {
         return Ok(None);
     };
-    read_whole(alloc, schema, levels, decl.members.as_slice(), found)
+    read_whole(alloc, schema, names, levels, decl.members.as_slice(), found)
 }
 
 /// A sequence, where a size can say how many items there are.
@@ -146,6 +165,7 @@ fn read_struct(
 fn read_items(
     alloc: Global,
     schema: &Schema,
+    names: &EnumNames,
     levels: u32,
     kind: TypeRef,
     items: &Vec<Json<'_>>,
@@ -155,7 +175,7 @@ fn read_items(
         (items_view items.now.items)) }
 {
     if items.len() < 2_147_483_648 {
-        match read_each(alloc, schema, levels, kind, items.as_slice())? {
+        match read_each(alloc, schema, names, levels, kind, items.as_slice())? {
             Some(items) => Ok(Some(Value::Seq(items))),
             None => Ok(None),
         }
@@ -169,6 +189,7 @@ fn read_items(
 fn read_entries(
     alloc: Global,
     schema: &Schema,
+    names: &EnumNames,
     levels: u32,
     decl: &DictDecl,
     items: &Vec<Json<'_>>,
@@ -179,7 +200,7 @@ fn read_entries(
         (value_levels schema.now levels decl.now.value) no_entry ds)) (items_view items.now.items)) }
 {
     if items.len() < 2_147_483_648 {
-        match read_pairs(alloc, schema, levels, decl, items.as_slice())? {
+        match read_pairs(alloc, schema, names, levels, decl, items.as_slice())? {
             Some(pairs) => Ok(Some(Value::Pairs(pairs))),
             None => Ok(None),
         }
@@ -193,6 +214,7 @@ fn read_entries(
 fn read_whole(
     alloc: Global,
     schema: &Schema,
+    names: &EnumNames,
     levels: u32,
     members: &[Member],
     found: Found<'_, '_>,
@@ -203,7 +225,7 @@ fn read_whole(
         (members_view found.entry.entries.now)) }
 {
     if found.len() == members.len() {
-        match read_members(alloc, schema, levels, members, found)? {
+        match read_members(alloc, schema, names, levels, members, found)? {
             Some(items) => Ok(Some(Value::Members(items))),
             None => Ok(None),
         }
@@ -217,6 +239,7 @@ fn read_whole(
 fn read_each(
     alloc: Global,
     schema: &Schema,
+    names: &EnumNames,
     levels: u32,
     kind: TypeRef,
     items: &[Json<'_>],
@@ -226,7 +249,7 @@ fn read_each(
 {
     let mut values = with_room(alloc, items.len())?;
     for item in items {
-        let Some(value) = read_level(alloc, schema, levels, kind, item)? else {
+        let Some(value) = read_level(alloc, schema, names, levels, kind, item)? else {
             return Ok(None);
         };
         values.push(value)?;
@@ -239,6 +262,7 @@ fn read_each(
 fn read_members(
     alloc: Global,
     schema: &Schema,
+    names: &EnumNames,
     levels: u32,
     members: &[Member],
     found: Found<'_, '_>,
@@ -251,7 +275,7 @@ fn read_members(
         let Some(json) = named(found, member.name.as_str()) else {
             return Ok(None);
         };
-        let Some(value) = read_level(alloc, schema, levels, member.kind, json)? else {
+        let Some(value) = read_level(alloc, schema, names, levels, member.kind, json)? else {
             return Ok(None);
         };
         values.push(value)?;
@@ -264,6 +288,7 @@ fn read_members(
 fn read_pairs(
     alloc: Global,
     schema: &Schema,
+    names: &EnumNames,
     levels: u32,
     decl: &DictDecl,
     items: &[Json<'_>],
@@ -274,7 +299,7 @@ fn read_pairs(
 {
     let mut pairs = BTreeMap::new(alloc);
     for item in items {
-        let Some((key, value)) = read_pair(alloc, schema, levels, decl, item)? else {
+        let Some((key, value)) = read_pair(alloc, schema, names, levels, decl, item)? else {
             return Ok(None);
         };
         if !put(&mut pairs, key, value)? {
@@ -289,6 +314,7 @@ fn read_pairs(
 fn read_pair(
     alloc: Global,
     schema: &Schema,
+    names: &EnumNames,
     levels: u32,
     decl: &DictDecl,
     item: &Json<'_>,
@@ -300,10 +326,10 @@ fn read_pair(
     let Some((first, second)) = pair_of(item) else {
         return Ok(None);
     };
-    let Some(key) = read_level(alloc, schema, levels, decl.key, first)? else {
+    let Some(key) = read_level(alloc, schema, names, levels, decl.key, first)? else {
         return Ok(None);
     };
-    let Some(value) = read_level(alloc, schema, levels, decl.value, second)? else {
+    let Some(value) = read_level(alloc, schema, names, levels, decl.value, second)? else {
         return Ok(None);
     };
     Ok(Some((key, value)))

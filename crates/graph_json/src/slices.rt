@@ -9,7 +9,8 @@ ghost use Rattle.graph_json.specs.ReadingValues as values;
 ghost use Rattle.graph_json.specs.Reading as spec;
 ghost use Rattle.graph_json.specs.Reading.{at_name, items_of, list_of};
 
-use crate::content_read::content_of;
+use crate::content_read::content_with;
+use crate::enum_names::EnumNames;
 use crate::found::{Found, named, object_in};
 use crate::leaves::name_of;
 use crate::room::with_room;
@@ -24,12 +25,13 @@ use value_parts::{DeclaredMembers, SlicedType};
 pub(crate) fn slices_of(
     alloc: Global,
     schema: &Schema,
+    names: &EnumNames,
     json: &Json<'_>,
 ) -> Result<Option<List<Slice>>, AllocError>
     ensures { IfOk result (λ o. option_map view_slices o ≡ list_of (spec.slice_of schema.now) (json_view json.now)) }
 {
     match json.as_array() {
-        Some(items) => each_slice(alloc, schema, items.as_slice()),
+        Some(items) => each_slice(alloc, schema, names, items.as_slice()),
         None => Ok(None),
     }
 }
@@ -37,13 +39,14 @@ pub(crate) fn slices_of(
 fn each_slice(
     alloc: Global,
     schema: &Schema,
+    names: &EnumNames,
     items: &[Json<'_>],
 ) -> Result<Option<List<Slice>>, AllocError>
     ensures { IfOk result (λ o. option_map view_slices o ≡ items_of (spec.slice_of schema.now) (items_view items.now)) }
 {
     let mut slices = with_room(alloc, items.len())?;
     for item in items {
-        let Some(slice) = slice_of(alloc, schema, item)? else {
+        let Some(slice) = slice_of(alloc, schema, names, item)? else {
             drop(slices);
             return Ok(None);
         };
@@ -53,7 +56,12 @@ fn each_slice(
 }
 
 /// A slice: an object of two names is that of a known class, and one of four is kept.
-fn slice_of(alloc: Global, schema: &Schema, json: &Json<'_>) -> Result<Option<Slice>, AllocError>
+fn slice_of(
+    alloc: Global,
+    schema: &Schema,
+    names: &EnumNames,
+    json: &Json<'_>,
+) -> Result<Option<Slice>, AllocError>
     ensures { IfOk result (λ o. option_map view_slice o ≡ spec.slice_of schema.now (json_view json.now)) }
 {
     let Some(found) = object_in(json) else {
@@ -61,7 +69,7 @@ fn slice_of(alloc: Global, schema: &Schema, json: &Json<'_>) -> Result<Option<Sl
     };
     let count = found.len();
     if count == 2 {
-        known_in(alloc, schema, found)
+        known_in(alloc, schema, names, found)
     } else if count == 4 {
         unknown_in(alloc, found)
     } else {
@@ -73,6 +81,7 @@ fn slice_of(alloc: Global, schema: &Schema, json: &Json<'_>) -> Result<Option<Sl
 fn known_in(
     alloc: Global,
     schema: &Schema,
+    names: &EnumNames,
     found: Found<'_, '_>,
 ) -> Result<Option<Slice>, AllocError>
     ensures { IfOk result (λ o. option_map view_slice o
@@ -89,7 +98,7 @@ fn known_in(
         required: own,
         optional: own,
     };
-    match content_of(alloc, schema, fields, inside)? {
+    match content_with(alloc, schema, names, fields, inside)? {
         Some(members) => Ok(Some(Slice::Known { class, members })),
         None => Ok(None),
     }

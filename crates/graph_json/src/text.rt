@@ -16,6 +16,7 @@ ghost use Rattle.graph_json.specs.Texts.{IsText, listed_in};
 ghost use Rattle.graph_json.specs.declared.fault.JsonFault.TheVariants as faults;
 ghost use Rattle.graph_json.specs.declared.fault.JsonKind.TheVariants as kinds;
 
+use crate::enum_names::EnumNames;
 use crate::fault::{JsonFault, JsonKind};
 use crate::found::{named, object_in};
 use crate::listing::{Listed, listed_of};
@@ -31,6 +32,9 @@ use value_parts::DeclaredMembers;
 
 /// The most bytes of a text that is read.
 pub const MOST_TEXT: usize = 16_777_216;
+
+/// In texts that are longer, enumerators are found by sorted names.
+const LONG_TEXT: usize = 65_536;
 
 /// How many instances a text lists at most.
 const MOST_LISTED: usize = 100_000;
@@ -102,17 +106,28 @@ fn parsed(
     requires { HasOwnNames (shape_seen fields) }
     ensures { Parses schema.now (shape_seen fields.entry) text.now result }
 {
+    let names = names_for(alloc, schema, text.len())?;
     let mut scratch = Scratch::new(alloc);
     let json = json_of(alloc, text, &mut scratch)?;
-    let graph = graph_in(alloc, schema, fields, &json);
+    let graph = graph_in(alloc, schema, &names, fields, &json);
     drop(json);
     graph
+}
+
+/// Hints for a text of so many bytes, where it is long enough to be worth them.
+fn names_for(alloc: Global, schema: &Schema, length: usize) -> Result<EnumNames, AllocError> {
+    if length > LONG_TEXT {
+        EnumNames::of(alloc, schema)
+    } else {
+        Ok(EnumNames::none(alloc))
+    }
 }
 
 /// The graph that the JSON of a text lists, or why there is none.
 fn graph_in(
     alloc: Global,
     schema: &Schema,
+    names: &EnumNames,
     fields: DeclaredMembers<'_>,
     json: &Json<'_>,
 ) -> Result<Graph, JsonFault>
@@ -124,7 +139,7 @@ fn graph_in(
     if lists_too_many(json) {
         return Err(JsonFault::Refused(JsonKind::TooMany));
     }
-    let Some(listed) = listed_of(alloc, schema, fields, json)? else {
+    let Some(listed) = listed_of(alloc, schema, names, fields, json)? else {
         return Err(JsonFault::Refused(JsonKind::Misfit));
     };
     let Some(graph) = graph_of(alloc, listed)? else {

@@ -1,7 +1,7 @@
 use Rattle.graph_json.specs.View.{view as json_view}
 use Rattle.value_parts.specs.Shapes.{shape_seen}
 use Rattle.graph_json.proofs.ContentWalking.{content_is, content_is_not}
-use Rattle.graph_json.proofs.content_read.content_of.Goals as goal
+use Rattle.graph_json.proofs.content_read.content_with.Goals as goal
 
 pub returns-then-is_sum : goal.returns-then-is_sum
 returns-then-is_sum c =
