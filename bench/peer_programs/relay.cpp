@@ -77,6 +77,18 @@ static void relayValue(const std::string& type, const Ice::ByteSeq& bytes)
     {
         relay<Speed::Counts>(in);
     }
+    else if (type == "::Shop::Orders")
+    {
+        relay<Shop::Orders>(in);
+    }
+    else if (type == "::Shop::Book")
+    {
+        relay<Shop::Book>(in);
+    }
+    else if (type == "::Shop::Stock")
+    {
+        relay<Shop::Stock>(in);
+    }
     else
     {
         exit(2);
