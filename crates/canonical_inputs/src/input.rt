@@ -40,7 +40,8 @@ fn is_canonical_content(alloc: Global, schema: &Schema, kind: TypeRef, content: 
 }
 
 /// What the encapsulation holds that is the whole input. None where the input is none, or is longer than may be.
-fn content_of(input: &[u8]) -> Option<&[u8]>
+/// (Ice manual, "Basic Data Encoding", "Encapsulations".)
+pub fn content_of(input: &[u8]) -> Option<&[u8]>
     ensures encapsulated { IfSome result (λ content. input.now ≡ encapsulated_bytes content.now) }
     ensures short { IfSome result (λ content. length input.now ≤ LARGEST) }
 {

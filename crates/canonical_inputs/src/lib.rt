@@ -33,6 +33,6 @@ mod member;
 mod slice;
 mod walk;
 
-pub use input::is_canonical_input;
+pub use input::{content_of, is_canonical_input};
 pub use laws::{canonical_instances_stay, canonical_references_written, canonical_slices_stay};
 pub use walk::is_canonical_instance;
