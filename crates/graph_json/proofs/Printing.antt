@@ -19,7 +19,7 @@ use Rattle.json.proofs.Printed.Trees.{value-json_tokens}
 use Rattle.serde_json.specs.Data.{unsigned, Data, null, boolean, number, string, array, object, Items, no_items, item, Members, no_members, member, put, depth, items_depth, members_depth}
 use Rattle.serde_json.specs.Find.{of_integer}
 use Rattle.serde_json.specs.Read.{max_depth, of_json, of_items, of_members}
-use Rattle.serde_json.specs.Written.{outline, items_outline, members_outline}
+use Rattle.serde_json.specs.Written.{outline, items_outline, members_outline, compact_text}
 use Rattle.serde_json.proofs.Numbers.{number_of-decimal, number_of-negative}
 use Rattle.serde_json.proofs.Texts.{print-outline}
 use Rattle.graph_json.specs.Printing.{Adds, IsRead, AreRead, Prints, PrintsItems, PrintsMembers}
@@ -172,6 +172,15 @@ object_printed {ms} rise begin rest = record {
   adds = both_added begin rest.adds;
   read = ap (option_map object) (members_read no_members ms rest.read rise (none_below ms));
 }
+
+-- ---- a text behind what stands there
+
+module _ (d : Data) (start new : Written) (none : start.tokens ≡ []) (printed : Prints d start new) where
+  piece_tokens : new.tokens ≡ json_tokens (outline d)
+  piece_tokens = printed.adds.tokens ∙ ap (λ ts. ts ++ json_tokens (outline d)) none
+
+  pub piece_printed : (text bytes : List ℕ) → start.before ≡ text → bytes ≡ new.before ++ print new.tokens → bytes ≡ text ++ compact_text d
+  piece_printed text bytes before is = is ∙ ap₂ (λ (a b : List ℕ). a ++ b) (printed.adds.before ∙ before) (ap print piece_tokens ∙ print-outline d)
 
 -- ---- the text of the whole
 

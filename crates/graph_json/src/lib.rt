@@ -54,6 +54,7 @@ mod leaves;
 mod listing;
 mod numbers;
 mod parsing;
+mod pieces;
 mod read;
 mod room;
 mod rows;
@@ -73,6 +74,7 @@ pub use laws::{
     listed_only, listed_typed, notations_apart, notations_equal, noted_graphs_typed,
 };
 pub use leaves::name_of;
+pub use pieces::{push_content, push_instance, push_item};
 pub use read::value_of;
 pub use text::{MOST_TEXT, from_text, to_text};
 pub use tree::Json;

@@ -35,7 +35,7 @@ pub(crate) fn write_object(
 }
 
 #[cycle(notes)]
-fn write_level(
+pub(crate) fn write_level(
     out: &mut Writer,
     alloc: Global,
     schema: &Schema,

@@ -56,7 +56,7 @@ fn write_instances(
     out.end_array()
 }
 
-fn write_instance(
+pub(crate) fn write_instance(
     out: &mut Writer,
     alloc: Global,
     schema: &Schema,
@@ -133,7 +133,7 @@ fn write_known(
 
 /// The values of these members: an object by the members' names, without those of optional members that are
 /// absent.
-fn write_content(
+pub(crate) fn write_content(
     out: &mut Writer,
     alloc: Global,
     schema: &Schema,

@@ -19,19 +19,10 @@ use Rattle.graph_json.specs.declared.fault.JsonFault.{JsonFault}
 use Rattle.graph_json.specs.declared.fault.JsonFault.TheVariants as json_faults
 use Rattle.ice_relay.specs.Relaying.{root_of, one_value}
 use Rattle.ice_relay.proofs.Holding.{asked, asked_is, holds, writes}
-use Rattle.ice_relay.specs.Dumping.{Dumps}
 use Rattle.ice_relay.specs.Encoding.{EncodesText}
 use Rattle.ice_relay.specs.Faults.{of_json, of_write}
 
 module _ (t : Tables) (kind : TypeRef) (root : Member) (is : root ≡ root_of kind) where
-  -- ---- a line
-
-  pub told : (input : List ℕ) (g : Graph) (text : List ℕ) (line : Vec ℕ Global) → IsBytes input → numbered_at t all_slices (asked t kind root is) (whole input) ≡ Ok g
-      → text ≡ graph_text t (asked t kind root is) g → line.items ≡ text ++ 10 ∷ [] → Dumps t kind input (Ok line)
-  told input g text line fits read e pushed =
-      let here : text ≡ graph_text t (one_value kind) g = e ∙ ap (λ (s : Shape). graph_text t s g) (asked_is t kind root is) in
-      (g, holds t kind root is input g fits read, pushed ∙ ap (λ (l : List ℕ). l ++ 10 ∷ []) here)
-
   -- ---- an encapsulation
 
   parses : (text : List ℕ) (result : Result Graph JsonFault) → Parses t (asked t kind root is) text result → Parses t (one_value kind) text result

@@ -5,6 +5,8 @@ use Rattle.graph_json.specs.declared.fault.JsonFault.{JsonFault}
 use Rattle.graph_json.specs.declared.fault.JsonFault.TheVariants as json_faults
 use Rattle.class_slices.specs.declared.write_fault.WriteFault.{WriteFault}
 use Rattle.class_slices.specs.declared.write_fault.WriteFault.TheVariants as write_faults
+use Rattle.ice_relay.specs.declared.dump_fault.DumpFault.{DumpFault}
+use Rattle.ice_relay.specs.declared.dump_fault.DumpFault.TheVariants as dump_faults
 use Rattle.ice_relay.specs.declared.fault.RelayFault.{RelayFault}
 use Rattle.ice_relay.specs.declared.fault.RelayFault.TheVariants as faults
 
@@ -12,6 +14,11 @@ use Rattle.ice_relay.specs.declared.fault.RelayFault.TheVariants as faults
 abbrev pub of_read : ReadFault → RelayFault
 of_read (read_faults.Broken fault) = faults.Broken fault
 of_read read_faults.Memory = faults.Memory
+
+-- the same, for one who dumps a value
+abbrev pub of_broken : ReadFault → DumpFault
+of_broken (read_faults.Broken fault) = dump_faults.Broken fault
+of_broken read_faults.Memory = dump_faults.Memory
 
 -- what a fault of a text comes to
 abbrev pub of_json : JsonFault → RelayFault

@@ -4,6 +4,7 @@ pub mod Relaying
 pub mod Comparing
 pub mod TextStreams
 pub mod Dumping
+pub mod Pages
 pub mod Encoding
 pub mod Drawn
 pub mod Nodes
