@@ -9,6 +9,7 @@ pub mod Deciding
 pub mod Noted
 pub mod Dumped
 pub mod TextTelling
+pub mod Pages
 pub mod Tables
 pub mod Fitting
 pub mod Relayed

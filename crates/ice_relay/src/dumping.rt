@@ -3,13 +3,17 @@
 ghost use Rattle.ice_relay.specs.Dumping.{DumpsTo};
 
 use crate::dump_fault::DumpFault;
+use crate::line::tell_graph;
+use crate::relay::root_of;
+use class_slices::decode;
 use ice_ports::Sink;
 use ice_types::{Schema, TypeRef};
 use std::alloc::Global;
+use value_parts::DeclaredMembers;
 
 /// Writes the line of JSON that tells the value that the whole input holds, with all instances that it leads to; or
 /// answers the first fault from the left, or what failed, with what the sink got by then. No more of the line is held
-/// than a page and the text of an instance, of an item of a sequence, or of a value that is neither.
+/// than a page and the text of one instance, or that of the value.
 /// (Ice manual, "Data Encoding for Class and Exception Types".)
 pub fn dump_to<K: Sink>(
     alloc: Global,
@@ -21,5 +25,13 @@ pub fn dump_to<K: Sink>(
     ensures { DumpsTo schema.now kind input.now (K.taken sink.old) (K.taken sink.new)
         (K.failures sink.old) (K.failures sink.new) result }
 {
-    Err(DumpFault::Memory)
+    let root = [root_of(alloc, kind)?];
+    let fields = DeclaredMembers {
+        required: &root,
+        optional: &[],
+    };
+    let graph = decode(alloc, schema, fields, input)?.renumbered()?;
+    let told = tell_graph(alloc, schema, fields, &graph, sink);
+    drop(graph);
+    Ok(told?)
 }

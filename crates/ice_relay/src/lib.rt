@@ -29,6 +29,7 @@ mod fault;
 mod generator;
 mod input;
 mod laws;
+mod line;
 mod node_schema;
 mod page;
 mod relay;
