@@ -27,7 +27,7 @@ pub(crate) fn tell_graph<K: Sink>(
     ensures { TellsAll (compact_text (graph_noted schema.now (shape_seen fields.entry) graph.now) ++ codes "\n")
         (K.taken sink.old) (K.taken sink.new) (K.failures sink.old) (K.failures sink.new) result }
 {
-    let page = Vec::from_slice(alloc, b"{\"instances\":[")?;
+    let page = with_text(Vec::new(alloc), "{\"instances\":[")?;
     let page = tell_instances(page, alloc, schema, graph, sink)?;
     ended(with_roots(page, alloc, schema, fields, graph.roots())?, sink)
 }
@@ -49,8 +49,7 @@ fn tell_instances<K: Sink>(
         let longer = with_instance(page, alloc, schema, at > 0, slices)?;
         page = turned(longer, sink)?;
     }
-    page.push(b']')?;
-    Ok(page)
+    Ok(with_text(page, "]")?)
 }
 
 /// The page with an instance of these slices, behind a comma where one stands before it.
@@ -68,13 +67,18 @@ fn with_instance(
 }
 
 /// The page with a comma, where something stands before.
-fn with_comma(page: Vec<u8>, later: bool) -> Result<Vec<u8>, AllocError>
+pub(crate) fn with_comma(page: Vec<u8>, later: bool) -> Result<Vec<u8>, AllocError>
     ensures { IfOk result (λ longer. longer.items ≡ page.entry.items ++ comma_if later) }
 {
+    with_text(page, if later { "," } else { "" })
+}
+
+/// The page with this text.
+pub(crate) fn with_text(page: Vec<u8>, text: &str) -> Result<Vec<u8>, AllocError>
+    ensures { IfOk result (λ longer. longer.items ≡ page.entry.items ++ text.now) }
+{
     let mut page = page;
-    if later {
-        page.push(b',')?;
-    }
+    page.extend_from_slice(text.as_bytes())?;
     Ok(page)
 }
 
@@ -89,9 +93,7 @@ fn with_roots(
     ensures { IfOk result (λ longer. longer.items ≡ page.entry.items ++ (codes ",\"roots\":"
         ++ (compact_text (content_noted schema.now (shape_seen fields.entry) (view_content roots.now)) ++ codes "}\n"))) }
 {
-    let mut page = page;
-    page.extend_from_slice(b",\"roots\":")?;
-    let mut page = push_content(page, alloc, schema, fields, roots)?;
-    page.extend_from_slice(b"}\n")?;
-    Ok(page)
+    let page = with_text(page, ",\"roots\":")?;
+    let page = push_content(page, alloc, schema, fields, roots)?;
+    with_text(page, "}\n")
 }
