@@ -1,6 +1,6 @@
 //! The line of a graph, instance by instance.
 
-ghost use Rattle.std.specs.Prelude.{◌≡◌, ◌++◌, IfOk, codes};
+ghost use Rattle.std.specs.Prelude.{◌≡◌, ◌++◌, IfOk, codes, false};
 ghost use Rattle.serde_json.specs.Written.{comma_if, compact_text, items_text};
 ghost use Rattle.graph_arena.specs.Seen.{view_content, view_slices};
 ghost use Rattle.value_parts.specs.Shapes.{shape_seen};
@@ -40,7 +40,7 @@ fn tell_instances<K: Sink>(
     graph: &Graph,
     sink: &mut K,
 ) -> Result<Vec<u8>, TellFault>
-    ensures { Tells (page.entry.items ++ items_text false (items_noted (instance_noted schema.now) graph.now.instances))
+    ensures { Tells (page.items ++ items_text false (items_noted (instance_noted schema.now) graph.now.instances))
         (K.taken sink.old) (K.taken sink.new) (K.failures sink.old) (K.failures sink.new) result }
 {
     let mut page = page;
@@ -60,7 +60,7 @@ fn with_instance(
     later: bool,
     slices: &[Slice],
 ) -> Result<Vec<u8>, AllocError>
-    ensures { IfOk result (λ longer. longer.items ≡ page.entry.items
+    ensures { IfOk result (λ longer. longer.items ≡ page.items
         ++ (comma_if later ++ compact_text (instance_noted schema.now (view_slices slices.now)))) }
 {
     push_instance(with_comma(page, later)?, alloc, schema, slices)
@@ -68,14 +68,14 @@ fn with_instance(
 
 /// The page with a comma, where something stands before.
 pub(crate) fn with_comma(page: Vec<u8>, later: bool) -> Result<Vec<u8>, AllocError>
-    ensures { IfOk result (λ longer. longer.items ≡ page.entry.items ++ comma_if later) }
+    ensures { IfOk result (λ longer. longer.items ≡ page.items ++ comma_if later) }
 {
     with_text(page, if later { "," } else { "" })
 }
 
 /// The page with this text.
 pub(crate) fn with_text(page: Vec<u8>, text: &str) -> Result<Vec<u8>, AllocError>
-    ensures { IfOk result (λ longer. longer.items ≡ page.entry.items ++ text.now) }
+    ensures { IfOk result (λ longer. longer.items ≡ page.items ++ text.now) }
 {
     let mut page = page;
     page.extend_from_slice(text.as_bytes())?;
@@ -90,7 +90,7 @@ fn with_roots(
     fields: DeclaredMembers<'_>,
     roots: &Members,
 ) -> Result<Vec<u8>, AllocError>
-    ensures { IfOk result (λ longer. longer.items ≡ page.entry.items ++ (codes ",\"roots\":"
+    ensures { IfOk result (λ longer. longer.items ≡ page.items ++ (codes ",\"roots\":"
         ++ (compact_text (content_noted schema.now (shape_seen fields.entry) (view_content roots.now)) ++ codes "}\n"))) }
 {
     let page = with_text(page, ",\"roots\":")?;

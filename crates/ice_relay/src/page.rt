@@ -37,7 +37,7 @@ impl From<AllocError> for TellFault {
 
 /// The page as it stands; or, where it is full, a blank one: the sink gets what stood there.
 pub(crate) fn turned<K: Sink>(page: Vec<u8>, sink: &mut K) -> Result<Vec<u8>, TellFault>
-    ensures { Tells page.entry.items (K.taken sink.old) (K.taken sink.new)
+    ensures { Tells page.items (K.taken sink.old) (K.taken sink.new)
         (K.failures sink.old) (K.failures sink.new) result }
 {
     if page.len() < FULL {
@@ -51,7 +51,7 @@ pub(crate) fn turned<K: Sink>(page: Vec<u8>, sink: &mut K) -> Result<Vec<u8>, Te
 
 /// Writes what stands on the last page.
 pub(crate) fn ended<K: Sink>(page: Vec<u8>, sink: &mut K) -> Result<(), TellFault>
-    ensures { TellsAll page.entry.items (K.taken sink.old) (K.taken sink.new)
+    ensures { TellsAll page.items (K.taken sink.old) (K.taken sink.new)
         (K.failures sink.old) (K.failures sink.new) result }
 {
     write_all(sink, page.as_slice())?;
