@@ -10,6 +10,8 @@ pub mod Noted
 pub mod Dumped
 pub mod TextTelling
 pub mod Pages
+pub mod Instances
+pub mod Lines
 pub mod Tables
 pub mod Fitting
 pub mod Relayed

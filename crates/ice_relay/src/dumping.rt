@@ -25,6 +25,20 @@ pub fn dump_to<K: Sink>(
     ensures { DumpsTo schema.now kind input.now (K.taken sink.old) (K.taken sink.new)
         (K.failures sink.old) (K.failures sink.new) result }
 {
+    dump_graph(alloc, schema, kind, input, sink)
+}
+
+/// The same, by way of the graph.
+fn dump_graph<K: Sink>(
+    alloc: Global,
+    schema: &Schema,
+    kind: TypeRef,
+    input: &[u8],
+    sink: &mut K,
+) -> Result<(), DumpFault>
+    ensures { DumpsTo schema.now kind input.now (K.taken sink.old) (K.taken sink.new)
+        (K.failures sink.old) (K.failures sink.new) result }
+{
     let root = [root_of(alloc, kind)?];
     let fields = DeclaredMembers {
         required: &root,
