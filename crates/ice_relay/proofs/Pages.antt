@@ -45,7 +45,7 @@ module _ (first second : List ℕ) (old mid new : Option (List ℕ)) (before m a
   behind_all (Err fault) stops = behind_stops fault stops
 
 -- a text that is not told to its end is none that is longer
-longer_stops : (text more : List ℕ) (old new : Option (List ℕ)) (before after : ℕ) (fault : TellFault) → Stops text old new before after fault → Stops (text ++ more) old new before after fault
+pub longer_stops : (text more : List ℕ) (old new : Option (List ℕ)) (before after : ℕ) (fault : TellFault) → Stops text old new before after fault → Stops (text ++ more) old new before after fault
 longer_stops text more old new before after faults.WriteFailed ((prefix, rest, is, got, some), count) =
     ((prefix, rest ++ more, ap (λ (l : List ℕ). l ++ more) is ∙ append_assoc prefix rest more, got, omega (arith, some, length-append rest more)), count)
 longer_stops text more old new before after faults.Memory ((written, rest, is, got), count) =
