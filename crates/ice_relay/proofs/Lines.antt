@@ -1,5 +1,5 @@
 -- The line of a graph in pieces, and what comes of telling it.
-use Rattle.std.proofs.Common.{◌≡◌, ℕ, List, [], ◌∷◌, ◌++◌, Option, Result, Ok, Err, Vec, codes, false, refl, sym, ap, subst, ◌∙◌, append_assoc}
+use Rattle.std.proofs.Common.{◌≡◌, ℕ, List, ◌++◌, Option, Ok, Err, Vec, codes, false, sym, ap, subst, ◌∙◌, append_assoc}
 use Rattle.std.specs.declared.alloc.Global.{Global}
 use Rattle.std.specs.Io.KnownBytes.{Appends}
 use Rattle.json.specs.Print.{escape_byte}
@@ -15,7 +15,7 @@ use Rattle.ice_encoding.specs.Instances.{numbered_at}
 use Rattle.ice_encoding.specs.SameGraph.{form}
 use Rattle.graph_json.specs.Canonical.{graph_noted, instance_noted, items_noted}
 use Rattle.graph_json.specs.Contents.{content_noted}
-use Rattle.ice_relay.specs.Dumping.{Begins, DumpsTo, dump_line}
+use Rattle.ice_relay.specs.Dumping.{DumpsTo, dump_line}
 use Rattle.ice_relay.specs.Pages.{Stops, Tells, TellsAll, of_tell}
 use Rattle.ice_relay.specs.Relaying.{root_of, one_value}
 use Rattle.ice_relay.specs.declared.page.TellFault.{TellFault}
@@ -43,8 +43,8 @@ module _ (t : Tables) (shape : Shape) (g : Graph) where
   unfolding escape_byte
   line_in_pieces =
       sym (ap (λ (l : List ℕ). head ++ l)
-          (append_assoc instances (codes ",\"roots\":" ++ (roots ++ codes "}")) (codes "\n")
-          ∙ ap (λ (l : List ℕ). instances ++ (codes ",\"roots\":" ++ l)) (append_assoc roots (codes "}") (codes "\n"))))
+      (append_assoc instances (codes ",\"roots\":" ++ (roots ++ codes "}")) (codes "\n")
+      ∙ ap (λ (l : List ℕ). instances ++ (codes ",\"roots\":" ++ l)) (append_assoc roots (codes "}") (codes "\n"))))
 
   module _ (first : List ℕ) (is : first ≡ head) where
     with_tail : (first ++ instances) ++ tail ≡ line

@@ -1,24 +1,21 @@
 -- What comes of a value that was read, as bytes or as text.
-use Rattle.std.proofs.Common.{◌≡◌, ℕ, List, [], ◌∷◌, ◌++◌, Result, Ok, Err, Vec, ap, subst, ◌∙◌}
+use Rattle.std.proofs.Common.{◌≡◌, ℕ, List, Result, Ok, Err, Vec, subst}
 use Rattle.std.specs.declared.alloc.Global.{Global}
 use Rattle.ice_types.specs.declared.kind.TypeRef.{TypeRef}
 use Rattle.ice_types.specs.declared.declarations.Member.{Member}
 use Rattle.ice_types.specs.declared.declarations.Shape.{Shape}
 use Rattle.ice_types.specs.Tables.{Tables}
-use Rattle.ice_prims.specs.Rest.{whole, IsBytes}
 use Rattle.ice_encoding.specs.declared.limits.TheConstants.{LARGEST}
 use Rattle.ice_encoding.specs.Graph.{Graph}
-use Rattle.ice_encoding.specs.Flags.{all_slices}
 use Rattle.ice_encoding.specs.CanonicalGraph.{Format}
-use Rattle.ice_encoding.specs.Instances.{numbered_at}
 use Rattle.class_slices.specs.Encoding.{Writes}
 use Rattle.class_slices.specs.declared.write_fault.WriteFault.{WriteFault}
 use Rattle.class_slices.specs.declared.write_fault.WriteFault.TheVariants as write_faults
-use Rattle.graph_json.specs.Texts.{Parses, graph_text}
+use Rattle.graph_json.specs.Texts.{Parses}
 use Rattle.graph_json.specs.declared.fault.JsonFault.{JsonFault}
 use Rattle.graph_json.specs.declared.fault.JsonFault.TheVariants as json_faults
 use Rattle.ice_relay.specs.Relaying.{root_of, one_value}
-use Rattle.ice_relay.proofs.Holding.{asked, asked_is, holds, writes}
+use Rattle.ice_relay.proofs.Holding.{asked, asked_is, writes}
 use Rattle.ice_relay.specs.Encoding.{EncodesText}
 use Rattle.ice_relay.specs.Faults.{of_json, of_write}
 

@@ -29,7 +29,10 @@ pub(crate) fn tell_graph<K: Sink>(
 {
     let page = with_text(Vec::new(alloc), "{\"instances\":[")?;
     let page = tell_instances(page, alloc, schema, graph, sink)?;
-    ended(with_roots(page, alloc, schema, fields, graph.roots())?, sink)
+    ended(
+        with_roots(page, alloc, schema, fields, graph.roots())?,
+        sink,
+    )
 }
 
 /// Tells the instances behind what stands on the page, one after the other, and the end of their array.

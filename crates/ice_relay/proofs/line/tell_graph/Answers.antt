@@ -1,4 +1,4 @@
-use Rattle.std.proofs.Common.{ℕ, List, ◌++◌, ◌≡◌, Ok, ap, sym, subst, ◌∙◌, codes}
+use Rattle.std.proofs.Common.{ℕ, List, ◌++◌, ◌≡◌, ap, subst, ◌∙◌, codes}
 use Rattle.std.proofs.lemmas.Result.{err_from_is_err_and}
 use Rattle.serde_json.specs.Written.{compact_text}
 use Rattle.ice_encoding.specs.OptionalMembers.{Members}
@@ -14,7 +14,7 @@ returns-in_err-page-2 g c =
     let failed = err_from_is_err_and c.from_residual-in_err-page-2.result c.from_residual-in_err-page-2.ensures.1 in
     let first : c.in_ok-page.page.items ≡ head c.args.schema.now (shape_seen c.args.fields) c.args.graph.now = c.in_ok-page.ensures ∙ ap (λ (l : List ℕ). l ++ codes "{\"instances\":[") c.new.ensures.items in
     rw (failed.1, failed.2) (instances_stop c.args.schema.now (shape_seen c.args.fields) c.args.graph.now c.in_ok-page.page.items first (g.K.Sink.taken c.args.sink.now) (g.K.Sink.taken c.tell_instances.new.sink) (g.K.Sink.failures c.args.sink.now) (g.K.Sink.failures c.tell_instances.new.sink)
-        c.in_err-page-2.field-0.0 c.in_err-page-2.ensures)
+    c.in_err-page-2.field-0.0 c.in_err-page-2.ensures)
 
 pub returns-in_err-with_roots : goal.returns-in_err-with_roots
 returns-in_err-with_roots g c =

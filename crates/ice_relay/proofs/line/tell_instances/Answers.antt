@@ -1,4 +1,4 @@
-use Rattle.std.proofs.Common.{ℕ, ◌+◌, List, [], ◌++◌, ◌≡◌, nat_lt, Ok, Err, arith, refl, sym, ap, subst, ◌∙◌}
+use Rattle.std.proofs.Common.{ℕ, ◌+◌, List, [], ◌++◌, ◌≡◌, nat_lt, Ok, arith, refl, sym, ap, subst, ◌∙◌}
 use Rattle.std.proofs.lemmas.Result.{err_from_is_err_and}
 use Rattle.serde_json.specs.Written.{comma_if, compact_text}
 use Rattle.graph_arena.specs.Seen.{view_slices}
@@ -6,7 +6,6 @@ use Rattle.ice_encoding.specs.Graph.{Slice}
 use Rattle.ice_encoding.specs.Instances.{slices_of}
 use Rattle.graph_json.specs.Canonical.{instance_noted}
 use Rattle.ice_relay.specs.Pages.{Stops, Tells}
-use Rattle.ice_relay.specs.declared.page.TellFault.{TellFault}
 use Rattle.ice_relay.proofs.Pages.{all_left, less_left, left_stops, left_without_memory, none_left}
 use Rattle.ice_relay.proofs.Instances.{text_from, one_from, none_from}
 use Rattle.ice_relay.proofs.line.tell_instances.Goals as goal
@@ -32,7 +31,7 @@ returns-in_err-page g c =
     c.in_ok-longer.ensures ∙ ap (λ (s : List Slice). c.loop-at.page.items ++ (comma_if (nat_lt 0 c.loop-at.at) ++ compact_text (note s))) here in
     let stops = subst (λ (l : List ℕ). Stops l (g.K.Sink.taken c.loop-at.sink) (g.K.Sink.taken c.turned.new.sink) (g.K.Sink.failures c.loop-at.sink) (g.K.Sink.failures c.turned.new.sink) c.in_err-page.field-0.0) longer c.in_err-page.ensures in
     rw (failed.1, failed.2) (left_stops (c.args.page.items ++ from 0) (from c.loop-at.at) (g.K.Sink.taken c.args.sink.now) (g.K.Sink.taken c.loop-at.sink) (g.K.Sink.taken c.turned.new.sink) (g.K.Sink.failures c.args.sink.now) (g.K.Sink.failures c.loop-at.sink) (g.K.Sink.failures c.turned.new.sink)
-        c.loop-at.page c.loop-at.invariant piece (from (c.loop-at.at + 1)) (one_from note c.args.graph.now.instances c.loop-at.at slices [] (omega (arith, c.len-at-end.ensures.len, c.loop-at-test.true)) refl) c.in_err-page.field-0.0 stops)
+    c.loop-at.page c.loop-at.invariant piece (from (c.loop-at.at + 1)) (one_from note c.args.graph.now.instances c.loop-at.at slices [] (omega (arith, c.len-at-end.ensures.len, c.loop-at-test.true)) refl) c.in_err-page.field-0.0 stops)
 
 pub loop-at-preserved : goal.loop-at-preserved
 loop-at-preserved g c =
