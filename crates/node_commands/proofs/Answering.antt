@@ -1,7 +1,7 @@
 -- What the program did, from what its parts did.
-use Rattle.std.proofs.Common.{◌≡◌, ℕ, true, false, List, [], Option, Some, refl, inl, inr}
+use Rattle.std.proofs.Common.{◌≡◌, ℕ, true, false, List, [], Option, Some, Result, Ok, Err, refl, sym, subst, inl, inr}
 use Rattle.node_commands.specs.Words.{Command}
-use Rattle.node_commands.specs.Outside.{Files, Failures}
+use Rattle.node_commands.specs.Outside.{Files, Failures, counts}
 use Rattle.node_commands.specs.Answers.{Answer, done, different, usage, no_such_name, slice_refused, input_refused, json_refused, too_long, needs_sliced, text_refused, read_failed, write_failed, no_memory, refused_after, read_failed_after, no_memory_after}
 use Rattle.node_commands.specs.Decided.{Decides}
 use Rattle.node_commands.specs.Causes.{Causes, IsToBeWritten}
@@ -11,7 +11,7 @@ use Rattle.node_commands.specs.declared.found.Found.{Found}
 use Rattle.node_commands.specs.declared.found.Found.TheVariants as founds
 use Rattle.node_commands.specs.declared.outcome.Outcome.{Outcome}
 use Rattle.node_commands.specs.declared.outcome.Outcome.TheVariants as outcomes
-use Rattle.node_commands.specs.Outcomes.{Prints, PrintsFor, answer_of, verdict_line, found_answer, found_bytes, found_outcome}
+use Rattle.node_commands.specs.Outcomes.{Prints, PrintsFor, PrintsOrTells, Finds, answer_of, verdict_line, found_answer, found_bytes, found_outcome}
 use Rattle.node_commands.proofs.Keeping.{keeps_itself}
 use Rattle.std.proofs.KnownBytes.{Appends-nil}
 
@@ -69,3 +69,18 @@ outputs_nothing old outcomes.Memory = keeps_itself old
 outputs_nothing old (outcomes.RefusedAfter fault) = Appends-nil old
 outputs_nothing old outcomes.ReadFailedAfter = Appends-nil old
 outputs_nothing old outcomes.MemoryAfter = Appends-nil old
+
+-- a command without an input: what it found was written, or nothing was found
+module _ (command : Command) (files : Option Files) (input : Option (List ℕ)) (none : TakesInput (Some command) input input) (shelf after source sink later : ℕ) (old new : Option (List ℕ)) (denied : (bytes : List ℕ) → Decides (Some command) files input (different bytes) → IsToBeWritten (Some command) files input bytes) where
+  pub printed_or_told : (found : Result Found Outcome) (outcome : Outcome) → Finds command files input (counts shelf source sink) (counts after source sink) found → PrintsOrTells found old new sink later outcome
+      → (bytes : List ℕ) × Causes (Some command) files input (counts shelf source sink) (counts after source later) (answer_of outcome bytes) × Takes (Some command) input input (answer_of outcome bytes) × Outputs old new (answer_of outcome bytes)
+  printed_or_told (Ok found) outcome (decided, kept) (prints, gets) =
+      let came = found_printed command files input input (counts shelf source sink) (counts after source later) denied found outcome decided kept.0 refl none prints in
+      (found_bytes found, came.0, came.1, gets)
+  printed_or_told (Err why) outcome causes (is, count, kept) =
+      rw is (
+        [],
+        subst (λ (n : ℕ). Causes (Some command) files input (counts shelf source sink) (counts after source n) (answer_of why [])) (sym count) causes,
+        takes_nothing (Some command) input none (answer_of why []),
+        subst (λ (x : Option (List ℕ)). Outputs old x (answer_of why [])) (sym kept) (outputs_nothing old why),
+      )

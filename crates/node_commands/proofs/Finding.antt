@@ -1,19 +1,16 @@
 -- What was loaded and read, and what it comes to.
-use Rattle.std.proofs.Common.{◌≡◌, ℕ, ◌<◌, ◌≤◌, Bool, true, false, List, [], ◌++◌, length, Option, None, Some, Result, Ok, Err, Vec, refl, sym, ap, subst, ◌∙◌, arith, inl, inr}
+use Rattle.std.proofs.Common.{◌≡◌, ℕ, ◌<◌, ◌≤◌, Bool, true, false, List, [], ◌++◌, length, Option, None, Some, Ok, Err, Vec, refl, sym, ap, subst, ◌∙◌, arith, inl, inr}
 use Rattle.std.specs.Prelude.{◌↔◌, IsTrue}
 use Rattle.std.specs.declared.alloc.Global.{Global}
 use Rattle.std.proofs.lemmas.List.{append-nil}
 use Rattle.ice_types.specs.declared.kind.TypeRef.{TypeRef}
 use Rattle.ice_types.specs.Tables.{Tables}
 use Rattle.ice_prims.specs.declared.fault.Fault.{Fault}
-use Rattle.ice_prims.specs.declared.fault.ReadFault.{ReadFault}
-use Rattle.ice_prims.specs.declared.fault.ReadFault.TheVariants as read_faults
 use Rattle.ice_encoding.specs.Graph.{Graph}
 use Rattle.ice_encoding.specs.CanonicalGraph.{Format as Form, IsWritable}
 use Rattle.ice_encoding.specs.SameGraph.{Same}
 use Rattle.graph_json.specs.declared.fault.JsonKind.{JsonKind}
 use Rattle.graph_json.specs.Texts.{IsRefused, Lists}
-use Rattle.ice_relay.specs.Dumping.{Dumps}
 use Rattle.ice_relay.specs.Encoding.{EncodesText}
 use Rattle.ice_relay.specs.TextStreams.{ReadsText}
 use Rattle.ice_relay.proofs.Deciding.{listed_whole, refused_whole}
@@ -38,12 +35,11 @@ use Rattle.node_commands.specs.declared.words.Task.{Task}
 use Rattle.node_commands.specs.declared.words.Task.TheVariants as tasks
 use Rattle.node_commands.specs.Words.{Word, values, check}
 use Rattle.node_commands.specs.Outside.{Files, Failures, NoneFailed, counts}
-use Rattle.node_commands.specs.Answers.{Answer, done, slice_refused, input_refused, json_refused, too_long, needs_sliced, read_failed, no_memory}
-use Rattle.node_commands.specs.Decided.{IsSchema, IsNamed, WithType, IsHeld, IsInputFault, AreHeld, IsFaultOfTwo, IsListed, IsTextFault, Encapsulates, IsVerdict, Does}
+use Rattle.node_commands.specs.Answers.{Answer, done, slice_refused, too_long, read_failed, no_memory}
+use Rattle.node_commands.specs.Decided.{IsSchema, WithType, IsHeld, IsInputFault, AreHeld, IsFaultOfTwo, IsListed, IsTextFault, Encapsulates, IsVerdict, Does}
 use Rattle.node_commands.specs.Causes.{Causes}
 use Rattle.node_commands.specs.Effects.{TakesTask, Takes}
-use Rattle.node_commands.specs.Outcomes.{GivesNoSchema, FindsNone, FindsTask, Finds, TakesFound, answer_of, found_answer, of_port, of_read, of_relay}
-use Rattle.node_commands.specs.declared.found.Found.{Found}
+use Rattle.node_commands.specs.Outcomes.{GivesNoSchema, FindsNone, answer_of, found_answer, of_port, of_relay}
 use Rattle.node_commands.specs.declared.found.Found.TheVariants as founds
 use Rattle.node_commands.specs.declared.outcome.Outcome.{Outcome}
 use Rattle.node_commands.proofs.Keeping.{keeps_itself}
@@ -87,36 +83,6 @@ pub untyped_takes : (task : Task) (file word : Word) (t : Tables) (old : Option 
 untyped_takes task file word t old answer (inl unnamed) = rw unnamed.1 (keeps_itself old)
 untyped_takes task file word t old answer (inr (kind, named, never)) = absurd never
 
--- ---- the task
-
-module _ (files : Option Files) (input : Option (List ℕ)) (task : Task) (file word : Word) (t : Tables) (kind : TypeRef) (before after : Failures) (schema : IsSchema files file t) (named : IsNamed t word kind) (shelf : after.shelf ≡ before.shelf) (sink : after.sink ≡ before.sink) where
-  none_found : (answer : Answer) → FindsNone task input t kind before.source after.source answer → Causes (Some (values task file word)) files input before after answer
-  none_found (input_refused fault) h = (inr (t, schema, inr (kind, named, h.0)), (shelf, h.1, sink))
-  none_found (json_refused why) h = (inr (t, schema, inr (kind, named, h.0)), (shelf, h.1, sink))
-  none_found (too_long length) h = (inr (t, schema, inr (kind, named, h.0)), (shelf, h.1, sink))
-  none_found needs_sliced h = (inr (t, schema, inr (kind, named, h.0)), (shelf, h.1, sink))
-  none_found read_failed h = inr ((t, kind, schema, named), (shelf, h, sink))
-  none_found no_memory h = (tt, (shelf, h, sink))
-  none_found answer h = absurd h
-
-  pub task_finds : (result : Result Found Outcome) → FindsTask task input t kind before.source after.source result → Finds (values task file word) files input before after result
-  task_finds (Ok found) h = (inr (t, schema, inr (kind, named, h.0)), (shelf, h.1, sink))
-  task_finds (Err outcome) h = none_found (answer_of outcome []) h
-
-module _ (input : Option (List ℕ)) (task : Task) (file word : Word) (t : Tables) (kind : TypeRef) (before after : ℕ) (old new : Option (List ℕ)) (taken : TakesTask task old new) where
-  none_takes : (answer : Answer) → FindsNone task input t kind before after answer → Takes (Some (values task file word)) old new answer
-  none_takes (input_refused fault) h = taken
-  none_takes (json_refused why) h = taken
-  none_takes (too_long length) h = taken
-  none_takes needs_sliced h = taken
-  none_takes read_failed h = taken
-  none_takes no_memory h = taken
-  none_takes answer h = absurd h
-
-  pub task_takes : (result : Result Found Outcome) → FindsTask task input t kind before after result → TakesFound (values task file word) old new result
-  task_takes (Ok found) h = taken
-  task_takes (Err outcome) h = none_takes (answer_of outcome []) h
-
 -- ---- the input
 
 -- a read of it failed, or there was no memory for it
@@ -126,7 +92,7 @@ unread task input t kind before after ports.Memory outcome from count = rw from 
 
 module _ (t : Tables) (kind : TypeRef) where
   -- one encapsulation
-  graph_read : (before now : Option (List ℕ)) (got : List ℕ) (g : Graph) → ReadsInput before now got → Holds t kind got g → IsHeld before t kind g
+  pub graph_read : (before now : Option (List ℕ)) (got : List ℕ) (g : Graph) → ReadsInput before now got → Holds t kind got g → IsHeld before t kind g
   graph_read None now got g r h = tt
   graph_read (Some known) None got g r h = absurd r.0
   graph_read (Some known) (Some rest) got g r h = elim r.1 [
@@ -134,7 +100,7 @@ module _ (t : Tables) (kind : TypeRef) where
     | inr decided ↦ absurd (let claimed = claims_length t kind got g decided.0 decided.1 h in let below : length got < length got = decided.2 (length got) claimed in omega arith)
   ]
 
-  fault_read : (before now : Option (List ℕ)) (got : List ℕ) (fault : Fault) → ReadsInput before now got → held t kind got ≡ Err fault → IsInputFault before t kind fault
+  pub fault_read : (before now : Option (List ℕ)) (got : List ℕ) (fault : Fault) → ReadsInput before now got → held t kind got ≡ Err fault → IsInputFault before t kind fault
   fault_read None now got fault r e = tt
   fault_read (Some known) now got fault r e = sym (read_decides t kind known got now r) ∙ e
 
@@ -182,14 +148,6 @@ module _ (t : Tables) (kind : TypeRef) (input now : Option (List ℕ)) (got : Li
     relay_none before after faults.NeedsSliced outcome from (g, holds, needs) count = rw from (inr (g, graph_read t kind input now got g read holds, inl (needs, refl)), count)
     relay_none before after (faults.TooLong n) outcome from (g, holds, writable, is, above) count = rw from (inr (g, graph_read t kind input now got g read holds, too_much (view_format format) t kind g n writable is above), count)
     relay_none before after faults.Memory outcome from refused count = rw from count
-
-  module _ (read : ReadsInput input now got) where
-    pub dump_finds : (line : Vec ℕ Global) → Dumps t kind got (Ok line) → Does tasks.Dump input t kind (done line.items)
-    dump_finds line (g, holds, is) = inr (g, graph_read t kind input now got g read holds, ap done is)
-
-    pub dump_none : (before after : ℕ) (fault : ReadFault) (outcome : Outcome) → outcome ≡ of_read fault → Dumps t kind got (Err fault) → after ≡ before → FindsNone tasks.Dump input t kind before after (answer_of outcome [])
-    dump_none before after (read_faults.Broken fault) outcome from refused count = rw from (inl (fault, fault_read t kind input now got fault read refused, refl), count)
-    dump_none before after read_faults.Memory outcome from refused count = rw from count
 
   module _ (format : Format) (read : ReadsText input now got) where
     pub encode_finds : (bytes : Vec ℕ Global) → EncodesText t kind (view_format format) got (Ok bytes) → Does (tasks.Encode format) input t kind (done bytes.items)

@@ -8,6 +8,7 @@ pub mod TwoFiles
 pub mod OneAnswer
 pub mod Denying
 pub mod Finding
+pub mod Carrying
 pub mod Auditing
 pub mod Counts
 pub mod NetWords

@@ -1,5 +1,5 @@
 -- When each answer comes, with what failed in the call.
-use Rattle.std.specs.Prelude.{ℕ, ◌⊎◌, List, Option, Some, None, IfSome}
+use Rattle.std.specs.Prelude.{ℕ, ◌⊎◌, List, ◌++◌, Option, Some, None, IfSome}
 use Rattle.ice_types.specs.declared.kind.TypeRef.{TypeRef}
 use Rattle.ice_types.specs.Tables.{Tables}
 use Rattle.message_dump.specs.Sources.{TellsSome}
@@ -28,7 +28,7 @@ ReadFails (Some (help page)) files before after = ⊥
 ReadFails (Some version) files before after = ⊥
 ReadFails None files before after = ⊥
 
--- memory may run out: for the commands that load a file, read a proxy or draw a graph; `messages` has an answer of its own for that
+-- memory may run out before anything is written: for the commands that load a file, read a proxy or draw a graph
 abbrev pub MayRunOut : Option Command → Type 0
 MayRunOut (Some (values task file word)) = Unit {0}
 MayRunOut (Some (check file)) = Unit {0}
@@ -77,6 +77,22 @@ HasTold (Some (help page)) input written = ⊥
 HasTold (Some version) input written = ⊥
 HasTold None input written = ⊥
 
+-- These bytes were written before memory ran out: of `messages` lines that are known, of `dump` the beginning of its line.
+abbrev pub HasWritten : Option Command → Option Files → Option (List ℕ) → List ℕ → Type 0
+HasWritten (Some messages) files input written = TellsFirst input written
+HasWritten (Some (values (tasks.Relay format) file word)) files input written = ⊥
+HasWritten (Some (values tasks.Same file word)) files input written = ⊥
+HasWritten (Some (values tasks.Dump file word)) files input written = (rest : List ℕ) × Decides (Some (values tasks.Dump file word)) files input (done (written ++ rest))
+HasWritten (Some (values (tasks.Encode format) file word)) files input written = ⊥
+HasWritten (Some (check file)) files input written = ⊥
+HasWritten (Some (proxy text)) files input written = ⊥
+HasWritten (Some (audit client server)) files input written = ⊥
+HasWritten (Some (compat old new word)) files input written = ⊥
+HasWritten (Some (drill start count)) files input written = ⊥
+HasWritten (Some (help page)) files input written = ⊥
+HasWritten (Some version) files input written = ⊥
+HasWritten None files input written = ⊥
+
 -- The cause of each answer. Each but 5 and 6 comes where no call failed; after those, one has.
 abbrev pub Causes : Option Command → Option Files → Option (List ℕ)
     → (before after : Failures) → Answer → Type 0
@@ -111,4 +127,4 @@ Causes asked files input before after (refused_after written fault) =
 Causes asked files input before after (read_failed_after written) =
     HasTold asked input written × SourceFailed before after
 Causes asked files input before after (no_memory_after written) =
-    HasTold asked input written × NoneFailed before after
+    HasWritten asked files input written × NoneFailed before after

@@ -1,5 +1,5 @@
 -- How the program's answer is seen inside it, before the bytes of an answer are told.
-use Rattle.std.specs.Prelude.{ℕ, ◌≡◌, ◌⊎◌, Bool, true, false, List, [], Option, Some, Result, Ok, Err, Vec, String, string_bytes, codes}
+use Rattle.std.specs.Prelude.{ℕ, ◌≡◌, ◌⊎◌, Bool, true, false, List, [], ◌++◌, Option, Some, Result, Ok, Err, Vec, String, string_bytes, codes}
 use Rattle.std.specs.declared.alloc.Global.{Global}
 use Rattle.ice_types.specs.declared.kind.TypeRef.{TypeRef}
 use Rattle.ice_types.specs.Tables.{Tables}
@@ -7,6 +7,8 @@ use Rattle.ice_prims.specs.declared.fault.ReadFault.{ReadFault}
 use Rattle.ice_prims.specs.declared.fault.ReadFault.TheVariants as read_faults
 use Rattle.ice_relay.specs.declared.fault.RelayFault.{RelayFault}
 use Rattle.ice_relay.specs.declared.fault.RelayFault.TheVariants as relay_faults
+use Rattle.ice_relay.specs.declared.dump_fault.DumpFault.{DumpFault}
+use Rattle.ice_relay.specs.declared.dump_fault.DumpFault.TheVariants as line_faults
 use Rattle.ice_relay.specs.declared.drill_fault.DrillFault.{DrillFault}
 use Rattle.ice_relay.specs.declared.drill_fault.DrillFault.TheVariants as drill_faults
 use Rattle.ice_ports.specs.declared.ports.PortFault.{PortFault}
@@ -25,12 +27,13 @@ use Rattle.node_commands.specs.declared.outcome.Outcome.TheVariants as outcomes
 use Rattle.node_commands.specs.declared.found.Found.{Found}
 use Rattle.node_commands.specs.declared.found.Found.TheVariants as founds
 use Rattle.node_commands.specs.declared.words.Task.{Task}
+use Rattle.node_commands.specs.declared.words.Task.TheVariants as tasks
 use Rattle.node_commands.specs.Words.{Word, Command}
-use Rattle.node_commands.specs.Outside.{Files, Failures, NoneFailed}
+use Rattle.node_commands.specs.Outside.{Files, Failures, NoneFailed, SourceFailed, SinkFailed}
 use Rattle.node_commands.specs.Answers.{Answer, done, different, usage, no_such_name, slice_refused, input_refused, json_refused, too_long, needs_sliced, text_refused, read_failed, write_failed, no_memory, refused_after, read_failed_after, no_memory_after}
 use Rattle.node_commands.specs.Decided.{IsSchema, IsFault, IsNamed, HasFile, HasNoFile, WithType, Does, Decides, judged, TellsCompat}
 use Rattle.node_commands.specs.Causes.{Causes}
-use Rattle.node_commands.specs.Effects.{TakesInput, Takes}
+use Rattle.node_commands.specs.Effects.{Outputs}
 
 -- the answer, with the bytes that were to be written
 abbrev pub answer_of : Outcome → List ℕ → Answer
@@ -77,6 +80,13 @@ of_relay (relay_faults.TextRefused why) = outcomes.JsonRefused why
 of_relay relay_faults.NeedsSliced = outcomes.NeedsSliced
 of_relay (relay_faults.TooLong length) = outcomes.TooLong length
 of_relay relay_faults.Memory = outcomes.Memory
+
+-- of writing the line that tells a value
+abbrev pub of_line : DumpFault → Outcome
+of_line (line_faults.Broken fault) = outcomes.InputRefused fault
+of_line line_faults.WriteFailed = outcomes.WriteFailed
+of_line line_faults.Memory = outcomes.Memory
+of_line line_faults.MemoryAfter = outcomes.MemoryAfter
 
 -- of a drill
 abbrev pub of_drill : DrillFault → Outcome
@@ -134,6 +144,12 @@ found_outcome (founds.Verdict same) = verdict same
 -- the answer of what was found
 abbrev pub found_answer : Found → Answer
 found_answer found = answer_of (found_outcome found) (found_bytes found)
+
+-- what was found is written, with what it comes to; or nothing was found, and it is told why
+abbrev pub PrintsOrTells : Result Found Outcome → (old new : Option (List ℕ)) → (before after : ℕ) → Outcome → Type 0
+PrintsOrTells (Ok found) old new before after outcome =
+    PrintsFor (found_outcome found) before after outcome × Outputs old new (answer_of outcome (found_bytes found))
+PrintsOrTells (Err why) old new before after outcome = (outcome ≡ why) × (after ≡ before) × (new ≡ old)
 
 -- ---- the steps of the commands
 
@@ -218,6 +234,40 @@ FindsTask task input t kind before after (Ok found) =
 FindsTask task input t kind before after (Err outcome) =
     FindsNone task input t kind before after (answer_of outcome [])
 
+-- these bytes were written of the answer to a task: of `dump` alone, whose line begins with them
+abbrev pub IsBegun : Task → Option (List ℕ) → Tables → TypeRef → List ℕ → Type 0
+IsBegun (tasks.Relay format) input t kind written = ⊥
+IsBegun tasks.Same input t kind written = ⊥
+IsBegun tasks.Dump input t kind written = (rest : List ℕ) × Does tasks.Dump input t kind (done (written ++ rest))
+IsBegun (tasks.Encode format) input t kind written = ⊥
+
+-- the cause of each answer to a task with values of a type, with what failed
+abbrev pub CausesTask : Task → Option (List ℕ) → Tables → TypeRef → (before after : Failures) → Answer → Type 0
+CausesTask task input t kind before after (done bytes) =
+    Does task input t kind (done bytes) × NoneFailed before after
+CausesTask task input t kind before after (different bytes) =
+    Does task input t kind (different bytes) × NoneFailed before after
+CausesTask task input t kind before after (input_refused fault) =
+    Does task input t kind (input_refused fault) × NoneFailed before after
+CausesTask task input t kind before after (json_refused why) =
+    Does task input t kind (json_refused why) × NoneFailed before after
+CausesTask task input t kind before after (too_long length) =
+    Does task input t kind (too_long length) × NoneFailed before after
+CausesTask task input t kind before after needs_sliced =
+    Does task input t kind needs_sliced × NoneFailed before after
+CausesTask task input t kind before after read_failed = SourceFailed before after
+CausesTask task input t kind before after (write_failed bytes) =
+    (Does task input t kind (done bytes) ⊎ Does task input t kind (different bytes)) × SinkFailed before after
+CausesTask task input t kind before after no_memory = NoneFailed before after
+CausesTask task input t kind before after (no_memory_after written) =
+    IsBegun task input t kind written × NoneFailed before after
+CausesTask task input t kind before after usage = ⊥
+CausesTask task input t kind before after (no_such_name word) = ⊥
+CausesTask task input t kind before after (slice_refused broken) = ⊥
+CausesTask task input t kind before after (text_refused place) = ⊥
+CausesTask task input t kind before after (refused_after written fault) = ⊥
+CausesTask task input t kind before after (read_failed_after written) = ⊥
+
 -- the bytes that the command is to write, or why there are none
 abbrev pub FindsBytes : Command → Option Files → Option (List ℕ) → (before after : Failures)
     → Result (List ℕ) Outcome → Type 0
@@ -233,12 +283,6 @@ Finds command files input before after (Ok found) =
     Decides (Some command) files input (found_answer found) × NoneFailed before after
 Finds command files input before after (Err outcome) =
     Causes (Some command) files input before after (answer_of outcome [])
-
--- what was taken of the input on the way
-abbrev pub TakesFound : {X : Type 0} → Command → (old new : Option (List ℕ))
-    → Result X Outcome → Type 0
-TakesFound command old new (Ok found) = TakesInput (Some command) old new
-TakesFound command old new (Err outcome) = Takes (Some command) old new (answer_of outcome [])
 
 -- the bytes of a vector that was found, and those of a text
 abbrev pub bytes_found : {E : Type 0} → Result (Vec ℕ Global) E → Result (List ℕ) E

@@ -14,10 +14,10 @@ use crate::drill::drill;
 use crate::help::VERSION;
 use crate::messages::messages;
 use crate::outcome::Outcome;
-use crate::output::{print, print_found};
+use crate::output::{print, print_or_tell};
 use crate::pages::text_of;
 use crate::proxy::proxy;
-use crate::values::found_of;
+use crate::values::run_task;
 use crate::words::{Command, command_of};
 use ice_ports::{Shelf, Sink, Source};
 use std::alloc::Global;
@@ -41,10 +41,7 @@ pub fn run<'a, H: Shelf, S: Source, K: Sink>(
 {
     match command_of(words) {
         Some(Command::Values { task, file, kind }) => {
-            match found_of(alloc, task, file, kind, shelf, source) {
-                Ok(found) => print_found(found, sink),
-                Err(outcome) => outcome,
-            }
+            run_task(alloc, task, file, kind, shelf, source, sink)
         }
         Some(Command::Check { file }) => match check(alloc, file, shelf) {
             Ok(text) => print(text.as_bytes(), sink),
@@ -54,14 +51,12 @@ pub fn run<'a, H: Shelf, S: Source, K: Sink>(
             Ok(lines) => print(lines.as_slice(), sink),
             Err(outcome) => outcome,
         },
-        Some(Command::Audit { client, server }) => match audit(alloc, client, server, shelf) {
-            Ok(found) => print_found(found, sink),
-            Err(outcome) => outcome,
-        },
-        Some(Command::Compat { old, new, kind }) => match compat(alloc, old, new, kind, shelf) {
-            Ok(found) => print_found(found, sink),
-            Err(outcome) => outcome,
-        },
+        Some(Command::Audit { client, server }) => {
+            print_or_tell(audit(alloc, client, server, shelf), sink)
+        }
+        Some(Command::Compat { old, new, kind }) => {
+            print_or_tell(compat(alloc, old, new, kind, shelf), sink)
+        }
         Some(Command::Drill { start, count }) => match drill(alloc, start, count) {
             Ok(line) => print(line.as_bytes(), sink),
             Err(outcome) => outcome,

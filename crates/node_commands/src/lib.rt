@@ -1,8 +1,7 @@
 //! What the program does for the words of the command line: which command they ask for, which type a word
-//! names, what each command finds before any of it is written, or why it finds nothing, and the status and
-//! the line of each answer. And what `call`, `serve` and `gate`, which stand above, share: how connections end that
-//! were served or forwarded, the lines on the standard output, the interface that a word names, and limits of their
-//! words.
+//! names, what each command finds and writes, or why it does not, and the status and the line of each answer.
+//! And what `call`, `serve` and `gate`, which stand above, share: how connections end that were served or
+//! forwarded, the lines on the standard output, the interface that a word names, and limits of their words.
 //!
 //! Forms, and why they are so:
 //!
@@ -19,10 +18,11 @@
 //! - The line on the sink of errors is written in at most seven pieces: constants, the word, or a fault's file,
 //!   place and kind. The digits of a place stand in a buffer on the stack (`itoa`), so that no memory is wanted
 //!   for it.
-//! - The commands find what is to be written, or an outcome, and `run` writes it. A task with values finds bytes
-//!   or a verdict (`Found`), so FILE and TYPE are dealt with once, in `found_of`, and each task is said by what
-//!   it does with a source and a type (`FindsTask`). `audit` and `compat` find bytes too: their lines, or bytes
-//!   that say no.
+//! - Most commands find what is to be written, or an outcome, and it is written then. `relay`, `same`, `encode`,
+//!   `audit` and `compat` find bytes, bytes that say no, or a verdict (`Found`). `messages` and `dump` write while
+//!   they go on, so memory may run out behind what is written already.
+//! - FILE and TYPE are dealt with once, in `run_task`, and each task is said by what it does with a source and a
+//!   type (`CausesTask`; of those that find something `FindsTask`).
 //! - That no two forms are one is shown by a number that the words tell (how many they are, how long the first
 //!   is, its second byte), so a further command is a line and not a row against each other one.
 //! - `drill` takes its numbers in one form each: a sign or a zero in front is a faulty command line, so that one
@@ -68,6 +68,6 @@ pub use limits::{MOST_CONNECTIONS, MOST_MESSAGES, MOST_PORT, MOST_RETRIES};
 pub use loading::load_schema;
 pub use net_lines::{end_with, tell};
 pub use outcome::{Line, Outcome};
-pub use output::{print, print_found, report};
+pub use output::{print, report};
 pub use type_words::type_of_word;
 pub use words::{Command, MOST_OF_A_WORD, Task, command_of, forms_apart, number_of};

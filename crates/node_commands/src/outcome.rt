@@ -11,7 +11,7 @@ use graph_json::JsonKind;
 use ice_ports::PortFault;
 use ice_prims::{Fault, Kind, ReadFault};
 use ice_proxy::TextFault;
-use ice_relay::{DrillFault, RelayFault};
+use ice_relay::{DrillFault, DumpFault, RelayFault};
 use ice_types::Name;
 use itoa::Buffer;
 use message_dump::Dump;
@@ -52,7 +52,7 @@ pub enum Outcome<'a> {
     RefusedAfter(Fault),
     /// Messages of the input were told, and then a read of it failed.
     ReadFailedAfter,
-    /// Messages of the input were told, and then memory ran out.
+    /// The beginning of the answer was written, and then memory ran out.
     MemoryAfter,
 }
 
@@ -208,6 +208,22 @@ impl From<RelayFault> for Outcome<'_> {
             RelayFault::NeedsSliced => Outcome::NeedsSliced,
             RelayFault::TooLong(length) => Outcome::TooLong(length),
             RelayFault::Memory => Outcome::Memory,
+        }
+    }
+}
+
+impl From<DumpFault> for Outcome<'_> {
+    ghost use Rattle.std.specs.Prelude.{◌≡◌};
+    ghost use Rattle.node_commands.specs.Outcomes.{of_line};
+
+    ghost from_gives = { λ fault outcome. outcome ≡ of_line fault };
+
+    fn from(fault: DumpFault) -> Self {
+        match fault {
+            DumpFault::Broken(fault) => Outcome::InputRefused(fault),
+            DumpFault::WriteFailed => Outcome::WriteFailed,
+            DumpFault::Memory => Outcome::Memory,
+            DumpFault::MemoryAfter => Outcome::MemoryAfter,
         }
     }
 }

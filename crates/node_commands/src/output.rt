@@ -3,8 +3,8 @@
 ghost use Rattle.std.specs.Prelude.{◌≡◌, ℕ, List};
 ghost use Rattle.node_commands.specs.Answers.{status};
 ghost use Rattle.node_commands.specs.Effects.{Outputs, GetsLine};
-ghost use Rattle.node_commands.specs.Outcomes.{Prints, PrintsFor, answer_of, found_bytes, found_outcome, verdict};
-ghost use Rattle.node_commands.specs.Outcomes.{verdict_line};
+ghost use Rattle.node_commands.specs.Outcomes.{Prints, PrintsFor, PrintsOrTells, answer_of, found_bytes, found_outcome};
+ghost use Rattle.node_commands.specs.Outcomes.{verdict, verdict_line};
 ghost use Rattle.node_commands.specs.declared.outcome.Outcome.TheVariants as outcomes;
 
 use crate::found::Found;
@@ -48,7 +48,7 @@ fn print_verdict<K: Sink>(same: bool, sink: &mut K) -> Outcome<'static>
 }
 
 /// Writes what was found: bytes, bytes that say no, or the word for whether two values are the same.
-pub fn print_found<K: Sink>(found: Found, sink: &mut K) -> Outcome<'static>
+fn print_found<K: Sink>(found: Found, sink: &mut K) -> Outcome<'static>
     ensures outcome { PrintsFor (found_outcome found) (K.failures sink.old) (K.failures sink.new) result }
     ensures output { Outputs (K.taken sink.old) (K.taken sink.new) (answer_of result (found_bytes found)) }
 {
@@ -56,6 +56,20 @@ pub fn print_found<K: Sink>(found: Found, sink: &mut K) -> Outcome<'static>
         Found::Bytes(bytes) => print(bytes.as_slice(), sink),
         Found::Denial(bytes) => print_denial(bytes.as_slice(), sink),
         Found::Verdict(same) => print_verdict(same, sink),
+    }
+}
+
+/// Writes what was found; or tells why nothing was.
+pub(crate) fn print_or_tell<'a, K: Sink>(
+    found: Result<Found, Outcome<'a>>,
+    sink: &mut K,
+) -> Outcome<'a>
+    ensures { PrintsOrTells found.entry (K.taken sink.old) (K.taken sink.new)
+        (K.failures sink.old) (K.failures sink.new) result }
+{
+    match found {
+        Ok(found) => print_found(found, sink),
+        Err(outcome) => outcome,
     }
 }
 

@@ -1,22 +1,20 @@
 use Rattle.std.proofs.Common.{ℕ, List, Err, subst}
-use Rattle.std.proofs.lemmas.Result.{err_from_is_err_and}
-use Rattle.ice_relay.specs.Dumping.{Dumps}
-use Rattle.node_commands.specs.declared.words.Task.TheVariants as tasks
-use Rattle.node_commands.proofs.Finding.{dump_finds, dump_none, unread}
+use Rattle.ice_relay.specs.Dumping.{DumpsTo}
+use Rattle.node_commands.proofs.Carrying.{dump_done, dump_fails}
 use Rattle.node_commands.proofs.dump.dump.Goals as goal
 
-pub returns-clause-found : goal.returns-clause-found
-returns-clause-found g c =
-    (dump_finds c.args.schema.now c.args.kind (g.S.Source.left c.args.source.now) (g.S.Source.left c.read_input.new.source) c.in_ok-input.input.items c.in_ok-input.ensures.read c.in_ok-line.line (rw c.as_slice.ensures.value at c.in_ok-line.ensures), c.in_ok-input.ensures.count)
+pub returns-in-Ok-dump_to-clause-came : goal.returns-in-Ok-dump_to-clause-came
+returns-in-Ok-dump_to-clause-came g c =
+    dump_done c.args.schema.now c.args.kind (g.S.Source.left c.args.source.now) (g.S.Source.left c.read_input.new.source) c.in-Ok.input.items c.in-Ok.ensures.read (g.S.Source.failures c.args.source.now) (g.S.Source.failures c.read_input.new.source) c.in-Ok.ensures.count
+    (g.K.Sink.failures c.args.sink.now) (g.K.Sink.failures c.dump_to.new.sink) (g.K.Sink.taken c.args.sink.now) (g.K.Sink.taken c.dump_to.new.sink) c.in-Ok-dump_to.field-0 (rw c.as_slice.ensures.value at c.in-Ok-dump_to.ensures)
 
-pub returns-in_err-line-clause-found : goal.returns-in_err-line-clause-found
-returns-in_err-line-clause-found g c =
-    let failed = err_from_is_err_and c.from_residual-in_err-line.result c.from_residual-in_err-line.ensures.1 in
-    let none : Dumps c.args.schema.now c.args.kind c.in_ok-input.input.items (Err c.in_err-line.field-0.0) =
-    subst (λ (x : List ℕ). Dumps c.args.schema.now c.args.kind x (Err c.in_err-line.field-0.0)) c.as_slice.ensures.value c.in_err-line.ensures in
-    rw failed.1 (dump_none c.args.schema.now c.args.kind (g.S.Source.left c.args.source.now) (g.S.Source.left c.read_input.new.source) c.in_ok-input.input.items c.in_ok-input.ensures.read (g.S.Source.failures c.args.source.now) (g.S.Source.failures c.read_input.new.source) c.in_err-line.field-0.0 failed.0 failed.2 none c.in_ok-input.ensures.count)
-
-pub returns-in_err-input-clause-found : goal.returns-in_err-input-clause-found
-returns-in_err-input-clause-found g c =
-    let failed = err_from_is_err_and c.from_residual.result c.from_residual.ensures.1 in
-    rw failed.1 (unread tasks.Dump (g.S.Source.left c.args.source.now) c.args.schema.now c.args.kind (g.S.Source.failures c.args.source.now) (g.S.Source.failures c.read_input.new.source) c.in_err-input.field-0.0 failed.0 failed.2 c.in_err-input.ensures.count)
+pub returns-clause-came : goal.returns-clause-came
+returns-clause-came g c =
+    let writes = g.K.Sink.failures c.args.sink.now in
+    let later = g.K.Sink.failures c.dump_to.new.sink in
+    let old = g.K.Sink.taken c.args.sink.now in
+    let new = g.K.Sink.taken c.dump_to.new.sink in
+    let fails : DumpsTo c.args.schema.now c.args.kind c.in-Ok.input.items old new writes later (Err c.in-Err-dump_to.fault) =
+    subst (λ (x : List ℕ). DumpsTo c.args.schema.now c.args.kind x old new writes later (Err c.in-Err-dump_to.fault)) c.as_slice.ensures.value c.in-Err-dump_to.ensures in
+    dump_fails c.args.schema.now c.args.kind (g.S.Source.left c.args.source.now) (g.S.Source.left c.read_input.new.source) c.in-Ok.input.items c.in-Ok.ensures.read (g.S.Source.failures c.args.source.now) (g.S.Source.failures c.read_input.new.source) c.in-Ok.ensures.count
+    writes later old new c.in-Err-dump_to.fault c.from-in-Err-dump_to.result c.from-in-Err-dump_to.ensures fails

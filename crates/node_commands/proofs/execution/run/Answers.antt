@@ -1,87 +1,51 @@
 use Rattle.std.proofs.Common.{ℕ, List, [], Some, string_bytes, refl, inr, subst}
-use Rattle.node_commands.specs.Words.{values, check, proxy, audit, compat, drill, messages, help}
+use Rattle.node_commands.specs.Words.{check, proxy, audit, compat, drill, messages, help}
 use Rattle.node_commands.specs.Pages.{page_text}
 use Rattle.node_commands.specs.Outside.{counts}
 use Rattle.node_commands.specs.Effects.{Outputs}
-use Rattle.node_commands.specs.Outcomes.{answer_of, found_bytes}
-use Rattle.node_commands.proofs.Answering.{printed, found_printed, outputs_nothing, takes_nothing}
-use Rattle.node_commands.proofs.Denying.{no_is_to_be_written}
+use Rattle.node_commands.specs.Outcomes.{answer_of}
+use Rattle.node_commands.proofs.Answering.{printed, printed_or_told, outputs_nothing, takes_nothing}
 use Rattle.node_commands.proofs.Keeping.{keeps_itself}
 use Rattle.node_commands.proofs.execution.run.Goals as goal
 
 pub returns-in-Ok : goal.returns-in-Ok
 returns-in-Ok g c =
-    let found = c.in-Ok.ensures.found (g.K.Sink.failures c.args.sink.now) in
-    let task = c.in-Some-Values.task in
-    let file = c.in-Some-Values.file.now in
-    let word = c.in-Some-Values.kind.now in
-    let came = found_printed (values task file word) (g.H.Shelf.files c.args.shelf.now) (g.S.Source.left c.args.source.now) (g.S.Source.left c.found_of.new.source)
-    (counts (g.H.Shelf.failures c.args.shelf.now) (g.S.Source.failures c.args.source.now) (g.K.Sink.failures c.args.sink.now))
-    (counts (g.H.Shelf.failures c.found_of.new.shelf) (g.S.Source.failures c.found_of.new.source) (g.K.Sink.failures c.print_found.new.sink))
-    (no_is_to_be_written task (g.H.Shelf.files c.args.shelf.now) (g.S.Source.left c.args.source.now) file word)
-    c.in-Ok.found c.print_found.result found.0 found.1.0 found.1.1 c.in-Ok.ensures.taken c.print_found.ensures.outcome in
-    (found_bytes c.in-Ok.found, Some (values task file word), (rw c.in-Some-Values.field-0-is at c.in-Some-Values.ensures), came.0, came.1, c.print_found.ensures.output)
-
-pub returns-in-Err : goal.returns-in-Err
-returns-in-Err g c =
-    ([], Some (values c.in-Some-Values.task c.in-Some-Values.file.now c.in-Some-Values.kind.now), (rw c.in-Some-Values.field-0-is at c.in-Some-Values.ensures), c.in-Err.ensures.found (g.K.Sink.failures c.args.sink.now), c.in-Err.ensures.taken, outputs_nothing (g.K.Sink.taken c.args.sink.now) c.in-Err.outcome)
-
-pub returns-in-Ok-check : goal.returns-in-Ok-check
-returns-in-Ok-check g c =
     let input = g.S.Source.left c.args.source.now in
-    let found = c.in-Ok-check.ensures input (g.S.Source.failures c.args.source.now) (g.K.Sink.failures c.args.sink.now) in
+    let found = c.in-Ok.ensures input (g.S.Source.failures c.args.source.now) (g.K.Sink.failures c.args.sink.now) in
     let asked = Some (check c.in-Some-Check.file.now) in
     let came = printed asked (g.H.Shelf.files c.args.shelf.now) input input
     (record { shelf = g.H.Shelf.failures c.args.shelf.now; source = g.S.Source.failures c.args.source.now; sink = g.K.Sink.failures c.args.sink.now })
     (record { shelf = g.H.Shelf.failures c.check.new.shelf; source = g.S.Source.failures c.args.source.now; sink = g.K.Sink.failures c.print.new.sink })
-    (string_bytes c.in-Ok-check.text) c.print.result found.0 found.1.0 found.1.1 (keeps_itself input) c.print.ensures.outcome in
-    (string_bytes c.in-Ok-check.text, asked, (rw c.in-Some-Check.field-0-is at c.in-Some-Check.ensures), came.0, came.1, (rw c.as_bytes.ensures.value at c.print.ensures.output))
+    (string_bytes c.in-Ok.text) c.print.result found.0 found.1.0 found.1.1 (keeps_itself input) c.print.ensures.outcome in
+    (string_bytes c.in-Ok.text, asked, (rw c.in-Some-Check.field-0-is at c.in-Some-Check.ensures), came.0, came.1, (rw c.as_bytes.ensures.value at c.print.ensures.output))
 
-pub returns-in-Err-check : goal.returns-in-Err-check
-returns-in-Err-check g c =
+pub returns-in-Err : goal.returns-in-Err
+returns-in-Err g c =
     let input = g.S.Source.left c.args.source.now in
-    let found = c.in-Err-check.ensures input (g.S.Source.failures c.args.source.now) (g.K.Sink.failures c.args.sink.now) in
-    ([], Some (check c.in-Some-Check.file.now), (rw c.in-Some-Check.field-0-is at c.in-Some-Check.ensures), found, takes_nothing (Some (check c.in-Some-Check.file.now)) input (keeps_itself input) (answer_of c.in-Err-check.outcome []), outputs_nothing (g.K.Sink.taken c.args.sink.now) c.in-Err-check.outcome)
+    let found = c.in-Err.ensures input (g.S.Source.failures c.args.source.now) (g.K.Sink.failures c.args.sink.now) in
+    ([], Some (check c.in-Some-Check.file.now), (rw c.in-Some-Check.field-0-is at c.in-Some-Check.ensures), found, takes_nothing (Some (check c.in-Some-Check.file.now)) input (keeps_itself input) (answer_of c.in-Err.outcome []), outputs_nothing (g.K.Sink.taken c.args.sink.now) c.in-Err.outcome)
 
-pub returns-in-Ok-audit : goal.returns-in-Ok-audit
-returns-in-Ok-audit g c =
+pub returns-in-Some-Audit : goal.returns-in-Some-Audit
+returns-in-Some-Audit g c =
     let files = g.H.Shelf.files c.args.shelf.now in
     let input = g.S.Source.left c.args.source.now in
-    let found = c.in-Ok-audit.ensures input (g.S.Source.failures c.args.source.now) (g.K.Sink.failures c.args.sink.now) in
+    let reads = g.S.Source.failures c.args.source.now in
+    let writes = g.K.Sink.failures c.args.sink.now in
     let command = audit c.in-Some-Audit.client.now c.in-Some-Audit.server.now in
-    let came = found_printed command files input input
-    (counts (g.H.Shelf.failures c.args.shelf.now) (g.S.Source.failures c.args.source.now) (g.K.Sink.failures c.args.sink.now))
-    (counts (g.H.Shelf.failures c.audit.new.shelf) (g.S.Source.failures c.args.source.now) (g.K.Sink.failures c.print_found-in-Ok-audit.new.sink))
-    (λ bytes denied. inr denied)
-    c.in-Ok-audit.found c.print_found-in-Ok-audit.result found.0 found.1.0 found.1.1 (keeps_itself input) c.print_found-in-Ok-audit.ensures.outcome in
-    (found_bytes c.in-Ok-audit.found, Some command, (rw c.in-Some-Audit.field-0-is at c.in-Some-Audit.ensures), came.0, came.1, c.print_found-in-Ok-audit.ensures.output)
+    let came = printed_or_told command files input (keeps_itself input) (g.H.Shelf.failures c.args.shelf.now) (g.H.Shelf.failures c.audit.new.shelf) reads writes (g.K.Sink.failures c.print_or_tell.new.sink)
+    (g.K.Sink.taken c.args.sink.now) (g.K.Sink.taken c.print_or_tell.new.sink) (λ bytes denied. inr denied) c.audit.result c.print_or_tell.result (c.audit.ensures input reads writes) c.print_or_tell.ensures in
+    (came.0, Some command, (rw c.in-Some-Audit.field-0-is at c.in-Some-Audit.ensures), came.1, came.2, came.3)
 
-pub returns-in-Err-audit : goal.returns-in-Err-audit
-returns-in-Err-audit g c =
-    let input = g.S.Source.left c.args.source.now in
-    let asked = Some (audit c.in-Some-Audit.client.now c.in-Some-Audit.server.now) in
-    let found = c.in-Err-audit.ensures input (g.S.Source.failures c.args.source.now) (g.K.Sink.failures c.args.sink.now) in
-    ([], asked, (rw c.in-Some-Audit.field-0-is at c.in-Some-Audit.ensures), found, takes_nothing asked input (keeps_itself input) (answer_of c.in-Err-audit.outcome []), outputs_nothing (g.K.Sink.taken c.args.sink.now) c.in-Err-audit.outcome)
-
-pub returns-in-Ok-compat : goal.returns-in-Ok-compat
-returns-in-Ok-compat g c =
+pub returns-in-Some-Compat : goal.returns-in-Some-Compat
+returns-in-Some-Compat g c =
     let files = g.H.Shelf.files c.args.shelf.now in
     let input = g.S.Source.left c.args.source.now in
-    let found = c.in-Ok-compat.ensures input (g.S.Source.failures c.args.source.now) (g.K.Sink.failures c.args.sink.now) in
+    let reads = g.S.Source.failures c.args.source.now in
+    let writes = g.K.Sink.failures c.args.sink.now in
     let command = compat c.in-Some-Compat.old.now c.in-Some-Compat.new.now c.in-Some-Compat.kind.now in
-    let came = found_printed command files input input
-    (counts (g.H.Shelf.failures c.args.shelf.now) (g.S.Source.failures c.args.source.now) (g.K.Sink.failures c.args.sink.now))
-    (counts (g.H.Shelf.failures c.compat.new.shelf) (g.S.Source.failures c.args.source.now) (g.K.Sink.failures c.print_found-in-Ok-compat.new.sink))
-    (λ bytes denied. inr denied)
-    c.in-Ok-compat.found c.print_found-in-Ok-compat.result found.0 found.1.0 found.1.1 (keeps_itself input) c.print_found-in-Ok-compat.ensures.outcome in
-    (found_bytes c.in-Ok-compat.found, Some command, (rw c.in-Some-Compat.field-0-is at c.in-Some-Compat.ensures), came.0, came.1, c.print_found-in-Ok-compat.ensures.output)
-
-pub returns-in-Err-compat : goal.returns-in-Err-compat
-returns-in-Err-compat g c =
-    let input = g.S.Source.left c.args.source.now in
-    let asked = Some (compat c.in-Some-Compat.old.now c.in-Some-Compat.new.now c.in-Some-Compat.kind.now) in
-    let found = c.in-Err-compat.ensures input (g.S.Source.failures c.args.source.now) (g.K.Sink.failures c.args.sink.now) in
-    ([], asked, (rw c.in-Some-Compat.field-0-is at c.in-Some-Compat.ensures), found, takes_nothing asked input (keeps_itself input) (answer_of c.in-Err-compat.outcome []), outputs_nothing (g.K.Sink.taken c.args.sink.now) c.in-Err-compat.outcome)
+    let came = printed_or_told command files input (keeps_itself input) (g.H.Shelf.failures c.args.shelf.now) (g.H.Shelf.failures c.compat.new.shelf) reads writes (g.K.Sink.failures c.print_or_tell-in-Some-Compat.new.sink)
+    (g.K.Sink.taken c.args.sink.now) (g.K.Sink.taken c.print_or_tell-in-Some-Compat.new.sink) (λ bytes denied. inr denied) c.compat.result c.print_or_tell-in-Some-Compat.result (c.compat.ensures input reads writes) c.print_or_tell-in-Some-Compat.ensures in
+    (came.0, Some command, (rw c.in-Some-Compat.field-0-is at c.in-Some-Compat.ensures), came.1, came.2, came.3)
 
 pub returns-in-Some-Help : goal.returns-in-Some-Help
 returns-in-Some-Help g c =
