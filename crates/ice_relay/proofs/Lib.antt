@@ -18,3 +18,9 @@ pub mod Relayed
 pub mod Views
 pub mod Drilled
 pub mod Samples
+pub mod MoreLevels
+pub mod NextItem
+pub mod ItemTexts
+pub mod SequenceTold
+pub mod AloneHeld
+pub mod OwnSequence

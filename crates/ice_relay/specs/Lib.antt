@@ -9,3 +9,4 @@ pub mod Encoding
 pub mod Drawn
 pub mod Nodes
 pub mod Telling
+pub mod Items

@@ -28,6 +28,7 @@ mod encoding;
 mod fault;
 mod generator;
 mod input;
+mod items;
 mod laws;
 mod line;
 mod node_schema;
