@@ -29,8 +29,15 @@ module _ (t : Tables) where
   typed_deeper Refer (suc levels) (kinds.Class declared) v h = h
   typed_deeper Refer (suc levels) (kinds.Seq at) v (q, row, items, is, few, all) =
       (q, row, items, is, few, all_deeper (HasType t Refer levels q.element) (HasType t Refer (suc levels) q.element) (typed_deeper Refer levels q.element) items all)
-  typed_deeper Refer (suc levels) (kinds.Dict at) v (d, row, pairs, is, few, rise, all) =
-      (d, row, pairs, is, few, rise, pairs_deeper (HasType t no_reference levels d.key) (HasType t Refer levels d.value) (HasType t no_reference (suc levels) d.key) (HasType t Refer (suc levels) d.value)
-          (typed_deeper no_reference levels d.key) (typed_deeper Refer levels d.value) pairs all)
+  typed_deeper Refer (suc levels) (kinds.Dict at) v (d, row, pairs, is, few, rise, all) = (
+    d,
+    row,
+    pairs,
+    is,
+    few,
+    rise,
+    pairs_deeper (HasType t no_reference levels d.key) (HasType t Refer levels d.value) (HasType t no_reference (suc levels) d.key) (HasType t Refer (suc levels) d.value)
+        (typed_deeper no_reference levels d.key) (typed_deeper Refer levels d.value) pairs all,
+  )
   typed_deeper Refer (suc levels) (kinds.Struct at) v (d, row, members, is, each) =
       (d, row, members, is, each_wider (HasType t Refer levels) (HasType t Refer (suc levels)) (typed_deeper Refer levels) (map (λ m. m.kind) d.members) members each)

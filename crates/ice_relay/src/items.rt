@@ -68,7 +68,7 @@ pub(crate) fn tell_sequence<K: Sink>(
     ensures { (items : Trees) → AllOf (IsItem schema.now element) items → tree_count items < 2 ^ 31
         → content.now ≡ canonical (sequence items)
         → TellsAll (sequence_text schema.now element items)
-            (K.taken sink.old) (K.taken sink.new) (K.failures sink.old) (K.failures sink.new) result }
+        (K.taken sink.old) (K.taken sink.new) (K.failures sink.old) (K.failures sink.new) result }
 {
     let page = with_text(Vec::new(alloc), "{\"instances\":[],\"roots\":{\"$value\":[")?;
     let mut cursor = Cursor::new(content);
@@ -94,7 +94,7 @@ fn tell_items<K: Sink>(
 ) -> Result<Vec<u8>, TellFault>
     ensures { (items : Trees) → AreItems schema.now element items cursor.old.bytes → tree_count items ≡ count
         → Tells (page.items ++ each_text schema.now element false items)
-            (K.taken sink.old) (K.taken sink.new) (K.failures sink.old) (K.failures sink.new) result }
+        (K.taken sink.old) (K.taken sink.new) (K.failures sink.old) (K.failures sink.new) result }
 {
     let mut page = page;
     for at in 0..count {
@@ -115,7 +115,7 @@ fn with_item(
 ) -> Result<Vec<u8>, AllocError>
     ensures { (v : Tree) (rest : List ℕ) → IsItem schema.now element v → cursor.old.bytes ≡ canonical v ++ rest
         → IfOk result (λ longer. (longer.items ≡ page.items ++ item_text schema.now element later v)
-            × (cursor.new.bytes ≡ rest)) }
+        × (cursor.new.bytes ≡ rest)) }
 {
     match next_value(alloc, schema, element, cursor) {
         Ok(value) => with_value(page, alloc, schema, element, later, value),
