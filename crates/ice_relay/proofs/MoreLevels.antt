@@ -1,10 +1,10 @@
 -- A value of a type that nests at most so deep is one of it where it may nest one level deeper.
-use Rattle.std.proofs.Common.{ℕ, zero, suc, List, map}
+use Rattle.std.proofs.Common.{ℕ, zero, suc, map}
 use Rattle.ice_types.specs.declared.kind.TypeRef.{TypeRef}
 use Rattle.ice_types.specs.declared.kind.TypeRef.TheVariants as kinds
 use Rattle.ice_types.specs.Tables.{Tables}
 use Rattle.ice_encoding.specs.Tree.{Tree, Trees, none, tree, Entries, no_entry, entry}
-use Rattle.ice_encoding.specs.Typed.{AllOf, EachOf, PairsOf, Refers, no_reference, HasType}
+use Rattle.ice_encoding.specs.Typed.{AllOf, PairsOf, Refers, no_reference, HasType}
 use Rattle.ice_encoding.proofs.Wider.{each_wider}
 
 all_deeper : (One Two : Tree → Type 0) → ((v : Tree) → One v → Two v) → (vs : Trees) → AllOf One vs → AllOf Two vs

@@ -1,22 +1,21 @@
 -- The item that stands first in canonical bytes is read as it is, whatever follows it.
-use Rattle.std.proofs.Common.{◌≡◌, ℕ, ◌+◌, ◌<◌, ◌^◌, List, ◌++◌, length, Option, None, Result, Ok, Err, refl, sym, ap, ◌∙◌, subst, arith}
+use Rattle.std.proofs.Common.{◌≡◌, ℕ, ◌+◌, ◌<◌, ◌^◌, List, ◌++◌, length, Option, Result, Ok, Err, refl, sym, ap, ◌∙◌, subst, arith}
 use Rattle.ice_types.specs.declared.kind.TypeRef.{TypeRef}
 use Rattle.ice_types.specs.Tables.{Tables}
 use Rattle.ice_prims.specs.declared.fault.Fault.{Fault}
 use Rattle.ice_prims.specs.declared.fault.ReadFault.{ReadFault}
 use Rattle.ice_prims.specs.declared.fault.ReadFault.TheVariants as faults
-use Rattle.ice_prims.specs.Rest.{Rest, ◌>>=◌, whole}
+use Rattle.ice_prims.specs.Rest.{Rest, whole}
 use Rattle.ice_prims.specs.Bytes.{size_bytes}
 use Rattle.ice_prims.specs.Number.{size_at}
-use Rattle.ice_prims.specs.Taking.{Takes}
 use Rattle.ice_prims.proofs.Parts.{ok_is}
 use Rattle.ice_prims.proofs.Spelled.{size_exact}
 use Rattle.ice_encoding.specs.declared.limits.TheConstants.{LARGEST}
 use Rattle.ice_encoding.specs.Tree.{Tree, Trees, sequence, tree_count}
-use Rattle.ice_encoding.specs.Typed.{HasType, IsReadValue, sized_to}
+use Rattle.ice_encoding.specs.Typed.{IsReadValue, sized_to}
 use Rattle.ice_encoding.specs.Canonical.{canonical}
 use Rattle.ice_encoding.specs.Port.{size_of}
-use Rattle.ice_encoding.specs.Value.{SpellsPlainValue, plain_value_at}
+use Rattle.ice_encoding.specs.Value.{plain_value_at}
 use Rattle.ice_encoding.specs.Pausing.{Inside}
 use Rattle.ice_encoding.proofs.Plain.{plain_only, value_spelled}
 use Rattle.ice_encoding.proofs.Wider.{typed_wider}

@@ -1,7 +1,6 @@
 -- What the canonical encapsulation of a sequence holds, and the line that tells it.
-use Rattle.std.proofs.Common.{◌≡◌, ℕ, suc, ◌<◌, ◌≤◌, ◌^◌, List, [], ◌∷◌, ◌++◌, length, codes, Option, None, Some, Result, Ok, Err, refl, sym, ap, ◌∙◌, subst, append_assoc, false}
+use Rattle.std.proofs.Common.{◌≡◌, ℕ, suc, ◌<◌, ◌≤◌, ◌^◌, List, [], ◌∷◌, ◌++◌, length, codes, Option, Some, Result, Ok, Err, sym, ap, ◌∙◌, subst, append_assoc, false}
 use Rattle.std.specs.Prelude.{slice_get}
-use Rattle.std.specs.Io.KnownBytes.{Appends}
 use Rattle.json.specs.Print.{escape_byte}
 use Rattle.serde_json.specs.Data.{Data, array, object, Items, no_items, no_members, put}
 use Rattle.serde_json.specs.Written.{compact_text, items_text}
@@ -18,14 +17,12 @@ use Rattle.ice_encoding.specs.Typed.{HasType, AllOf}
 use Rattle.ice_encoding.specs.Canonical.{canonical}
 use Rattle.ice_encoding.specs.Graph.{Graph}
 use Rattle.ice_encoding.specs.SameGraph.{form}
-use Rattle.ice_ports.specs.Failures.{one_more}
-use Rattle.ice_ports.specs.Writing.{AppendsPrefix}
 use Rattle.canonical_values.specs.Standing.{only_null, IsCanonical}
 use Rattle.canonical_inputs.proofs.Alone.{alone}
 use Rattle.graph_json.specs.Canonical.{graph_noted}
 use Rattle.graph_json.specs.CanonicalValues.{each_noted, notation, notation_levels, noted}
-use Rattle.ice_relay.specs.Dumping.{Begins, DumpsTo, dump_line}
-use Rattle.ice_relay.specs.Items.{HasItems, IsItem, IsSequence, each_text, item_noted, sequence_text}
+use Rattle.ice_relay.specs.Dumping.{DumpsTo, dump_line}
+use Rattle.ice_relay.specs.Items.{IsItem, IsSequence, item_noted, sequence_text}
 use Rattle.ice_relay.specs.Pages.{Stops, TellsAll, of_tell}
 use Rattle.ice_relay.specs.Relaying.{Holds, one_value}
 use Rattle.ice_relay.specs.declared.page.TellFault.{TellFault}

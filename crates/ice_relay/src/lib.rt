@@ -12,7 +12,9 @@
 //! - What becomes of one input under a schema and a type stands here apart from commands, statuses and Slice
 //!   texts.
 //! - What is canonical already is not read as a graph: `relay` writes it back as it stands, and `same` compares
-//!   bytes. Where that is not told, the way by the graph is taken, which alone says where a fault is.
+//!   bytes. Of a sequence whose items have parts `dump` reads one item at a time, tells it and drops it (`items`),
+//!   since values take many times the memory of their bytes. Where that is not told, the way by the graph is taken,
+//!   which alone says where a fault is.
 //! - A value alone is a content of one member (`one_value`, its name `$value`, which no Slice name is), so an
 //!   encapsulation of any type is read and written by one path, with class instances or without; and members of
 //!   unknown tags may stand behind a value, as behind any members, and are passed over.

@@ -1,4 +1,4 @@
-use Rattle.std.proofs.Common.{◌++◌, false, arith}
+use Rattle.std.proofs.Common.{◌++◌, false}
 use Rattle.std.proofs.lemmas.Result.{err_from_is_err_and}
 use Rattle.ice_relay.specs.Items.{each_text}
 use Rattle.ice_relay.proofs.ItemTexts.{all_remain, less_remain, remain_stops, remain_without_memory, none_remain}

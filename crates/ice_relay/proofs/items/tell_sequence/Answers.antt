@@ -1,7 +1,6 @@
-use Rattle.std.proofs.Common.{◌≡◌, ◌∙◌, sym, ap}
+use Rattle.std.proofs.Common.{◌∙◌, sym, ap}
 use Rattle.std.proofs.lemmas.Result.{err_from_is_err_and}
 use Rattle.ice_prims.specs.Number.{size_at}
-use Rattle.ice_encoding.specs.Tree.{tree_count}
 use Rattle.ice_relay.proofs.NextItem.{size_taken}
 use Rattle.ice_relay.proofs.SequenceTold.{items_stop, items_alone, all_told}
 use Rattle.ice_relay.proofs.items.tell_sequence.Goals as goal

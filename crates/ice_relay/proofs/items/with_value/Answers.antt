@@ -1,6 +1,4 @@
-use Rattle.std.proofs.Common.{◌++◌, ap, ◌∙◌, append_assoc, IfOk}
 use Rattle.graph_arena.specs.View.{view}
-use Rattle.graph_json.specs.CanonicalValues.{notation_levels}
 use Rattle.ice_relay.proofs.ItemTexts.{item_put}
 use Rattle.ice_relay.proofs.items.with_value.Goals as goal
 
