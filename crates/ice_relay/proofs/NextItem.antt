@@ -77,9 +77,3 @@ module _ (items : Trees) (content : List ℕ) (few : tree_count items < 2 ^ 31) 
   size_taken count after e =
       let p : (tree_count items, behind (whole content) (size_bytes (tree_count items)) (each_bytes items)) ≡ (count, after) = ok_is _ (count, after) (sym size_read ∙ e) in
       (ap (λ (x : ℕ × Rest). x.0) p, sym (ap (λ (x : ℕ × Rest). x.1.bytes) p))
-
-  pub size_there : (fault : Fault) → size_at (whole content) ≡ Err fault → ⊥
-  size_there fault e = never (tree_count items, behind (whole content) (size_bytes (tree_count items)) (each_bytes items)) (sym size_read ∙ e)
-    where
-      never : (x : ℕ × Rest) → Ok x ≡ Err fault → ⊥
-      never x h = cc

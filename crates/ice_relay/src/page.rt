@@ -7,8 +7,9 @@ ghost use Rattle.ice_relay.specs.declared.page.TellFault.TheVariants as faults;
 use ice_ports::{Failed, Sink, write_all};
 use std::alloc::AllocError;
 
-/// A page of so many bytes is full.
-const FULL: usize = 65_536;
+/// A page of so many bytes is full. A `Writer` on a page makes as much ready ahead as stands there, so a long one would
+/// cost each small piece much.
+const FULL: usize = 4_096;
 
 /// Why a text is not told to its end.
 #[derive(Clone, Copy)]
