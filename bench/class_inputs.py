@@ -1,4 +1,4 @@
-"""Inputs of class instances in sliced format: each as it has to go, and as it comes."""
+"""Inputs of class instances, in sliced format where nothing else is said: each as it has to go, and as it comes."""
 import struct
 
 TEXT = b"""module Trees {
@@ -91,6 +91,21 @@ def ids_as_strings(count):
     return side_by_side(count)[0], encapsulated(size(count) + given)
 
 
+def in_compact_format(count, name, front, behind):
+    """Instances without values in compact format: three bytes each, and the type id of the first."""
+    type_id = b"::Trees::" + name
+    first = bytes([1, LAST | 1]) + size(len(type_id)) + type_id
+    return encapsulated(front + first + (count - 1) * bytes([1, LAST | 2, 1]) + behind)
+
+
+def least_in_compact_format(count):
+    return least(count)[0], in_compact_format(count, b"Least", b"", b"\0")
+
+
+def side_by_side_in_compact_format(count):
+    return side_by_side(count)[0], in_compact_format(count, b"None", size(count), b"")
+
+
 def in_one_table(count, is_falling=False):
     """A slice that refers to all, each by a place of its own. Where places fall, the canonical ones rise all the same."""
 
@@ -149,7 +164,9 @@ SHAPES = {
     "chain": ("Link", chain, (1_000, 10_000, 70_000)),
     "ring": ("Link", ring, (1_000, 10_000, 70_000)),
     "chain, least": ("Least", least, (1_000, 10_000, 100_000)),
+    "chain, compact": ("Least", least_in_compact_format, (1_000, 10_000, 100_000)),
     "side by side": ("Nones", side_by_side, (1_000, 10_000, 100_000)),
+    "side by side, compact": ("Nones", side_by_side_in_compact_format, (1_000, 10_000, 100_000)),
     "in one table": ("Held", in_one_table, (1_000, 10_000, 87_000)),
     "in one table, falling": ("Held", falling_table, (1_000, 10_000, 87_000)),
     "three slices each": ("Bases", derived, (1_000, 10_000, 32_000)),

@@ -177,7 +177,7 @@ fn first_id<'a>(schema: &'a Schema, slices: &'a [Slice]) -> &'a str
     match slices {
         [] => "",
         [Slice::Known { class, .. }, ..] => id_at(schema, *class),
-        [Slice::Unknown { id, .. }, ..] => id.as_str(),
+        [Slice::Unknown(kept), ..] => kept.id.as_str(),
     }
 }
 

@@ -35,23 +35,23 @@ use Rattle.canonical_inputs.proofs.Plain.{NullAlone, value_plain}
 abbrev pub alone : Tree → Graph
 alone v = record { roots = with_optional (tree v none) []; instances = [] }
 
-null_alone : NullAlone only_null
+pub null_alone : NullAlone only_null
 null_alone declared n h = h
 
-abbrev inline : Tables → Graph → Writer Pen (Option ℕ)
+abbrev pub inline : Tables → Graph → Writer Pen (Option ℕ)
 inline t g = written_in_place put_inline (written_instance t sliced g most)
 
-null_inline : (t : Tables) (g : Graph) (p : Pen) → inline t g None p ≡ (size_bytes 0, p)
+pub null_inline : (t : Tables) (g : Graph) (p : Pen) → inline t g None p ≡ (size_bytes 0, p)
 null_inline t g p = refl
 
-may_refer : (t : Tables) (declared n : Option ℕ) → only_null.Held declared n → IsHeldIn t [] declared n
+pub may_refer : (t : Tables) (declared n : Option ℕ) → only_null.Held declared n → IsHeldIn t [] declared n
 may_refer t declared n e = subst (λ (m : Option ℕ). IsHeldIn t [] declared m) (sym e) tt
 
-no_order : (v : Tree) → names_of (alone v).roots ≡ [] → order (alone v) ≡ []
+pub no_order : (v : Tree) → names_of (alone v).roots ≡ [] → order (alone v) ≡ []
 unfolding order
 no_order v e = ap (λ (ns : List ℕ). visit_each (visit_at most (alone v)) ns []) e
 
-few_listed : (ns : List ℕ) → ns ≡ [] → length ns ≤ most_instances
+pub few_listed : (ns : List ℕ) → ns ≡ [] → length ns ≤ most_instances
 unfolding most_instances
 few_listed ns e = subst (λ (xs : List ℕ). length xs ≤ 100000) (sym e) (omega arith)
 

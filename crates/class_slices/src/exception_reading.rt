@@ -14,7 +14,7 @@ ghost use Rattle.instance_reading.specs.Stacked.{view_user_exception as view_rea
 use crate::enclosing::left_are_bytes;
 use crate::user_exception::UserException;
 use encaps_optionals::{end, open_encaps};
-use graph_arena::{Graph, Members};
+use graph_arena::{Graph, Members, ThinList};
 use ice_prims::{Cursor, ReadFault};
 use ice_types::{List, Schema};
 use instance_reading::{UserExceptionContent, read_user_exception};
@@ -75,6 +75,6 @@ fn none(alloc: Global) -> Members
 {
     Members {
         required: List::new(alloc),
-        optional: List::new(alloc),
+        optional: ThinList::new(),
     }
 }

@@ -13,7 +13,7 @@ ghost use Rattle.graph_arena.specs.View.{view, view_all};
 ghost use Rattle.class_slices.specs.Seen.{IsRooted, view_user_exception};
 
 use crate::user_exception::UserException;
-use graph_arena::{Graph, Members, Slice, Value, index_of, push_slices, resolve_slices};
+use graph_arena::{Graph, Members, Slice, ThinList, Value, index_of, push_slices, resolve_slices};
 use ice_types::List;
 use std::alloc::{AllocError, Global};
 
@@ -48,7 +48,7 @@ fn roots_of(alloc: Global, slices: &[Slice]) -> Result<Members, AllocError>
     push_slices(&mut names, slices)?;
     Ok(Members {
         required: references(alloc, names.as_slice())?,
-        optional: List::new(alloc),
+        optional: ThinList::new(),
     })
 }
 

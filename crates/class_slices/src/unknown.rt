@@ -65,7 +65,7 @@ pub fn begins_unknown(slices: &[Slice]) -> bool
     ensures { IsTrue result ↔ BeginsUnknown (view_slices slices.now) }
 {
     match slices.first() {
-        Some(Slice::Unknown { .. }) => true,
+        Some(Slice::Unknown(_)) => true,
         Some(Slice::Known { .. }) => false,
         None => false,
     }

@@ -6,3 +6,4 @@ pub mod Seen
 pub mod Arena
 pub mod Listing
 pub mod Renumbering
+pub mod Thin

@@ -25,7 +25,7 @@ view_content c = members.with_optional (view_all c.required) (view_present c.opt
 -- so a slice
 abbrev pub view_slice : Slice → graphs.Slice
 view_slice (Known class content) = known class (view_content content)
-view_slice (Unknown id bytes optionals table) = unknown id bytes optionals table
+view_slice (Unknown kept) = unknown kept.value.id kept.value.bytes kept.value.optionals kept.value.table
 
 abbrev pub view_slices : List Slice → List graphs.Slice
 view_slices slices = map view_slice slices

@@ -10,6 +10,7 @@ ghost use Rattle.graph_arena.specs.Arena.{with_reserved, with_roots};
 
 use crate::instance::{Instance, Members};
 use crate::names::{push_members, push_slices};
+use crate::thin_list::ThinList;
 use ice_types::List;
 use std::alloc::{AllocError, Global};
 use std::marker::Model;
@@ -57,7 +58,7 @@ impl Graph {
         Graph {
             roots: Members {
                 required: List::new(alloc),
-                optional: List::new(alloc),
+                optional: ThinList::new(),
             },
             instances: Vec::new(alloc),
         }

@@ -4,6 +4,7 @@ ghost use Rattle.std.specs.Prelude.{◌≡◌};
 ghost use Rattle.ice_encoding.specs.Instances as graphs;
 ghost use Rattle.graph_arena.specs.Seen.{view_slices};
 
+use crate::thin_list::ThinList;
 use crate::value::Value;
 use ice_types::{Bytes, List, Name};
 
@@ -12,25 +13,29 @@ use ice_types::{Bytes, List, Name};
 #[derive(Drop)]
 pub struct Members {
     pub required: List<Value>,
-    pub optional: List<(u32, Value)>,
+    pub optional: ThinList<(u32, Value)>,
 }
 
 /// What one class adds to an instance.
 #[derive(Drop)]
 pub enum Slice {
     /// A class by its place in the schema's table, and the values of its own members.
-    Known {
-        class: u32,
-        members: Members,
-    },
-    /// A class that the schema lacks: its type id, the bytes of its members without the end marker of
-    /// optional ones, whether that marker stood behind them, and the names in the slice's table.
-    Unknown {
-        id: Name,
-        bytes: Bytes,
-        optionals: bool,
-        table: List<u32>,
-    },
+    Known { class: u32, members: Members },
+    /// A class that the schema lacks.
+    Unknown(Box<UnknownSlice>),
+}
+
+/// What is kept of a slice of a class that the schema lacks.
+#[derive(Drop)]
+pub struct UnknownSlice {
+    /// The type id of the class.
+    pub id: Name,
+    /// The bytes of its members, without the end marker of optional ones.
+    pub bytes: Bytes,
+    /// Whether that marker stood behind them.
+    pub optionals: bool,
+    /// The names in the slice's table.
+    pub table: List<u32>,
 }
 
 /// An instance of a class.

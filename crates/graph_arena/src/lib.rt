@@ -15,6 +15,8 @@
 //!   took ten times the time and 36 bytes of memory for each. It is seen as the same tree as `Seq` of as many
 //!   `Byte`, so no contract speaks of it, and both may meet. What reads bytes makes it; what reads JSON makes
 //!   `Seq`.
+//! - Most instances have one slice of a known class and no optional members, and there may be one for each three
+//!   bytes of input. So optional members are a `ThinList` and an unknown slice stands in a box: a slice is 48 bytes.
 //! - `Value` has the order of keys by hand (`impl Ord`, proved to be `tree_cmp`): a derived order is not to be
 //!   had for a type that holds itself through `List`.
 #![tactic(auto)]
@@ -29,14 +31,16 @@ mod proxy_order;
 mod renumbering;
 mod resolving;
 mod sort;
+mod thin_list;
 mod value;
 mod visiting;
 
 pub use graph::{Graph, MOST_PLACES};
-pub use instance::{Instance, Members, Slice, class_of};
+pub use instance::{Instance, Members, Slice, UnknownSlice, class_of};
 pub use names::push_slices;
 pub use order::{is_above, is_rising, is_sorted};
 pub use renumbering::{index_of, resolve_slices};
 pub use resolving::{resolve, resolve_members};
 pub use sort::{in_order, keyed, put};
+pub use thin_list::ThinList;
 pub use value::Value;

@@ -34,7 +34,7 @@ fn push_slice(names: &mut List<u32>, slice: &Slice) -> Result<(), AllocError>
 {
     match slice {
         Slice::Known { members, .. } => push_members(names, members),
-        Slice::Unknown { table, .. } => push_table(names, table.as_slice()),
+        Slice::Unknown(kept) => push_table(names, kept.table.as_slice()),
     }
 }
 

@@ -120,6 +120,6 @@ fn resolve_slice(slice: &mut Slice, table: &[u32])
 {
     match slice {
         Slice::Known { members, .. } => resolve_members(members, table),
-        Slice::Unknown { table: names, .. } => resolve_names(names.as_mut_slice(), table),
+        Slice::Unknown(kept) => resolve_names(kept.table.as_mut_slice(), table),
     }
 }

@@ -15,7 +15,9 @@ pub fn resolve_members(members: &mut Members, table: &[u32])
     ensures { view_content members.new ≡ renamed_members (entry_in table.now) (view_content members.old) }
 {
     resolve_each(members.required.as_mut_slice(), table);
-    resolve_present(members.optional.as_mut_slice(), table);
+    if let Some(optional) = &mut members.optional.items {
+        resolve_present(optional.as_mut_slice(), table);
+    }
 }
 
 fn resolve_present(optional: &mut [(u32, Value)], table: &[u32])

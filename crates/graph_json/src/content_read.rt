@@ -13,7 +13,7 @@ use crate::enum_names::EnumNames;
 use crate::found::{Found, named, object_in};
 use crate::read::value_with;
 use crate::tree::Json;
-use graph_arena::{Members, Value};
+use graph_arena::{Members, ThinList, Value};
 use ice_types::{List, Member, Schema};
 use std::alloc::{AllocError, Global};
 use std::collections::BTreeMap;
@@ -56,6 +56,7 @@ pub(crate) fn content_with(
         return Ok(None);
     };
     if is_sum(found.len(), required.len(), optional.len()) {
+        let optional = ThinList::of(alloc, optional)?;
         Ok(Some(Members { required, optional }))
     } else {
         drop(required);

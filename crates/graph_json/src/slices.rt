@@ -15,7 +15,7 @@ use crate::found::{Found, named, object_in};
 use crate::leaves::name_of;
 use crate::room::with_room;
 use crate::tree::Json;
-use graph_arena::Slice;
+use graph_arena::{Slice, UnknownSlice};
 use hex::FromHexError;
 use ice_types::{Bytes, List, Name, Schema};
 use std::alloc::{AllocError, Global};
@@ -128,12 +128,13 @@ fn unknown_in(alloc: Global, found: Found<'_, '_>) -> Result<Option<Slice>, Allo
     let Some(table) = table_in(alloc, found)? else {
         return Ok(None);
     };
-    Ok(Some(Slice::Unknown {
+    let kept = UnknownSlice {
         id: Name::of(alloc, id)?,
         bytes,
         optionals,
         table,
-    }))
+    };
+    Ok(Some(Slice::Unknown(Box::new(alloc, kept)?)))
 }
 
 /// The text at a name.

@@ -225,7 +225,7 @@ fn members_of(slice: Slice) -> Option<Members>
 {
     match slice {
         Slice::Known { members, .. } => Some(members),
-        Slice::Unknown { .. } => None,
+        Slice::Unknown(_) => None,
     }
 }
 

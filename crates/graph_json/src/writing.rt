@@ -15,8 +15,8 @@ ghost use Rattle.graph_json.specs.Printing.{Prints, PrintsItems};
 use crate::rows::{Row, put_optional, put_required};
 use crate::write::write_object;
 use crate::write_leaves::{write_bool, write_name, write_text};
-use graph_arena::{Graph, Members, Slice};
-use ice_types::{Bytes, Name, Schema};
+use graph_arena::{Graph, Members, Slice, UnknownSlice};
+use ice_types::Schema;
 use json::Writer;
 use std::alloc::{AllocError, Global};
 use value_parts::{DeclaredMembers, SlicedType};
@@ -97,12 +97,7 @@ fn write_slice(
 {
     match slice {
         Slice::Known { class, members } => write_known(out, alloc, schema, *class, members),
-        Slice::Unknown {
-            id,
-            bytes,
-            optionals,
-            table,
-        } => write_unknown(out, alloc, id, bytes, *optionals, table.as_slice()),
+        Slice::Unknown(kept) => write_unknown(out, alloc, kept),
     }
 }
 
@@ -150,27 +145,20 @@ pub(crate) fn write_content(
 }
 
 /// An unknown slice: its bytes in hexadecimal digits, its type id, and its table.
-fn write_unknown(
-    out: &mut Writer,
-    alloc: Global,
-    id: &Name,
-    bytes: &Bytes,
-    optionals: bool,
-    table: &[u32],
-) -> Result<(), AllocError>
+fn write_unknown(out: &mut Writer, alloc: Global, kept: &UnknownSlice) -> Result<(), AllocError>
     ensures { (t : Tables) → OnOk result (Prints
-        (slice_noted t (unknown id.now bytes.now optionals table.now)) out.old out.new) }
+        (slice_noted t (unknown kept.now.id kept.now.bytes kept.now.optionals kept.now.table)) out.old out.new) }
 {
     out.begin_object()?;
     out.key("bytes")?;
-    write_hex(out, alloc, bytes.as_slice())?;
+    write_hex(out, alloc, kept.bytes.as_slice())?;
     out.key("kept")?;
-    write_text(out, id.as_str())?;
+    write_text(out, kept.id.as_str())?;
     out.key("optionals")?;
-    write_bool(out, optionals)?;
+    write_bool(out, kept.optionals)?;
     out.key("table")?;
     out.begin_array()?;
-    write_names(out, table)?;
+    write_names(out, kept.table.as_slice())?;
     out.end_object()
 }
 

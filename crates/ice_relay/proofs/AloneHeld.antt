@@ -1,53 +1,31 @@
 -- The canonical encapsulation of a value without instances holds the graph of the value alone.
-use Rattle.std.proofs.Common.{◌≡◌, ℕ, ◌≤◌, List, [], ◌++◌, length, map, Option, None, refl, sym, ap, ◌∙◌, subst, arith}
+use Rattle.std.proofs.Common.{◌≡◌, ℕ, ◌≤◌, List, [], ◌++◌, length, map, Option, refl, sym, ap, ◌∙◌, subst, arith}
 use Rattle.std.proofs.lemmas.List.{append-nil}
 use Rattle.ice_types.specs.declared.kind.TypeRef.{TypeRef}
 use Rattle.ice_types.specs.Tables.{Tables}
 use Rattle.ice_types.specs.Rules.{IsSchema}
-use Rattle.ice_prims.specs.Bytes.{size_bytes}
 use Rattle.ice_encoding.specs.Opening.{encapsulated_bytes}
 use Rattle.ice_encoding.specs.declared.limits.TheConstants.{LARGEST}
 use Rattle.ice_encoding.specs.Tree.{Tree, none, tree}
 use Rattle.ice_encoding.specs.Typed.{HasType}
 use Rattle.ice_encoding.specs.Canonical.{canonical}
 use Rattle.ice_encoding.specs.Writing.{Writer, written}
-use Rattle.ice_encoding.specs.Pausing.{written_in_place}
 use Rattle.ice_encoding.specs.OptionalMembers.{with_optional}
 use Rattle.ice_encoding.specs.Graph.{Graph}
 use Rattle.ice_encoding.specs.Flags.{all_slices}
-use Rattle.ice_encoding.specs.Instances.{most_instances, slices_of, SpellsNumbered}
+use Rattle.ice_encoding.specs.Instances.{slices_of, SpellsNumbered}
 use Rattle.ice_encoding.specs.Members.{written_content}
 use Rattle.ice_encoding.specs.Names.{names_of, renamed, renamed_slice}
 use Rattle.ice_encoding.specs.SameGraph.{form}
-use Rattle.ice_encoding.specs.TypedGraph.{IsHeldIn, RefersIn, OfType}
-use Rattle.ice_encoding.specs.Visiting.{order, visit_each, visit_at, most, place}
-use Rattle.ice_encoding.specs.CanonicalGraph.{Pen, sliced, put_inline, written_instance, blank, canonical_graph, graph_bytes}
+use Rattle.ice_encoding.specs.TypedGraph.{RefersIn, OfType}
+use Rattle.ice_encoding.specs.Visiting.{order, place}
+use Rattle.ice_encoding.specs.CanonicalGraph.{Pen, sliced, blank, canonical_graph, graph_bytes}
 use Rattle.ice_encoding.proofs.Wider.{typed_wider}
 use Rattle.graph_laws.proofs.Schemas.{form_spelled}
 use Rattle.canonical_values.specs.Standing.{only_null}
-use Rattle.canonical_inputs.proofs.Alone.{alone}
-use Rattle.canonical_inputs.proofs.Plain.{NullAlone, value_plain}
+use Rattle.canonical_inputs.proofs.Alone.{alone, null_alone, inline, null_inline, may_refer, no_order, few_listed}
+use Rattle.canonical_inputs.proofs.Plain.{value_plain}
 use Rattle.ice_relay.specs.Relaying.{Holds, one_value}
-
-null_alone : NullAlone only_null
-null_alone declared n h = h
-
-may_refer : (t : Tables) (declared n : Option ℕ) → only_null.Held declared n → IsHeldIn t [] declared n
-may_refer t declared n e = subst (λ (m : Option ℕ). IsHeldIn t [] declared m) (sym e) tt
-
-abbrev inline : Tables → Graph → Writer Pen (Option ℕ)
-inline t g = written_in_place put_inline (written_instance t sliced g most)
-
-null_inline : (t : Tables) (g : Graph) (p : Pen) → inline t g None p ≡ (size_bytes 0, p)
-null_inline t g p = refl
-
-no_order : (v : Tree) → names_of (alone v).roots ≡ [] → order (alone v) ≡ []
-unfolding order
-no_order v e = ap (λ (ns : List ℕ). visit_each (visit_at most (alone v)) ns []) e
-
-few_listed : (ns : List ℕ) → ns ≡ [] → length ns ≤ most_instances
-unfolding most_instances
-few_listed ns e = subst (λ (xs : List ℕ). length xs ≤ 100000) (sym e) (omega arith)
 
 -- with its instances by first visit, of which there are none, it is as it was
 form_is : (v : Tree) → order (alone v) ≡ [] → renamed (place (order (alone v))) v ≡ v → form (alone v) ≡ alone v

@@ -10,8 +10,8 @@ use Rattle.ice_encoding.specs.Canonical.{canonical}
 use Rattle.graph_json.specs.CanonicalValues.{notation_levels}
 use Rattle.ice_relay.specs.Items.{AreItems, IsItem, each_bytes, each_text, item_noted, item_text}
 use Rattle.ice_relay.specs.Pages.{Stops, Tells}
-use Rattle.ice_relay.specs.declared.page.TellFault.{TellFault}
-use Rattle.ice_relay.specs.declared.page.TellFault.TheVariants as faults
+use Rattle.ice_ports.specs.declared.ports.PortFault.{PortFault}
+use Rattle.ice_ports.specs.declared.ports.PortFault.TheVariants as faults
 use Rattle.ice_relay.proofs.Pages.{IsLeft, all_left, less_left, left_stops, left_without_memory, none_left}
 
 -- ---- the text of one item
@@ -70,7 +70,7 @@ module _ (t : Tables) (element : TypeRef) (count at : ℕ) (bytes whole : List �
       }
 
   one_stops : (others : Trees) → AreItems t element others bytes → tree_count others + at ≡ count → IsLeft whole (each_text t element (nat_lt 0 at) others) old mid before m page
-      → (fault : TellFault) → Stops longer.items mid new m after fault → Stops whole old new before after fault
+      → (fault : PortFault) → Stops longer.items mid new m after fault → Stops whole old new before after fault
   one_stops none are counted left fault stops = absurd (omega (arith, counted, less))
   one_stops (tree v vs) are counted left fault stops =
       let put = puts v (each_bytes vs) are.typed.0 are.are in
@@ -83,7 +83,7 @@ module _ (t : Tables) (element : TypeRef) (count at : ℕ) (bytes whole : List �
   less_remain r = one_told r.others r.items r.counted r.is_left
 
   -- it is not told to its end
-  pub remain_stops : Remain t element count at bytes whole old mid before m page → (fault : TellFault) → Stops longer.items mid new m after fault → Stops whole old new before after fault
+  pub remain_stops : Remain t element count at bytes whole old mid before m page → (fault : PortFault) → Stops longer.items mid new m after fault → Stops whole old new before after fault
   remain_stops r = one_stops r.others r.items r.counted r.is_left
 
 module _ (t : Tables) (element : TypeRef) (count at : ℕ) (bytes whole : List ℕ) (old new : Option (List ℕ)) (before after : ℕ) (page : Vec ℕ Global) where

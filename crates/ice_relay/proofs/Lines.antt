@@ -18,8 +18,8 @@ use Rattle.graph_json.specs.Contents.{content_noted}
 use Rattle.ice_relay.specs.Dumping.{DumpsTo, dump_line}
 use Rattle.ice_relay.specs.Pages.{Stops, Tells, TellsAll, of_tell}
 use Rattle.ice_relay.specs.Relaying.{root_of, one_value}
-use Rattle.ice_relay.specs.declared.page.TellFault.{TellFault}
-use Rattle.ice_relay.specs.declared.page.TellFault.TheVariants as faults
+use Rattle.ice_ports.specs.declared.ports.PortFault.{PortFault}
+use Rattle.ice_ports.specs.declared.ports.PortFault.TheVariants as faults
 use Rattle.ice_relay.proofs.Holding.{asked, asked_is, holds}
 use Rattle.ice_relay.proofs.Pages.{IsLeft, longer_stops}
 
@@ -50,7 +50,7 @@ module _ (t : Tables) (shape : Shape) (g : Graph) where
     with_tail : (first ++ instances) ++ tail ≡ line
     with_tail = ap (λ (l : List ℕ). (l ++ instances) ++ tail) is ∙ append_assoc head instances tail ∙ line_in_pieces
 
-    pub instances_stop : (old new : Option (List ℕ)) (before after : ℕ) (fault : TellFault) → Stops (first ++ instances) old new before after fault → Stops line old new before after fault
+    pub instances_stop : (old new : Option (List ℕ)) (before after : ℕ) (fault : PortFault) → Stops (first ++ instances) old new before after fault → Stops line old new before after fault
     instances_stop old new before after fault stops =
         subst (λ (l : List ℕ). Stops l old new before after fault) with_tail (longer_stops (first ++ instances) tail old new before after fault stops)
 
@@ -65,9 +65,9 @@ module _ (t : Tables) (kind : TypeRef) (root : Member) (is : root ≡ root_of ki
   pub dumped : (old new : Option (List ℕ)) (before after : ℕ) (x : Unit {0}) → TellsAll (line t (asked t kind root is) h) old new before after (Ok x) → DumpsTo t kind input old new before after (Ok x)
   dumped old new before after x (got, count) = (g, holds t kind root is input g fits read, subst (λ (l : List ℕ). Appends old new l) its_line got, count)
 
-  stopped : (old new : Option (List ℕ)) (before after : ℕ) (fault : TellFault) → Stops (dump_line t kind g) old new before after fault → DumpsTo t kind input old new before after (Err (of_tell fault))
-  stopped old new before after faults.WriteFailed (got, count) = (g, holds t kind root is input g fits read, got, count)
+  stopped : (old new : Option (List ℕ)) (before after : ℕ) (fault : PortFault) → Stops (dump_line t kind g) old new before after fault → DumpsTo t kind input old new before after (Err (of_tell fault))
+  stopped old new before after faults.Failed (got, count) = (g, holds t kind root is input g fits read, got, count)
   stopped old new before after faults.Memory (got, count) = (g, holds t kind root is input g fits read, got, count)
 
-  pub dump_stops : (old new : Option (List ℕ)) (before after : ℕ) (fault : TellFault) → Stops (line t (asked t kind root is) h) old new before after fault → DumpsTo t kind input old new before after (Err (of_tell fault))
+  pub dump_stops : (old new : Option (List ℕ)) (before after : ℕ) (fault : PortFault) → Stops (line t (asked t kind root is) h) old new before after fault → DumpsTo t kind input old new before after (Err (of_tell fault))
   dump_stops old new before after fault stops = stopped old new before after fault (subst (λ (l : List ℕ). Stops l old new before after fault) its_line stops)

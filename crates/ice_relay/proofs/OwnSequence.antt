@@ -25,8 +25,8 @@ use Rattle.ice_relay.specs.Dumping.{DumpsTo, dump_line}
 use Rattle.ice_relay.specs.Items.{IsItem, IsSequence, item_noted, sequence_text}
 use Rattle.ice_relay.specs.Pages.{Stops, TellsAll, of_tell}
 use Rattle.ice_relay.specs.Relaying.{Holds, one_value}
-use Rattle.ice_relay.specs.declared.page.TellFault.{TellFault}
-use Rattle.ice_relay.specs.declared.page.TellFault.TheVariants as faults
+use Rattle.ice_ports.specs.declared.ports.PortFault.{PortFault}
+use Rattle.ice_ports.specs.declared.ports.PortFault.TheVariants as faults
 use Rattle.ice_relay.proofs.AloneHeld.{alone_held, form_alone}
 
 -- ---- the text
@@ -116,10 +116,10 @@ sequence_dumped t kind input element content rules s =
 module _ (t : Tables) (kind : TypeRef) (input : List ℕ) (element : TypeRef) (content : List ℕ) (rules : IsSchema t) (is : IsSequence t kind input element content)
     (old new : Option (List ℕ)) (before after : ℕ) where
   -- told so, whichever the items are
-  abbrev IsTold : Result (Unit {0}) TellFault → Type 0
+  abbrev IsTold : Result (Unit {0}) PortFault → Type 0
   IsTold r = (items : Trees) → AllOf (IsItem t element) items → tree_count items < 2 ^ 31 → content ≡ canonical (sequence items) → TellsAll (sequence_text t element items) old new before after r
 
-  told_so : (own : Own t kind input element content) (r : Result (Unit {0}) TellFault) → IsTold r → TellsAll (dump_line t kind own.graph) old new before after r
+  told_so : (own : Own t kind input element content) (r : Result (Unit {0}) PortFault) → IsTold r → TellsAll (dump_line t kind own.graph) old new before after r
   told_so own r told = subst (λ (l : List ℕ). TellsAll l old new before after r) (sym own.line) (told own.items own.typed own.few own.are)
 
   pub sequence_told : (done : Unit {0}) → IsTold (Ok done) → DumpsTo t kind input old new before after (Ok tt)
@@ -128,11 +128,11 @@ module _ (t : Tables) (kind : TypeRef) (input : List ℕ) (element : TypeRef) (c
       let tells = told_so own (Ok done) told in
       (own.graph, own.holds, tells.0, tells.1)
 
-  stopped : (own : Own t kind input element content) (fault : TellFault) → Stops (dump_line t kind own.graph) old new before after fault → DumpsTo t kind input old new before after (Err (of_tell fault))
-  stopped own faults.WriteFailed stops = (own.graph, own.holds, stops.0, stops.1)
+  stopped : (own : Own t kind input element content) (fault : PortFault) → Stops (dump_line t kind own.graph) old new before after fault → DumpsTo t kind input old new before after (Err (of_tell fault))
+  stopped own faults.Failed stops = (own.graph, own.holds, stops.0, stops.1)
   stopped own faults.Memory stops = (own.graph, own.holds, stops.0, stops.1)
 
-  pub sequence_stopped : (fault : TellFault) → IsTold (Err fault) → DumpsTo t kind input old new before after (Err (of_tell fault))
+  pub sequence_stopped : (fault : PortFault) → IsTold (Err fault) → DumpsTo t kind input old new before after (Err (of_tell fault))
   sequence_stopped fault told =
       let own = sequence_dumped t kind input element content rules is in
       stopped own fault (told_so own (Err fault) told)

@@ -5,8 +5,8 @@ use Rattle.std.specs.Io.KnownBytes.{Appends}
 use Rattle.std.proofs.lemmas.List.{length-append}
 use Rattle.ice_ports.specs.Failures.{one_more}
 use Rattle.ice_relay.specs.Pages.{Stops, Tells, TellsAll}
-use Rattle.ice_relay.specs.declared.page.TellFault.{TellFault}
-use Rattle.ice_relay.specs.declared.page.TellFault.TheVariants as faults
+use Rattle.ice_ports.specs.declared.ports.PortFault.{PortFault}
+use Rattle.ice_ports.specs.declared.ports.PortFault.TheVariants as faults
 
 -- ---- what a sink got
 
@@ -28,8 +28,8 @@ split first written page second more rest a b =
     ap (λ (l : List ℕ). l ++ second) a ∙ append_assoc written page second ∙ ap (λ (l : List ℕ). written ++ l) b ∙ sym (append_assoc written more rest)
 
 module _ (first second : List ℕ) (old mid new : Option (List ℕ)) (before m after : ℕ) (page : Vec ℕ Global) (told : Tells first old mid before m (Ok page)) where
-  behind_stops : (fault : TellFault) → Stops (page.items ++ second) mid new m after fault → Stops (first ++ second) old new before after fault
-  behind_stops faults.WriteFailed ((prefix, rest, is, got, some), count) =
+  behind_stops : (fault : PortFault) → Stops (page.items ++ second) mid new m after fault → Stops (first ++ second) old new before after fault
+  behind_stops faults.Failed ((prefix, rest, is, got, some), count) =
       ((told.0 ++ prefix, rest, split first told.0 page.items second prefix rest told.1 is, got_both old mid new told.0 prefix told.2 got, some), count ∙ ap one_more told.3)
   behind_stops faults.Memory ((written, rest, is, got), count) =
       ((told.0 ++ written, rest, split first told.0 page.items second written rest told.1 is, got_both old mid new told.0 written told.2 got), count ∙ told.3)
@@ -38,15 +38,15 @@ module _ (first second : List ℕ) (old mid new : Option (List ℕ)) (before m a
   behind_page next (written, is, got, count) =
       (told.0 ++ written, split first told.0 page.items second written next.items told.1 is, got_both old mid new told.0 written told.2 got, count ∙ told.3)
 
-  behind_all : (r : Result (Unit {0}) TellFault) → TellsAll (page.items ++ second) mid new m after r → TellsAll (first ++ second) old new before after r
+  behind_all : (r : Result (Unit {0}) PortFault) → TellsAll (page.items ++ second) mid new m after r → TellsAll (first ++ second) old new before after r
   behind_all (Ok done) (got, count) =
       let whole : told.0 ++ (page.items ++ second) ≡ first ++ second = sym (append_assoc told.0 page.items second) ∙ ap (λ (l : List ℕ). l ++ second) (sym told.1) in
       (subst (λ (l : List ℕ). Appends old new l) whole (got_both old mid new told.0 (page.items ++ second) told.2 got), count ∙ told.3)
   behind_all (Err fault) stops = behind_stops fault stops
 
 -- a text that is not told to its end is none that is longer
-pub longer_stops : (text more : List ℕ) (old new : Option (List ℕ)) (before after : ℕ) (fault : TellFault) → Stops text old new before after fault → Stops (text ++ more) old new before after fault
-longer_stops text more old new before after faults.WriteFailed ((prefix, rest, is, got, some), count) =
+pub longer_stops : (text more : List ℕ) (old new : Option (List ℕ)) (before after : ℕ) (fault : PortFault) → Stops text old new before after fault → Stops (text ++ more) old new before after fault
+longer_stops text more old new before after faults.Failed ((prefix, rest, is, got, some), count) =
     ((prefix, rest ++ more, ap (λ (l : List ℕ). l ++ more) is ∙ append_assoc prefix rest more, got, omega (arith, some, length-append rest more)), count)
 longer_stops text more old new before after faults.Memory ((written, rest, is, got), count) =
     ((written, rest ++ more, ap (λ (l : List ℕ). l ++ more) is ∙ append_assoc written rest more, got), count)
@@ -76,13 +76,13 @@ module _ (whole rest : List ℕ) (old mid new : Option (List ℕ)) (before m aft
       completes = goes_on;
     }
 
-    pub left_stops : (fault : TellFault) → Stops (page.items ++ piece) mid new m after fault → Stops whole old new before after fault
+    pub left_stops : (fault : PortFault) → Stops (page.items ++ piece) mid new m after fault → Stops whole old new before after fault
     left_stops fault stops =
         subst (λ (l : List ℕ). Stops l old new before after fault) goes_on
         (longer_stops (left.told ++ piece) more old new before after fault (behind_stops left.told piece old mid new before m after page left.tells fault stops))
 
   -- the rest is told to its end
-  pub left_all : (r : Result (Unit {0}) TellFault) → TellsAll (page.items ++ rest) mid new m after r → TellsAll whole old new before after r
+  pub left_all : (r : Result (Unit {0}) PortFault) → TellsAll (page.items ++ rest) mid new m after r → TellsAll whole old new before after r
   left_all r tells =
       subst (λ (l : List ℕ). TellsAll l old new before after r) left.completes
       (behind_all left.told rest old mid new before m after page left.tells r tells)

@@ -6,8 +6,8 @@ use Rattle.ice_types.specs.Tables.{Tables}
 use Rattle.ice_encoding.specs.Tree.{Trees}
 use Rattle.ice_relay.specs.Items.{each_text, sequence_text}
 use Rattle.ice_relay.specs.Pages.{Stops, Tells, TellsAll}
-use Rattle.ice_relay.specs.declared.page.TellFault.{TellFault}
-use Rattle.ice_relay.specs.declared.page.TellFault.TheVariants as faults
+use Rattle.ice_ports.specs.declared.ports.PortFault.{PortFault}
+use Rattle.ice_ports.specs.declared.ports.PortFault.TheVariants as faults
 use Rattle.ice_relay.proofs.Pages.{IsLeft, all_left, less_left, left_stops, left_without_memory, left_all}
 
 abbrev head : List ℕ
@@ -29,7 +29,7 @@ module _ (t : Tables) (element : TypeRef) (items : Trees) (start page : Vec ℕ 
   before_items : IsLeft all (body ++ tail) old old before before page
   before_items = all_left (body ++ tail) old before page
 
-  pub items_stop : (new : Option (List ℕ)) (after : ℕ) (fault : TellFault) → Stops (page.items ++ body) old new before after fault → Stops (sequence_text t element items) old new before after fault
+  pub items_stop : (new : Option (List ℕ)) (after : ℕ) (fault : PortFault) → Stops (page.items ++ body) old new before after fault → Stops (sequence_text t element items) old new before after fault
   items_stop new after fault stops =
       subst (λ (l : List ℕ). Stops l old new before after fault) all_is
       (left_stops all (body ++ tail) old old new before before after page before_items body tail refl fault stops)
@@ -41,7 +41,7 @@ module _ (t : Tables) (element : TypeRef) (items : Trees) (start page : Vec ℕ 
     pub items_alone : Stops (sequence_text t element items) old mid before m faults.Memory
     items_alone = subst (λ (l : List ℕ). Stops l old mid before m faults.Memory) all_is (left_without_memory all tail old mid before m next behind_items)
 
-    pub all_told : (last : Vec ℕ Global) → last.items ≡ next.items ++ tail → (new : Option (List ℕ)) (after : ℕ) (r : Result (Unit {0}) TellFault) → TellsAll last.items mid new m after r
+    pub all_told : (last : Vec ℕ Global) → last.items ≡ next.items ++ tail → (new : Option (List ℕ)) (after : ℕ) (r : Result (Unit {0}) PortFault) → TellsAll last.items mid new m after r
         → TellsAll (sequence_text t element items) old new before after r
     all_told last is new after r tells =
         subst (λ (l : List ℕ). TellsAll l old new before after r) all_is

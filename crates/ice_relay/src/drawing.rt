@@ -11,7 +11,7 @@ ghost use Rattle.ice_relay.specs.Drawn.{after, draw, drawn, node, target};
 
 use crate::drilling::MOST_NODES;
 use crate::generator::Generator;
-use graph_arena::{Graph, Instance, Members, Slice, Value};
+use graph_arena::{Graph, Instance, Members, Slice, ThinList, Value};
 use ice_types::List;
 use std::alloc::{AllocError, Global};
 
@@ -34,7 +34,7 @@ fn roots(alloc: Global) -> Result<Members, AllocError>
     required.push(first())?;
     Ok(Members {
         required,
-        optional: List::new(alloc),
+        optional: ThinList::new(),
     })
 }
 
@@ -74,7 +74,7 @@ fn node(alloc: Global, generator: &mut Generator, count: u32) -> Result<Instance
     required.push(right)?;
     let members = Members {
         required,
-        optional: List::new(alloc),
+        optional: ThinList::new(),
     };
     let mut slices = List::new(alloc);
     slices.push(Slice::Known { class: 0, members })?;

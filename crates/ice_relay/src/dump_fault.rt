@@ -5,7 +5,7 @@ ghost use Rattle.ice_relay.specs.Faults.{of_broken};
 ghost use Rattle.ice_relay.specs.Pages.{of_tell};
 ghost use Rattle.ice_relay.specs.declared.dump_fault.DumpFault.TheVariants as faults;
 
-use crate::page::TellFault;
+use ice_ports::PortFault;
 use ice_prims::{Fault, ReadFault};
 use std::alloc::AllocError;
 
@@ -33,13 +33,13 @@ impl From<ReadFault> for DumpFault {
     }
 }
 
-impl From<TellFault> for DumpFault {
+impl From<PortFault> for DumpFault {
     ghost from_gives = { λ fault e. e ≡ of_tell fault };
 
-    fn from(fault: TellFault) -> DumpFault {
+    fn from(fault: PortFault) -> DumpFault {
         match fault {
-            TellFault::WriteFailed => DumpFault::WriteFailed,
-            TellFault::Memory => DumpFault::MemoryAfter,
+            PortFault::Failed => DumpFault::WriteFailed,
+            PortFault::Memory => DumpFault::MemoryAfter,
         }
     }
 }

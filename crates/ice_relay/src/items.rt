@@ -10,12 +10,12 @@ ghost use Rattle.ice_relay.specs.Items.{each_text, item_text, sequence_text};
 ghost use Rattle.ice_relay.specs.Pages.{Tells, TellsAll};
 
 use crate::line::{with_comma, with_text};
-use crate::page::{TellFault, ended, turned};
+use crate::page::{ended, turned};
 use canonical_inputs::content_of;
 use canonical_values::is_canonical;
 use graph_arena::Value;
 use graph_json::push_item;
-use ice_ports::Sink;
+use ice_ports::{PortFault, Sink};
 use ice_prims::{Cursor, ReadFault};
 use ice_types::{Schema, TypeRef};
 use ice_values::read_value;
@@ -64,7 +64,7 @@ pub(crate) fn tell_sequence<K: Sink>(
     element: TypeRef,
     content: &[u8],
     sink: &mut K,
-) -> Result<(), TellFault>
+) -> Result<(), PortFault>
     ensures { (items : Trees) → AllOf (IsItem schema.now element) items → tree_count items < 2 ^ 31
         → content.now ≡ canonical (sequence items)
         → TellsAll (sequence_text schema.now element items)
@@ -78,7 +78,7 @@ pub(crate) fn tell_sequence<K: Sink>(
             ended(with_text(page, "}}\n")?, sink)
         }
         // The content of no sequence.
-        Err(_) => Err(TellFault::Memory),
+        Err(_) => Err(PortFault::Memory),
     }
 }
 
@@ -91,7 +91,7 @@ fn tell_items<K: Sink>(
     count: u32,
     cursor: &mut Cursor<'_>,
     sink: &mut K,
-) -> Result<Vec<u8>, TellFault>
+) -> Result<Vec<u8>, PortFault>
     ensures { (items : Trees) → AreItems schema.now element items cursor.old.bytes → tree_count items ≡ count
         → Tells (page.items ++ each_text schema.now element false items)
         (K.taken sink.old) (K.taken sink.new) (K.failures sink.old) (K.failures sink.new) result }

@@ -6,12 +6,12 @@ ghost use Rattle.graph_arena.specs.Seen.{view_content, view_slices};
 ghost use Rattle.value_parts.specs.Shapes.{shape_seen};
 ghost use Rattle.graph_json.specs.Canonical.{graph_noted, instance_noted, items_noted};
 ghost use Rattle.graph_json.specs.Contents.{content_noted};
-ghost use Rattle.ice_relay.specs.Pages.{Tells, TellsAll};
+ghost use Rattle.ice_relay.specs.Pages.{Tells, TellsAll, roots_text};
 
-use crate::page::{TellFault, ended, turned};
+use crate::page::{ended, turned};
 use graph_arena::{Graph, Members, Slice};
 use graph_json::{push_content, push_instance};
-use ice_ports::Sink;
+use ice_ports::{PortFault, Sink};
 use ice_types::Schema;
 use std::alloc::{AllocError, Global};
 use value_parts::DeclaredMembers;
@@ -23,7 +23,7 @@ pub(crate) fn tell_graph<K: Sink>(
     fields: DeclaredMembers<'_>,
     graph: &Graph,
     sink: &mut K,
-) -> Result<(), TellFault>
+) -> Result<(), PortFault>
     ensures { TellsAll (compact_text (graph_noted schema.now (shape_seen fields.entry) graph.now) ++ codes "\n")
         (K.taken sink.old) (K.taken sink.new) (K.failures sink.old) (K.failures sink.new) result }
 {
@@ -42,7 +42,7 @@ fn tell_instances<K: Sink>(
     schema: &Schema,
     graph: &Graph,
     sink: &mut K,
-) -> Result<Vec<u8>, TellFault>
+) -> Result<Vec<u8>, PortFault>
     ensures { Tells (page.items ++ items_text false (items_noted (instance_noted schema.now) graph.now.instances))
         (K.taken sink.old) (K.taken sink.new) (K.failures sink.old) (K.failures sink.new) result }
 {
@@ -93,8 +93,8 @@ fn with_roots(
     fields: DeclaredMembers<'_>,
     roots: &Members,
 ) -> Result<Vec<u8>, AllocError>
-    ensures { IfOk result (λ longer. longer.items ≡ page.items ++ (codes ",\"roots\":"
-        ++ (compact_text (content_noted schema.now (shape_seen fields.entry) (view_content roots.now)) ++ codes "}\n"))) }
+    ensures { IfOk result (λ longer. longer.items ≡ page.items
+        ++ roots_text (content_noted schema.now (shape_seen fields.entry) (view_content roots.now))) }
 {
     let page = with_text(page, ",\"roots\":")?;
     let page = push_content(page, alloc, schema, fields, roots)?;

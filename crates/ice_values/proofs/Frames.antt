@@ -37,7 +37,7 @@ use Rattle.ice_values.specs.declared.frame.Parts.{Parts}
 use Rattle.ice_values.specs.declared.frame.Parts.TheVariants as parts
 use Rattle.ice_values.specs.declared.frame.Part.TheVariants.{Next, Begun, Equal}
 use Rattle.ice_values.specs.declared.frame.Frame.{Frame}
-use Rattle.ice_values.specs.Frames.{Open, each, pairs, opened, given, with_key, opened_parts, whole, closed, kinds_of, kinds_left, last_of, join, add, Asks}
+use Rattle.ice_values.specs.Frames.{Open, each, pairs, opened, given, with_key, opened_parts, whole, closed, kinds_of, kinds_left, last_of, join, add, Asks, IsOver}
 use Rattle.std.specs.Int.{w16, w32, w64}
 use Rattle.ice_encoding.specs.Proxy as proxies
 use Rattle.ice_prims.specs.Number.{bool_at, byte_at, signed_at, size_at, text_at}
@@ -47,7 +47,7 @@ use Rattle.ice_values.specs.declared.reader.ValueReader.{ValueReader}
 use Rattle.value_parts.specs.declared.paused.Step.{Step}
 use Rattle.value_parts.specs.declared.paused.Step.TheVariants as steps
 use Rattle.ice_values.specs.Pauses.{StepsReading}
-use Rattle.ice_values.specs.Going.{whole_value, whole_at, onward, left_in, left_of, fresh, Closes, Gives}
+use Rattle.ice_values.specs.Going.{whole_value, whole_at, onward, left_in, left_of, fresh, Closes, Ends, Gives}
 
 -- ---- lists of trees
 
@@ -330,6 +330,15 @@ module _ {S : Type 0} (take : Option ℕ → Reader S Met) (t : Tables) (inside 
       ap (λ (x : Result (Tree × S × Rest) Fault). then x (onward take t inside whole_value below)) ends
       ∙ ap (λ (fs : List Frame). onward take t inside whole_value fs (whole (opened f)) s r') is
       ∙ ap (λ (w : Tree). whole_value w s r') (sym all)
+
+  -- nothing of it is left to read
+  over-is : (o : Open) (s : S) (r : Rest) → IsOver o → rest_of take t inside o s r ≡ Ok (whole o, s, r)
+  over-is (each sort levels (lefts.Items kind n) had) s r over = each-ends sort levels (lefts.Items kind n) had s r (ap (λ (m : ℕ). replicate m kind) over)
+  over-is (each sort levels (lefts.Members at next) had) s r over = absurd over
+  over-is (pairs levels key value left part k had) s r over = absurd over
+
+  pub reader-ends : (reader spent : ValueReader) (v : Value) (s : S) (r : Rest) → Ends reader spent (Some v) → left_of take t inside reader s r ≡ Ok (view v, s, r)
+  reader-ends reader spent v s r (is, over, all) = whole-closed reader.below reader.top reader.top (view v) s r r (over-is (opened reader.top) s r over) is all
 
   -- what ending the innermost value answers
   pub closes : (start : Frame) (old new : ValueReader) (result : Result (Step Value) ReadFault) (s : S) (r r' : Rest) → rest_of take t inside (opened start) s r ≡ Ok (whole (opened old.top), s, r') → Closes old new result

@@ -14,9 +14,9 @@ use Rattle.graph_arena.specs.declared.value.Value.{Value}
 use Rattle.graph_arena.specs.View.{view, view_all}
 use Rattle.ice_values.specs.declared.reader.ValueReader.{ValueReader}
 use Rattle.ice_values.specs.Frames.{join, add}
-use Rattle.ice_values.specs.Going.{whole_at, left_of, fresh}
+use Rattle.ice_values.specs.Going.{whole_at, left_of, fresh, Ends}
 use Rattle.ice_values.specs.Rests.{then}
-use Rattle.ice_values.proofs.Frames.{join-none, join-tree, left-whole, view_all-push}
+use Rattle.ice_values.proofs.Frames.{join-none, join-tree, left-whole, reader-ends, view_all-push}
 use Rattle.value_parts.specs.Shapes.{without_tag}
 use Rattle.ice_values.specs.Unread.{kinds_of, kinds_left, required_behind, from_member}
 
@@ -102,3 +102,10 @@ module _ {S : Type 0} (take : Option ℕ → Reader S Met) (t : Tables) (inside 
   member-ends reader old new v kinds s s' r r' read pushed =
       ap (λ (x : Result (Tree × S × Rest) Fault). then x (λ w. required_behind take t inside (add (view_all old) w) kinds)) read
       ∙ ap (λ (ts : Trees). required_behind take t inside ts kinds s' r') (sym (ap view_all pushed ∙ view_all-push old v))
+
+  -- it is read whole, and no other is left
+  pub last-ends : (reader spent : ValueReader) (old new : List Value) (v : Value) (ms : List Member) (at : ℕ) (s : S) (r : Rest) → Ends reader spent (Some v) → new ≡ old ++ v ∷ [] → slice_get ms at ≡ None
+      → from_member take t inside (Some reader) (view_all old) (kinds_left ms at) s r ≡ Ok (view_all new, s, r)
+  last-ends reader spent old new v ms at s r ends pushed over =
+      member-ends reader old new v (kinds_left ms at) s s r r (reader-ends take t inside reader spent v s r ends) pushed
+      ∙ members-end (view_all new) ms at s r over

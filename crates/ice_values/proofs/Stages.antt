@@ -23,6 +23,7 @@ use Rattle.value_parts.specs.Shapes.{without_tag, with_tag, told_apart}
 use Rattle.ice_values.specs.Unread.{kinds_of, required_behind, options_behind, options_from, options_by, left_required, from_stage, left_of_members}
 use Rattle.graph_arena.specs.View.{view_all}
 use Rattle.ice_values.specs.declared.required.RequiredReader.{RequiredReader}
+use Rattle.ice_values.specs.declared.options.OptionsReader.{OptionsReader}
 use Rattle.ice_values.specs.Advancing.{fresh_options, fresh_members, members_at}
 
 marked-not : Marked ≡ Absent → ⊥
@@ -90,3 +91,11 @@ module _ {S : Type 0} (take : Option ℕ → Reader S Met) (t : Tables) (inside 
   options-begin Absent shape required now s s' r r' some read = absurd (some refl)
   options-begin Marked shape required now s s' r r' some read = ap (λ (x : Result (Trees × S × Rest) Fault). then x (λ values. made (with_optional values) (options_by take t inside Marked (with_tag shape.optional)))) read
   options-begin ToEnd shape required now s s' r r' some read = ap (λ (x : Result (Trees × S × Rest) Fault). then x (λ values. made (with_optional values) (options_by take t inside ToEnd (with_tag shape.optional)))) read
+
+  -- nothing is left of the required ones, and there are no optional ones
+  pub required-end : (optionals : Optionals) (shape : Shape) (required : RequiredReader) (options : Option OptionsReader) (values : Trees) (s : S) (r : Rest) → options ≡ None → optionals ≡ Absent
+      → left_required take t inside shape.required required s r ≡ Ok (values, s, r) → from_stage take t inside optionals shape required options s r ≡ Ok (with_optional values [], s, r)
+  required-end optionals shape required options values s r nothing absent read =
+      ap (λ (o : Option OptionsReader). from_stage take t inside optionals shape required o s r) nothing
+      ∙ ap (λ (o : Optionals). from_stage take t inside o shape required None s r) absent
+      ∙ ap (λ (x : Result (Trees × S × Rest) Fault). then x (λ vs. made (with_optional vs) (options_by take t inside Absent (with_tag shape.optional)))) read

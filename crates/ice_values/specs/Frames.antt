@@ -76,6 +76,12 @@ opened_parts levels (parts.Pairs p) = opened_pairs levels p
 abbrev pub opened : Frame → Open
 opened f = opened_parts f.levels f.parts
 
+-- all parts are there: so of what has one part, or of the items of a sequence
+abbrev pub IsOver : Open → Type 0
+IsOver (each sort levels (lefts.Items kind n) had) = n ≡ 0
+IsOver (each sort levels (lefts.Members at next) had) = ⊥
+IsOver (pairs levels key value left part k had) = ⊥
+
 -- The type of the next part, which is now what is read; or none where all parts are there; or the fault of a key that was
 -- there already. The place is where reading stands.
 abbrev pub Asks : Tables → Open → Open → ℕ → Result (Option TypeRef) Fault → Type 0

@@ -1,5 +1,5 @@
 -- What is still read of a value that has begun, and what the calls that read on answer.
-use Rattle.std.specs.Prelude.{ℕ, ◌≡◌, List, [], ◌∷◌, ◌++◌, Option, Result, Ok, Err}
+use Rattle.std.specs.Prelude.{ℕ, ◌≡◌, List, [], ◌∷◌, ◌++◌, Option, None, Some, Result, Ok, Err}
 use Rattle.ice_prims.specs.declared.fault.Fault.{Fault}
 use Rattle.ice_prims.specs.declared.fault.ReadFault.{ReadFault}
 use Rattle.ice_prims.specs.declared.fault.ReadFault.TheVariants as faults
@@ -21,7 +21,7 @@ use Rattle.ice_values.specs.declared.frame.Frame.{Frame}
 use Rattle.value_parts.specs.declared.paused.Step.{Step}
 use Rattle.value_parts.specs.declared.paused.Step.TheVariants as steps
 use Rattle.ice_values.specs.declared.reader.ValueReader.{ValueReader}
-use Rattle.ice_values.specs.Frames.{opened, given, whole}
+use Rattle.ice_values.specs.Frames.{opened, given, whole, IsOver}
 use Rattle.ice_values.specs.Rests.{then, value_in, rest_of}
 use Rattle.ice_values.specs.Pauses.{StepsReading}
 
@@ -81,6 +81,11 @@ Closes old new (Ok steps.On) = (f : Frame) × (old.below ≡ new.below ++ f ∷ 
 Closes old new (Ok (steps.Done v)) = (old.below ≡ []) × (view v ≡ whole (opened old.top))
 Closes old new (Ok (steps.Begins n)) = ⊥
 Closes old new (Err e) = e ≡ faults.Memory
+
+-- nothing is left to read, and this is the value; or the reader is as it was
+abbrev pub Ends : ValueReader → ValueReader → Option Value → Type 0
+Ends old new (Some v) = (old.below ≡ []) × IsOver (opened old.top) × (view v ≡ whole (opened old.top))
+Ends old new None = new ≡ old
 
 -- the value, or the fault
 abbrev pub ReadsValue : {S : Type 0} → Result Value ReadFault → Result (Tree × S × Rest) Fault → S → Rest → Type 0

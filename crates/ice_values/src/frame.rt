@@ -1,9 +1,9 @@
 //! A value that has begun and is not read whole.
 
-ghost use Rattle.std.specs.Prelude.{ℕ, ◌≡◌, IfOk, OnOk};
+ghost use Rattle.std.specs.Prelude.{ℕ, ◌≡◌, IfOk, IsTrue, OnOk};
 ghost use Rattle.ice_types.specs.Tables.{Tables};
 ghost use Rattle.graph_arena.specs.View.{view, view_all};
-ghost use Rattle.ice_values.specs.Frames.{Asks, opened, opened_pairs, given, whole, closed};
+ghost use Rattle.ice_values.specs.Frames.{Asks, IsOver, opened, opened_pairs, given, whole, closed};
 
 use crate::left::Left;
 use crate::sorted::SortedPairs;
@@ -69,6 +69,19 @@ pub struct Frame {
 }
 
 impl Frame {
+    /// Whether all parts are read, of what has parts of one type.
+    pub(crate) fn is_over(&self) -> bool
+        ensures { IsTrue result → IsOver (opened self.now) }
+    {
+        match &self.parts {
+            Parts::Each(each) => match each.left {
+                Left::Items(_, count) => count == 0,
+                Left::Members(_, _) => false,
+            },
+            Parts::Pairs(_) => false,
+        }
+    }
+
     /// The type of the part that is read next, or None where all are read.
     pub(crate) fn next(
         &mut self,

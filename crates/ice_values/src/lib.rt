@@ -21,7 +21,11 @@
 //!   pieces drop all of it after a refusal. The calls in one piece put the cursor back.
 //! - Room for the members of a struct is made when it begins, for as many as it declares: the schema says how
 //!   many, and not the input. In a list that grows, a struct of one member takes room for four, and a value of
-//!   many such structs two or three times as much memory as it has to.
+//!   many such structs two or three times as much memory as it has to. The required members of a slice have room
+//!   for as many as it declares where these are fewer than four, optional ones among them: an instance of one
+//!   member may have three bytes.
+//! - `MembersReader::ended` tells, where an instance begins at the last member, that nothing is left to read. So
+//!   who reads a chain need not keep a reader for each of its instances.
 #![tactic(auto)]
 
 mod begun;

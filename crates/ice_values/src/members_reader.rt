@@ -1,21 +1,21 @@
 //! The members of a shape, in pieces.
 
-ghost use Rattle.std.specs.Prelude.{◌≡◌, None, OnErr, [], true};
+ghost use Rattle.std.specs.Prelude.{◌≡◌, None, IfOk, OnErr, [], true};
 ghost use Rattle.std.specs.Option.{is_some};
 ghost use Rattle.ice_encoding.specs.Pausing.{Inside};
 ghost use Rattle.graph_arena.specs.Seen.{view_content};
 ghost use Rattle.value_parts.specs.Shapes.{handed, shape_seen};
 ghost use Rattle.ice_values.specs.Unread.{left_of_members, from_stage};
 ghost use Rattle.value_parts.specs.Pauses.{NarrowsOnPause};
-ghost use Rattle.ice_values.specs.Pauses.{GoesOnReading};
+ghost use Rattle.ice_values.specs.Pauses.{EndsReading, GoesOnReading, StaysUnless};
 ghost use Rattle.ice_values.specs.Advancing.{ReadsMembers, fresh_members, members_at};
 
 use crate::options::OptionsReader;
 use crate::required::RequiredReader;
-use graph_arena::{Members, Value};
+use graph_arena::{Members, ThinList, Value};
 use ice_prims::{Cursor, ReadFault};
 use ice_types::{List, Schema};
-use std::alloc::Global;
+use std::alloc::{AllocError, Global};
 use std::mem;
 use value_parts::{DeclaredMembers, Optionals, Paused, RefPort};
 
@@ -77,6 +77,34 @@ impl<'a> MembersReader<'a> {
         }
     }
 
+    /// The members, where nothing is left to read of them: an instance begins at the last one, and there are no
+    /// optional ones, nor an end marker. Else the reader is as it was.
+    pub fn ended<P: RefPort>(
+        &mut self,
+        alloc: Global,
+        schema: &Schema,
+        fields: DeclaredMembers<'_>,
+        port: &P,
+    ) -> Result<Option<Members>, AllocError>
+        ensures ends { IfOk result (λ members. (inside : Inside P)
+            → EndsReading (left_of_members P.take schema.now inside
+            (handed fields.entry) self.old) view_content members) }
+        ensures stays { IfOk result (StaysUnless self.old self.new) }
+    {
+        match (&self.options, self.optionals) {
+            (None, Optionals::Absent) => {
+                match self.required.ended(alloc, schema, fields.required, port)? {
+                    Some(required) => Ok(Some(Members {
+                        required,
+                        optional: ThinList::new(),
+                    })),
+                    None => Ok(None),
+                }
+            }
+            _ => Ok(None),
+        }
+    }
+
     /// Reads on up to the end of the members, at a port at which nothing begins.
     fn finish<P: RefPort>(
         &mut self,
@@ -122,7 +150,7 @@ impl<'a> MembersReader<'a> {
         {
             Paused::Begins(name) => Ok(Paused::Begins(name)),
             Paused::Done(()) => match self.optionals {
-                Optionals::Absent => Ok(Paused::Done(self.with(alloc, List::new(alloc)))),
+                Optionals::Absent => Ok(Paused::Done(self.with(alloc, ThinList::new()))),
                 Optionals::Marked | Optionals::ToEnd => {
                     let options = OptionsReader::new(alloc, cursor);
                     drop(self.options.replace(options));
@@ -156,6 +184,7 @@ impl<'a> MembersReader<'a> {
                     Paused::Begins(name) => Ok(Paused::Begins(name)),
                     Paused::Done(()) => {
                         let done = mem::replace(&mut options.done, List::new(alloc));
+                        let done = ThinList::of(alloc, done)?;
                         Ok(Paused::Done(self.with(alloc, done)))
                     }
                 }
@@ -165,7 +194,7 @@ impl<'a> MembersReader<'a> {
     }
 
     /// The required members that are read, with these optional ones.
-    fn with(&mut self, alloc: Global, optional: List<(u32, Value)>) -> Members
+    fn with(&mut self, alloc: Global, optional: ThinList<(u32, Value)>) -> Members
         ensures { result ≡ record { required = self.old.required.done; optional = optional } }
     {
         Members {

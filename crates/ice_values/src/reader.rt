@@ -1,13 +1,15 @@
 //! A value from bytes, in pieces.
 
-ghost use Rattle.std.specs.Prelude.{◌≡◌, [], ◌∷◌, ◌++◌, ◌+◌, ◌<◌, suc, OnOk};
+ghost use Rattle.std.specs.Prelude.{◌≡◌, [], ◌∷◌, ◌++◌, ◌+◌, ◌<◌, suc, IfOk, OnOk};
 ghost use Rattle.ice_types.specs.declared.kind.TypeRef.TheVariants as kinds;
 ghost use Rattle.ice_encoding.specs.Pausing.{Inside};
 ghost use Rattle.graph_arena.specs.View.{view};
 ghost use Rattle.ice_values.specs.Leaves.{IsLeaf, HasParts};
 ghost use Rattle.ice_values.specs.ByteSequence.{HasByteItems};
 ghost use Rattle.ice_values.specs.Cost.{cost, weight};
-ghost use Rattle.ice_values.specs.Going.{fresh, left_of, Closes, Gives, StepsFrom, part_of, part_within, reference_to};
+ghost use Rattle.ice_values.specs.Frames.{opened, whole};
+ghost use Rattle.ice_values.specs.Going.{fresh, left_of, Closes, Ends, Gives, StepsFrom};
+ghost use Rattle.ice_values.specs.Going.{part_of, part_within, reference_to};
 ghost use Rattle.value_parts.specs.Pauses.{NarrowsOnPause, NarrowsOnStep, LessOnStep};
 ghost use Rattle.ice_values.specs.Pauses.{GoesOnReading, StepsReading};
 
@@ -106,17 +108,34 @@ impl ValueReader {
                 self.give(alloc, value)?;
                 Ok(Step::On)
             }
-            None => {
-                let spent = Frame {
-                    levels: 0,
-                    parts: Parts::Each(Each {
-                        sort: Assembly::Whole,
-                        left: Left::Items(TypeRef::Int, 0),
-                        done: List::new(alloc),
-                    }),
-                };
-                Ok(Step::Done(mem::replace(&mut self.top, spent).value(alloc)?))
-            }
+            None => Ok(Step::Done(self.taken(alloc)?)),
+        }
+    }
+
+    /// What is made of the parts of the innermost value, which has none from here on.
+    fn taken(&mut self, alloc: Global) -> Result<Value, AllocError>
+        ensures { IfOk result (λ value. view value ≡ whole (opened self.old.top)) }
+    {
+        let spent = Frame {
+            levels: 0,
+            parts: Parts::Each(Each {
+                sort: Assembly::Whole,
+                left: Left::Items(TypeRef::Int, 0),
+                done: List::new(alloc),
+            }),
+        };
+        mem::replace(&mut self.top, spent).value(alloc)
+    }
+
+    /// The value, where nothing of it is left to read; else the reader is as it was. So it is where an instance
+    /// begins at the value itself.
+    pub(crate) fn ended(&mut self, alloc: Global) -> Result<Option<Value>, AllocError>
+        ensures { IfOk result (Ends self.old self.new) }
+    {
+        if self.below.is_empty() && self.top.is_over() {
+            Ok(Some(self.taken(alloc)?))
+        } else {
+            Ok(None)
         }
     }
 

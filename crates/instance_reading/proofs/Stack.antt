@@ -1,5 +1,6 @@
 -- How what is still read changes where an instance begins or ends.
-use Rattle.std.proofs.Common.{◌≡◌, ℕ, zero, suc, ◌-◌, ◌<◌, List, [], ◌∷◌, ◌++◌, length, Option, Result, Ok, Err, refl, sym, ap, ◌∙◌, subst, length-append, arith}
+use Rattle.std.proofs.lemmas.List.{map_push}
+use Rattle.std.proofs.Common.{◌≡◌, ℕ, zero, suc, ◌-◌, ◌<◌, List, [], ◌∷◌, ◌++◌, length, map, Option, Result, Ok, Err, refl, sym, ap, ◌∙◌, subst, length-append, arith}
 use Rattle.ice_types.specs.Tables.{Tables}
 use Rattle.ice_prims.specs.declared.fault.Fault.{Fault}
 use Rattle.ice_prims.specs.declared.fault.ReadFault.{ReadFault}
@@ -17,7 +18,8 @@ use Rattle.value_parts.specs.declared.sliced_type.SlicedType.TheVariants as sort
 use Rattle.instance_reading.specs.declared.unfinished.Unfinished.{Unfinished}
 use Rattle.instance_reading.specs.Slices.{refer_by}
 use Rattle.instance_reading.specs.Unfinished.{begun, behind, left_slices}
-use Rattle.instance_reading.specs.Stacked.{refer_within, instance_within, left_instance, left_stack, stack_left}
+use Rattle.instance_reading.specs.declared.waiting.Waiting.{Waiting}
+use Rattle.instance_reading.specs.Stacked.{resumed, refer_within, instance_within, left_instance, left_stack, stack_left}
 use Rattle.instance_reading.proofs.Heads.{fails_then}
 
 abbrev Left : Type 0
@@ -35,6 +37,11 @@ regrouped (Err e) next last = refl
 pub whole_slices : (read : Result (List Slice × State ℕ × Rest) Fault) → read ≡ (read >>= λ x. Ok (behind [] x.0, x.1, x.2))
 whole_slices (Ok x) = refl
 whole_slices (Err e) = refl
+
+-- one waits, and another begins
+pub two-more : (old one now : List Waiting) (w b : Waiting) (u : Unfinished) → one ≡ old ++ w ∷ [] → now ≡ one ++ b ∷ [] → resumed b ≡ u → map resumed now ≡ (map resumed old ++ resumed w ∷ []) ++ u ∷ []
+two-more old one now w b u one_is now_is is =
+    ap (map resumed) now_is ∙ map_push resumed one b ∙ (λ i. (ap (map resumed) one_is ∙ map_push resumed old w) i ++ is i ∷ [])
 
 module _ (t : Tables) where
   -- a reference is read with the instance that begins at it

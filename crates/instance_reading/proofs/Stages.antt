@@ -1,6 +1,8 @@
 -- How what is still read of an instance changes with a step.
 use Rattle.std.proofs.Common.{ℕ, zero, suc, ◌≡◌, ◌-◌, ◌<◌, List, [], ◌∷◌, ◌++◌, Bool, true, false, Option, None, Some, Result, Ok, Err, refl, sym, ap, subst, ◌∙◌, append-nil, arith}
 use Rattle.std.proofs.lemmas.List.{append_assoc}
+use Rattle.std.specs.declared.boxed.Box.{Box}
+use Rattle.std.specs.declared.alloc.Global.{Global}
 use Rattle.ice_types.specs.Tables.{Tables}
 use Rattle.ice_prims.specs.declared.fault.Fault.{Fault}
 use Rattle.ice_prims.specs.declared.fault.Kind.TheVariants.{BadReference, Short}
@@ -264,12 +266,14 @@ module _ (inside : Inside (State ℕ)) (sort : SlicedType) (t : Tables) (u : Unf
       completes old s r ∙ ap completed read ∙ completed_behind (inside n s' after) (λ x. members_left new x.0 x.1) ∙ (λ i. inside n s' after >>= λ x. sym (completes new x.0 x.1) i)
 
   -- and then it is left where it paused
-  pub members_paused : (old new : MembersReader) (n : ℕ) (s s' : State ℕ) (r after : Rest) → members_left old s r ≡ (inside n s' after >>= λ x. members_left new x.0 x.1) → (now : Unfinished) → Pauses u now (compact new)
+  pub members_paused : (old new : MembersReader) (n : ℕ) (s s' : State ℕ) (r after : Rest) → members_left old s r ≡ (inside n s' after >>= λ x. members_left new x.0 x.1) → (now : Unfinished) → Pauses sort t u now (compact new)
       → left_from old s r ≡ (inside n s' after >>= λ x. left_slices inside sort t now x.0 x.1)
-  members_paused old new n s s' r after read now (left, now_is, value_is) =
-      members_pause old new n s s' r after read
-      ∙ (λ i. inside n s' after >>= λ x. made (behind (view_slices u.slices)) (left_compact inside sort t u.steps (sym value_is i)) x.0 x.1)
-      ∙ ap (λ (w : Unfinished). inside n s' after >>= λ x. left_slices inside sort t w x.0 x.1) (sym now_is)
+  members_paused old new n s s' r after read now paused = members_pause old new n s s' r after read ∙ (λ i. inside n s' after >>= λ x. paused inside x.0 x.1 i)
+
+  -- the members are left
+  pub members_stay : (box : Box CompactSlice Global) (members : MembersReader) (s : State ℕ) (r : Rest) → box.value ≡ compact members
+      → left_from members s r ≡ left_slices inside sort t (record { name = u.name; steps = u.steps; slices = u.slices; stage = stages.Compact box }) s r
+  members_stay box members s r is = ap (λ (c : CompactSlice). made (behind (view_slices u.slices)) (left_compact inside sort t u.steps c) s r) (sym is)
 
   -- what is left from an equal slice
   pub left_same : (old : MembersReader) (slice : CompactSlice) (s : State ℕ) (r : Rest) → compact old ≡ slice → left_from old s r ≡ made (behind (view_slices u.slices)) (left_compact inside sort t u.steps slice) s r
@@ -282,7 +286,7 @@ module _ (inside : Inside (State ℕ)) (sort : SlicedType) (t : Tables) (u : Unf
 
   -- the slice is read whole
   module _ (old : MembersReader) (members : stored_members.Members) (s s' : State ℕ) (r after : Rest) (read : members_left old s r ≡ Ok (view_content members, s', after)) where
-    others_left : left_from old s r ≡ left_behind inside sort t u.steps (u.slices ++ Known class members ∷ []) (view_next next) s' after
+    pub others_left : left_from old s r ≡ left_behind inside sort t u.steps (u.slices ++ Known class members ∷ []) (view_next next) s' after
     others_left = completes old s r ∙ ap completed read ∙ with_it inside sort t u (Known class members) (left_next (refer_by inside) sort t u.steps (view_next next) s' after)
 
     pub members_whole : (now : Unfinished) (result : Result (Step (Unit {0})) ReadFault) → Advances inside sort t now result (left_behind inside sort t u.steps (u.slices ++ Known class members ∷ []) (view_next next) s' after) s' after
@@ -303,7 +307,9 @@ module _ (inside : Inside (State ℕ)) (sort : SlicedType) (t : Tables) (u : Unf
   next_leads before some = now_behind ∙ ap (λ (n : Option code.Before). left_next (refer_by inside) sort t u.steps (view_next n) s r >>= behind_now) some
 
   -- none follows
-  pub none_follows : next ≡ None → left_behind inside sort t u.steps had (view_next next) s r ≡ Ok (view_slices now, s, r)
-  none_follows none =
-      now_behind ∙ ap (λ (n : Option code.Before). left_next (refer_by inside) sort t u.steps (view_next n) s r >>= behind_now) none
-      ∙ ap (λ (slices : List Slice). Ok (slices, s, r)) (append-nil (view_slices now))
+  pub none_left : next ≡ None → left_behind inside sort t u.steps had (view_next next) s r ≡ left_slices inside sort t (record { name = u.name; steps = u.steps; slices = now; stage = stages.Over }) s r
+  none_left none = now_behind ∙ ap (λ (n : Option code.Before). left_next (refer_by inside) sort t u.steps (view_next n) s r >>= behind_now) none
+
+-- behind the last one nothing is left
+pub over_whole : (inside : Inside (State ℕ)) (sort : SlicedType) (t : Tables) (u : Unfinished) (s : State ℕ) (r : Rest) → left_by inside sort t u stages.Over s r ≡ Ok (view_slices u.slices, s, r)
+over_whole inside sort t u s r = ap (λ (slices : List Slice). Ok (slices, s, r)) (append-nil (view_slices u.slices))

@@ -109,12 +109,14 @@ module _ (inside : Inside (State ℕ)) (sort : SlicedType) (t : Tables) where
   left_stage steps (stages.Next before) = slices_from (refer_by inside) sort t steps (view_before before)
   left_stage steps (stages.Open o) = left_open (refer_by inside) sort t steps (opened o)
   left_stage steps (stages.Compact c) = left_compact steps c.value
+  left_stage steps stages.Over = given []
 
 -- entries of the table, and then slices
 abbrev pub stage_work : Stage → ℕ
 stage_work (stages.Next before) = 0
 stage_work (stages.Open o) = 1 + o.left
 stage_work (stages.Compact c) = 1
+stage_work stages.Over = 0
 
 -- ---- what calls answer
 

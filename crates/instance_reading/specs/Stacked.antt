@@ -19,7 +19,11 @@ use Rattle.graph_arena.specs.declared.instance.Members.{Members}
 use Rattle.graph_arena.specs.declared.instance.Slice.{Slice}
 use Rattle.graph_arena.specs.Seen.{view_content, view_instance, view_slices}
 use Rattle.value_parts.specs.declared.sliced_type.SlicedType.TheVariants as sorts
+use Rattle.slice_heads.specs.declared.before.Before.TheVariants as befores
+use Rattle.instance_reading.specs.declared.slice.Stage.TheVariants as stages
 use Rattle.instance_reading.specs.declared.unfinished.Unfinished.{Unfinished}
+use Rattle.instance_reading.specs.declared.waiting.Waiting.{Waiting}
+use Rattle.instance_reading.specs.declared.waiting.Waiting.TheVariants as waits
 use Rattle.instance_reading.specs.declared.decoder.Content.{Content}
 use Rattle.instance_reading.specs.declared.exception.UserExceptionContent.{UserExceptionContent}
 use Rattle.instance_reading.specs.Unfinished.{left_slices, room}
@@ -36,6 +40,17 @@ instance_within t (suc more) = instance_by most_instances (instance_at (refer_wi
 -- what is left of an instance, which has ended then
 abbrev pub left_instance : Tables → ℕ → Unfinished → State ℕ → Rest → Result (State ℕ × Rest) Fault
 left_instance t more u s r = left_slices (instance_within t more) sorts.Class t u s r >>= λ x. Ok (with_ended u.name x.0 x.1, x.2)
+
+-- an instance that waits, where it is read on
+abbrev pub resumed : Waiting → Unfinished
+resumed (waits.Begun name steps) = record { name = name; steps = steps; slices = []; stage = stages.Next befores.First }
+resumed (waits.Whole name slices) = record { name = name; steps = 0; slices = slices; stage = stages.Over }
+resumed (waits.Open u) = u.value
+
+-- the same is left of it, by the same name
+pub record WaitsFor (u : Unfinished) (w : Waiting) : Type 0 where
+  pub name : (resumed w).name ≡ u.name
+  pub left : (inside : Inside (State ℕ)) (t : Tables) (s : State ℕ) (r : Rest) → left_slices inside sorts.Class t (resumed w) s r ≡ left_slices inside sorts.Class t u s r
 
 -- What is left of the instances on the stack, where so many more may begin in one another. The outermost stands first.
 abbrev pub left_stack : Tables → ℕ → List Unfinished → State ℕ → Rest → Result (State ℕ × Rest) Fault

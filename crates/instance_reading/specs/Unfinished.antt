@@ -1,6 +1,5 @@
 -- An instance that has begun and is not read whole: what is still read of it, and what reading on answers.
-use Rattle.std.specs.Prelude.{ℕ, ◌≡◌, ◌+◌, ◌*◌, ◌^◌, ◌-◌, List, [], ◌∷◌, ◌++◌, length, Option, Result, Box}
-use Rattle.std.specs.declared.alloc.Global.{Global}
+use Rattle.std.specs.Prelude.{ℕ, ◌≡◌, ◌+◌, ◌*◌, ◌^◌, ◌-◌, List, [], ◌∷◌, ◌++◌, length, Option, Result}
 use Rattle.ice_types.specs.Tables.{Tables}
 use Rattle.ice_prims.specs.declared.fault.Fault.{Fault}
 use Rattle.ice_prims.specs.declared.fault.ReadFault.{ReadFault}
@@ -23,7 +22,7 @@ use Rattle.instance_reading.specs.declared.slice.CompactSlice.{CompactSlice}
 use Rattle.instance_reading.specs.declared.slice.Stage.{Stage}
 use Rattle.instance_reading.specs.declared.slice.Stage.TheVariants as stages
 use Rattle.instance_reading.specs.declared.sized.OpenSlice.{OpenSlice}
-use Rattle.instance_reading.specs.Slices.{Open, opened, refer_by, left_next, left_stage, stage_work}
+use Rattle.instance_reading.specs.Slices.{Open, opened, refer_by, left_compact, left_next, left_stage, stage_work}
 use Rattle.instance_reading.specs.declared.unfinished.Unfinished.{Unfinished}
 
 -- slices before others
@@ -52,9 +51,10 @@ abbrev pub Keeps : Unfinished → Unfinished → Open → ℕ → Type 0
 Keeps old new o name = (unknown : OpenSlice) × (new ≡ record { name = old.name; steps = old.steps; slices = old.slices; stage = stages.Open unknown })
     × (opened unknown ≡ record { front = o.front; next = o.next; table = o.table ++ name ∷ []; left = o.left - 1 })
 
--- the members of the slice are left, and nothing else has changed
-abbrev pub Pauses : Unfinished → Unfinished → CompactSlice → Type 0
-Pauses old new slice = (left : Box CompactSlice Global) × (new ≡ record { name = old.name; steps = old.steps; slices = old.slices; stage = stages.Compact left }) × (left.value ≡ slice)
+-- What is left with the members of this slice is what is now left, and reading stands anywhere.
+abbrev pub Pauses : SlicedType → Tables → Unfinished → Unfinished → CompactSlice → Type 0
+Pauses sort t old new slice = (inside : Inside (State ℕ)) (s : State ℕ) (r : Rest)
+    → made (behind (view_slices old.slices)) (left_compact inside sort t old.steps slice) s r ≡ left_slices inside sort t new s r
 
 -- what was to be read, by what a step answered: what is now left; or all slices; or an instance that begins, and then what is left
 abbrev pub Advances : Inside (State ℕ) → SlicedType → Tables → Unfinished → Result (Step (Unit {0})) ReadFault → Result (List graphs.Slice × State ℕ × Rest) Fault → State ℕ → Rest → Type 0
@@ -68,10 +68,10 @@ ReadsOn sort t old now result s r s' r' = (inside : Inside (State ℕ)) → Goes
 abbrev pub StepsOn : SlicedType → Tables → Unfinished → Stage → Unfinished → Result (Step (Unit {0})) ReadFault → State ℕ → Rest → State ℕ → Rest → Type 0
 StepsOn sort t old stage now result s r s' r' = (inside : Inside (State ℕ)) → Advances inside sort t now result (left_by inside sort t old stage s r) s' r'
 
--- and behind a slice more
-abbrev pub Completes : SlicedType → Unfinished → Slice → Option flags.Before → Unfinished → Result (Step (Unit {0})) ReadFault → Type 0
-Completes sort old slice next now result = (inside : Inside (State ℕ)) (t : Tables) (s : State ℕ) (r : Rest)
-    → Advances inside sort t now result (left_behind inside sort t old.steps (old.slices ++ slice ∷ []) next s r) s r
+-- What is left behind a slice more is what is now left.
+abbrev pub Completes : Unfinished → Slice → Option flags.Before → Unfinished → Type 0
+Completes old slice next now = (inside : Inside (State ℕ)) (sort : SlicedType) (t : Tables) (s : State ℕ) (r : Rest)
+    → left_behind inside sort t old.steps (old.slices ++ slice ∷ []) next s r ≡ left_slices inside sort t now s r
 
 -- ---- that reading ends
 

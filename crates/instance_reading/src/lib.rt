@@ -15,6 +15,9 @@
 //!   go by the schema's own tables, since no type says which classes there are (`read_same`).
 //! - An instance is read whole where it begins in the members of a content or in the slices of an exception
 //!   (`read_instance`): a stack stands only while one is read, and both readers are a loop of a few lines.
+//! - An instance in which another one begins waits for it in little memory (`Waiting`). Where the other one is the
+//!   last member of the last slice, in compact format, nothing is left but its end: its slices wait, and no reader.
+//!   Where members or slices are left, these wait in a box.
 //! - An instance with a single slice takes room for one: a list that grows takes room for four at first, which a
 //!   chain of 100,000 instances of nine bytes would pay for with 35 MiB.
 #![tactic(auto)]
@@ -26,6 +29,7 @@ mod reopening;
 mod sized;
 mod slice;
 mod unfinished;
+mod waiting;
 
 pub use decoder::{Content, read_content};
 pub use exception::{UserExceptionContent, read_user_exception};

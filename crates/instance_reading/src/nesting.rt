@@ -1,12 +1,13 @@
 //! An instance with those that begin in it, over an explicit stack of those that are not read whole.
 
-ghost use Rattle.std.specs.Prelude.{◌≡◌, ◌<◌, ◌≤◌, ◌++◌, ◌∷◌, [], OnOk};
+ghost use Rattle.std.specs.Prelude.{◌≡◌, ◌<◌, ◌≤◌, ◌++◌, ◌∷◌, [], OnOk, map};
 ghost use Rattle.ice_encoding.specs.Instances.{most_instances};
-ghost use Rattle.instance_reading.specs.Stacked.{ReadsInstance, StepsNesting, instance_within, is_within, stack_left};
-ghost use Rattle.instance_reading.specs.Stacked.{steps_left};
+ghost use Rattle.instance_reading.specs.Stacked.{ReadsInstance, StepsNesting, instance_within, is_within, resumed};
+ghost use Rattle.instance_reading.specs.Stacked.{stack_left, steps_left};
 ghost use Rattle.instance_reading.specs.Unfinished.{room};
 
 use crate::unfinished::Unfinished;
+use crate::waiting::Waiting;
 use ice_prims::{Cursor, ReadFault};
 use ice_types::{List, Schema};
 use slice_heads::Arena;
@@ -38,7 +39,7 @@ fn read_over<'a>(
     alloc: Global,
     schema: &Schema,
     name: u32,
-    stack: &mut List<Unfinished<'a>>,
+    stack: &mut List<Waiting<'a>>,
     cursor: &mut Cursor<'a>,
     arena: &mut Arena<'a>,
 ) -> Result<(), ReadFault>
@@ -48,9 +49,9 @@ fn read_over<'a>(
         (instance_within schema.now most_instances name arena.old cursor.old) arena.new cursor.new }
     ensures room { OnOk result (room arena.new ≤ room arena.old) }
 {
-    stack.push(Unfinished::new(alloc, name, cursor))?;
+    stack.push(Waiting::begun(name, cursor))?;
     while let Some(top) = stack.pop() {
-        read_on(alloc, schema, top, stack, cursor, arena)?;
+        read_on(alloc, schema, top.resume(alloc), stack, cursor, arena)?;
     }
     Ok(())
 }
@@ -60,16 +61,18 @@ fn read_on<'a>(
     alloc: Global,
     schema: &Schema,
     mut top: Unfinished<'a>,
-    stack: &mut List<Unfinished<'a>>,
+    stack: &mut List<Waiting<'a>>,
     cursor: &mut Cursor<'a>,
     arena: &mut Arena<'a>,
 ) -> Result<(), ReadFault>
-    requires { is_within (stack.old ++ top ∷ []) arena.old }
+    requires { is_within (map resumed stack.old ++ top ∷ []) arena.old }
     ensures steps { StepsNesting schema.now result
-        (stack_left schema.now (stack.old ++ top.entry ∷ []) arena.old cursor.old) stack.new arena.new cursor.new }
-    ensures within { OnOk result (is_within stack.new arena.new) }
+        (stack_left schema.now (map resumed stack.old ++ top.entry ∷ []) arena.old cursor.old)
+        (map resumed stack.new) arena.new cursor.new }
+    ensures within { OnOk result (is_within (map resumed stack.new) arena.new) }
     ensures room { OnOk result (room arena.new ≤ room arena.old) }
-    ensures less { OnOk result (steps_left stack.new arena.new < steps_left (stack.old ++ top.entry ∷ []) arena.old) }
+    ensures less { OnOk result (steps_left (map resumed stack.new) arena.new
+        < steps_left (map resumed stack.old ++ top.entry ∷ []) arena.old) }
 {
     match top.go(alloc, SlicedType::Class, schema, cursor, arena) {
         Err(fault) => {
@@ -83,8 +86,8 @@ fn read_on<'a>(
             Ok(())
         }
         Ok(Paused::Begins(name)) => {
-            stack.push(top)?;
-            stack.push(Unfinished::new(alloc, name, cursor))?;
+            stack.push(Waiting::of(alloc, top)?)?;
+            stack.push(Waiting::begun(name, cursor))?;
             Ok(())
         }
     }

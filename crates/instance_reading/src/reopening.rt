@@ -31,14 +31,16 @@ pub fn reopen(alloc: Global, schema: &Schema, class: u32, slice: &Slice) -> Resu
 {
     match slice {
         Slice::Known { .. } => unreachable!(),
-        Slice::Unknown {
-            bytes,
-            optionals,
-            table,
-            ..
-        } => {
-            let bytes = bytes.as_slice();
-            reopen_bytes(alloc, schema, class, bytes, *optionals, table.as_slice())
+        Slice::Unknown(kept) => {
+            let bytes = kept.bytes.as_slice();
+            reopen_bytes(
+                alloc,
+                schema,
+                class,
+                bytes,
+                kept.optionals,
+                kept.table.as_slice(),
+            )
         }
     }
 }

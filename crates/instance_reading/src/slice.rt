@@ -33,6 +33,8 @@ pub(crate) enum Stage<'a> {
     Open(OpenSlice<'a>),
     /// In the members of a slice without one.
     Compact(Box<CompactSlice<'a>>),
+    /// Behind the last slice.
+    Over,
 }
 
 impl<'a> Stage<'a> {

@@ -1,6 +1,6 @@
 //! A class instance or an exception that has begun and is not read whole.
 
-ghost use Rattle.std.specs.Prelude.{ℕ, ◌≡◌, ◌<◌, ◌≤◌, ◌+◌, ◌*◌, ◌^◌, ◌++◌, ◌∷◌, [], IfOk, OnOk};
+ghost use Rattle.std.specs.Prelude.{◌≡◌, ◌<◌, ◌+◌, ◌*◌, ◌^◌, ◌++◌, ◌∷◌, [], IfOk, OnOk};
 ghost use Rattle.ice_encoding.specs.References.{resolved, with_met};
 ghost use Rattle.graph_arena.specs.Seen.{view_slice};
 ghost use Rattle.value_parts.specs.Pauses.{LessOnStep, NarrowsOnPause, NarrowsOnStep};
@@ -92,6 +92,7 @@ impl<'a> Unfinished<'a> {
                 }
             }
             Stage::Compact(slice) => self.read_compact(alloc, sort, schema, slice, cursor, arena),
+            Stage::Over => Ok(Step::Done(())),
         }
     }
 
@@ -203,10 +204,12 @@ impl<'a> Unfinished<'a> {
         ensures room { NarrowsOnStep result (room arena.old) (room arena.new) }
         ensures less { LessOnStep result (self.old.steps * 2 ^ 33 + 1) (work_left self.new) }
     {
+        let _ = sort;
         let _ = schema;
         let _ = cursor;
         let read = closed(alloc, slice.body, slice.table, arena)?;
-        self.complete(alloc, sort, read, slice.next)
+        self.complete(alloc, read, slice.next)?;
+        Ok(Step::On)
     }
 
     /// Reads on in the members of a slice without a size.
@@ -231,10 +234,11 @@ impl<'a> Unfinished<'a> {
             Ok(Paused::Done(members)) => {
                 let (class, next) = (slice.class, slice.next);
                 drop(slice);
-                self.complete(alloc, sort, Slice::Known { class, members }, next)
+                self.complete(alloc, Slice::Known { class, members }, next)?;
+                Ok(Step::On)
             }
             Ok(Paused::Begins(name)) => {
-                self.pause(alloc, slice)?;
+                self.pause(alloc, sort, schema, slice, arena)?;
                 Ok(Step::Begins(name))
             }
             Err(fault) => {
@@ -244,14 +248,32 @@ impl<'a> Unfinished<'a> {
         }
     }
 
-    /// An instance begins in the members of a slice without a size.
-    fn pause(&mut self, alloc: Global, slice: CompactSlice<'a>) -> Result<(), AllocError>
-        ensures pauses { OnOk result (Pauses self.old self.new slice.entry) }
+    /// An instance begins in the members of a slice without a size. Where nothing is left of them, the slice is
+    /// read whole: so a chain, in which each instance is the last member of the one before, keeps no members open.
+    fn pause(
+        &mut self,
+        alloc: Global,
+        sort: SlicedType,
+        schema: &Schema,
+        mut slice: CompactSlice<'a>,
+        arena: &Arena<'_>,
+    ) -> Result<(), AllocError>
+        ensures pauses { OnOk result (Pauses sort schema.now self.old self.new slice.entry) }
         ensures name { self.new.name ≡ self.old.name }
     {
-        let slice = Box::new(alloc, slice)?;
-        self.set_stage(Stage::Compact(slice));
-        Ok(())
+        let fields = sort.own_fields(schema, slice.class);
+        match slice.members.ended(alloc, schema, fields, arena)? {
+            Some(members) => {
+                let (class, next) = (slice.class, slice.next);
+                drop(slice);
+                self.complete(alloc, Slice::Known { class, members }, next)
+            }
+            None => {
+                let slice = Box::new(alloc, slice)?;
+                self.set_stage(Stage::Compact(slice));
+                Ok(())
+            }
+        }
     }
 
     /// Reading stands at another stage. The one before is let go.
@@ -270,23 +292,19 @@ impl<'a> Unfinished<'a> {
     fn complete(
         &mut self,
         alloc: Global,
-        sort: SlicedType,
         slice: Slice,
         next: Option<Before>,
-    ) -> Result<Step<()>, ReadFault>
-        ensures advances { Completes sort self.old slice (view_next next) self.new result }
+    ) -> Result<(), AllocError>
+        ensures completes { OnOk result (Completes self.old slice (view_next next) self.new) }
         ensures name { self.new.name ≡ self.old.name }
-        ensures room { (before after : ℕ) → after ≤ before → NarrowsOnStep result before after }
-        ensures less { LessOnStep result (self.old.steps * 2 ^ 33 + 1) (work_left self.new) }
+        ensures work { OnOk result (work_left self.new ≡ self.old.steps * 2 ^ 33) }
     {
         push_slice(alloc, &mut self.slices, slice, next.is_none())?;
         match next {
-            Some(before) => {
-                self.set_stage(Stage::Next(before));
-                Ok(Step::On)
-            }
-            None => Ok(Step::Done(())),
+            Some(before) => self.set_stage(Stage::Next(before)),
+            None => self.set_stage(Stage::Over),
         }
+        Ok(())
     }
 }
 

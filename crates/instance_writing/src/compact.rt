@@ -81,6 +81,6 @@ pub(crate) fn open_members<'a>(
             let own = sort.own_members(by.schema, *class);
             Ok(OpenSlice::Members(Box::new(by.alloc, OpenMembers { writer, own })?))
         }
-        Slice::Unknown { .. } => Ok(OpenSlice::Lent(&[])),
+        Slice::Unknown(_) => Ok(OpenSlice::Lent(&[])),
     }
 }

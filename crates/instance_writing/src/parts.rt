@@ -12,6 +12,6 @@ pub(crate) fn has_optional(slice: &Slice) -> bool
 {
     match slice {
         Slice::Known { members, .. } => !members.optional.as_slice().is_empty(),
-        Slice::Unknown { optionals, .. } => *optionals,
+        Slice::Unknown(kept) => kept.optionals,
     }
 }

@@ -71,8 +71,8 @@ pub(crate) fn put_slice<'a>(
             put_behind(desk.members.as_slice(), entries, out)?;
             Ok(OpenSlice::Found { next: 0, names })
         }
-        Slice::Unknown { table, .. } => {
-            let entries = table.as_slice();
+        Slice::Unknown(kept) => {
+            let entries = kept.table.as_slice();
             let flags = sized_flags(slice, entries, is_last);
             put_head(sort, written_id(by.schema, sort, slice), flags, pen, out)?;
             write_unknown(out, slice)?;

@@ -24,7 +24,7 @@ pub(crate) fn written_id<'a>(schema: &'a Schema, sort: SlicedType, slice: &'a Sl
             Some(number) => SliceId::Number(number),
             None => SliceId::Text(sort.id_of(schema, *class)),
         },
-        Slice::Unknown { id, .. } => kept_id(sort, id.as_str()),
+        Slice::Unknown(kept) => kept_id(sort, kept.id.as_str()),
     }
 }
 

@@ -146,6 +146,6 @@ fn of_slice(first: &Slice) -> Option<Lead>
 {
     match first {
         Slice::Known { .. } => Some(Lead::Nowhere),
-        Slice::Unknown { .. } => None,
+        Slice::Unknown(_) => None,
     }
 }

@@ -8,7 +8,7 @@ ghost use Rattle.object_adapter.specs.Interfaces.{named};
 use crate::results::Results;
 use crate::store_deeds::put_type;
 use crate::writing::written;
-use graph_arena::{Graph, Members};
+use graph_arena::{Graph, Members, ThinList};
 use ice_types::{List, Schema, TypeRef};
 use std::alloc::{AllocError, Global};
 use value_checks::{zero, zeros_have_types};
@@ -49,7 +49,7 @@ fn zeros(alloc: Global, schema: &Schema, kind: TypeRef) -> Result<Graph, AllocEr
         Ok(()) => {
             let roots = Members {
                 required,
-                optional: List::new(alloc),
+                optional: ThinList::new(),
             };
             Ok(Graph::of(roots, Vec::new(alloc)))
         }

@@ -20,7 +20,7 @@ use crate::refusal::{LONGEST, Refusal, Unanswered};
 use crate::results::Results;
 use class_slices::{Format, UserException, UserExceptionFault, write_exception};
 use encaps_optionals::write_proxy;
-use graph_arena::{Graph, Members, Slice};
+use graph_arena::{Graph, Members, Slice, ThinList};
 use ice_messages::Answer;
 use ice_types::{List, Proxy, Schema, Shape, TypeRef};
 use std::alloc::{AllocError, Global};
@@ -101,7 +101,7 @@ fn not_found(alloc: Global, sought: Sought) -> Result<UserException, AllocError>
 {
     let members = Members {
         required: List::new(alloc),
-        optional: List::new(alloc),
+        optional: ThinList::new(),
     };
     let class = exception_of(sought);
     let mut slices = List::new(alloc);

@@ -4,7 +4,7 @@ ghost use Rattle.std.specs.Prelude.{IfOk};
 ghost use Rattle.graph_arena.specs.Seen.{view_slice};
 ghost use Rattle.preserved.specs.Unknown.{IsUnknown};
 
-use graph_arena::{Slice, Value};
+use graph_arena::{Slice, UnknownSlice, Value};
 use ice_prims::{Fault, Kind, ReadFault};
 use ice_types::{List, Name, Schema};
 use instance_reading::reopen;
@@ -49,12 +49,13 @@ fn schema(alloc: Global) -> Result<Schema, Fail> {
 fn unknown(alloc: Global, data: &[u8], optionals: bool, table: &[u32]) -> Result<Slice, AllocError>
     ensures { IfOk result (λ slice. IsUnknown (view_slice slice)) }
 {
-    Ok(Slice::Unknown {
+    let kept = UnknownSlice {
         id: Name::of(alloc, "::M::D")?,
         bytes: bytes(alloc, data)?,
         optionals,
         table: List::from_vec(Vec::from_slice(alloc, table)?),
-    })
+    };
+    Ok(Slice::Unknown(Box::new(alloc, kept)?))
 }
 
 /// Whether the slice is one of the class with this text and this reference.
@@ -69,7 +70,10 @@ fn is_of(slice: &Slice, class: u32, text: &str, other: Option<u32>) -> bool {
     let [Value::Text(x), Value::Reference(reference)] = members.required.as_slice() else {
         return false;
     };
-    *found == class && x.as_str() == text && *reference == other && members.optional.len() == 0
+    *found == class
+        && x.as_str() == text
+        && *reference == other
+        && members.optional.as_slice().is_empty()
 }
 
 /// Whether the slice of the row is reopened as it says.

@@ -5,7 +5,7 @@ ghost use Rattle.graph_arena.specs.Arena.{AreBelow, ContentFits};
 ghost use Rattle.graph_arena.specs.Seen.{view_content};
 ghost use Rattle.graph_arena.specs.View.{view};
 
-use graph_arena::{Graph, Instance, Members, Slice, Value, resolve_members};
+use graph_arena::{Graph, Instance, Members, Slice, ThinList, Value, resolve_members};
 use ice_types::List;
 use std::alloc::AllocError;
 use std::process::Abort;
@@ -54,7 +54,7 @@ fn pair_of(rt: &(impl AllocGlobal + Abort), pair: Pair, count: u32) -> Result<Me
     let both = [within(rt, pair.0, count), within(rt, pair.1, count)];
     Ok(Members {
         required: List::from_vec(Vec::from_array(alloc, both)?),
-        optional: List::new(alloc),
+        optional: ThinList::new(),
     })
 }
 
@@ -141,7 +141,7 @@ fn graph_of(
 /// Whether the members have these references.
 fn has_pair(members: &Members, pair: Pair) -> bool {
     let both = [Value::Reference(pair.0), Value::Reference(pair.1)];
-    members.required.as_slice() == both.as_slice() && members.optional.is_empty()
+    members.required.as_slice() == both.as_slice() && members.optional.as_slice().is_empty()
 }
 
 /// Whether the instance has one slice, with these references.

@@ -78,7 +78,7 @@ fn read(alloc: Global, optionals: Optionals, bytes: &[u8]) -> Result<Members, Re
 /// Whether the one required member is 7, and so many optional ones are there.
 fn are(members: &Members, options: usize) -> bool {
     match members.required.as_slice() {
-        [Value::Int(number)] => *number == 7 && members.optional.len() == options,
+        [Value::Int(number)] => *number == 7 && members.optional.as_slice().len() == options,
         _ => false,
     }
 }

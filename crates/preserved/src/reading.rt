@@ -10,7 +10,7 @@ ghost use Rattle.ice_encoding.specs.Slices.{unknown_at, slice_size};
 ghost use Rattle.graph_arena.specs.Seen.{view_slice};
 ghost use Rattle.preserved.specs.Unknown.{FindsUnknown};
 
-use graph_arena::Slice;
+use graph_arena::{Slice, UnknownSlice};
 use ice_prims::{Cursor, Fault, Kind};
 use ice_types::{List, Name};
 use std::alloc::{AllocError, Global};
@@ -109,10 +109,11 @@ pub fn keep(
 {
     let mut bytes = Vec::new(alloc);
     bytes.extend_from_slice(part.bytes)?;
-    Ok(Slice::Unknown {
+    let kept = UnknownSlice {
         id,
         bytes: List::from_vec(bytes),
         optionals: part.optionals,
         table,
-    })
+    };
+    Ok(Slice::Unknown(Box::new(alloc, kept)?))
 }

@@ -37,11 +37,7 @@ fn append_unknown(out: &mut Vec<u8>, part: &Slice) -> Result<(), AllocError>
 {
     match part {
         Slice::Known { .. } => Ok(()),
-        Slice::Unknown {
-            bytes,
-            optionals,
-            ..
-        } => put_unknown(out, bytes.as_slice(), *optionals),
+        Slice::Unknown(kept) => put_unknown(out, kept.bytes.as_slice(), kept.optionals),
     }
 }
 

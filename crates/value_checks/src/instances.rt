@@ -47,7 +47,7 @@ fn has_type_id(slice: &Slice) -> bool
 {
     match slice {
         Slice::Known { .. } => true,
-        Slice::Unknown { id, .. } => !is_numbered(id.as_str()),
+        Slice::Unknown(kept) => !is_numbered(kept.id.as_str()),
     }
 }
 
@@ -98,15 +98,10 @@ fn is_unknown(schema: &Schema, sort: SlicedType, graph: &Graph, slice: &Slice) -
 {
     match slice {
         Slice::Known { .. } => false,
-        Slice::Unknown {
-            id,
-            bytes,
-            table,
-            ..
-        } => {
-            is_unknown_id(schema, sort, id)
-                && are_referred(schema, graph, table.as_slice())
-                && are_bytes(bytes.as_slice())
+        Slice::Unknown(kept) => {
+            is_unknown_id(schema, sort, &kept.id)
+                && are_referred(schema, graph, kept.table.as_slice())
+                && are_bytes(kept.bytes.as_slice())
         }
     }
 }
@@ -201,7 +196,7 @@ fn is_slice(schema: &Schema, sort: SlicedType, graph: &Graph, class: u32, slice:
             class: other,
             members,
         } => *other == class && is_known(schema, sort, graph, class, members),
-        Slice::Unknown { .. } => false,
+        Slice::Unknown(_) => false,
     }
 }
 

@@ -4,11 +4,11 @@ use Rattle.ice_values.specs.Unread.{kinds_left}
 use Rattle.ice_values.proofs.RequiredParts.{begun-less, member-begins, member-passed, member-ends, members-end}
 use Rattle.ice_values.proofs.required.RequiredReader.step.Goals as goal
 
-pub returns-in_ok-push-in-Done-clause-advances : goal.returns-in_ok-push-in-Done-clause-advances
-returns-in_ok-push-in-Done-clause-advances g c inside =
+pub returns-in_ok-push_value-in-Done-clause-advances : goal.returns-in_ok-push_value-in-Done-clause-advances
+returns-in_ok-push_value-in-Done-clause-advances g c inside =
     let old = c.args.self.now in
     let had : old.reader ≡ _ = c.in-Some.is in
-    rw (had, c.take.ensures.after) (member-ends g.P.RefPort.take c.args.schema.now inside c.in-Some.reader old.done c.push.new.self c.in-Done.value (kinds_left c.args.members.now old.next) c.args.port.now c.go.new.port c.args.cursor.now c.go.new.cursor (rw c.in-Done.is at (c.in_ok-value-in-Some.ensures.goes inside)) c.in_ok-push-in-Done.ensures.ok)
+    rw (had, c.take.ensures.after) (member-ends g.P.RefPort.take c.args.schema.now inside c.in-Some.reader old.done c.push_value.new.done c.in-Done.value (kinds_left c.args.members.now old.next) c.args.port.now c.go.new.port c.args.cursor.now c.go.new.cursor (rw c.in-Done.is at (c.in_ok-value-in-Some.ensures.goes inside)) c.in_ok-push_value-in-Done.ensures)
 
 pub returns-then-is_none-clause-advances : goal.returns-then-is_none-clause-advances
 returns-then-is_none-clause-advances g c inside =
